@@ -1,0 +1,154 @@
+-- From a parcel to its reading. A row for each of the 64 opcodes, in order; 01 and 03 go on by the digit i.
+use Rattle.std.specs.Prelude.{ℕ, ◌+◌, ◌*◌, ◌/◌, ◌%◌, ◌^◌, nat_lt, if◌then◌else◌, List, [], ◌∷◌, get_or}
+use Rattle.parcel.specs.Parcels.{parcel_at}
+use Rattle.instruction_table.specs.declared.instr.Instr.TheVariants.{Stop, Pass, ReturnJump, Jump, BranchX, BranchB, Copy, Invert, Logical, ShiftBy, ShiftNominal, LongAdd, Mask, CountOnes, Increment}
+use Rattle.instruction_table.specs.declared.instr.Op.TheVariants.{Plain, Extended}
+use Rattle.instruction_table.specs.declared.instr.XTest.{XTest}
+use Rattle.instruction_table.specs.declared.instr.XTest.TheVariants.{Zero, NonZero, Positive, Negative, InRange, OutOfRange, Definite, Indefinite}
+use Rattle.instruction_table.specs.declared.instr.BTest.TheVariants.{Equal, NotEqual, GreaterOrEqual, Less}
+use Rattle.instruction_table.specs.declared.instr.Logic.TheVariants.{And, Or, Xor, AndNot, OrNot, XorNot}
+use Rattle.instruction_table.specs.declared.instr.Direction.TheVariants.{Left, Right}
+use Rattle.instruction_table.specs.declared.instr.Addition.TheVariants.{Sum, Difference}
+use Rattle.instruction_table.specs.declared.instr.Target.{Target}
+use Rattle.instruction_table.specs.declared.instr.Target.TheVariants.{A as TargetA, B as TargetB, X as TargetX}
+use Rattle.instruction_table.specs.declared.instr.Base.TheVariants.{A, B, X}
+use Rattle.instruction_table.specs.declared.instr.Pair.TheVariants.{XPlusB, APlusB, AMinusB, BPlusB, BMinusB}
+use Rattle.instruction_table.specs.declared.instr.Addends.TheVariants.{Address, Registers}
+use Rattle.instruction_table.specs.declared.decoding.Decoded.{Decoded}
+use Rattle.instruction_table.specs.declared.decoding.Decoded.TheVariants.{Legal, Refused as RefusedOp, Straddle}
+use Rattle.instruction_table.specs.declared.decoding.Entry.{Entry}
+use Rattle.instruction_table.specs.declared.decoding.Entry.TheVariants.{Short, Long, Refused}
+
+-- 030 to 037
+abbrev pub x_tests : List XTest
+x_tests = Zero ∷ NonZero ∷ Positive ∷ Negative ∷ InRange ∷ OutOfRange ∷ Definite ∷ Indefinite ∷ []
+
+abbrev pub x_test_at : ℕ → XTest
+x_test_at i = get_or x_tests i Zero
+
+-- the entry of a row
+abbrev pub entry : List Entry → ℕ → Entry
+entry row m = get_or row m (Short Pass)
+
+-- 010 to 017
+abbrev pub refused_01 : ℕ → ℕ → Entry
+refused_01 i K = entry
+    (Long (ReturnJump K)
+    ∷ Refused (Extended 0 1 1)
+    ∷ Refused (Extended 0 1 2)
+    ∷ Refused (Extended 0 1 3)
+    ∷ Refused (Extended 0 1 4)
+    ∷ Refused (Extended 0 1 5)
+    ∷ Refused (Extended 0 1 6)
+    ∷ Refused (Extended 0 1 7)
+    ∷ []) i
+
+-- 00 to 07
+abbrev pub branches : ℕ → ℕ → ℕ → List Entry
+branches i j K =
+    Short Stop
+    ∷ refused_01 i K
+    ∷ Long (Jump i K)
+    ∷ Long (BranchX (x_test_at i) j K)
+    ∷ Long (BranchB Equal i j K)
+    ∷ Long (BranchB NotEqual i j K)
+    ∷ Long (BranchB GreaterOrEqual i j K)
+    ∷ Long (BranchB Less i j K)
+    ∷ []
+
+-- 10 to 17
+abbrev pub logicals : ℕ → ℕ → ℕ → List Entry
+logicals i j k =
+    Short (Copy i j)
+    ∷ Short (Logical And i j k)
+    ∷ Short (Logical Or i j k)
+    ∷ Short (Logical Xor i j k)
+    ∷ Short (Invert i k)
+    ∷ Short (Logical AndNot i j k)
+    ∷ Short (Logical OrNot i j k)
+    ∷ Short (Logical XorNot i j k)
+    ∷ []
+
+-- 20 to 27
+abbrev pub shifts : ℕ → ℕ → ℕ → List Entry
+shifts i j k =
+    Short (ShiftBy Left i (8 * j + k))
+    ∷ Short (ShiftBy Right i (8 * j + k))
+    ∷ Short (ShiftNominal Left i j k)
+    ∷ Short (ShiftNominal Right i j k)
+    ∷ Refused (Plain 2 4)
+    ∷ Refused (Plain 2 5)
+    ∷ Refused (Plain 2 6)
+    ∷ Refused (Plain 2 7)
+    ∷ []
+
+-- 30 to 37
+abbrev pub additions : ℕ → ℕ → ℕ → List Entry
+additions i j k =
+    Refused (Plain 3 0)
+    ∷ Refused (Plain 3 1)
+    ∷ Refused (Plain 3 2)
+    ∷ Refused (Plain 3 3)
+    ∷ Refused (Plain 3 4)
+    ∷ Refused (Plain 3 5)
+    ∷ Short (LongAdd Sum i j k)
+    ∷ Short (LongAdd Difference i j k)
+    ∷ []
+
+-- 40 to 47
+abbrev pub others : ℕ → ℕ → ℕ → List Entry
+others i j k =
+    Refused (Plain 4 0)
+    ∷ Refused (Plain 4 1)
+    ∷ Refused (Plain 4 2)
+    ∷ Short (Mask i (8 * j + k))
+    ∷ Refused (Plain 4 4)
+    ∷ Refused (Plain 4 5)
+    ∷ Short Pass
+    ∷ Short (CountOnes i k)
+    ∷ []
+
+-- 50 to 57 for A, 60 to 67 for B and 70 to 77 for X
+abbrev pub increments : Target → ℕ → ℕ → ℕ → ℕ → List Entry
+increments target i j k K =
+    Long (Increment target i (Address A j K))
+    ∷ Long (Increment target i (Address B j K))
+    ∷ Long (Increment target i (Address X j K))
+    ∷ Short (Increment target i (Registers XPlusB j k))
+    ∷ Short (Increment target i (Registers APlusB j k))
+    ∷ Short (Increment target i (Registers AMinusB j k))
+    ∷ Short (Increment target i (Registers BPlusB j k))
+    ∷ Short (Increment target i (Registers BMinusB j k))
+    ∷ []
+
+-- the rows of the first digit f
+abbrev pub rows : ℕ → ℕ → ℕ → ℕ → ℕ → List Entry
+rows f i j k K = get_or
+    (branches i j K
+    ∷ logicals i j k
+    ∷ shifts i j k
+    ∷ additions i j k
+    ∷ others i j k
+    ∷ increments TargetA i j k K
+    ∷ increments TargetB i j k K
+    ∷ increments TargetX i j k K
+    ∷ []) f []
+
+-- the reading of a parcel that is followed by another
+unfoldable pub entry_of : ℕ → ℕ → Entry
+entry_of parcel following =
+    entry (rows (parcel / 2 ^ 12) (parcel / 2 ^ 6 % 8) (parcel / 2 ^ 3 % 8) (parcel % 8) (parcel % 8 * 2 ^ 15 + following)) (parcel / 2 ^ 9 % 8)
+
+-- an entry at a place of a word
+abbrev pub settled : Entry → ℕ → Decoded
+settled (Short instr) place = Legal instr (place + 1)
+settled (Long instr) place = if nat_lt place 3 then Legal instr (place + 2) else Straddle
+settled (Refused op) place = RefusedOp op
+
+-- the parcel after a place, and 0 after the last
+abbrev pub following_at : ℕ → ℕ → ℕ
+following_at word place = if nat_lt place 3 then parcel_at word (place + 1) else 0
+
+-- the one reading of a place: a refused opcode comes before its length
+unfoldable pub reading_at : ℕ → ℕ → Decoded
+reading_at word place = settled (entry_of (parcel_at word place) (following_at word place)) place

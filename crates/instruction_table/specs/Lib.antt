@@ -1,0 +1,6 @@
+pub mod Decoding
+pub mod Operations
+pub mod Table
+pub mod Octal
+pub mod Opcode
+pub mod Shape

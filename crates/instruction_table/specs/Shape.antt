@@ -1,0 +1,70 @@
+-- What a row does with its value, whatever its code.
+use Rattle.std.specs.Prelude.{ℕ, Bool, true, false, nat_le, ◌==◌, if◌then◌else◌, List, [], ◌∷◌, ◌++◌}
+use Rattle.instruction_table.specs.declared.instr.Reg.{Reg}
+use Rattle.instruction_table.specs.declared.instr.Reg.TheVariants.{X, A}
+use Rattle.instruction_table.specs.declared.instr.Target.TheVariants.{A as TargetA}
+use Rattle.instruction_table.specs.declared.instr.Instr.{Instr}
+use Rattle.instruction_table.specs.declared.instr.Instr.TheVariants.{ReturnJump, Jump, BranchX, BranchB, Increment}
+use Rattle.instruction_table.specs.Table.{row}
+
+pub data Shape : Type 0 where
+  -- writes its results (none for SB0), and makes no reference
+  Puts : (registers : List Reg) → Shape
+  -- SA1 to SA5: writes An and loads Xn
+  Loads : (n : ℕ) → Shape
+  -- SA6 and SA7: writes An and stores Xn
+  Stores : (n : ℕ) → Shape
+  -- a branch
+  Jumps : Shape
+  -- RJ: stores its link word and jumps
+  Links : Shape
+
+unfoldable pub shape_of : Instr → Shape
+shape_of (ReturnJump K) = Links
+shape_of (Jump i K) = Jumps
+shape_of (BranchX test j K) = Jumps
+shape_of (BranchB test i j K) = Jumps
+shape_of (Increment TargetA i addends) =
+    if i == 0 then Puts (A 0 ∷ []) else (if nat_le i 5 then Loads i else Stores i)
+shape_of instr = Puts (row instr).results
+
+-- the registers that are written at the store event
+unfoldable pub puts_of : Shape → List Reg
+puts_of (Puts rs) = rs
+puts_of (Loads n) = A n ∷ []
+puts_of (Stores n) = A n ∷ []
+puts_of Jumps = []
+puts_of Links = []
+
+-- the register that is written when the load returns
+unfoldable pub loads_of : Shape → List Reg
+loads_of (Puts rs) = []
+loads_of (Loads n) = X n ∷ []
+loads_of (Stores n) = []
+loads_of Jumps = []
+loads_of Links = []
+
+-- the result registers
+unfoldable pub results : Shape → List Reg
+results shape = puts_of shape ++ loads_of shape
+
+unfoldable pub is_branch_shape : Shape → Bool
+is_branch_shape (Puts rs) = false
+is_branch_shape (Loads n) = false
+is_branch_shape (Stores n) = false
+is_branch_shape Jumps = true
+is_branch_shape Links = true
+
+unfoldable pub has_reference : Shape → Bool
+has_reference (Puts rs) = false
+has_reference (Loads n) = true
+has_reference (Stores n) = true
+has_reference Jumps = false
+has_reference Links = true
+
+unfoldable pub has_store : Shape → Bool
+has_store (Puts rs) = false
+has_store (Loads n) = false
+has_store (Stores n) = true
+has_store Jumps = false
+has_store Links = true

@@ -1,0 +1,282 @@
+ghost use Rattle.instruction_table.specs.Table.{parcels_of, IsInstr, StandsAt};
+ghost use Rattle.std.specs.Prelude.{length, ◌≡◌, ◌<◌, ◌+◌, ◌*◌, ◌^◌};
+ghost use Rattle.instruction_table.specs.Decoding.{branches, logicals, shifts, additions, others, increments, rows, x_test_at, refused_01, entry, entry_of, following_at, reading_at};
+
+use crate::{
+    Addends, Addition, BTest, Base, Digit, Direction, Instr, Logic, Op, Pair, SixBits, Target,
+    XTest,
+};
+use parcel::parcel_of;
+use word60::{Word18, Word60};
+
+/// What stands at a place of a word.
+#[derive(Clone, Copy, Debug, PartialEq, Eq)]
+pub enum Decoded {
+    /// An instruction, and the place after it.
+    Legal(Instr, u8),
+    Refused(Op),
+    /// Two parcels from the last place on.
+    Straddle,
+}
+
+/// What an opcode reads as, before its length is looked at.
+enum Entry {
+    Short(Instr),
+    Long(Instr),
+    Refused(Op),
+}
+
+fn x_test(digit: Digit) -> XTest
+    ensures { result ≡ x_test_at digit }
+{
+    match digit.get() {
+        0 => XTest::Zero,
+        1 => XTest::NonZero,
+        2 => XTest::Positive,
+        3 => XTest::Negative,
+        4 => XTest::InRange,
+        5 => XTest::OutOfRange,
+        6 => XTest::Definite,
+        _ => XTest::Indefinite,
+    }
+}
+
+/// A refused opcode of two digits.
+fn refused(f: u16, m: Digit) -> Entry
+    requires { f < 8 }
+    ensures { result ≡ Entry.Refused (Op.Plain f m) }
+{
+    Entry::Refused(Op::Plain(Digit::low(f), m))
+}
+
+/// 010 to 017.
+fn return_jump(i: Digit, to: Word18) -> Entry
+    ensures { result ≡ refused_01 i to }
+{
+    match i.get() {
+        0 => Entry::Long(Instr::ReturnJump { to }),
+        _ => Entry::Refused(Op::Extended(Digit::low(0), Digit::low(1), i)),
+    }
+}
+
+/// 00 to 07.
+fn branch(m: Digit, i: Digit, j: Digit, to: Word18) -> Entry
+    ensures { result ≡ entry (branches i j to) m }
+{
+    match m.get() {
+        0 => Entry::Short(Instr::Stop),
+        1 => return_jump(i, to),
+        2 => Entry::Long(Instr::Jump { i, to }),
+        3 => Entry::Long(Instr::BranchX {
+            test: x_test(i),
+            j,
+            to,
+        }),
+        4 => Entry::Long(Instr::BranchB {
+            test: BTest::Equal,
+            i,
+            j,
+            to,
+        }),
+        5 => Entry::Long(Instr::BranchB {
+            test: BTest::NotEqual,
+            i,
+            j,
+            to,
+        }),
+        6 => Entry::Long(Instr::BranchB {
+            test: BTest::GreaterOrEqual,
+            i,
+            j,
+            to,
+        }),
+        _ => Entry::Long(Instr::BranchB {
+            test: BTest::Less,
+            i,
+            j,
+            to,
+        }),
+    }
+}
+
+/// 10 to 17.
+fn logical(m: Digit, i: Digit, j: Digit, k: Digit) -> Entry
+    ensures { result ≡ entry (logicals i j k) m }
+{
+    let op = match m.get() {
+        0 => return Entry::Short(Instr::Copy { i, j }),
+        1 => Logic::And,
+        2 => Logic::Or,
+        3 => Logic::Xor,
+        4 => return Entry::Short(Instr::Invert { i, k }),
+        5 => Logic::AndNot,
+        6 => Logic::OrNot,
+        _ => Logic::XorNot,
+    };
+    Entry::Short(Instr::Logical { op, i, j, k })
+}
+
+/// 20 to 27.
+fn shift(m: Digit, i: Digit, j: Digit, k: Digit) -> Entry
+    ensures { result ≡ entry (shifts i j k) m }
+{
+    match m.get() {
+        0 => Entry::Short(Instr::ShiftBy {
+            direction: Direction::Left,
+            i,
+            count: SixBits::of(j, k),
+        }),
+        1 => Entry::Short(Instr::ShiftBy {
+            direction: Direction::Right,
+            i,
+            count: SixBits::of(j, k),
+        }),
+        2 => Entry::Short(Instr::ShiftNominal {
+            direction: Direction::Left,
+            i,
+            j,
+            k,
+        }),
+        3 => Entry::Short(Instr::ShiftNominal {
+            direction: Direction::Right,
+            i,
+            j,
+            k,
+        }),
+        _ => refused(2, m),
+    }
+}
+
+/// 30 to 37.
+fn addition(m: Digit, i: Digit, j: Digit, k: Digit) -> Entry
+    ensures { result ≡ entry (additions i j k) m }
+{
+    match m.get() {
+        0..=5 => refused(3, m),
+        6 => Entry::Short(Instr::LongAdd {
+            op: Addition::Sum,
+            i,
+            j,
+            k,
+        }),
+        _ => Entry::Short(Instr::LongAdd {
+            op: Addition::Difference,
+            i,
+            j,
+            k,
+        }),
+    }
+}
+
+/// 40 to 47.
+fn other(m: Digit, i: Digit, j: Digit, k: Digit) -> Entry
+    ensures { result ≡ entry (others i j k) m }
+{
+    match m.get() {
+        0..=2 => refused(4, m),
+        3 => Entry::Short(Instr::Mask {
+            i,
+            count: SixBits::of(j, k),
+        }),
+        4 | 5 => refused(4, m),
+        6 => Entry::Short(Instr::Pass),
+        _ => Entry::Short(Instr::CountOnes { i, k }),
+    }
+}
+
+/// 50 to 77.
+fn increment(target: Target, m: Digit, i: Digit, j: Digit, k: Digit, address: Word18) -> Entry
+    ensures { result ≡ entry (increments target i j k address) m }
+{
+    let pair = match m.get() {
+        0 => return Entry::Long(Instr::Increment {
+            target,
+            i,
+            addends: Addends::Address {
+                base: Base::A,
+                j,
+                address,
+            },
+        }),
+        1 => return Entry::Long(Instr::Increment {
+            target,
+            i,
+            addends: Addends::Address {
+                base: Base::B,
+                j,
+                address,
+            },
+        }),
+        2 => return Entry::Long(Instr::Increment {
+            target,
+            i,
+            addends: Addends::Address {
+                base: Base::X,
+                j,
+                address,
+            },
+        }),
+        3 => Pair::XPlusB,
+        4 => Pair::APlusB,
+        5 => Pair::AMinusB,
+        6 => Pair::BPlusB,
+        _ => Pair::BMinusB,
+    };
+    Entry::Short(Instr::Increment {
+        target,
+        i,
+        addends: Addends::Registers { pair, j, k },
+    })
+}
+
+/// The reading of a parcel that is followed by another.
+fn entry_at(parcel: u16, following: u16) -> Entry
+    requires parcel { parcel < 2 ^ 15 }
+    requires following { following < 2 ^ 15 }
+    ensures { result ≡ entry_of parcel following }
+{
+    let m = Digit::low(parcel >> 9);
+    let i = Digit::low(parcel >> 6);
+    let j = Digit::low(parcel >> 3);
+    let k = Digit::low(parcel);
+    let constant = Word18::from_bits(u32::from(parcel % 8) * 0x8000 + u32::from(following));
+    match parcel >> 12 {
+        0 => branch(m, i, j, constant),
+        1 => logical(m, i, j, k),
+        2 => shift(m, i, j, k),
+        3 => addition(m, i, j, k),
+        4 => other(m, i, j, k),
+        5 => increment(Target::A, m, i, j, k, constant),
+        6 => increment(Target::B, m, i, j, k, constant),
+        _ => increment(Target::X, m, i, j, k, constant),
+    }
+}
+
+/// The parcel after a place, and 0 after the last.
+fn following(word: Word60, place: u8) -> u16
+    ensures value { result ≡ following_at word place }
+    ensures range { result < 2 ^ 15 }
+{
+    if place < 3 {
+        parcel_of(word, place + 1)
+    } else {
+        0
+    }
+}
+
+/// The reading of a place of a word.
+pub fn decode(word: Word60, place: u8) -> Decoded
+    requires { place < 4 }
+    ensures value { result ≡ reading_at word place }
+
+    // Where the parcels of an instruction stand, that instruction is read.
+    ensures encoded { (instr : Instr) → IsInstr instr → StandsAt word place (parcels_of instr)
+        → result ≡ Decoded.Legal instr (place + length (parcels_of instr)) }
+{
+    match entry_at(parcel_of(word, place), following(word, place)) {
+        Entry::Short(instr) => Decoded::Legal(instr, place + 1),
+        Entry::Long(instr) if place < 3 => Decoded::Legal(instr, place + 2),
+        Entry::Long(_) => Decoded::Straddle,
+        Entry::Refused(op) => Decoded::Refused(op),
+    }
+}

@@ -1,0 +1,72 @@
+ghost use Rattle.std.specs.Prelude.{◌≡◌};
+ghost use Rattle.instruction_table.specs.Shape.{shape_of, puts_of, is_branch_shape, has_reference, has_store};
+
+use crate::{Instr, Reg, Target, results};
+use arrayvec::ArrayVec;
+
+impl Instr {
+    /// Whether it jumps, or may jump.
+    #[tactic(auto, unfolding(crate::specs::Shape::shape_of, crate::specs::Shape::is_branch_shape))]
+    pub fn is_branch(&self) -> bool
+        ensures { result ≡ is_branch_shape (shape_of self.now) }
+    {
+        match *self {
+            Instr::ReturnJump { .. }
+            | Instr::Jump { .. }
+            | Instr::BranchX { .. }
+            | Instr::BranchB { .. } => true,
+            _ => false,
+        }
+    }
+
+    /// Whether it makes a reference to memory: SA1 to SA7 and RJ.
+    #[tactic(auto, unfolding(crate::specs::Shape::shape_of, crate::specs::Shape::has_reference))]
+    pub fn has_reference(&self) -> bool
+        ensures { result ≡ has_reference (shape_of self.now) }
+    {
+        match *self {
+            Instr::ReturnJump { .. } => true,
+            Instr::Increment {
+                target: Target::A,
+                i,
+                ..
+            } => i.get() != 0,
+            _ => false,
+        }
+    }
+
+    /// Whether it writes memory: SA6, SA7 and RJ.
+    #[tactic(auto, unfolding(crate::specs::Shape::shape_of, crate::specs::Shape::has_store))]
+    pub fn has_store(&self) -> bool
+        ensures { result ≡ has_store (shape_of self.now) }
+    {
+        match *self {
+            Instr::ReturnJump { .. } => true,
+            Instr::Increment {
+                target: Target::A,
+                i,
+                ..
+            } => i.get() > 5,
+            _ => false,
+        }
+    }
+
+    /// The registers that it writes at its store event: all its results but the X register of a load.
+    #[tactic(auto, unfolding(crate::specs::Shape::shape_of, crate::specs::Shape::puts_of))]
+    pub fn puts(&self) -> ArrayVec<Reg, 2>
+        ensures { result.items ≡ puts_of (shape_of self.now) }
+    {
+        match *self {
+            Instr::Increment {
+                target: Target::A,
+                i,
+                ..
+            } => {
+                let mut registers = ArrayVec::new();
+                registers.push(Reg::A(i));
+                registers
+            }
+            _ => results(self),
+        }
+    }
+}

@@ -1,0 +1,137 @@
+-- What a row computes from its operands.
+use Rattle.std.specs.Prelude.{ℕ, ◌+◌, ◌/◌, ◌%◌, ◌^◌, Bool, not, ◌||◌, ◌==◌, nat_lt, nat_le, if◌then◌else◌, Some, None, bit_and, bit_or, bit_xor, count_ones}
+use Rattle.word60.specs.Words.{all_ones, bit, sum, difference, complement, rotate_left, shift_right, mask, low18, extend}
+use Rattle.instruction_table.specs.declared.instr.XTest.{XTest}
+use Rattle.instruction_table.specs.declared.instr.XTest.TheVariants.{Zero, NonZero, Positive, Negative, InRange, OutOfRange, Definite, Indefinite}
+use Rattle.instruction_table.specs.declared.instr.BTest.{BTest}
+use Rattle.instruction_table.specs.declared.instr.BTest.TheVariants.{Equal, NotEqual, GreaterOrEqual, Less}
+use Rattle.instruction_table.specs.declared.instr.Logic.{Logic}
+use Rattle.instruction_table.specs.declared.instr.Logic.TheVariants.{And, Or, Xor, AndNot, OrNot, XorNot}
+use Rattle.instruction_table.specs.declared.instr.Direction.{Direction}
+use Rattle.instruction_table.specs.declared.instr.Direction.TheVariants.{Left, Right}
+use Rattle.instruction_table.specs.declared.instr.Addition.{Addition}
+use Rattle.instruction_table.specs.declared.instr.Addition.TheVariants.{Sum, Difference}
+use Rattle.instruction_table.specs.declared.instr.Target.{Target}
+use Rattle.instruction_table.specs.declared.instr.Target.TheVariants.{A as TargetA, B as TargetB, X as TargetX}
+use Rattle.instruction_table.specs.declared.instr.Pair.{Pair}
+use Rattle.instruction_table.specs.declared.instr.Pair.TheVariants.{XPlusB, APlusB, AMinusB, BPlusB, BMinusB}
+use Rattle.instruction_table.specs.declared.instr.Addends.{Addends}
+use Rattle.instruction_table.specs.declared.instr.Addends.TheVariants.{Address, Registers}
+use Rattle.instruction_table.specs.declared.instr.Instr.{Instr}
+use Rattle.instruction_table.specs.declared.instr.Instr.TheVariants.{Stop, Pass, ReturnJump, Jump as JumpTo, BranchX, BranchB, Copy, Invert, Logical, ShiftBy, ShiftNominal, LongAdd, Mask, CountOnes, Increment}
+use Rattle.unit_ops.specs.declared.Operands.{Operands}
+use Rattle.unit_ops.specs.declared.UnitValue.{UnitValue}
+use Rattle.unit_ops.specs.declared.UnitValue.TheVariants.{Word, Index, Load, Store, Jump, Link}
+
+-- the upper twelve bits
+abbrev pub upper : ℕ → ℕ
+upper x = x / 2 ^ 48
+
+-- 3777 or 4000, and 1777 or 6000
+abbrev pub is_out_of_range : ℕ → Bool
+is_out_of_range x = (upper x == 2047) || (upper x == 2048)
+
+abbrev pub is_indefinite : ℕ → Bool
+is_indefinite x = (upper x == 1023) || (upper x == 3072)
+
+abbrev pub is_zero : ℕ → Bool
+is_zero x = (x == 0) || (x == all_ones 60)
+
+-- the jump of 030 to 037 is taken
+abbrev pub x_holds : XTest → ℕ → Bool
+x_holds Zero x = is_zero x
+x_holds NonZero x = not (is_zero x)
+x_holds Positive x = not (bit x 59 == 1)
+x_holds Negative x = bit x 59 == 1
+x_holds InRange x = not (is_out_of_range x)
+x_holds OutOfRange x = is_out_of_range x
+x_holds Definite x = not (is_indefinite x)
+x_holds Indefinite x = is_indefinite x
+
+-- the place of a pattern of 18 bits in the order of two's complement
+abbrev pub rank : ℕ → ℕ
+rank b = (b + 2 ^ 17) % 2 ^ 18
+
+-- the jump of 04 to 07 is taken
+abbrev pub b_holds : BTest → ℕ → ℕ → Bool
+b_holds Equal a b = a == b
+b_holds NotEqual a b = not (a == b)
+b_holds GreaterOrEqual a b = nat_le (rank b) (rank a)
+b_holds Less a b = nat_lt (rank a) (rank b)
+
+abbrev pub logic : Logic → ℕ → ℕ → ℕ
+logic And x y = bit_and x y
+logic Or x y = bit_or x y
+logic Xor x y = bit_xor x y
+logic AndNot x y = bit_and x (complement 60 y)
+logic OrNot x y = bit_or x (complement 60 y)
+logic XorNot x y = bit_xor x (complement 60 y)
+
+abbrev pub shifted : Direction → ℕ → ℕ → ℕ
+shifted Left x count = rotate_left x count
+shifted Right x count = shift_right x count
+
+abbrev pub is_negative : ℕ → Bool
+is_negative b = bit b 17 == 1
+
+abbrev pub magnitude : ℕ → ℕ
+magnitude b = if is_negative b then complement 18 b else b
+
+-- a shift by a magnitude above 63 leaves +0
+abbrev pub shifted_out : ℕ → ℕ → ℕ
+shifted_out x count = if nat_lt 63 count then 0 else shift_right x count
+
+-- 22 turns left and 23 shifts right, and the other way round for a negative count
+abbrev pub turns : Direction → ℕ → Bool
+turns Left b = not (is_negative b)
+turns Right b = is_negative b
+
+abbrev pub shifted_nominally : Direction → ℕ → ℕ → ℕ
+shifted_nominally direction b x =
+    if turns direction b then rotate_left x (magnitude b % 64) else shifted_out x (magnitude b)
+
+abbrev pub added : Addition → ℕ → ℕ → ℕ
+added Sum x y = sum 60 x y
+added Difference x y = difference 60 x y
+
+abbrev pub pair_value : Pair → ℕ → ℕ → ℕ
+pair_value XPlusB x y = sum 18 (low18 x) (low18 y)
+pair_value APlusB x y = sum 18 (low18 x) (low18 y)
+pair_value AMinusB x y = difference 18 (low18 x) (low18 y)
+pair_value BPlusB x y = sum 18 (low18 x) (low18 y)
+pair_value BMinusB x y = difference 18 (low18 x) (low18 y)
+
+abbrev pub addends_value : Addends → ℕ → ℕ → ℕ
+addends_value (Address base j K) x y = sum 18 (low18 x) K
+addends_value (Registers pair j k) x y = pair_value pair x y
+
+-- SA0 makes no reference, SA1 to SA5 load, SA6 and SA7 store
+abbrev pub reference : ℕ → ℕ → ℕ → UnitValue
+reference i a outgoing =
+    if i == 0 then Index a else (if nat_le i 5 then Load a else Store a outgoing)
+
+abbrev pub increment_value : Target → ℕ → ℕ → ℕ → UnitValue
+increment_value TargetA i v outgoing = reference i v outgoing
+increment_value TargetB i v outgoing = Index v
+increment_value TargetX i v outgoing = Word (extend v)
+
+abbrev pub branch_to : Bool → ℕ → UnitValue
+branch_to taken K = Jump (if taken then Some K else None)
+
+-- the value of a row; a pass and a stop have none
+abbrev pub value_of : Instr → Operands → UnitValue
+value_of Stop o = Index 0
+value_of Pass o = Index 0
+value_of (ReturnJump K) o = Link K ((o.place + 1) % 2 ^ 18)
+value_of (JumpTo i K) o = Jump (Some (sum 18 (low18 o.first) K))
+value_of (BranchX test j K) o = branch_to (x_holds test o.first) K
+value_of (BranchB test i j K) o = branch_to (b_holds test (low18 o.first) (low18 o.second)) K
+value_of (Copy i j) o = Word o.first
+value_of (Invert i k) o = Word (complement 60 o.first)
+value_of (Logical op i j k) o = Word (logic op o.first o.second)
+value_of (ShiftBy direction i jk) o = Word (shifted direction o.first jk)
+value_of (ShiftNominal direction i j k) o = Word (shifted_nominally direction (low18 o.first) o.second)
+value_of (LongAdd op i j k) o = Word (added op o.first o.second)
+value_of (Mask i jk) o = Word (mask jk)
+value_of (CountOnes i k) o = Word (count_ones o.first)
+value_of (Increment target i addends) o = increment_value target i (addends_value addends o.first o.second) o.outgoing

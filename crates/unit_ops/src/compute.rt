@@ -1,0 +1,217 @@
+ghost use Rattle.std.specs.Prelude.{◌≡◌, ◌+◌, ◌%◌, ◌^◌, ◌==◌, IsSome};
+ghost use Rattle.instruction_table.specs.Table.{row};
+ghost use Rattle.unit_ops.specs.Values.{x_holds, is_zero, is_out_of_range, is_indefinite, b_holds, rank, logic, is_negative, magnitude, shifted_out, shifted_nominally, pair_value, addends_value, increment_value, branch_to, value_of};
+ghost use Rattle.word60.specs.Words.{bit};
+
+use crate::{Operands, UnitValue};
+use instruction_table::{
+    Addends, Addition, BTest, Digit, Direction, Instr, Logic, Pair, Target, XTest,
+};
+use word60::{Word18, Word60};
+
+fn is_zero(x: Word60) -> bool
+    ensures { result ≡ is_zero x }
+{
+    x.get() == 0 || x.get() == 0xfff_ffff_ffff_ffff
+}
+
+fn is_out_of_range(x: Word60) -> bool
+    ensures { result ≡ is_out_of_range x }
+{
+    let upper = x.get() >> 48;
+    upper == 0o3777 || upper == 0o4000
+}
+
+fn is_indefinite(x: Word60) -> bool
+    ensures { result ≡ is_indefinite x }
+{
+    let upper = x.get() >> 48;
+    upper == 0o1777 || upper == 0o6000
+}
+
+fn is_minus(x: Word60) -> bool
+    ensures { result ≡ (bit x 59 == 1) }
+{
+    x.get() >> 59 == 1
+}
+
+fn x_holds(test: XTest, x: Word60) -> bool
+    ensures { result ≡ x_holds test x }
+{
+    match test {
+        XTest::Zero => is_zero(x),
+        XTest::NonZero => !is_zero(x),
+        XTest::Positive => !is_minus(x),
+        XTest::Negative => is_minus(x),
+        XTest::InRange => !is_out_of_range(x),
+        XTest::OutOfRange => is_out_of_range(x),
+        XTest::Definite => !is_indefinite(x),
+        XTest::Indefinite => is_indefinite(x),
+    }
+}
+
+fn rank(b: Word18) -> u32
+    ensures { result ≡ rank b }
+{
+    (b.get() + 0x2_0000) % 0x4_0000
+}
+
+fn b_holds(test: BTest, a: Word18, b: Word18) -> bool
+    ensures { result ≡ b_holds test a b }
+{
+    match test {
+        BTest::Equal => a.get() == b.get(),
+        BTest::NotEqual => a.get() != b.get(),
+        BTest::GreaterOrEqual => rank(b) <= rank(a),
+        BTest::Less => rank(a) < rank(b),
+    }
+}
+
+fn logic(op: Logic, x: Word60, y: Word60) -> Word60
+    ensures { result ≡ logic op x y }
+{
+    match op {
+        Logic::And => x.and(y),
+        Logic::Or => x.or(y),
+        Logic::Xor => x.xor(y),
+        Logic::AndNot => x.and(y.complement()),
+        Logic::OrNot => x.or(y.complement()),
+        Logic::XorNot => x.xor(y.complement()),
+    }
+}
+
+fn is_negative(b: Word18) -> bool
+    ensures { result ≡ is_negative b }
+{
+    b.get() >> 17 == 1
+}
+
+fn magnitude(b: Word18) -> u32
+    ensures { result ≡ magnitude b }
+{
+    if is_negative(b) {
+        b.complement().get()
+    } else {
+        b.get()
+    }
+}
+
+fn shifted_out(x: Word60, count: u32) -> Word60
+    ensures { result ≡ shifted_out x count }
+{
+    if count > 63 {
+        Word60::default()
+    } else {
+        x.shift_right(count)
+    }
+}
+
+fn shifted_nominally(direction: Direction, b: Word18, x: Word60) -> Word60
+    ensures { result ≡ shifted_nominally direction b x }
+{
+    let turns = match direction {
+        Direction::Left => !is_negative(b),
+        Direction::Right => is_negative(b),
+    };
+    if turns {
+        x.rotate_left(magnitude(b) % 64)
+    } else {
+        shifted_out(x, magnitude(b))
+    }
+}
+
+fn pair_value(pair: Pair, x: Word60, y: Word60) -> Word18
+    ensures { result ≡ pair_value pair x y }
+{
+    let left = x.low18();
+    let right = y.low18();
+    match pair {
+        Pair::XPlusB | Pair::APlusB | Pair::BPlusB => left.add(right),
+        Pair::AMinusB | Pair::BMinusB => left.sub(right),
+    }
+}
+
+fn addends_value(addends: Addends, x: Word60, y: Word60) -> Word18
+    ensures { result ≡ addends_value addends x y }
+{
+    match addends {
+        Addends::Address { address, .. } => x.low18().add(address),
+        Addends::Registers { pair, .. } => pair_value(pair, x, y),
+    }
+}
+
+fn increment_value(target: Target, i: Digit, value: Word18, outgoing: Word60) -> UnitValue
+    ensures { result ≡ increment_value target i value outgoing }
+{
+    match target {
+        Target::A => match i.get() {
+            0 => UnitValue::Index(value),
+            1..=5 => UnitValue::Load(value),
+            _ => UnitValue::Store(value, outgoing),
+        },
+        Target::B => UnitValue::Index(value),
+        Target::X => UnitValue::Word(value.extend()),
+    }
+}
+
+fn branch_to(taken: bool, to: Word18) -> UnitValue
+    ensures { result ≡ branch_to taken to }
+{
+    UnitValue::Jump(if taken { Some(to) } else { None })
+}
+
+fn next_place(place: Word18) -> Word18
+    ensures { result ≡ (place + 1) % 2 ^ 18 }
+{
+    Word18::from_bits((place.get() + 1) % 0x4_0000)
+}
+
+/// What the unit of an instruction computes from its operands.
+pub fn value(instr: &Instr, operands: &Operands) -> UnitValue
+    requires { IsSome (row instr.now).unit }
+    ensures { result ≡ value_of instr.now operands.now }
+{
+    let x = operands.first;
+    let y = operands.second;
+    match *instr {
+        Instr::Stop | Instr::Pass => unreachable!(),
+        Instr::ReturnJump { to } => UnitValue::Link {
+            at: to,
+            back: next_place(operands.place),
+        },
+        Instr::Jump { to, .. } => UnitValue::Jump(Some(x.low18().add(to))),
+        Instr::BranchX { test, to, .. } => branch_to(x_holds(test, x), to),
+        Instr::BranchB { test, to, .. } => branch_to(b_holds(test, x.low18(), y.low18()), to),
+        Instr::Copy { .. } => UnitValue::Word(x),
+        Instr::Invert { .. } => UnitValue::Word(x.complement()),
+        Instr::Logical { op, .. } => UnitValue::Word(logic(op, x, y)),
+        Instr::ShiftBy {
+            direction: Direction::Left,
+            count,
+            ..
+        } => { UnitValue::Word(x.rotate_left(u32::from(count.get()))) }
+        Instr::ShiftBy {
+            direction: Direction::Right,
+            count,
+            ..
+        } => { UnitValue::Word(x.shift_right(u32::from(count.get()))) }
+        Instr::ShiftNominal { direction, .. } => UnitValue::Word(shifted_nominally(
+            direction,
+            x.low18(),
+            y,
+        )),
+        Instr::LongAdd {
+            op: Addition::Sum,
+            ..
+        } => UnitValue::Word(x.add(y)),
+        Instr::LongAdd {
+            op: Addition::Difference,
+            ..
+        } => UnitValue::Word(x.sub(y)),
+        Instr::Mask { count, .. } => UnitValue::Word(Word60::mask(u32::from(count.get()))),
+        Instr::CountOnes { .. } => UnitValue::Word(Word60::from_bits(u64::from(x.ones()))),
+        Instr::Increment { target, i, addends } => {
+            increment_value(target, i, addends_value(addends, x, y), operands.outgoing)
+        }
+    }
+}
