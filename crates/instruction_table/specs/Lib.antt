@@ -4,3 +4,4 @@ pub mod Table
 pub mod Octal
 pub mod Opcode
 pub mod Shape
+pub mod RegisterLists

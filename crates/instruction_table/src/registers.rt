@@ -1,6 +1,7 @@
 ghost use Rattle.std.specs.Prelude.{◌≡◌, ◌<◌, ◌≤◌, ◌+◌, ◌∷◌, ◌++◌, [], Some, None};
 ghost use Rattle.std.specs.List.{list_any};
 ghost use Rattle.arrayvec.specs.ArrayVec.{array_vec_len};
+ghost use Rattle.instruction_table.specs.Shape.{shape_of, results as results_of_shape};
 ghost use Rattle.instruction_table.specs.Table.{row, stored, with_source, sources_of, base_reg, pair_reg, reg_eq};
 
 use crate::{Addends, Base, Digit, Instr, Pair, Reg, Target, UnitKind};
@@ -36,8 +37,10 @@ pub fn unit_kind(instr: &Instr) -> Option<UnitKind>
 }
 
 /// The registers that an instruction sets, A before X.
+#[tactic(auto, unfolding(crate::specs::Shape::shape_of, crate::specs::Shape::puts_of, crate::specs::Shape::loads_of, crate::specs::Shape::results))]
 pub fn results(instr: &Instr) -> ArrayVec<Reg, 2>
-    ensures { result.items ≡ (row instr.now).results }
+    ensures row { result.items ≡ (row instr.now).results }
+    ensures shape { result.items ≡ results_of_shape (shape_of instr.now) }
 {
     let mut results = ArrayVec::new();
     match *instr {

@@ -1,0 +1,55 @@
+ghost use Rattle.std.specs.Prelude.{◌≡◌, ◌<◌, ◌%◌, ◌^◌, length, slice_index_or, slice_set};
+ghost use Rattle.registers.specs.Registers.{get, put};
+
+use instruction_table::Reg;
+use word60::{Word18, Word60};
+
+/// The registers of the central processor (Control Data 60100000, operating registers).
+#[derive(Clone, Copy, Debug, Default, PartialEq, Eq)]
+pub struct RegisterFile {
+    /// X0 to X7.
+    pub x: [Word60; 8],
+    /// A0 to A7.
+    pub a: [Word18; 8],
+    /// B1 to B7; B0 is no part of it, since it is always +0.
+    pub b: [Word18; 7],
+}
+
+/// A word of 18 bits in the low bits of a word of 60.
+fn widened(word: Word18) -> Word60
+    ensures { result ≡ word }
+{
+    Word60::from_bits(u64::from(word.get()))
+}
+
+impl RegisterFile {
+    /// What a register holds; A and B registers stand in the low 18 bits.
+    #[tactic(auto, unfolding(crate::specs::Registers::get))]
+    pub fn get(&self, register: Reg) -> Word60
+        ensures { result ≡ get self.now register }
+    {
+        match register {
+            Reg::X(n) => self.x[usize::from(n.get())],
+            Reg::A(n) => widened(self.a[usize::from(n.get())]),
+            Reg::B(n) => match n.get() {
+                0 => Word60::default(),
+                number => widened(self.b[usize::from(number) - 1]),
+            },
+        }
+    }
+
+    /// Writes a register: the low 18 bits into A and B registers, and nothing into B0.
+    #[tactic(auto, unfolding(crate::specs::Registers::put))]
+    pub fn set(&mut self, register: Reg, word: Word60)
+        ensures { self.new ≡ put self.old register word }
+    {
+        match register {
+            Reg::X(n) => self.x[usize::from(n.get())] = word,
+            Reg::A(n) => self.a[usize::from(n.get())] = word.low18(),
+            Reg::B(n) => match n.get() {
+                0 => {}
+                number => self.b[usize::from(number) - 1] = word.low18(),
+            },
+        }
+    }
+}

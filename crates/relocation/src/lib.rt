@@ -1,0 +1,8 @@
+//! Central memory as a list of words, and the range rule that a program's addresses are held to.
+#![tactic(auto)]
+
+mod area;
+mod storage;
+
+pub use area::{Access, Area, relocate};
+pub use storage::{SMALLEST, LARGEST, Storage};

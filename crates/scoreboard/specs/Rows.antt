@@ -1,0 +1,63 @@
+-- One issued instruction: what it has still to write and to read, and what it holds.
+use Rattle.std.specs.Prelude.{ℕ, Bool, true, false, not, ◌&&◌, List, [], ◌∷◌}
+use Rattle.instruction_table.specs.declared.instr.Reg.{Reg}
+use Rattle.instruction_table.specs.declared.instr.Reg.TheVariants.{X}
+use Rattle.instruction_table.specs.declared.instr.Unit.{Unit}
+use Rattle.instruction_table.specs.Shape.{Shape, shape_of, results, is_branch_shape, has_reference, has_store}
+use Rattle.instruction_table.specs.Table.{sources_of}
+use Rattle.scoreboard.specs.declared.row.Progress.{Progress}
+use Rattle.scoreboard.specs.declared.row.Progress.TheVariants.{Waiting, Read, Returning, Storing}
+use Rattle.scoreboard.specs.declared.row.Row.{Row}
+use Rattle.instruction_table.specs.RegisterLists.{is_in}
+use Rattle.scoreboard.specs.Units.{same_unit}
+
+-- it holds its unit
+unfoldable pub is_reserved : Progress → Bool
+is_reserved Waiting = true
+is_reserved Read = true
+is_reserved (Returning n) = false
+is_reserved Storing = false
+
+unfoldable pub to_come_in : Shape → Progress → List Reg
+to_come_in shape Waiting = results shape
+to_come_in shape Read = results shape
+to_come_in shape (Returning n) = X n ∷ []
+to_come_in shape Storing = []
+
+-- its results still to come
+unfoldable pub to_come : Row → List Reg
+to_come row = to_come_in (shape_of row.instr) row.progress
+
+unfoldable pub reads_in : List Reg → Progress → List Reg
+reads_in sources Waiting = sources
+reads_in sources Read = []
+reads_in sources (Returning n) = []
+reads_in sources Storing = []
+
+-- the sources that it has still to read
+unfoldable pub reads : Row → List Reg
+reads row = reads_in (sources_of row.instr) row.progress
+
+-- a register is one of its results still to come
+unfoldable pub comes : Reg → Row → Bool
+comes register row = is_in (to_come row) register
+
+-- a register is one of the sources that it has still to read
+unfoldable pub reads_it : Reg → Row → Bool
+reads_it register row = is_in (reads row) register
+
+unfoldable pub holds : Unit → Row → Bool
+holds unit row = same_unit row.unit unit && is_reserved row.progress
+
+-- it is a branch that holds its unit
+unfoldable pub is_branch : Row → Bool
+is_branch row = is_reserved row.progress && is_branch_shape (shape_of row.instr)
+
+-- it has a reference that has not come to its store event
+unfoldable pub has_turn : Row → Bool
+has_turn row = is_reserved row.progress && has_reference (shape_of row.instr)
+
+-- it is an SA6 or SA7 that has not come to its store event
+unfoldable pub has_store_turn : Row → Bool
+has_store_turn row =
+    (is_reserved row.progress && has_store (shape_of row.instr)) && not (is_branch_shape (shape_of row.instr))

@@ -1,0 +1,137 @@
+ghost use Rattle.std.specs.Prelude.{◌≡◌, [], ◌∷◌};
+ghost use Rattle.scoreboard.specs.Rows.{to_come, reads, comes, reads_it, holds, is_branch, has_turn, has_store_turn, is_reserved};
+ghost use Rattle.instruction_table.specs.Table.{reg_eq};
+ghost use Rattle.instruction_table.specs.RegisterLists.{is_in};
+
+use arrayvec::ArrayVec;
+use crate::is_same_unit;
+use instruction_table::{Digit, Instr, Reg, Unit, results, sources};
+
+/// How far the scoreboard has seen an issued instruction come.
+#[derive(Clone, Copy, Debug, Drop, PartialEq, Eq)]
+pub enum Progress {
+    /// It holds its unit and has still to read its operands.
+    Waiting,
+    /// It holds its unit and has read its operands.
+    Read,
+    /// It has left its unit, and its load has still to return to the X register of this number.
+    Returning(Digit),
+    /// It has left its unit, and nothing but its store to memory is to come.
+    Storing,
+}
+
+/// An issued instruction as the scoreboard sees it.
+#[derive(Clone, Copy, Debug, Drop, PartialEq, Eq)]
+pub struct Row {
+    pub instr: Instr,
+    pub unit: Unit,
+    pub progress: Progress,
+}
+
+/// Whether two registers are one.
+fn is_same(register: &Reg, other: &Reg) -> bool
+    ensures { result ≡ reg_eq register.now other.now }
+{
+    register == other
+}
+
+/// A list of one register.
+fn single(register: Reg) -> ArrayVec<Reg, 2>
+    ensures { result.items ≡ register ∷ [] }
+{
+    let mut registers = ArrayVec::new();
+    registers.push(register);
+    registers
+}
+
+/// Whether the register is among those.
+#[tactic(auto, unfolding(instruction_table::specs::RegisterLists::is_in))]
+fn is_among(registers: &[Reg], register: &Reg) -> bool
+    ensures { result ≡ is_in registers.now register.now }
+{
+    registers.iter().any(|other| is_same(register, other))
+}
+
+impl Row {
+    /// Whether it holds a unit.
+    #[tactic(auto, unfolding(crate::specs::Rows::is_reserved))]
+    fn is_reserved(&self) -> bool
+        ensures { result ≡ is_reserved self.now.progress }
+    {
+        match self.progress {
+            Progress::Waiting | Progress::Read => true,
+            Progress::Returning(_) | Progress::Storing => false,
+        }
+    }
+
+    /// Its results still to come.
+    #[tactic(auto, unfolding(crate::specs::Rows::to_come, crate::specs::Rows::to_come_in))]
+    fn to_come(&self) -> ArrayVec<Reg, 2>
+        ensures { result.items ≡ to_come self.now }
+    {
+        match self.progress {
+            Progress::Waiting | Progress::Read => results(&self.instr),
+            Progress::Returning(n) => single(Reg::X(n)),
+            Progress::Storing => ArrayVec::new(),
+        }
+    }
+
+    /// The sources that it has still to read.
+    #[tactic(auto, unfolding(crate::specs::Rows::reads, crate::specs::Rows::reads_in))]
+    fn reads(&self) -> ArrayVec<Reg, 3>
+        ensures { result.items ≡ reads self.now }
+    {
+        match self.progress {
+            Progress::Waiting => sources(&self.instr),
+            Progress::Read | Progress::Returning(_) | Progress::Storing => ArrayVec::new(),
+        }
+    }
+
+    /// Whether the register is one of its results still to come.
+    #[tactic(auto, unfolding(crate::specs::Rows::comes))]
+    pub fn has_to_come(&self, register: &Reg) -> bool
+        ensures { result ≡ comes register.now self.now }
+    {
+        is_among(self.to_come().as_slice(), register)
+    }
+
+    /// Whether the register is one of the sources that it has still to read.
+    #[tactic(auto, unfolding(crate::specs::Rows::reads_it))]
+    pub fn has_to_read(&self, register: &Reg) -> bool
+        ensures { result ≡ reads_it register.now self.now }
+    {
+        is_among(self.reads().as_slice(), register)
+    }
+
+    /// Whether it holds the unit.
+    #[tactic(auto, unfolding(crate::specs::Rows::holds))]
+    pub fn holds(&self, unit: Unit) -> bool
+        ensures { result ≡ holds unit self.now }
+    {
+        is_same_unit(self.unit, unit) && self.is_reserved()
+    }
+
+    /// Whether it is a branch that holds its unit.
+    #[tactic(auto, unfolding(crate::specs::Rows::is_branch))]
+    pub fn is_branch(&self) -> bool
+        ensures { result ≡ is_branch self.now }
+    {
+        self.is_reserved() && self.instr.is_branch()
+    }
+
+    /// Whether it makes a reference that hasn't come to its store event.
+    #[tactic(auto, unfolding(crate::specs::Rows::has_turn))]
+    pub fn has_turn(&self) -> bool
+        ensures { result ≡ has_turn self.now }
+    {
+        self.is_reserved() && self.instr.has_reference()
+    }
+
+    /// Whether it is an SA6 or SA7 that hasn't come to its store event.
+    #[tactic(auto, unfolding(crate::specs::Rows::has_store_turn))]
+    pub fn has_store_turn(&self) -> bool
+        ensures { result ≡ has_store_turn self.now }
+    {
+        self.is_reserved() && self.instr.has_store() && !self.instr.is_branch()
+    }
+}

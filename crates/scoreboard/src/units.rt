@@ -1,0 +1,20 @@
+ghost use Rattle.std.specs.Prelude.{◌≡◌, ◌<◌};
+ghost use Rattle.scoreboard.specs.Units.{unit_number, same_unit};
+
+use instruction_table::Unit;
+
+/// The number of a unit, from 0 for Branch to 9 for Increment2 (this project's choice).
+pub fn unit_number(unit: Unit) -> u8
+    ensures value { result ≡ unit_number unit }
+    ensures range { result < 10 }
+{
+    unit as u8
+}
+
+/// Whether two units are one.
+#[tactic(auto, unfolding(crate::specs::Units::same_unit))]
+pub fn is_same_unit(unit: Unit, other: Unit) -> bool
+    ensures { result ≡ same_unit unit other }
+{
+    unit_number(unit) == unit_number(other)
+}

@@ -1,0 +1,60 @@
+-- The state of the machine that does one instruction at a time, and the single changes of it.
+use Rattle.std.specs.Prelude.{ℕ, Bool, ◌||◌, ◌==◌, List, [], ◌∷◌, Option, Some, None, length, slice_index_or, slice_set}
+use Rattle.word60.specs.Words.{bit}
+use Rattle.instruction_table.specs.declared.instr.Reg.{Reg}
+use Rattle.instruction_table.specs.declared.instr.Reg.TheVariants.{X}
+use Rattle.instruction_table.specs.declared.refusal.Halt.{Halt}
+use Rattle.registers.specs.Registers.{put}
+use Rattle.relocation.specs.declared.area.Area.{Area}
+use Rattle.relocation.specs.declared.area.Access.{Access}
+use Rattle.relocation.specs.declared.area.Access.TheVariants.{Load, Store}
+use Rattle.relocation.specs.Relocation.{relocate}
+use Rattle.sequential.specs.declared.place.Place.{Place}
+use Rattle.sequential.specs.declared.state.State.{State}
+use Rattle.sequential.specs.Place.{gone}
+
+-- what the range rule looks at: RA, FL, mode and the memory size
+pub record Bounds : Type 0 where
+  pub area : Area
+  pub size : ℕ
+
+unfoldable pub bounds_of : State → Bounds
+bounds_of s = record { area = s.area; size = length s.memory }
+
+-- the absolute address of a program's address, where it is in range
+unfoldable pub absolute : Bounds → ℕ → Option ℕ
+absolute b a = relocate a b.area.ra b.area.fl b.size
+
+-- the exit mode sets the fault flag at an address out of range: bit 010000 (octal)
+unfoldable pub stops_at_fault : Bounds → Bool
+stops_at_fault b = bit b.area.mode 12 == 1
+
+unfoldable pub write : State → Reg → ℕ → State
+write s r v = record s { registers = put s.registers r v }
+
+unfoldable pub write_all : State → List (Reg × ℕ) → State
+write_all s [] = s
+write_all s (e ∷ es) = write_all (write s e.0 e.1) es
+
+-- a jump, if there is one
+unfoldable pub go : State → Option ℕ → State
+go s to = record s { place = gone s.place to }
+
+-- one word of memory
+unfoldable pub poke : State → ℕ → ℕ → State
+poke s a w = record s { memory = slice_set s.memory a w }
+
+-- the fault flag, which stays once it is set
+unfoldable pub mark : State → Bool → State
+mark s f = record s { fault = s.fault || f }
+
+-- a reference to an absolute address
+unfoldable pub access_at : State → ℕ → Access → State
+access_at s a (Load n) = write s (X n) (slice_index_or s.memory a 0)
+access_at s a (Store w) = poke s a w
+
+unfoldable pub move_to : State → Place → State
+move_to s place = record s { place = place }
+
+unfoldable pub halt_by : State → Halt → State
+halt_by s h = record s { halt = Some h }

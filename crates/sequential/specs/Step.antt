@@ -1,0 +1,79 @@
+-- The step of the machine that does one instruction at a time.
+use Rattle.std.specs.Prelude.{ℕ, Bool, true, false, if◌then◌else◌, List, Option, Some, None, slice_index_or}
+use Rattle.instruction_table.specs.declared.instr.Instr.{Instr}
+use Rattle.instruction_table.specs.declared.instr.Instr.TheVariants.{Stop, Pass, LongAdd, Increment}
+use Rattle.instruction_table.specs.declared.instr.Target.TheVariants.{X as TargetX}
+use Rattle.instruction_table.specs.declared.decoding.Decoded.{Decoded}
+use Rattle.instruction_table.specs.declared.decoding.Decoded.TheVariants.{Legal, Refused, Straddle}
+use Rattle.instruction_table.specs.declared.refusal.Halt.{Halt}
+use Rattle.instruction_table.specs.declared.refusal.Halt.TheVariants.{Stop as StopHalt, Illegal, Straddle as StraddleHalt, FetchRange}
+use Rattle.instruction_table.specs.Decoding.{reading_at}
+use Rattle.instruction_table.specs.Opcode.{op_of}
+use Rattle.instruction_table.specs.Shape.{shape_of}
+use Rattle.unit_ops.specs.Values.{value_of}
+use Rattle.sequential.specs.declared.fetching.Fetched.{Fetched}
+use Rattle.sequential.specs.declared.fetching.Fetched.TheVariants.{Halting, Passing, Taking}
+use Rattle.sequential.specs.declared.place.Place.{Place}
+use Rattle.sequential.specs.declared.state.State.{State}
+use Rattle.sequential.specs.Place.{beginning, moved_on}
+use Rattle.sequential.specs.State.{Bounds, bounds_of, absolute, move_to, halt_by}
+use Rattle.sequential.specs.Work.{operands, work_of, do_work}
+
+-- the rows with a unit that this machine carries out so far: 36, 37 and 70 to 77. Every other one halts
+-- as an illegal opcode does
+unfoldable pub is_carried_out : Instr → Bool
+is_carried_out (LongAdd op i j k) = true
+is_carried_out (Increment TargetX i addends) = true
+is_carried_out instr = false
+
+-- the place of an instruction itself, with its word held
+abbrev pub here : ℕ → ℕ → ℕ → Place
+here p parcel word = record { p = p; parcel = parcel; held = Some word }
+
+-- a stop halts, and a pass does nothing
+unfoldable pub met : Place → Place → Instr → Fetched
+met place behind Stop = Halting StopHalt place
+met place behind Pass = Passing behind
+met place behind instr =
+    if is_carried_out instr then Taking instr behind else Halting (Illegal (op_of instr)) place
+
+-- what is read halts the machine where it stands, or moves it on
+unfoldable pub fetched_by : ℕ → ℕ → ℕ → Decoded → Fetched
+fetched_by p parcel word (Legal instr next) = met (here p parcel word) (moved_on p word next) instr
+fetched_by p parcel word (Refused op) = Halting (Illegal op) (here p parcel word)
+fetched_by p parcel word Straddle = Halting StraddleHalt (here p parcel word)
+
+-- a fetch out of range halts, whatever the mode
+unfoldable pub fetched_from : ℕ → ℕ → Option ℕ → Fetched
+fetched_from p parcel None = Halting FetchRange (beginning p)
+fetched_from p parcel (Some word) = fetched_by p parcel word (reading_at word parcel)
+
+unfoldable pub word_at : List ℕ → Option ℕ → Option ℕ
+word_at memory None = None
+word_at memory (Some a) = Some (slice_index_or memory a 0)
+
+-- the word held, or else the one at P, if that is in range
+unfoldable pub word_seen : Bounds → List ℕ → ℕ → Option ℕ → Option ℕ
+word_seen b memory p (Some word) = Some word
+word_seen b memory p None = word_at memory (absolute b p)
+
+unfoldable pub fetch : Bounds → List ℕ → Place → Fetched
+fetch b memory place = fetched_from place.p place.parcel (word_seen b memory place.p place.held)
+
+-- an instruction's whole change at once, references too
+unfoldable pub do_instruction : Bounds → State → Instr → ℕ → State
+do_instruction b s instr at = do_work b s (work_of (shape_of instr) (value_of instr (operands instr at s.registers)))
+
+unfoldable pub do_fetched : Bounds → State → ℕ → Fetched → State
+do_fetched b s at (Halting halt place) = halt_by (move_to s place) halt
+do_fetched b s at (Passing place) = move_to s place
+do_fetched b s at (Taking instr place) = do_instruction b (move_to s place) instr at
+
+-- a halted state is unchanged
+unfoldable pub step_unless : State → Option Halt → State
+step_unless s (Some halt) = s
+step_unless s None = do_fetched (bounds_of s) s s.place.p (fetch (bounds_of s) s.memory s.place)
+
+-- a state with the fault set steps on
+unfoldable pub step : State → State
+step s = step_unless s s.halt

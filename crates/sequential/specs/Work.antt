@@ -1,0 +1,122 @@
+-- What an instruction does with its value.
+use Rattle.std.specs.Prelude.{ℕ, ◌+◌, ◌*◌, ◌%◌, ◌^◌, Bool, true, false, ◌&&◌, is_none, if◌then◌else◌, List, [], ◌∷◌, Option, Some, None}
+use Rattle.instruction_table.specs.declared.instr.Instr.{Instr}
+use Rattle.instruction_table.specs.declared.instr.Reg.{Reg}
+use Rattle.instruction_table.specs.declared.instr.Reg.TheVariants.{X}
+use Rattle.instruction_table.specs.Shape.{Shape, Puts, Loads, Stores, Jumps, Links, puts_of, is_branch_shape}
+use Rattle.instruction_table.specs.Table.{row}
+use Rattle.registers.specs.declared.file.RegisterFile.{RegisterFile}
+use Rattle.registers.specs.Registers.{get}
+use Rattle.relocation.specs.declared.area.Access.{Access}
+use Rattle.relocation.specs.declared.area.Access.TheVariants.{Load as LoadInto, Store as StoreWord}
+use Rattle.unit_ops.specs.declared.Operands.{Operands}
+use Rattle.unit_ops.specs.declared.UnitValue.{UnitValue}
+use Rattle.unit_ops.specs.declared.UnitValue.TheVariants.{Word, Index, Load, Store, Jump, Link}
+use Rattle.sequential.specs.declared.state.State.{State}
+use Rattle.sequential.specs.declared.work.ProgramReference.{ProgramReference}
+use Rattle.sequential.specs.State.{Bounds, absolute, stops_at_fault, write, write_all, go, mark, access_at}
+
+-- an absent operand is +0
+unfoldable pub operand_at : RegisterFile → Option Reg → ℕ
+operand_at g None = 0
+operand_at g (Some r) = get g r
+
+-- what an instruction of the word at a place computes with
+unfoldable pub operands : Instr → ℕ → RegisterFile → Operands
+operands instr place g = record {
+  first = operand_at g (row instr).first;
+  second = operand_at g (row instr).second;
+  outgoing = operand_at g (row instr).outgoing;
+  place = place;
+}
+
+-- the number that a value writes into registers: of a reference it is the address
+unfoldable pub number_in : UnitValue → ℕ
+number_in (Word w) = w
+number_in (Index n) = n
+number_in (Load a) = a
+number_in (Store a w) = a
+number_in (Jump to) = 0
+number_in (Link at back) = 0
+
+-- the address that a value refers to
+unfoldable pub address_in : UnitValue → ℕ
+address_in (Word w) = 0
+address_in (Index n) = 0
+address_in (Load a) = a
+address_in (Store a w) = a
+address_in (Jump to) = 0
+address_in (Link at back) = at
+
+-- the link word of RJ: 0400, the return address and thirty zeros
+unfoldable pub link_word : ℕ → ℕ
+link_word back = 256 * 2 ^ 48 + back * 2 ^ 30
+
+-- the word that a value stores
+unfoldable pub word_in : UnitValue → ℕ
+word_in (Word w) = 0
+word_in (Index n) = 0
+word_in (Load a) = 0
+word_in (Store a w) = w
+word_in (Jump to) = 0
+word_in (Link at back) = link_word back
+
+-- where a value jumps; RJ goes on behind its link word
+unfoldable pub jump_in : UnitValue → Option ℕ
+jump_in (Word w) = None
+jump_in (Index n) = None
+jump_in (Load a) = None
+jump_in (Store a w) = None
+jump_in (Jump to) = to
+jump_in (Link at back) = Some ((at + 1) % 2 ^ 18)
+
+-- the registers that are written, the jump and the reference
+pub record Work : Type 0 where
+  pub puts : List (Reg × ℕ)
+  pub jump : Option ℕ
+  pub reference : Option ProgramReference
+
+-- one number for each of the registers
+unfoldable pub same_for : ℕ → List Reg → List (Reg × ℕ)
+same_for v [] = []
+same_for v (r ∷ rs) = (r, v) ∷ same_for v rs
+
+unfoldable pub jump_for : Shape → UnitValue → Option ℕ
+jump_for shape v = if is_branch_shape shape then jump_in v else None
+
+unfoldable pub reference_for : Shape → UnitValue → Option ProgramReference
+reference_for (Puts rs) v = None
+reference_for (Loads n) v = Some (record { address = address_in v; access = LoadInto n })
+reference_for (Stores n) v = Some (record { address = address_in v; access = StoreWord (word_in v) })
+reference_for Jumps v = None
+reference_for Links v = Some (record { address = address_in v; access = StoreWord (word_in v) })
+
+unfoldable pub work_of : Shape → UnitValue → Work
+work_of shape v = record {
+  puts = same_for (number_in v) (puts_of shape);
+  jump = jump_for shape v;
+  reference = reference_for shape v;
+}
+
+-- a reference out of range sets the fault flag, if the exit mode says so
+unfoldable pub fault_of : Bounds → Option ProgramReference → Bool
+fault_of b None = false
+fault_of b (Some r) = stops_at_fault b && is_none (absolute b r.address)
+
+-- all but the reference itself
+unfoldable pub do_now : Bounds → State → Work → State
+do_now b s work = mark (go (write_all s work.puts) work.jump) (fault_of b work.reference)
+
+-- a reference that was relocated: out of range a load gives +0, and a store writes nothing
+unfoldable pub refer_at : State → Option ℕ → Access → State
+refer_at s (Some a) access = access_at s a access
+refer_at s None (LoadInto n) = write s (X n) 0
+refer_at s None (StoreWord w) = s
+
+unfoldable pub refer : Bounds → State → Option ProgramReference → State
+refer b s None = s
+refer b s (Some r) = refer_at s (absolute b r.address) r.access
+
+-- the whole of it
+unfoldable pub do_work : Bounds → State → Work → State
+do_work b s work = refer b (do_now b s work) work.reference

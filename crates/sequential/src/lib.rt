@@ -1,0 +1,14 @@
+//! The machine that does one instruction at a time: its state, its step, the exchange and the log.
+#![tactic(auto)]
+
+mod fetching;
+mod log;
+mod place;
+mod state;
+mod work;
+
+pub use fetching::Fetched;
+pub use log::{Entry, Log};
+pub use place::{ParcelNumber, Place};
+pub use state::State;
+pub use work::{ProgramReference, faults, jump, number, operands, reference};

@@ -1,0 +1,123 @@
+ghost use Rattle.std.specs.Prelude.{◌≡◌, ◌<◌, ◌≤◌, ◌+◌, ◌++◌, ◌^◌, [], ◌∷◌, true, false, MatchResult, if◌then◌else◌};
+ghost use Rattle.instruction_table.specs.declared.refusal.Refusal.TheVariants.{OutOfMemory};
+ghost use Rattle.sequential.specs.Log.{issued, steps_of};
+ghost use Rattle.sequential.specs.Replay.{Issued, Exchanged};
+
+use instruction_table::Refusal;
+use std::alloc::Global;
+use std::marker::Model;
+
+/// An entry of the log.
+#[derive(Clone, Copy, Debug, Drop, PartialEq, Eq)]
+pub enum Entry {
+    /// An exchange with the package at this absolute address.
+    Exchange(u32),
+    /// So many instructions, one after another.
+    Issued(u64),
+}
+
+/// What a machine did, in order: instructions and exchanges.
+#[derive(Drop)]
+pub struct Log {
+    entries: Vec<Entry>,
+    issues: u64,
+}
+
+impl Model for Log {
+    ghost use Rattle.std.specs.Prelude.{◌≡◌, ◌-◌};
+    ghost use Rattle.std.specs.Vec.{vec_len, vec_capacity};
+    ghost use Rattle.sequential.specs.Log.{Logged, steps_of, ends_open, issued};
+
+    ghost Value = { Logged };
+
+    ghost view = { λ l. record { steps = steps_of l.entries.items; room = vec_capacity l.entries - vec_len l.entries; is_open = ends_open l.entries.items } };
+
+    ghost invariant = { λ l. l.issues ≡ issued (steps_of l.entries.items) };
+}
+
+impl Log {
+    /// The empty log.
+    #[tactic(auto, unfolding(crate::specs::Log::steps_of, crate::specs::Log::ends_open, crate::specs::Log::issued))]
+    pub fn new(alloc: Global) -> Log
+        ensures steps { result.steps ≡ [] }
+        ensures is_open { result.is_open ≡ false }
+    {
+        Log {
+            entries: Vec::new(alloc),
+            issues: 0,
+        }
+    }
+
+    /// The same log once more.
+    ///
+    /// # Errors
+    /// `OutOfMemory`.
+    pub fn copy(&self) -> Result<Log, Refusal>
+        ensures { MatchResult result (λ log. log.steps ≡ self.now.steps) (λ refusal. refusal ≡ OutOfMemory) }
+    {
+        match self.entries.clone() {
+            Ok(entries) => Ok(Log {
+                entries,
+                issues: self.issues,
+            }),
+            Err(_) => Err(Refusal::OutOfMemory),
+        }
+    }
+
+    /// The entries. No count is 0, and no two counts stand side by side.
+    pub fn entries(&self) -> &[Entry]
+        ensures { steps_of result.now ≡ self.now.steps }
+    {
+        self.entries.as_slice()
+    }
+
+    /// How many instructions there are.
+    pub fn issues(&self) -> u64
+        ensures { result ≡ issued self.now.steps }
+    {
+        self.issues
+    }
+
+    /// Makes room for so many entries beyond those that it has.
+    ///
+    /// # Errors
+    /// `OutOfMemory`; the log stays as it was in either case.
+    pub fn reserve(&mut self, more: u32) -> Result<(), Refusal>
+        ensures steps { self.new.steps ≡ self.old.steps }
+        ensures is_open { self.new.is_open ≡ self.old.is_open }
+        ensures room { MatchResult result (λ _. more ≤ self.new.room) (λ refusal. refusal ≡ OutOfMemory) }
+        ensures kept { self.old.room ≤ self.new.room }
+    {
+        match self.entries.reserve(more as usize) {
+            Ok(()) => Ok(()),
+            Err(_) => Err(Refusal::OutOfMemory),
+        }
+    }
+
+    /// Adds an exchange.
+    pub fn exchanged(&mut self, at: u32)
+        requires { 0 < self.old.room }
+        ensures steps { self.new.steps ≡ self.old.steps ++ Exchanged at ∷ [] }
+        ensures room { self.new.room + 1 ≡ self.old.room }
+        ensures is_open { self.new.is_open ≡ false }
+    {
+        self.entries.push_reserved(Entry::Exchange(at));
+    }
+
+    /// Adds an instruction: one more to the last count, or else an entry of its own.
+    pub fn issued(&mut self)
+        requires room { self.old.is_open ≡ false → 0 < self.old.room }
+        requires count { issued self.old.steps + 1 < 2 ^ 64 }
+        ensures steps { self.new.steps ≡ self.old.steps ++ Issued ∷ [] }
+        ensures room { self.new.room + (if self.old.is_open then 0 else 1) ≡ self.old.room }
+        ensures is_open { self.new.is_open ≡ true }
+    {
+        self.issues += 1;
+        if let Some(Entry::Issued(count)) = self.entries.last().copied() {
+            let place = self.entries.len() - 1;
+            self.entries[place] = Entry::Issued(count + 1);
+        } else {
+            self.entries.push_reserved(Entry::Issued(1));
+        }
+    }
+}

@@ -1,0 +1,93 @@
+ghost use Rattle.std.specs.Prelude.{◌≡◌, ◌<◌, SomeIff, None};
+ghost use Rattle.sequential.specs.Place.{moved_on, gone};
+
+use std::marker::Model;
+use word60::{Word18, Word60};
+
+/// The number of a parcel in its word: 0, the uppermost, to 3.
+#[derive(Clone, Copy, Debug, Default, Drop, PartialEq, Eq)]
+pub struct ParcelNumber {
+    number: u8,
+}
+
+impl Model for ParcelNumber {
+    ghost use Rattle.std.specs.Prelude.{ℕ, ◌<◌};
+
+    ghost Value = { ℕ };
+
+    ghost view = { λ p. p.number };
+
+    ghost invariant = { λ p. p.number < 4 };
+
+    ghost inverse = { λ n. record { number = n } };
+}
+
+impl ParcelNumber {
+    /// The parcel of this number, None from 4 on.
+    pub fn new(number: u8) -> Option<ParcelNumber>
+        ensures { SomeIff result (number < 4) number }
+    {
+        if number < 4 {
+            Some(ParcelNumber { number })
+        } else {
+            None
+        }
+    }
+
+    pub fn get(self) -> u8
+        ensures value { result ≡ self }
+        ensures range { result < 4 }
+    {
+        self.number
+    }
+}
+
+/// Where the next instruction is.
+#[derive(Clone, Copy, Debug, Default, Drop, PartialEq, Eq)]
+pub struct Place {
+    /// P: the address of the held word, or else of the word that is fetched next.
+    pub p: Word18,
+    /// The next parcel; 0 where no word is held.
+    pub parcel: ParcelNumber,
+    /// The word that instructions are taken from.
+    pub held: Option<Word60>,
+}
+
+impl Place {
+    /// The beginning of the word at an address.
+    pub fn at(p: Word18) -> Place
+        ensures { result ≡ record { p = p; parcel = 0; held = None } }
+    {
+        Place {
+            p,
+            parcel: ParcelNumber::default(),
+            held: None,
+        }
+    }
+
+    /// The place behind an instruction of a word: its next parcel, or the beginning of the next word.
+    #[tactic(auto, unfolding(crate::specs::Place::moved_on))]
+    pub fn behind(p: Word18, word: Word60, next: u8) -> Place
+        ensures { result ≡ moved_on p word next }
+    {
+        match ParcelNumber::new(next) {
+            Some(parcel) => Place {
+                p,
+                parcel,
+                held: Some(word),
+            },
+            None => Place::at(p.next()),
+        }
+    }
+
+    /// The place after a jump, if there is one.
+    #[tactic(auto, unfolding(crate::specs::Place::gone))]
+    pub fn after_jump(self, to: Option<Word18>) -> Place
+        ensures { result ≡ gone self to }
+    {
+        match to {
+            None => self,
+            Some(p) => Place::at(p),
+        }
+    }
+}

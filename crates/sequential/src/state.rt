@@ -1,0 +1,102 @@
+ghost use Rattle.std.specs.Prelude.{◌≡◌, MatchResult, true, false, length};
+ghost use Rattle.exchange_package.specs.Package.{package_fits};
+ghost use Rattle.instruction_table.specs.declared.refusal.Refusal.TheVariants.{OutOfMemory, PackageRange};
+ghost use Rattle.sequential.specs.Replay.{boot};
+ghost use Rattle.sequential.specs.Swap.{swap, package_of};
+
+use crate::Place;
+use exchange_package::Package;
+use instruction_table::{Halt, Refusal};
+use registers::RegisterFile;
+use relocation::{Area, Storage};
+
+/// The state of the machine that does one instruction at a time.
+#[derive(Drop)]
+pub struct State {
+    pub registers: RegisterFile,
+    pub memory: Storage,
+    pub place: Place,
+    /// RA, FL and the exit mode.
+    pub area: Area,
+    /// Why the machine stands, None while it runs.
+    pub halt: Option<Halt>,
+    /// Whether an address was out of range while the exit mode had bit 010000 (octal). Only an exchange
+    /// clears it.
+    pub fault: bool,
+}
+
+impl State {
+    /// A machine that was just booted: registers, P, RA, FL and mode +0, halted by a stop.
+    #[tactic(auto, unfolding(crate::specs::Replay::boot))]
+    pub fn boot(memory: Storage) -> State
+        ensures { result ≡ boot memory }
+    {
+        State {
+            registers: RegisterFile::default(),
+            memory,
+            place: Place::default(),
+            area: Area::default(),
+            halt: Some(Halt::Stop),
+            fault: false,
+        }
+    }
+
+    /// The same state once more.
+    ///
+    /// # Errors
+    /// `OutOfMemory`.
+    pub fn copy(&self) -> Result<State, Refusal>
+        ensures { MatchResult result (λ state. state ≡ self.now) (λ refusal. refusal ≡ OutOfMemory) }
+    {
+        match self.memory.copy() {
+            Ok(memory) => Ok(State {
+                registers: self.registers,
+                memory,
+                place: self.place,
+                area: self.area,
+                halt: self.halt,
+                fault: self.fault,
+            }),
+            Err(refusal) => Err(refusal),
+        }
+    }
+
+    /// The package that the exchange leaves in memory.
+    #[tactic(auto, unfolding(crate::specs::Swap::package_of))]
+    fn to_package(&self) -> Package
+        ensures { result ≡ package_of self.now }
+    {
+        Package {
+            p: self.place.p,
+            registers: self.registers,
+            area: self.area,
+            halted: self.halt.is_some(),
+            fault: self.fault,
+        }
+    }
+
+    /// The exchange jump: the registers and the sixteen words at an absolute address change places. The
+    /// new program starts at parcel 0, running, without fault.
+    ///
+    /// # Errors
+    /// `PackageRange` where the sixteen words don't lie in memory; the state is then as it was.
+    #[tactic(auto, unfolding(crate::specs::Swap::swap, crate::specs::Swap::begun))]
+    pub fn exchange(&mut self, at: u32) -> Result<(), Refusal>
+        ensures answer { MatchResult result
+            (λ _. package_fits at (length self.old.memory) ≡ true)
+            (λ refusal. (package_fits at (length self.old.memory) ≡ false) × (refusal ≡ PackageRange)) }
+        ensures after { MatchResult result (λ _. self.new ≡ swap at self.old) (λ _. self.new ≡ self.old) }
+    {
+        let outgoing = self.to_package();
+        let incoming = match Package::swap(&mut self.memory, at, &outgoing) {
+            Ok(incoming) => incoming,
+            Err(refusal) => return Err(refusal),
+        };
+        self.registers = incoming.registers;
+        self.place = Place::at(incoming.p);
+        self.area = incoming.area;
+        self.halt = None;
+        self.fault = false;
+        Ok(())
+    }
+}

@@ -1,0 +1,171 @@
+ghost use Rattle.std.specs.Prelude.{◌≡◌, ◌<◌, IfSome};
+ghost use Rattle.sequential.specs.State.{absolute};
+ghost use Rattle.instruction_table.specs.Shape.{shape_of};
+ghost use Rattle.sequential.specs.Work.{operand_at, operands, number_in, address_in, link_word, word_in, jump_for, jump_in, reference_for, fault_of};
+
+use instruction_table::{Instr, Reg, Target, operand_registers};
+use registers::RegisterFile;
+use relocation::{Access, Area, relocate};
+use unit_ops::{Operands, UnitValue};
+use word60::{Word18, Word60};
+
+/// A reference by the program's own address.
+#[derive(Clone, Copy, Debug, Drop, PartialEq, Eq)]
+pub struct ProgramReference {
+    pub address: Word18,
+    pub access: Access,
+}
+
+/// An operand, +0 where it is absent.
+#[tactic(auto, unfolding(crate::specs::Work::operand_at))]
+fn operand_at(registers: &RegisterFile, register: Option<Reg>) -> Word60
+    ensures { result ≡ operand_at registers.now register }
+{
+    match register {
+        None => Word60::default(),
+        Some(register) => registers.get(register),
+    }
+}
+
+/// What an instruction of the word at `place` computes with.
+#[tactic(auto, unfolding(crate::specs::Work::operands))]
+pub fn operands(instr: &Instr, place: Word18, registers: &RegisterFile) -> Operands
+    ensures { result ≡ operands instr.now place registers.now }
+{
+    let from = operand_registers(instr);
+    Operands {
+        first: operand_at(registers, from.first),
+        second: operand_at(registers, from.second),
+        outgoing: operand_at(registers, from.outgoing),
+        place,
+    }
+}
+
+/// An address as a word.
+fn widened(address: Word18) -> Word60
+    ensures { result ≡ address }
+{
+    Word60::from_bits(u64::from(address.get()))
+}
+
+/// The number that a value writes into registers; of a reference it is the address.
+#[tactic(auto, unfolding(crate::specs::Work::number_in))]
+pub fn number(value: &UnitValue) -> Word60
+    ensures { result ≡ number_in value.now }
+{
+    match *value {
+        UnitValue::Word(word) => word,
+        UnitValue::Index(index) => widened(index),
+        UnitValue::Load(address) => widened(address),
+        UnitValue::Store(address, _) => widened(address),
+        UnitValue::Jump(_) => Word60::default(),
+        UnitValue::Link { .. } => Word60::default(),
+    }
+}
+
+/// The address that a value refers to.
+#[tactic(auto, unfolding(crate::specs::Work::address_in))]
+fn address(value: &UnitValue) -> Word18
+    ensures { result ≡ address_in value.now }
+{
+    match *value {
+        UnitValue::Load(address) => address,
+        UnitValue::Store(address, _) => address,
+        UnitValue::Link { at, .. } => at,
+        UnitValue::Word(_) => Word18::default(),
+        UnitValue::Index(_) => Word18::default(),
+        UnitValue::Jump(_) => Word18::default(),
+    }
+}
+
+/// The link word of RJ: 0400, the return address and thirty zeros.
+#[tactic(auto, unfolding(crate::specs::Work::link_word))]
+fn link_word(back: Word18) -> Word60
+    ensures { result ≡ link_word back }
+{
+    Word60::from_bits(0o0400 * 0x1_0000_0000_0000 + u64::from(back.get()) * 0x4000_0000)
+}
+
+/// The word that a value stores.
+#[tactic(auto, unfolding(crate::specs::Work::word_in))]
+fn word(value: &UnitValue) -> Word60
+    ensures { result ≡ word_in value.now }
+{
+    match *value {
+        UnitValue::Store(_, word) => word,
+        UnitValue::Link { back, .. } => link_word(back),
+        UnitValue::Word(_) => Word60::default(),
+        UnitValue::Index(_) => Word60::default(),
+        UnitValue::Load(_) => Word60::default(),
+        UnitValue::Jump(_) => Word60::default(),
+    }
+}
+
+/// Where an instruction jumps; RJ goes on behind its link word.
+#[tactic(auto, unfolding(crate::specs::Work::jump_for, crate::specs::Work::jump_in))]
+pub fn jump(instr: &Instr, value: &UnitValue) -> Option<Word18>
+    ensures { result ≡ jump_for (shape_of instr.now) value.now }
+{
+    if !instr.is_branch() {
+        return None;
+    }
+    match *value {
+        UnitValue::Jump(to) => to,
+        UnitValue::Link { at, .. } => Some(at.next()),
+        UnitValue::Word(_) => None,
+        UnitValue::Index(_) => None,
+        UnitValue::Load(_) => None,
+        UnitValue::Store(_, _) => None,
+    }
+}
+
+/// The reference that an instruction makes.
+#[tactic(auto, unfolding(crate::specs::Work::reference_for, instruction_table::specs::Shape::shape_of))]
+pub fn reference(instr: &Instr, value: &UnitValue) -> Option<ProgramReference>
+    ensures { result ≡ reference_for (shape_of instr.now) value.now }
+{
+    let store = ProgramReference {
+        address: address(value),
+        access: Access::Store(word(value)),
+    };
+    match *instr {
+        Instr::ReturnJump { .. } => Some(store),
+        Instr::Increment {
+            target: Target::A,
+            i,
+            ..
+        } => match i.get() {
+            0 => None,
+            1..=5 => Some(ProgramReference {
+                address: address(value),
+                access: Access::Load(i),
+            }),
+            _ => Some(store),
+        },
+        _ => None,
+    }
+}
+
+impl ProgramReference {
+    /// The absolute address, None where it is out of range.
+    #[tactic(auto, unfolding(crate::specs::State::absolute))]
+    pub fn absolute(&self, area: &Area, size: u32) -> Option<u32>
+        ensures value { result ≡ absolute (record { area = area.now; size = size }) self.now.address }
+        ensures range { IfSome result (λ address. address < size) }
+    {
+        relocate(self.address, area.ra, area.fl, size)
+    }
+}
+
+/// Whether a reference sets the fault flag: it is out of range, and the exit mode has bit 010000 (octal).
+#[tactic(auto, unfolding(crate::specs::Work::fault_of, crate::specs::State::stops_at_fault))]
+pub fn faults(area: &Area, size: u32, reference: &Option<ProgramReference>) -> bool
+    ensures { result ≡ fault_of (record { area = area.now; size = size }) reference.now }
+{
+    match *reference {
+        None => false,
+        Some(reference) => {
+            (area.mode.get() >> 12) % 2 == 1 && reference.absolute(area, size).is_none()
+        }
+    }
+}
