@@ -1,5 +1,5 @@
 -- The state of the machine that does one instruction at a time, and the single changes of it.
-use Rattle.std.specs.Prelude.{ℕ, Bool, ◌||◌, ◌==◌, List, [], ◌∷◌, Option, Some, None, length, slice_index_or, slice_set}
+use Rattle.std.specs.Prelude.{ℕ, Bool, ◌||◌, ◌==◌, List, [], ◌∷◌, Option, Some, length, slice_index_or, slice_set}
 use Rattle.word60.specs.Words.{bit}
 use Rattle.instruction_table.specs.declared.instr.Reg.{Reg}
 use Rattle.instruction_table.specs.declared.instr.Reg.TheVariants.{X}

@@ -1,6 +1,8 @@
-ghost use Rattle.std.specs.Prelude.{◌≡◌, ◌<◌, ◌≤◌, ◌+◌, ◌++◌, ◌^◌, [], ◌∷◌, true, false, MatchResult, if◌then◌else◌};
+ghost use Rattle.std.specs.Prelude.{◌≡◌, ◌<◌, ◌≤◌, ◌+◌, ◌++◌, ◌^◌, [], ◌∷◌, true, false, MatchResult, if◌then◌else◌, ◌-◌, length, slice_get, Some, is_some, IfSome};
 ghost use Rattle.instruction_table.specs.declared.refusal.Refusal.TheVariants.{OutOfMemory};
-ghost use Rattle.sequential.specs.Log.{issued, steps_of};
+ghost use Rattle.sequential.specs.Log.{issued, steps_of, ends_open};
+ghost use Rattle.sequential.specs.declared.log.Entry.TheVariants.{Issued as Count};
+ghost use Rattle.std.specs.Vec.{vec_len, vec_capacity};
 ghost use Rattle.sequential.specs.Replay.{Issued, Exchanged};
 
 use instruction_table::Refusal;
@@ -14,6 +16,46 @@ pub enum Entry {
     Exchange(u32),
     /// So many instructions, one after another.
     Issued(u64),
+}
+
+/// The count that the last entry is, if it is one.
+fn last_count(entries: &[Entry]) -> Option<u64>
+    ensures open { ends_open entries.now ≡ is_some result }
+    ensures count { IfSome result (λ n. slice_get entries.now (length entries.now - 1) ≡ Some (Count n)) }
+    ensures bound { IfSome result (λ n. n ≤ issued (steps_of entries.now)) }
+{
+    match entries.last() {
+        Some(Entry::Issued(count)) => Some(*count),
+        Some(Entry::Exchange(_)) => None,
+        None => None,
+    }
+}
+
+/// Raises the count that the last entry is.
+fn raise_last(entries: &mut [Entry], count: u64)
+    requires last { slice_get entries.old (length entries.old - 1) ≡ Some (Count count) }
+    requires bound { count + 1 < 2 ^ 64 }
+    ensures steps { steps_of entries.new ≡ steps_of entries.old ++ Issued ∷ [] }
+    ensures open { ends_open entries.new ≡ true }
+    ensures len { length entries.new ≡ length entries.old }
+{
+    let place = entries.len() - 1;
+    entries[place] = Entry::Issued(count + 1);
+}
+
+/// Adds an instruction: one more to the last count, or else an entry of its own.
+fn add_one(entries: &mut Vec<Entry>)
+    requires room { ends_open entries.old.items ≡ false → vec_len entries.old < vec_capacity entries.old }
+    requires count { issued (steps_of entries.old.items) + 1 < 2 ^ 64 }
+    ensures steps { steps_of entries.new.items ≡ steps_of entries.old.items ++ Issued ∷ [] }
+    ensures open { ends_open entries.new.items ≡ true }
+    ensures len { vec_len entries.new ≡ vec_len entries.old + (if ends_open entries.old.items then 0 else 1) }
+    ensures capacity { vec_capacity entries.new ≡ vec_capacity entries.old }
+{
+    match last_count(entries.as_slice()) {
+        Some(count) => raise_last(entries.as_mut_slice(), count),
+        None => entries.push_reserved(Entry::Issued(1)),
+    }
 }
 
 /// What a machine did, in order: instructions and exchanges.
@@ -112,12 +154,7 @@ impl Log {
         ensures room { self.new.room + (if self.old.is_open then 0 else 1) ≡ self.old.room }
         ensures is_open { self.new.is_open ≡ true }
     {
+        add_one(&mut self.entries);
         self.issues += 1;
-        if let Some(Entry::Issued(count)) = self.entries.last().copied() {
-            let place = self.entries.len() - 1;
-            self.entries[place] = Entry::Issued(count + 1);
-        } else {
-            self.entries.push_reserved(Entry::Issued(1));
-        }
     }
 }

@@ -1,0 +1,143 @@
+-- The entries of a log, with one more at the end or a count raised.
+use Rattle.std.proofs.Common.{◌≡◌, ◌<◌, ◌≤◌, ◌+◌, ◌-◌, ℕ, zero, suc, true, false, List, [], ◌∷◌, ◌++◌, Some, None, length, refl, sym, ap, ◌∙◌, append_assoc, append-nil, arith}
+use Rattle.std.specs.Prelude.{replicate, slice_get, slice_set}
+use Rattle.sequential.specs.declared.log.Entry.{Entry}
+use Rattle.sequential.specs.declared.log.Entry.TheVariants.{Issued as Count, Exchange}
+use Rattle.sequential.specs.Log.{steps_of, ends_open, issued}
+use Rattle.sequential.specs.Replay.{LogStep, Issued, Exchanged}
+
+pub steps-append : (es fs : List Entry) → steps_of (es ++ fs) ≡ steps_of es ++ steps_of fs
+unfolding steps_of
+steps-append [] fs = refl
+steps-append (Count n ∷ es) fs = ap (λ l. replicate n Issued ++ l) (steps-append es fs) ∙ sym (append_assoc (replicate n Issued) (steps_of es) (steps_of fs))
+steps-append (Exchange n ∷ es) fs = ap (λ l. Exchanged n ∷ l) (steps-append es fs)
+
+pub issued-append : (xs ys : List LogStep) → issued (xs ++ ys) ≡ issued xs + issued ys
+unfolding issued
+issued-append [] ys = let e : issued ys ≡ 0 + issued ys = omega arith in e
+issued-append (Issued ∷ xs) ys = let e : issued (xs ++ ys) ≡ issued xs + issued ys = issued-append xs ys in omega (arith, e)
+issued-append (Exchanged n ∷ xs) ys = issued-append xs ys
+
+issued-replicate : (n : ℕ) → issued (replicate n Issued) ≡ n
+unfolding issued
+issued-replicate zero = refl
+issued-replicate (suc n) = ap suc (issued-replicate n)
+
+exchange_passed : (xs : List LogStep) (k n : ℕ) → n ≤ issued xs → n ≤ issued (Exchanged k ∷ xs)
+unfolding issued
+exchange_passed xs k n h = h
+
+-- a count that is the last entry is among the instructions
+pub count_within : (es : List Entry) (i n : ℕ) → slice_get es i ≡ Some (Count n) → n ≤ issued (steps_of es)
+unfolding steps_of
+count_within [] i n h = cc
+count_within (Count k ∷ es) zero n h =
+    let e : k ≡ n = cc in
+    let a = issued-append (replicate k Issued) (steps_of es) in
+    let b = issued-replicate k in
+    omega (arith, a, b, e)
+count_within (Exchange k ∷ es) zero n h = cc
+count_within (Count k ∷ es) (suc i) n h =
+    let a = issued-append (replicate k Issued) (steps_of es) in
+    let b = count_within es i n h in
+    omega (arith, a, b)
+count_within (Exchange k ∷ es) (suc i) n h = exchange_passed (steps_of es) k n (count_within es i n h)
+
+pub exchange_added : (es : List Entry) (n : ℕ) → steps_of (es ++ Exchange n ∷ []) ≡ steps_of es ++ Exchanged n ∷ []
+unfolding steps_of
+exchange_added es n = steps-append es (Exchange n ∷ [])
+
+pub count_added : (es : List Entry) → steps_of (es ++ Count 1 ∷ []) ≡ steps_of es ++ Issued ∷ []
+unfolding steps_of
+count_added es = steps-append es (Count 1 ∷ [])
+
+-- whether the last entry is a count
+pub open-push : (es : List Entry) (e : Entry) → ends_open (es ++ e ∷ []) ≡ ends_open (e ∷ [])
+unfolding ends_open
+open-push [] e = refl
+open-push (f ∷ []) e = refl
+open-push (f ∷ g ∷ es) e = open-push (g ∷ es) e
+
+pub closed_by_exchange : (es : List Entry) (n : ℕ) → ends_open (es ++ Exchange n ∷ []) ≡ false
+unfolding ends_open
+closed_by_exchange es n = open-push es (Exchange n)
+
+pub opened_by_count : (es : List Entry) (n : ℕ) → ends_open (es ++ Count n ∷ []) ≡ true
+unfolding ends_open
+opened_by_count es n = open-push es (Count n)
+
+pub issued-exchange : (es : List Entry) (n : ℕ) → issued (steps_of (es ++ Exchange n ∷ [])) ≡ issued (steps_of es)
+unfolding issued
+issued-exchange es n = ap issued (exchange_added es n) ∙ issued-append (steps_of es) (Exchanged n ∷ []) ∙ (let e : issued (steps_of es) + 0 ≡ issued (steps_of es) = omega arith in e)
+
+pub issued-more : (xs : List LogStep) → issued (xs ++ Issued ∷ []) ≡ issued xs + 1
+unfolding issued
+issued-more xs = issued-append xs (Issued ∷ [])
+
+-- ---- the last entry ----
+
+ends_at : (es : List Entry) (i : ℕ) (e : Entry) → length es ≡ suc i → slice_get es i ≡ Some e → (before : List Entry) × (es ≡ before ++ e ∷ []) × ((f : Entry) → slice_set es i f ≡ before ++ f ∷ [])
+ends_at [] i e l h = cc
+ends_at (x ∷ []) zero e l h = ([], cc, λ f. refl)
+ends_at (x ∷ y ∷ es) zero e l h = absurd (omega arith)
+ends_at (x ∷ es) (suc i) e l h =
+    let r = ends_at es i e (omega arith) h in
+    (x ∷ r.0, ap (λ k. x ∷ k) r.1, λ f. ap (λ k. x ∷ k) (r.2 f))
+
+replicate-more : (n : ℕ) → replicate n Issued ++ Issued ∷ [] ≡ replicate (suc n) Issued
+replicate-more zero = refl
+replicate-more (suc n) = ap (λ l. Issued ∷ l) (replicate-more n)
+
+one_count : (n : ℕ) → steps_of (Count (n + 1) ∷ []) ≡ steps_of (Count n ∷ []) ++ Issued ∷ []
+unfolding steps_of
+one_count n =
+    append-nil (replicate (n + 1) Issued)
+    ∙ ap (λ k. replicate k Issued) (let e : n + 1 ≡ suc n = omega arith in e)
+    ∙ sym (replicate-more n)
+    ∙ ap (λ l. l ++ Issued ∷ []) (sym (append-nil (replicate n Issued)))
+
+-- the last count, one higher
+pub raised_steps : (es : List Entry) (i n : ℕ) → length es ≡ suc i → slice_get es i ≡ Some (Count n) → steps_of (slice_set es i (Count (n + 1))) ≡ steps_of es ++ Issued ∷ []
+raised_steps es i n l h =
+    let r = ends_at es i (Count n) l h in
+    ap steps_of (r.2 (Count (n + 1)))
+    ∙ steps-append r.0 (Count (n + 1) ∷ [])
+    ∙ ap (λ k. steps_of r.0 ++ k) (one_count n)
+    ∙ sym (append_assoc (steps_of r.0) (steps_of (Count n ∷ [])) (Issued ∷ []))
+    ∙ ap (λ k. k ++ Issued ∷ []) (sym (steps-append r.0 (Count n ∷ [])) ∙ ap steps_of (sym r.1))
+
+pub raised_open : (es : List Entry) (i n : ℕ) → length es ≡ suc i → slice_get es i ≡ Some (Count n) → ends_open (slice_set es i (Count (n + 1))) ≡ true
+raised_open es i n l h =
+    let r = ends_at es i (Count n) l h in
+    ap ends_open (r.2 (Count (n + 1))) ∙ opened_by_count r.0 (n + 1)
+
+pub open_at_count : (es : List Entry) (i n : ℕ) → length es ≡ suc i → slice_get es i ≡ Some (Count n) → ends_open es ≡ true
+open_at_count es i n l h =
+    let r = ends_at es i (Count n) l h in
+    ap ends_open r.1 ∙ opened_by_count r.0 n
+
+pub closed_at_exchange : (es : List Entry) (i n : ℕ) → length es ≡ suc i → slice_get es i ≡ Some (Exchange n) → ends_open es ≡ false
+closed_at_exchange es i n l h =
+    let r = ends_at es i (Exchange n) l h in
+    ap ends_open r.1 ∙ closed_by_exchange r.0 n
+
+-- no last element
+pub none_last : (es : List Entry) → slice_get es (length es - 1) ≡ None → ends_open es ≡ false
+unfolding ends_open
+none_last [] h = refl
+none_last (e ∷ es) h = absurd (present (e ∷ es) (length es) (omega arith) (ap (slice_get (e ∷ es)) (let k : length es ≡ length (e ∷ es) - 1 = omega arith in k) ∙ h))
+  where
+    present : (xs : List Entry) (i : ℕ) → i < length xs → slice_get xs i ≡ None → ⊥
+    present [] i k h = absurd (omega arith)
+    present (x ∷ xs) zero k h = cc
+    present (x ∷ xs) (suc i) k h = present xs i (omega arith) h
+
+-- an element that was read stands in the list
+pub read_within : (es : List Entry) (i : ℕ) (e : Entry) → slice_get es i ≡ Some e → i < length es
+read_within [] i e h = cc
+read_within (x ∷ es) zero e h = omega arith
+read_within (x ∷ es) (suc i) e h = let k : i < length es = read_within es i e h in omega arith
+
+-- the last place of a list with an element there
+pub last_place : (es : List Entry) (e : Entry) → slice_get es (length es - 1) ≡ Some e → length es ≡ suc (length es - 1)
+last_place es e h = let k = read_within es (length es - 1) e h in omega (arith, k)

@@ -1,0 +1,19 @@
+use Rattle.std.proofs.Common.{sym, ap, ◌∙◌, length, ◌-◌, Some}
+use Rattle.sequential.proofs.Entries.{last_place, open_at_count, closed_at_exchange, count_within, none_last}
+use Rattle.sequential.proofs.log.last_count.Goals as goal
+
+pub returns-in-Some-Issued-clause-open : goal.returns-in-Some-Issued-clause-open
+returns-in-Some-Issued-clause-open c =
+    let e = sym c.in-Some-Issued.ensures.value ∙ ap Some c.in-Some-Issued.field-0-is in
+    open_at_count c.args.entries.now (length c.args.entries.now - 1) c.in-Some-Issued.count (last_place c.args.entries.now _ e) e
+
+pub returns-in-Some-Issued-clause-bound : goal.returns-in-Some-Issued-clause-bound
+returns-in-Some-Issued-clause-bound c = count_within c.args.entries.now (length c.args.entries.now - 1) c.in-Some-Issued.count (sym c.in-Some-Issued.ensures.value ∙ ap Some c.in-Some-Issued.field-0-is)
+
+pub returns-in-Some-Exchange-clause-open : goal.returns-in-Some-Exchange-clause-open
+returns-in-Some-Exchange-clause-open c =
+    let e = sym c.in-Some-Exchange.ensures.value ∙ ap Some c.in-Some-Exchange.field-0-is in
+    closed_at_exchange c.args.entries.now (length c.args.entries.now - 1) _ (last_place c.args.entries.now _ e) e
+
+pub returns-in-None-clause-open : goal.returns-in-None-clause-open
+returns-in-None-clause-open c = none_last c.args.entries.now (sym c.in-None.ensures.value)
