@@ -1,38 +1,37 @@
 -- One issued instruction: what it has still to write and to read, and what it holds.
-use Rattle.std.specs.Prelude.{ℕ, Bool, true, false, not, ◌&&◌, List, [], ◌∷◌}
+use Rattle.std.specs.Prelude.{ℕ, Bool, true, false, not, ◌&&◌, List, [], ◌∷◌, Option, Some, None}
 use Rattle.instruction_table.specs.declared.instr.Reg.{Reg}
 use Rattle.instruction_table.specs.declared.instr.Reg.TheVariants.{X}
 use Rattle.instruction_table.specs.declared.instr.Unit.{Unit}
 use Rattle.instruction_table.specs.Shape.{Shape, shape_of, results, is_branch_shape, has_reference, has_store}
 use Rattle.instruction_table.specs.Table.{sources_of}
 use Rattle.scoreboard.specs.declared.row.Progress.{Progress}
-use Rattle.scoreboard.specs.declared.row.Progress.TheVariants.{Waiting, Read, Returning, Storing}
+use Rattle.scoreboard.specs.declared.row.Progress.TheVariants.{Reserved, Left}
 use Rattle.scoreboard.specs.declared.row.Row.{Row}
 use Rattle.instruction_table.specs.RegisterLists.{is_in}
 use Rattle.scoreboard.specs.Units.{same_unit}
 
 -- it holds its unit
 unfoldable pub is_reserved : Progress → Bool
-is_reserved Waiting = true
-is_reserved Read = true
-is_reserved (Returning n) = false
-is_reserved Storing = false
+is_reserved (Reserved has_read) = true
+is_reserved (Left returning) = false
+
+unfoldable pub returning_to : Option ℕ → List Reg
+returning_to None = []
+returning_to (Some n) = X n ∷ []
 
 unfoldable pub to_come_in : Shape → Progress → List Reg
-to_come_in shape Waiting = results shape
-to_come_in shape Read = results shape
-to_come_in shape (Returning n) = X n ∷ []
-to_come_in shape Storing = []
+to_come_in shape (Reserved has_read) = results shape
+to_come_in shape (Left returning) = returning_to returning
 
 -- its results still to come
 unfoldable pub to_come : Row → List Reg
 to_come row = to_come_in (shape_of row.instr) row.progress
 
 unfoldable pub reads_in : List Reg → Progress → List Reg
-reads_in sources Waiting = sources
-reads_in sources Read = []
-reads_in sources (Returning n) = []
-reads_in sources Storing = []
+reads_in sources (Reserved false) = sources
+reads_in sources (Reserved true) = []
+reads_in sources (Left returning) = []
 
 -- the sources that it has still to read
 unfoldable pub reads : Row → List Reg

@@ -1,5 +1,5 @@
 ghost use Rattle.std.specs.Prelude.{◌≡◌, [], ◌∷◌};
-ghost use Rattle.scoreboard.specs.Rows.{to_come, reads, comes, reads_it, holds, is_branch, has_turn, has_store_turn, is_reserved};
+ghost use Rattle.scoreboard.specs.Rows.{returning_to, to_come, reads, comes, reads_it, holds, is_branch, has_turn, has_store_turn, is_reserved};
 ghost use Rattle.instruction_table.specs.Table.{reg_eq};
 ghost use Rattle.instruction_table.specs.RegisterLists.{is_in};
 
@@ -10,14 +10,16 @@ use instruction_table::{Digit, Instr, Reg, Unit, results, sources};
 /// How far the scoreboard has seen an issued instruction come.
 #[derive(Clone, Copy, Debug, Drop, PartialEq, Eq)]
 pub enum Progress {
-    /// It holds its unit and has still to read its operands.
-    Waiting,
-    /// It holds its unit and has read its operands.
-    Read,
-    /// It has left its unit, and its load has still to return to the X register of this number.
-    Returning(Digit),
-    /// It has left its unit, and nothing but its store to memory is to come.
-    Storing,
+    /// It holds its unit.
+    Reserved {
+        /// Whether it has read its operands.
+        has_read: bool,
+    },
+    /// It has come to its store event and left its unit.
+    Left {
+        /// The number of the X register to which its load has still to return.
+        returning: Option<Digit>,
+    },
 }
 
 /// An issued instruction as the scoreboard sees it.
@@ -35,12 +37,15 @@ fn is_same(register: &Reg, other: &Reg) -> bool
     register == other
 }
 
-/// A list of one register.
-fn single(register: Reg) -> ArrayVec<Reg, 2>
-    ensures { result.items ≡ register ∷ [] }
+/// The X register of this number, if there is one.
+#[tactic(auto, unfolding(crate::specs::Rows::returning_to))]
+fn returning_to(number: Option<Digit>) -> ArrayVec<Reg, 2>
+    ensures { result.items ≡ returning_to number }
 {
     let mut registers = ArrayVec::new();
-    registers.push(register);
+    if let Some(number) = number {
+        registers.push(Reg::X(number));
+    }
     registers
 }
 
@@ -59,8 +64,8 @@ impl Row {
         ensures { result ≡ is_reserved self.now.progress }
     {
         match self.progress {
-            Progress::Waiting | Progress::Read => true,
-            Progress::Returning(_) | Progress::Storing => false,
+            Progress::Reserved { .. } => true,
+            Progress::Left { .. } => false,
         }
     }
 
@@ -70,9 +75,8 @@ impl Row {
         ensures { result.items ≡ to_come self.now }
     {
         match self.progress {
-            Progress::Waiting | Progress::Read => results(&self.instr),
-            Progress::Returning(n) => single(Reg::X(n)),
-            Progress::Storing => ArrayVec::new(),
+            Progress::Reserved { .. } => results(&self.instr),
+            Progress::Left { returning } => returning_to(returning),
         }
     }
 
@@ -82,8 +86,9 @@ impl Row {
         ensures { result.items ≡ reads self.now }
     {
         match self.progress {
-            Progress::Waiting => sources(&self.instr),
-            Progress::Read | Progress::Returning(_) | Progress::Storing => ArrayVec::new(),
+            Progress::Reserved { has_read: false } => sources(&self.instr),
+            Progress::Reserved { has_read: true } => ArrayVec::new(),
+            Progress::Left { .. } => ArrayVec::new(),
         }
     }
 

@@ -1,0 +1,13 @@
+pub mod Phases
+pub mod Lists
+pub mod RegisterLaws
+pub mod Effects
+pub mod Members
+pub mod Completing
+pub mod Finding
+pub mod Moves
+pub mod Apart
+pub mod Events
+pub mod Issuing
+pub mod Theorem
+pub mod Headline

@@ -1,0 +1,56 @@
+-- Sixteen seats, of which each pending instruction has one of its own: seven units, four places of the
+-- hopper and five channels.
+use Rattle.std.specs.Prelude.{◌≡◌, ◌≢◌, ◌<◌, ◌+◌, ℕ, true, List, is_some}
+use Rattle.instruction_table.specs.declared.instr.Unit.{Unit as FunctionalUnit}
+use Rattle.instruction_table.specs.declared.instr.Unit.TheVariants.{Branch, Boolean, Shift, Add, LongAdd, Multiply1, Multiply2, Divide, Increment1, Increment2}
+use Rattle.instruction_table.specs.Table.{row}
+use Rattle.relocation.specs.declared.area.Access.{Access}
+use Rattle.relocation.specs.declared.area.Access.TheVariants.{Load, Store}
+use Rattle.machine.specs.declared.member.Later.TheVariants.{Entered, Accepted}
+use Rattle.machine.specs.declared.member.Phase.{Phase}
+use Rattle.machine.specs.declared.member.Phase.TheVariants.{Before, After}
+use Rattle.machine.specs.declared.member.Member.{Member}
+use Rattle.machine.specs.Each.{Each, Pairs}
+
+-- the units in use have the seats 0 to 6; the others have none
+unfoldable pub unit_seat : FunctionalUnit → ℕ
+unit_seat Branch = 0
+unit_seat Boolean = 1
+unit_seat Shift = 2
+unit_seat LongAdd = 3
+unit_seat Divide = 4
+unit_seat Increment1 = 5
+unit_seat Increment2 = 6
+unit_seat Add = 16
+unit_seat Multiply1 = 16
+unit_seat Multiply2 = 16
+
+-- places have the seats 7 to 10, channels 11 to 15
+unfoldable pub seat_in : FunctionalUnit → Phase → ℕ
+seat_in unit (Before t) = unit_seat unit
+seat_in unit (After (Entered place a access)) = 7 + place
+seat_in unit (After (Accepted n word)) = 10 + n
+
+unfoldable pub seat_of : Member → ℕ
+seat_of m = seat_in m.unit m.phase
+
+abbrev pub IsChannel : ℕ → Type 0
+IsChannel n = (0 < n) × (n < 6)
+
+abbrev pub IsLoadable : Access → Type 0
+IsLoadable (Load n) = IsChannel n
+IsLoadable (Store word) = Unit {0}
+
+-- its unit is in use, its place one of the four and its address in memory, or its channel one of the five
+abbrev pub IsPlaced : ℕ → FunctionalUnit → Phase → Type 0
+IsPlaced size unit (Before t) = unit_seat unit < 7
+IsPlaced size unit (After (Entered place a access)) = (place < 4) × (a < size) × IsLoadable access
+IsPlaced size unit (After (Accepted n word)) = IsChannel n
+
+pub record IsProper (size : ℕ) (m : Member) : Type 0 where
+  pub has_unit : is_some (row m.instr).unit ≡ true
+  pub placed : IsPlaced size m.unit m.phase
+
+pub record IsSeated (size : ℕ) (ms : List Member) : Type 0 where
+  pub apart : Pairs (λ a b. seat_of a ≢ seat_of b) ms
+  pub proper : Each (IsProper size) ms
