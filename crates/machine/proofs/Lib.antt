@@ -11,3 +11,10 @@ pub mod Events
 pub mod Issuing
 pub mod Theorem
 pub mod Headline
+pub mod Pigeons
+pub mod Seating
+pub mod Seated
+pub mod Places
+pub mod Steps
+pub mod Making
+pub mod There

@@ -5,3 +5,6 @@ pub mod Sound
 pub mod Seats
 pub mod Run
 pub mod Headline
+pub mod Spots
+pub mod View
+pub mod Changes

@@ -1,6 +1,6 @@
 -- Sixteen seats, of which each pending instruction has one of its own: seven units, four places of the
 -- hopper and five channels.
-use Rattle.std.specs.Prelude.{◌≡◌, ◌≢◌, ◌<◌, ◌+◌, ℕ, true, List, is_some}
+use Rattle.std.specs.Prelude.{◌≡◌, ◌<◌, ◌+◌, ◌==◌, ℕ, Bool, true, false, List, is_some}
 use Rattle.instruction_table.specs.declared.instr.Unit.{Unit as FunctionalUnit}
 use Rattle.instruction_table.specs.declared.instr.Unit.TheVariants.{Branch, Boolean, Shift, Add, LongAdd, Multiply1, Multiply2, Divide, Increment1, Increment2}
 use Rattle.instruction_table.specs.Table.{row}
@@ -34,6 +34,19 @@ seat_in unit (After (Accepted n word)) = 10 + n
 unfoldable pub seat_of : Member → ℕ
 seat_of m = seat_in m.unit m.phase
 
+unfoldable pub clash_in : FunctionalUnit → Phase → FunctionalUnit → Phase → Bool
+clash_in u (Before t) v (Before s) = unit_seat u == unit_seat v
+clash_in u (Before t) v (After l) = false
+clash_in u (After l) v (Before t) = false
+clash_in u (After (Entered p a x)) v (After (Entered q b y)) = p == q
+clash_in u (After (Entered p a x)) v (After (Accepted n w)) = false
+clash_in u (After (Accepted m w)) v (After (Entered q b y)) = false
+clash_in u (After (Accepted m w)) v (After (Accepted n x)) = false
+
+-- two hold one unit, or stand in one place
+unfoldable pub clash : Member → Member → Bool
+clash m n = clash_in m.unit m.phase n.unit n.phase
+
 abbrev pub IsChannel : ℕ → Type 0
 IsChannel n = (0 < n) × (n < 6)
 
@@ -52,5 +65,5 @@ pub record IsProper (size : ℕ) (m : Member) : Type 0 where
   pub placed : IsPlaced size m.unit m.phase
 
 pub record IsSeated (size : ℕ) (ms : List Member) : Type 0 where
-  pub apart : Pairs (λ a b. seat_of a ≢ seat_of b) ms
+  pub apart : Pairs (λ m n. clash m n ≡ false) ms
   pub proper : Each (IsProper size) ms

@@ -2,6 +2,11 @@ ghost use Rattle.std.specs.Prelude.{ℕ, List, Result};
 ghost use Rattle.instruction_table.specs.declared.refusal.Refusal.{Refusal};
 ghost use Rattle.machine.specs.declared.event.Event.{Event as SomeEvent};
 ghost use Rattle.machine.specs.declared.event.Done.{Done as SomeDone};
+ghost use Rattle.std.specs.Prelude.{◌≤◌, length};
+ghost use Rattle.machine.specs.declared.member.Member.{Member as SomeMember};
+ghost use Rattle.machine.specs.Each.{Pairs};
+ghost use Rattle.machine.specs.Sound.{IsApart};
+ghost use Rattle.machine.specs.Seats.{IsSeated};
 ghost use Rattle.machine.specs.Headline.{IsFaithful};
 ghost use Rattle.machine.specs.Run.{IsAnswered};
 ghost use Rattle.machine.specs.Whole.{boot_whole};
@@ -11,4 +16,9 @@ ghost use Rattle.machine.specs.Whole.{boot_whole};
 pub fn every_run_is_faithful()
     ensures { (memory : List ℕ) → (budget : ℕ) → (events : List SomeEvent) → (answers : List (Result SomeDone Refusal))
         → IsAnswered (boot_whole memory budget) events answers → IsFaithful memory budget events answers }
+{}
+
+/// There is room for sixteen.
+fn seats()
+    ensures { (size : ℕ) → (ms : List SomeMember) → IsSeated size ms → Pairs IsApart ms → length ms ≤ 16 }
 {}

@@ -1,6 +1,6 @@
 -- The three orders of conflict, and the turn of references, over a list of issued instructions in issue
 -- order. What stands in the list may be more than a row: `row_of` gives the row of each.
-use Rattle.std.specs.Prelude.{Bool, is_none, if◌then◌else◌, List, [], ◌∷◌, Option, Some, None}
+use Rattle.std.specs.Prelude.{ℕ, Bool, is_none, if◌then◌else◌, List, [], ◌∷◌, Option, Some, None, find, unwrap_or}
 use Rattle.std.specs.List.{list_any}
 use Rattle.instruction_table.specs.declared.instr.Reg.{Reg}
 use Rattle.instruction_table.specs.declared.instr.Reg.TheVariants.{B}
@@ -31,9 +31,8 @@ unfoldable pub free_unit : {M : Type 0} → (M → Row) → List M → UnitKind 
 free_unit row_of issued kind = first_free (is_held row_of issued) (units_of kind)
 
 -- the first of the registers that passes a test, B0 if none does
-unfoldable pub first_such : (Reg → Bool) → List Reg → Reg
-first_such test [] = B 0
-first_such test (r ∷ rs) = if test r then r else first_such test rs
+abbrev pub first_such : (Reg → Bool) → List Reg → Reg
+first_such test registers = unwrap_or (find test registers) (B 0)
 
 -- First order, in two parts: no unit of the kind is free; a result register is a result still to come of
 -- some instruction

@@ -1,0 +1,245 @@
+ghost use Rattle.std.specs.Prelude.{◌≡◌, ◌≤◌, ◌<◌, true, false, not, MatchResult, if◌then◌else◌};
+ghost use Rattle.instruction_table.specs.declared.refusal.Refusal.TheVariants.{OutOfMemory};
+ghost use Rattle.machine.specs.declared.event.Event.TheVariants.{Issue, Read, Finish, Store, Accept, Return, BankFree, Ask, Exchange};
+ghost use Rattle.machine.specs.Run.{IsAnswer, answer_of, settled};
+ghost use Rattle.machine.specs.Whole.{boot_whole, is_pending};
+
+use crate::changing::{fault_after, halt_after, join, newcomer, note_of, number_after, perform, place_after, put_rest, replace, rest_of, set_busy, write_registers};
+use crate::choosing::{is_pending, place_for};
+use crate::judging::{judge_accept, judge_ask, judge_exchange, judge_finish, judge_free, judge_issue, judge_read, judge_return, judge_store};
+use crate::{Answer, Done, Event, Member, Phase, Stage};
+use arrayvec::ArrayVec;
+use hopper::bank_of;
+use instruction_table::{Reg, Refusal, Unit};
+use relocation::Storage;
+use sequential::{Log, State, jump, number, operands, reference};
+use std::alloc::Global;
+use std::marker::Model;
+use unit_ops::value;
+
+/// The most instructions that a machine may be given to issue.
+pub const MOST_ISSUES: u64 = 10_000_000;
+
+/// The central processor, its memory and its log.
+#[derive(Drop)]
+pub struct Machine {
+    state: State,
+    pending: ArrayVec<Member, 16>,
+    busy: [bool; 32],
+    request: Option<u32>,
+    log: Log,
+    budget: u64,
+    asked: u32,
+    last: u64,
+    boot_memory: Storage,
+}
+
+impl Model for Machine {
+    ghost use Rattle.machine.specs.Whole.{Whole};
+
+    ghost Value = { Whole };
+
+    ghost use Rattle.machine.specs.View.{whole_of, IsKept};
+
+    ghost view = { λ m. whole_of m.state m.pending.items m.busy m.request m.log m.budget m.asked m.last m.boot_memory };
+
+    ghost invariant = { λ m. IsKept (whole_of m.state m.pending.items m.busy m.request m.log m.budget m.asked m.last m.boot_memory) m.log };
+}
+
+impl Machine {
+    /// A machine that was just booted with a memory: registers, P, RA, FL and mode +0, halted by a stop,
+    /// so that the first event that does something is a request for an exchange. At most `budget`
+    /// instructions will be issued.
+    ///
+    /// # Errors
+    /// `OutOfMemory`.
+    pub fn boot(alloc: Global, memory: Storage, budget: u64) -> Result<Machine, Refusal>
+        requires { budget ≤ 10000000 }
+        ensures { MatchResult result (λ machine. machine ≡ boot_whole memory budget) (λ refusal. refusal ≡ OutOfMemory) }
+    {
+        let boot_memory = match memory.copy() {
+            Ok(copy) => copy,
+            Err(refusal) => return Err(refusal),
+        };
+        let mut log = Log::new(alloc);
+        if let Err(refusal) = log.reserve(1) {
+            return Err(refusal);
+        }
+        Ok(Machine {
+            state: State::boot(memory),
+            pending: ArrayVec::new(),
+            busy: [false; 32],
+            request: None,
+            log,
+            budget,
+            asked: 0,
+            last: 0,
+            boot_memory,
+        })
+    }
+
+    /// The next instruction is issued.
+    fn issue(&mut self) -> Answer
+        ensures answer { result ≡ answer_of self.old Issue }
+        ensures after { self.new ≡ settled self.old Issue result }
+    {
+        let judged = judge_issue(
+            &self.state,
+            self.pending.as_slice(),
+            &self.request,
+            self.budget,
+            self.log.issues(),
+        );
+        let fetched = match judged {
+            Ok(fetched) => fetched,
+            Err(refusal) => return Err(refusal),
+        };
+        let member = newcomer(self.pending.as_slice(), self.state.place.p, self.last, &fetched);
+        self.state.place = place_after(&fetched);
+        self.state.halt = halt_after(self.state.halt, &fetched);
+        self.last = number_after(self.last, &member);
+        join(&mut self.pending, &member);
+        self.log.issued();
+        Ok(Done::Issued(note_of(&member)))
+    }
+
+    /// A unit reads its operands, all in this step.
+    fn read(&mut self, unit: Unit) -> Answer
+        ensures answer { result ≡ answer_of self.old (Read unit) }
+        ensures after { self.new ≡ settled self.old (Read unit) result }
+    {
+        let spot = match judge_read(self.pending.as_slice(), unit) {
+            Ok(spot) => spot,
+            Err(refusal) => return Err(refusal),
+        };
+        let operands = operands(&spot.member.instr, spot.member.at, &self.state.registers);
+        let member = Member {
+            phase: Phase::Before(Stage::Read(operands)),
+            ..spot.member
+        };
+        replace(&mut self.pending, spot.index, member);
+        Ok(Done::Made)
+    }
+
+    /// A unit has its value.
+    fn finish(&mut self, unit: Unit) -> Answer
+        ensures answer { result ≡ answer_of self.old (Finish unit) }
+        ensures after { self.new ≡ settled self.old (Finish unit) result }
+    {
+        let (spot, operands) = match judge_finish(self.pending.as_slice(), unit) {
+            Ok(found) => found,
+            Err(refusal) => return Err(refusal),
+        };
+        let value = value(&spot.member.instr, &operands);
+        let member = Member {
+            phase: Phase::Before(Stage::Finished(value)),
+            ..spot.member
+        };
+        replace(&mut self.pending, spot.index, member);
+        Ok(Done::Made)
+    }
+
+    /// A unit stores its result, jumps or makes its reference, and is released.
+    fn store(&mut self, unit: Unit) -> Answer
+        ensures answer { result ≡ answer_of self.old (Store unit) }
+        ensures after { self.new ≡ settled self.old (Store unit) result }
+    {
+        let area = self.state.area;
+        let size = self.state.memory.size();
+        let (spot, value) = match judge_store(&area, size, self.pending.as_slice(), unit) {
+            Ok(found) => found,
+            Err(refusal) => return Err(refusal),
+        };
+        let member = spot.member;
+        let instr = member.instr;
+        let reference = reference(&instr, &value);
+        let place = place_for(self.pending.as_slice()).unwrap_or(0);
+        let left = rest_of(&area, size, place, &reference);
+        let written = instr.puts();
+        let mut registers = self.state.registers;
+        write_registers(&mut registers, written.as_slice(), number(&value));
+        self.state.registers = registers;
+        self.state.place = self.state.place.after_jump(jump(&instr, &value));
+        self.state.fault = fault_after(self.state.fault, &area, size, &reference);
+        put_rest(&mut self.pending, spot.index, member, left);
+        Ok(Done::Made)
+    }
+
+    /// Memory takes the reference in a place of the hopper, and its bank is busy.
+    fn accept(&mut self, place: u8) -> Answer
+        ensures answer { result ≡ answer_of self.old (Accept place) }
+        ensures after { self.new ≡ settled self.old (Accept place) result }
+    {
+        let spot = match judge_accept(&self.busy, self.pending.as_slice(), place) {
+            Ok(spot) => spot,
+            Err(refusal) => return Err(refusal),
+        };
+        let left = perform(&mut self.state.memory, &spot.what);
+        put_rest(&mut self.pending, spot.index, spot.member, left);
+        set_busy(&mut self.busy, bank_of(spot.what.a), true);
+        Ok(Done::Made)
+    }
+
+    /// The load in a channel writes its register.
+    fn return_load(&mut self, channel: u8) -> Answer
+        ensures answer { result ≡ answer_of self.old (Return channel) }
+        ensures after { self.new ≡ settled self.old (Return channel) result }
+    {
+        let spot = match judge_return(self.pending.as_slice(), channel) {
+            Ok(spot) => spot,
+            Err(refusal) => return Err(refusal),
+        };
+        let arrival = spot.what;
+        self.state.registers.set(Reg::X(arrival.channel), arrival.word);
+        put_rest(&mut self.pending, spot.index, spot.member, None);
+        Ok(Done::Made)
+    }
+
+    /// A bank is free again.
+    fn bank_free(&mut self, bank: u8) -> Answer
+        ensures answer { result ≡ answer_of self.old (BankFree bank) }
+        ensures after { self.new ≡ settled self.old (BankFree bank) result }
+    {
+        if let Err(refusal) = judge_free(&self.busy, bank) {
+            return Err(refusal);
+        }
+        set_busy(&mut self.busy, bank, false);
+        Ok(Done::Made)
+    }
+
+    /// An exchange is asked for. Room is made in the log for three entries, so that no other event takes
+    /// memory.
+    fn ask(&mut self, at: u32) -> Answer
+        ensures answer { IsAnswer self.old (Ask at) result }
+        ensures after { self.new ≡ settled self.old (Ask at) result }
+    {
+        let size = self.state.memory.size();
+        if let Err(refusal) = judge_ask(self.asked, &self.request, size, at) {
+            return Err(refusal);
+        }
+        if let Err(refusal) = self.log.reserve(3) {
+            return Err(refusal);
+        }
+        self.request = Some(at);
+        self.asked += 1;
+        Ok(Done::Made)
+    }
+
+    /// The exchange that was asked for is made.
+    fn exchange(&mut self) -> Answer
+        ensures answer { result ≡ answer_of self.old Exchange }
+        ensures after { self.new ≡ settled self.old Exchange result }
+    {
+        let judged = judge_exchange(&self.request, self.pending.as_slice(), &self.state);
+        let at = match judged {
+            Ok(at) => at,
+            Err(refusal) => return Err(refusal),
+        };
+        if let Err(refusal) = self.state.exchange(at) {
+            return Err(refusal);
+        }
+        self.log.exchanged(at);
+        self.request = None;
+        Ok(Done::Made)
+    }
+}
