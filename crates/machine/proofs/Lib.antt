@@ -18,3 +18,4 @@ pub mod Places
 pub mod Steps
 pub mod Making
 pub mod There
+pub mod Runs

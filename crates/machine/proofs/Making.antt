@@ -51,11 +51,12 @@ use Rattle.machine.proofs.Seated.{IsSeatedWhole, event_seated}
 use Rattle.std.proofs.Common.{length-append}
 use Rattle.machine.proofs.Seating.{seated_bound}
 use Rattle.sequential.proofs.Entries.{issued-append, issued-more}
-use Rattle.sequential.specs.Replay.{boot}
+use Rattle.sequential.specs.Replay.{boot, replay}
+use Rattle.machine.specs.Whole.{is_pending}
 use Rattle.machine.specs.View.{whole_of}
 use Rattle.machine.specs.Whole.{boot_whole}
 use Rattle.std.specs.Prelude.{replicate}
-use Rattle.machine.proofs.Theorem.{IsRight, event_kept, boot_right}
+use Rattle.machine.proofs.Theorem.{IsRight, event_kept, boot_right, drained_replay, not_pending}
 
 -- ---- what stays right ----
 
@@ -373,3 +374,13 @@ pub boot_kept : (w : Whole) (memory : List ℕ) (budget : ℕ) (log : Logged) �
 boot_kept w memory budget log e r h n l =
     let k : IsRight w = subst IsRight (sym e) (boot_right memory budget) in
     record { sound = k.0; replay = k.1; seated = seated_none w memory budget e; room = subst (λ q. owed log.is_open q ≤ log.room) (sym r) (owed_none log.is_open log.room h); numbered = omega (arith, n); limit = l }
+
+-- ---- a snapshot ----
+
+-- a drained whole's state is the replay of its log, and so are copies of them
+pub snap_replay : (w : Whole) (log : Logged) (s : State) (steps : List LogStep) (memory : List ℕ) → IsKept w log → is_pending w.pending ≡ false → s ≡ w.state → steps ≡ w.log → memory ≡ w.boot_memory → replay (boot memory) steps ≡ Some s
+snap_replay w log s steps memory k p es el em =
+    ap (λ m. replay (boot m) steps) em
+    ∙ ap (replay (boot w.boot_memory)) el
+    ∙ drained_replay w (k.sound, k.replay) (not_pending w.pending p)
+    ∙ ap Some (sym es)

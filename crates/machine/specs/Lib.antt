@@ -6,5 +6,7 @@ pub mod Seats
 pub mod Run
 pub mod Headline
 pub mod Spots
+pub mod Working
+pub mod Snapped
 pub mod View
 pub mod Changes

@@ -9,8 +9,11 @@ mod judging;
 mod law;
 mod member;
 mod processor;
+mod running;
+mod snapshot;
 
 pub use event::{Answer, Done, Event, Note};
 pub use law::every_run_is_faithful;
 pub use member::{Arrival, Entry, Later, Member, Phase, Stage};
 pub use processor::{MOST_ISSUES, Machine};
+pub use snapshot::Snapshot;

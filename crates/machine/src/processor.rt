@@ -7,7 +7,7 @@ ghost use Rattle.machine.specs.Whole.{boot_whole, is_pending};
 use crate::changing::{fault_after, halt_after, join, newcomer, note_of, number_after, perform, place_after, put_rest, replace, rest_of, set_busy, write_registers};
 use crate::choosing::{is_pending, place_for};
 use crate::judging::{judge_accept, judge_ask, judge_exchange, judge_finish, judge_free, judge_issue, judge_read, judge_return, judge_store};
-use crate::{Answer, Done, Event, Member, Phase, Stage};
+use crate::{Answer, Done, Member, Phase, Snapshot, Stage};
 use arrayvec::ArrayVec;
 use hopper::bank_of;
 use instruction_table::{Reg, Refusal, Unit};
@@ -79,7 +79,7 @@ impl Machine {
     }
 
     /// The next instruction is issued.
-    fn issue(&mut self) -> Answer
+    pub(crate) fn issue(&mut self) -> Answer
         ensures answer { result ≡ answer_of self.old Issue }
         ensures after { self.new ≡ settled self.old Issue result }
     {
@@ -104,7 +104,7 @@ impl Machine {
     }
 
     /// A unit reads its operands, all in this step.
-    fn read(&mut self, unit: Unit) -> Answer
+    pub(crate) fn read(&mut self, unit: Unit) -> Answer
         ensures answer { result ≡ answer_of self.old (Read unit) }
         ensures after { self.new ≡ settled self.old (Read unit) result }
     {
@@ -122,7 +122,7 @@ impl Machine {
     }
 
     /// A unit has its value.
-    fn finish(&mut self, unit: Unit) -> Answer
+    pub(crate) fn finish(&mut self, unit: Unit) -> Answer
         ensures answer { result ≡ answer_of self.old (Finish unit) }
         ensures after { self.new ≡ settled self.old (Finish unit) result }
     {
@@ -140,7 +140,7 @@ impl Machine {
     }
 
     /// A unit stores its result, jumps or makes its reference, and is released.
-    fn store(&mut self, unit: Unit) -> Answer
+    pub(crate) fn store(&mut self, unit: Unit) -> Answer
         ensures answer { result ≡ answer_of self.old (Store unit) }
         ensures after { self.new ≡ settled self.old (Store unit) result }
     {
@@ -166,7 +166,7 @@ impl Machine {
     }
 
     /// Memory takes the reference in a place of the hopper, and its bank is busy.
-    fn accept(&mut self, place: u8) -> Answer
+    pub(crate) fn accept(&mut self, place: u8) -> Answer
         ensures answer { result ≡ answer_of self.old (Accept place) }
         ensures after { self.new ≡ settled self.old (Accept place) result }
     {
@@ -181,7 +181,7 @@ impl Machine {
     }
 
     /// The load in a channel writes its register.
-    fn return_load(&mut self, channel: u8) -> Answer
+    pub(crate) fn return_load(&mut self, channel: u8) -> Answer
         ensures answer { result ≡ answer_of self.old (Return channel) }
         ensures after { self.new ≡ settled self.old (Return channel) result }
     {
@@ -196,7 +196,7 @@ impl Machine {
     }
 
     /// A bank is free again.
-    fn bank_free(&mut self, bank: u8) -> Answer
+    pub(crate) fn bank_free(&mut self, bank: u8) -> Answer
         ensures answer { result ≡ answer_of self.old (BankFree bank) }
         ensures after { self.new ≡ settled self.old (BankFree bank) result }
     {
@@ -209,7 +209,7 @@ impl Machine {
 
     /// An exchange is asked for. Room is made in the log for three entries, so that no other event takes
     /// memory.
-    fn ask(&mut self, at: u32) -> Answer
+    pub(crate) fn ask(&mut self, at: u32) -> Answer
         ensures answer { IsAnswer self.old (Ask at) result }
         ensures after { self.new ≡ settled self.old (Ask at) result }
     {
@@ -226,7 +226,7 @@ impl Machine {
     }
 
     /// The exchange that was asked for is made.
-    fn exchange(&mut self) -> Answer
+    pub(crate) fn exchange(&mut self) -> Answer
         ensures answer { result ≡ answer_of self.old Exchange }
         ensures after { self.new ≡ settled self.old Exchange result }
     {
@@ -241,5 +241,48 @@ impl Machine {
         self.log.exchanged(at);
         self.request = None;
         Ok(Done::Made)
+    }
+
+    /// The pending instructions in issue order.
+    pub(crate) fn pending(&self) -> &[Member]
+        ensures { result.now ≡ self.now.pending }
+    {
+        self.pending.as_slice()
+    }
+
+    /// The busy banks.
+    pub(crate) fn busy(&self) -> &[bool]
+        ensures { result.now ≡ self.now.busy }
+    {
+        &self.busy
+    }
+
+    /// What was issued and exchanged since boot.
+    pub fn log(&self) -> &Log
+        ensures { result.now.steps ≡ self.now.log }
+    {
+        &self.log
+    }
+
+    /// Copies of the state, the log and the boot memory of a machine with nothing pending.
+    pub(crate) fn snap(&self) -> Result<Snapshot, Refusal>
+        requires { is_pending self.now.pending ≡ false }
+        ensures { MatchResult result
+            (λ snapshot. (snapshot.state ≡ self.now.state) × (snapshot.log ≡ self.now.log) × (snapshot.boot_memory ≡ self.now.boot_memory))
+            (λ refusal. refusal ≡ OutOfMemory) }
+    {
+        let state = match self.state.copy() {
+            Ok(state) => state,
+            Err(refusal) => return Err(refusal),
+        };
+        let log = match self.log.copy() {
+            Ok(log) => log,
+            Err(refusal) => return Err(refusal),
+        };
+        let boot_memory = match self.boot_memory.copy() {
+            Ok(memory) => memory,
+            Err(refusal) => return Err(refusal),
+        };
+        Ok(Snapshot::of(state, log, boot_memory))
     }
 }
