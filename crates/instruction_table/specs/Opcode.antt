@@ -5,16 +5,18 @@ use Rattle.instruction_table.specs.declared.instr.Op.TheVariants.{Plain, Extende
 use Rattle.instruction_table.specs.declared.instr.Instr.{Instr}
 use Rattle.instruction_table.specs.Table.{parcels_of}
 
--- the digits f and m, and behind 01 and 03 the digit i
+-- the digits f and m of a parcel, and after 01 and 03 the digit i
 abbrev pub op_at : ℕ → Op
 op_at parcel =
     if (parcel / 2 ^ 9 == 1) || (parcel / 2 ^ 9 == 3)
     then Extended (parcel / 2 ^ 12) (parcel / 2 ^ 9 % 8) (parcel / 2 ^ 6 % 8)
     else Plain (parcel / 2 ^ 12) (parcel / 2 ^ 9 % 8)
 
+-- the first of an instruction's parcels
 abbrev pub first_parcel : List ℕ → ℕ
 first_parcel [] = 0
 first_parcel (p ∷ ps) = p
 
+-- the code of an instruction
 unfoldable pub op_of : Instr → Op
 op_of instr = op_at (first_parcel (parcels_of instr))

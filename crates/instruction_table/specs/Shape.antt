@@ -19,6 +19,7 @@ pub data Shape : Type 0 where
   -- RJ: stores its link word and jumps
   Links : Shape
 
+-- what an instruction does, by its target and register number alone
 unfoldable pub shape_of : Instr → Shape
 shape_of (ReturnJump K) = Links
 shape_of (Jump i K) = Jumps
@@ -48,6 +49,7 @@ loads_of Links = []
 unfoldable pub results : Shape → List Reg
 results shape = puts_of shape ++ loads_of shape
 
+-- it jumps or may jump
 unfoldable pub is_branch_shape : Shape → Bool
 is_branch_shape (Puts rs) = false
 is_branch_shape (Loads n) = false
@@ -55,6 +57,7 @@ is_branch_shape (Stores n) = false
 is_branch_shape Jumps = true
 is_branch_shape Links = true
 
+-- it reads or writes a word of memory
 unfoldable pub has_reference : Shape → Bool
 has_reference (Puts rs) = false
 has_reference (Loads n) = true
@@ -62,6 +65,7 @@ has_reference (Stores n) = true
 has_reference Jumps = false
 has_reference Links = true
 
+-- it writes a word of memory
 unfoldable pub has_store : Shape → Bool
 has_store (Puts rs) = false
 has_store (Loads n) = false

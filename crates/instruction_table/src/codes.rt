@@ -17,7 +17,7 @@ fn opcode_at(parcel: u16) -> Op
     }
 }
 
-/// The code of an instruction: two octal digits, three where it begins with 01 or 03.
+/// The code of an instruction: the digits f and m, and also i where it begins with 01 or 03.
 #[tactic(auto, unfolding(crate::specs::Opcode::op_of))]
 pub fn opcode(instr: &Instr) -> Op
     ensures { result ≡ op_of instr.now }

@@ -9,13 +9,16 @@ use crate::{
 use parcel::parcel_of;
 use word60::{Word18, Word60};
 
-/// What stands at a place of a word.
+/// What stands at a place of a word: one of these three, and one only.
 #[derive(Clone, Copy, Debug, PartialEq, Eq)]
 pub enum Decoded {
-    /// An instruction, and the place after it.
+    /// An instruction, and the place after it, 1 to 4.
     Legal(Instr, u8),
+    /// An opcode that this machine does not have. It is refused before its length is looked at, so in the
+    /// last place too; that is this project's choice.
     Refused(Op),
-    /// Two parcels from the last place on.
+    /// An instruction of two parcels in the last place: it would go on in the next word, and the machine halts.
+    /// That it halts there is this project's choice.
     Straddle,
 }
 
@@ -26,6 +29,7 @@ enum Entry {
     Refused(Op),
 }
 
+/// 030 to 037, by the digit i.
 fn x_test(digit: Digit) -> XTest
     ensures { result ≡ x_test_at digit }
 {
@@ -264,7 +268,10 @@ fn following(word: Word60, place: u8) -> u16
     }
 }
 
-/// The reading of a place of a word.
+/// The reading of a word from a place on, 0 to 3 from the uppermost parcel down.
+///
+/// Fields that an instruction does not use are ignored, which is this project's choice: i, j and k of `PS` and
+/// `NO`, j of `RJ` and `JP`, k of `BXi Xj`, j of `BXi -Xk` and `CXi Xk`.
 pub fn decode(word: Word60, place: u8) -> Decoded
     requires { place < 4 }
     ensures value { result ≡ reading_at word place }

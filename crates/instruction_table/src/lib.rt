@@ -1,4 +1,10 @@
-//! The instruction table: what a parcel pattern says, and how an instruction is written.
+//! The instruction table: what a pattern of parcels says, which parcels an instruction is written as, which
+//! registers it reads and sets, and which kind of unit it is issued to.
+//!
+//! An instruction of 15 bits has the octal digits f, m, i, j and k, three bits each from the top; one of 30 bits
+//! has f, m, i and j and then 18 bits, K. The table is the machine's (Control Data 6400/6600 Reference Manual,
+//! publication 60100000), without its floating-point instructions; where it is this project's choice the item
+//! says so.
 #![tactic(auto)]
 
 mod codes;
@@ -9,6 +15,8 @@ mod instr;
 mod refusal;
 mod registers;
 mod shape;
+#[cfg(test)]
+mod tests;
 
 pub use codes::opcode;
 pub use decoding::{Decoded, decode};

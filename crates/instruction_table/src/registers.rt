@@ -9,6 +9,10 @@ use arrayvec::ArrayVec;
 
 /// B0, which is always zero.
 impl Default for Reg {
+    ghost use Rattle.instruction_table.specs.declared.instr.Reg.TheVariants.{B};
+
+    ghost is_default = { λ r. r ≡ B 0 };
+
     fn default() -> Self {
         Reg::B(Digit::default())
     }
@@ -36,7 +40,7 @@ pub fn unit_kind(instr: &Instr) -> Option<UnitKind>
     }
 }
 
-/// The registers that an instruction sets, A before X.
+/// The registers that an instruction sets: at most two, A before X, and never B0.
 #[tactic(auto, unfolding(crate::specs::Shape::shape_of, crate::specs::Shape::puts_of, crate::specs::Shape::loads_of, crate::specs::Shape::results))]
 pub fn results(instr: &Instr) -> ArrayVec<Reg, 2>
     ensures row { result.items ≡ (row instr.now).results }
@@ -82,6 +86,7 @@ pub fn results(instr: &Instr) -> ArrayVec<Reg, 2>
 }
 
 impl Base {
+    /// Register j of this kind.
     fn register(self, j: Digit) -> Reg
         ensures { result ≡ base_reg self j }
     {
@@ -94,6 +99,7 @@ impl Base {
 }
 
 impl Pair {
+    /// The first of the two registers.
     fn register(self, j: Digit) -> Reg
         ensures { result ≡ pair_reg self j }
     {
@@ -105,12 +111,14 @@ impl Pair {
     }
 }
 
+/// Whether two names are of one register.
 fn is_same(left: Reg, right: Reg) -> bool
     ensures { result ≡ reg_eq left right }
 {
     left == right
 }
 
+/// Whether a register is one of these.
 fn is_among(reg: &Reg, sources: &[Reg]) -> bool
     ensures { result ≡ list_any (reg_eq reg.now) sources.now }
 {
@@ -132,7 +140,9 @@ fn add(sources: &mut ArrayVec<Reg, 3>, reg: Reg)
 /// The registers that an instruction reads, by their parts in it. None stands for an absent operand.
 #[derive(Clone, Copy, Debug, PartialEq, Eq)]
 pub struct OperandRegisters {
+    /// The left operand, or the only one.
     pub first: Option<Reg>,
+    /// The right operand.
     pub second: Option<Reg>,
     /// Xi, which SA6 and SA7 store.
     pub outgoing: Option<Reg>,
@@ -219,7 +229,8 @@ fn add_some(sources: &mut ArrayVec<Reg, 3>, reg: Option<Reg>)
     }
 }
 
-/// The registers that an instruction reads, each once and never B0: the operands, and then what a store sends.
+/// The registers that an instruction reads, at most three, each once and never B0: the operands, and then what a
+/// store sends.
 pub fn sources(instr: &Instr) -> ArrayVec<Reg, 3>
     ensures { result.items ≡ sources_of instr.now }
 {

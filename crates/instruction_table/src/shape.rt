@@ -5,7 +5,7 @@ use crate::{Instr, Reg, Target, results};
 use arrayvec::ArrayVec;
 
 impl Instr {
-    /// Whether it jumps, or may jump.
+    /// Whether it is a branch: it jumps, or may jump.
     #[tactic(auto, unfolding(crate::specs::Shape::shape_of, crate::specs::Shape::is_branch_shape))]
     pub fn is_branch(&self) -> bool
         ensures { result ≡ is_branch_shape (shape_of self.now) }

@@ -34,6 +34,7 @@ is_out_of_range x = (upper x == 2047) || (upper x == 2048)
 abbrev pub is_indefinite : ℕ → Bool
 is_indefinite x = (upper x == 1023) || (upper x == 3072)
 
+-- +0 or -0
 abbrev pub is_zero : ℕ → Bool
 is_zero x = (x == 0) || (x == all_ones 60)
 
@@ -59,6 +60,7 @@ b_holds NotEqual a b = not (a == b)
 b_holds GreaterOrEqual a b = nat_le (rank b) (rank a)
 b_holds Less a b = nat_lt (rank a) (rank b)
 
+-- 11 to 13 and 15 to 17, of which the last three complement the second word
 abbrev pub logic : Logic → ℕ → ℕ → ℕ
 logic And x y = bit_and x y
 logic Or x y = bit_or x y
@@ -67,13 +69,16 @@ logic AndNot x y = bit_and x (complement 60 y)
 logic OrNot x y = bit_or x (complement 60 y)
 logic XorNot x y = bit_xor x (complement 60 y)
 
+-- 20 and 21
 abbrev pub shifted : Direction → ℕ → ℕ → ℕ
 shifted Left x count = rotate_left x count
 shifted Right x count = shift_right x count
 
+-- the sign of an index is bit 17
 abbrev pub is_negative : ℕ → Bool
 is_negative b = bit b 17 == 1
 
+-- an index without its sign
 abbrev pub magnitude : ℕ → ℕ
 magnitude b = if is_negative b then complement 18 b else b
 
@@ -86,14 +91,17 @@ abbrev pub turns : Direction → ℕ → Bool
 turns Left b = not (is_negative b)
 turns Right b = is_negative b
 
+-- 22 and 23; a turn goes by the low six bits of the magnitude
 abbrev pub shifted_nominally : Direction → ℕ → ℕ → ℕ
 shifted_nominally direction b x =
     if turns direction b then rotate_left x (magnitude b % 64) else shifted_out x (magnitude b)
 
+-- 36 and 37
 abbrev pub added : Addition → ℕ → ℕ → ℕ
 added Sum x y = sum 60 x y
 added Difference x y = difference 60 x y
 
+-- two registers added or subtracted in 18 bits
 abbrev pub pair_value : Pair → ℕ → ℕ → ℕ
 pair_value XPlusB x y = sum 18 (low18 x) (low18 y)
 pair_value APlusB x y = sum 18 (low18 x) (low18 y)
@@ -101,20 +109,23 @@ pair_value AMinusB x y = difference 18 (low18 x) (low18 y)
 pair_value BPlusB x y = sum 18 (low18 x) (low18 y)
 pair_value BMinusB x y = difference 18 (low18 x) (low18 y)
 
+-- what an increment instruction computes
 abbrev pub addends_value : Addends → ℕ → ℕ → ℕ
 addends_value (Address base j K) x y = sum 18 (low18 x) K
 addends_value (Registers pair j k) x y = pair_value pair x y
 
--- SA0 makes no reference, SA1 to SA5 load, SA6 and SA7 store
+-- Ai: SA0 makes no reference, SA1 to SA5 load, SA6 and SA7 store
 abbrev pub reference : ℕ → ℕ → ℕ → UnitValue
 reference i a outgoing =
     if i == 0 then Index a else (if nat_le i 5 then Load a else Store a outgoing)
 
+-- Ai with its reference, Bi, or Xi with the sign extended
 abbrev pub increment_value : Target → ℕ → ℕ → ℕ → UnitValue
 increment_value TargetA i v outgoing = reference i v outgoing
 increment_value TargetB i v outgoing = Index v
 increment_value TargetX i v outgoing = Word (extend v)
 
+-- to K, or nowhere
 abbrev pub branch_to : Bool → ℕ → UnitValue
 branch_to taken K = Jump (if taken then Some K else None)
 

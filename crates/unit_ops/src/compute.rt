@@ -9,12 +9,14 @@ use instruction_table::{
 };
 use word60::{Word18, Word60};
 
+/// +0 or -0.
 fn is_zero(x: Word60) -> bool
     ensures { result ≡ is_zero x }
 {
     x.get() == 0 || x.get() == 0xfff_ffff_ffff_ffff
 }
 
+/// The upper twelve bits are 3777 or 4000: an exponent that overflowed.
 fn is_out_of_range(x: Word60) -> bool
     ensures { result ≡ is_out_of_range x }
 {
@@ -22,6 +24,7 @@ fn is_out_of_range(x: Word60) -> bool
     upper == 0o3777 || upper == 0o4000
 }
 
+/// The upper twelve bits are 1777 or 6000: a result that has no value.
 fn is_indefinite(x: Word60) -> bool
     ensures { result ≡ is_indefinite x }
 {
@@ -29,12 +32,14 @@ fn is_indefinite(x: Word60) -> bool
     upper == 0o1777 || upper == 0o6000
 }
 
+/// Bit 59 is 1.
 fn is_minus(x: Word60) -> bool
     ensures { result ≡ (bit x 59 == 1) }
 {
     x.get() >> 59 == 1
 }
 
+/// Whether a branch on an X register is taken.
 fn x_holds(test: XTest, x: Word60) -> bool
     ensures { result ≡ x_holds test x }
 {
@@ -50,12 +55,14 @@ fn x_holds(test: XTest, x: Word60) -> bool
     }
 }
 
+/// The place of a pattern of 18 bits in the order of two's complement, the least first.
 fn rank(b: Word18) -> u32
     ensures { result ≡ rank b }
 {
     (b.get() + 0x2_0000) % 0x4_0000
 }
 
+/// Whether a branch on two B registers is taken.
 fn b_holds(test: BTest, a: Word18, b: Word18) -> bool
     ensures { result ≡ b_holds test a b }
 {
@@ -67,6 +74,7 @@ fn b_holds(test: BTest, a: Word18, b: Word18) -> bool
     }
 }
 
+/// A logical operation; the last three complement the second word.
 fn logic(op: Logic, x: Word60, y: Word60) -> Word60
     ensures { result ≡ logic op x y }
 {
@@ -80,12 +88,14 @@ fn logic(op: Logic, x: Word60, y: Word60) -> Word60
     }
 }
 
+/// Bit 17 is 1.
 fn is_negative(b: Word18) -> bool
     ensures { result ≡ is_negative b }
 {
     b.get() >> 17 == 1
 }
 
+/// The number without its sign: of a negative one the complement.
 fn magnitude(b: Word18) -> u32
     ensures { result ≡ magnitude b }
 {
@@ -96,6 +106,7 @@ fn magnitude(b: Word18) -> u32
     }
 }
 
+/// Shifted right by a nominal count. More than 63 places leave +0.
 fn shifted_out(x: Word60, count: u32) -> Word60
     ensures { result ≡ shifted_out x count }
 {
@@ -106,6 +117,8 @@ fn shifted_out(x: Word60, count: u32) -> Word60
     }
 }
 
+/// Shifted by the count in a B register, in the other direction where that is negative. Round the word only the
+/// low six bits of the magnitude count.
 fn shifted_nominally(direction: Direction, b: Word18, x: Word60) -> Word60
     ensures { result ≡ shifted_nominally direction b x }
 {
@@ -120,6 +133,7 @@ fn shifted_nominally(direction: Direction, b: Word18, x: Word60) -> Word60
     }
 }
 
+/// The 18 bits of two registers that are added or subtracted.
 fn pair_value(pair: Pair, x: Word60, y: Word60) -> Word18
     ensures { result ≡ pair_value pair x y }
 {
@@ -131,6 +145,7 @@ fn pair_value(pair: Pair, x: Word60, y: Word60) -> Word18
     }
 }
 
+/// The 18 bits that an increment instruction computes.
 fn addends_value(addends: Addends, x: Word60, y: Word60) -> Word18
     ensures { result ≡ addends_value addends x y }
 {
@@ -140,6 +155,7 @@ fn addends_value(addends: Addends, x: Word60, y: Word60) -> Word18
     }
 }
 
+/// What an increment instruction does with its 18 bits.
 fn increment_value(target: Target, i: Digit, value: Word18, outgoing: Word60) -> UnitValue
     ensures { result ≡ increment_value target i value outgoing }
 {
@@ -154,19 +170,21 @@ fn increment_value(target: Target, i: Digit, value: Word18, outgoing: Word60) ->
     }
 }
 
+/// The answer of a branch.
 fn branch_to(taken: bool, to: Word18) -> UnitValue
     ensures { result ≡ branch_to taken to }
 {
     UnitValue::Jump(if taken { Some(to) } else { None })
 }
 
+/// The address after another; 0 comes after 777777.
 fn next_place(place: Word18) -> Word18
     ensures { result ≡ (place + 1) % 2 ^ 18 }
 {
     Word18::from_bits((place.get() + 1) % 0x4_0000)
 }
 
-/// What the unit of an instruction computes from its operands.
+/// What the unit of an instruction computes from its operands. `PS` and `NO` have no unit, and no value.
 pub fn value(instr: &Instr, operands: &Operands) -> UnitValue
     requires { IsSome (row instr.now).unit }
     ensures { result ≡ value_of instr.now operands.now }

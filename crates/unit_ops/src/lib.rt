@@ -1,27 +1,46 @@
-//! What the units compute.
+//! What the functional units compute: the value of an instruction, as a function of its operands alone.
+//!
+//! The operations are the machine's (Control Data 6400/6600 Reference Manual, publication 60100000). This
+//! project's choice are: the order of `GE` and `LT` and the equality of `EQ` and `NE` (`BTest` of
+//! `instruction_table`); that a nominal shift to the right by more than 63 places leaves +0; and the zeros of
+//! sums and the long shifts and masks (`word60`).
 #![tactic(auto)]
 
 mod compute;
+#[cfg(test)]
+mod tests;
 
 pub use compute::value;
 use word60::{Word18, Word60};
 
-/// What a unit reads: the operands, what a store sends, and the address of the instruction's word.
+/// What a unit reads. An operand of 18 bits stands in bits 17 to 0, and the bits above it do not count; an
+/// operand that the instruction does not have does not count either, and callers give 0.
 #[derive(Clone, Copy, Debug, PartialEq, Eq)]
 pub struct Operands {
+    /// The left operand, or the only one.
     pub first: Word60,
+    /// The right operand.
     pub second: Word60,
+    /// The word that SA6 or SA7 stores.
     pub outgoing: Word60,
+    /// The address of the instruction's word.
     pub place: Word18,
 }
 
 /// What a unit answers.
 #[derive(Clone, Copy, Debug, PartialEq, Eq)]
 pub enum UnitValue {
+    /// For Xi.
     Word(Word60),
+    /// For A0 or Bi.
     Index(Word18),
+    /// For Ai, and the address to load Xi from.
     Load(Word18),
+    /// For Ai, and the address to store the word at.
     Store(Word18, Word60),
+    /// The address that a branch goes to, and None where it is not taken.
     Jump(Option<Word18>),
+    /// Of a return jump: the address that a jump to `back` is stored at; the next instruction is in the word
+    /// after it. `back` is the address of the word after the return jump's. Both go on from 777777 to 0.
     Link { at: Word18, back: Word18 },
 }

@@ -1,0 +1,154 @@
+ghost use Rattle.std.specs.Prelude.{IsSome};
+ghost use Rattle.instruction_table.specs.Table.{row};
+
+use crate::{Operands, UnitValue, value};
+use instruction_table::{
+    Addends, Addition, BTest, Base, Digit, Direction, Instr, SixBits, Target, XTest,
+};
+use std::test::Fail;
+use word60::{Word18, Word60};
+
+fn word(octal: &[u8]) -> Result<Word60, Fail> {
+    Ok(Word60::from_octal(octal).ok_or("not an octal word")?)
+}
+
+/// What an instruction of the word at 777777 answers to two operands.
+fn answer(instr: &Instr, first: Word60, second: Word60) -> UnitValue
+    requires { IsSome (row instr.now).unit }
+{
+    value(
+        instr,
+        &Operands {
+            first,
+            second,
+            outgoing: Word60::from_bits(5),
+            place: Word18::from_bits(0o777777),
+        },
+    )
+}
+
+const ONES: &[u8] = b"77777777777777777777";
+
+#[test]
+fn tests_zeros(rt: HostRuntime) -> Result<(), Fail> {
+    let zero = Word60::default();
+    let to = Word18::from_bits(8);
+    let (i, j) = (Digit::low(0), Digit::low(2));
+    let zero_jump = Instr::BranchX {
+        test: XTest::Zero,
+        j,
+        to,
+    };
+    assert_eq!(rt;
+        answer(&zero_jump, word(ONES)?, zero),
+        UnitValue::Jump(Some(to))
+    );
+    assert_eq!(rt;
+        answer(&zero_jump, word(b"1")?, zero),
+        UnitValue::Jump(None)
+    );
+    // B0 against a B2 of -0.
+    for (test, jump) in [(BTest::Equal, None), (BTest::GreaterOrEqual, Some(to))] {
+        let branch = Instr::BranchB { test, i, j, to };
+        assert_eq!(rt;
+            answer(&branch, zero, word(b"777777")?),
+            UnitValue::Jump(jump)
+        );
+    }
+    Ok(())
+}
+
+#[test]
+fn shifts_by_a_register(rt: HostRuntime) -> Result<(), Fail> {
+    let (i, j, k) = (Digit::low(1), Digit::low(2), Digit::low(3));
+    let top: &[u8] = b"40000000000000000000";
+    for (direction, b2, wanted) in [
+        (
+            Direction::Left,
+            0o777774,
+            b"74000000000000000000".as_slice(),
+        ),
+        (Direction::Right, 0o777774, b"4".as_slice()),
+        (Direction::Right, 0o77, ONES),
+        (Direction::Right, 0o100, b"0".as_slice()),
+        (Direction::Left, 0o100, top),
+    ] {
+        let shift = Instr::ShiftNominal { direction, i, j, k };
+        let count = Word60::from_bits(b2);
+        assert_eq!(rt;
+            answer(&shift, count, word(top)?),
+            UnitValue::Word(word(wanted)?)
+        );
+    }
+    Ok(())
+}
+
+#[test]
+fn computes_words(rt: HostRuntime) -> Result<(), Fail> {
+    let zero = Word60::default();
+    let (i, j, k) = (Digit::low(1), Digit::low(2), Digit::low(3));
+    let mask = Instr::Mask {
+        i,
+        count: SixBits::low(0o36),
+    };
+    let ones = word(b"77777777770000000000")?;
+    assert_eq!(rt; answer(&mask, zero, zero), UnitValue::Word(ones));
+    let count = Instr::CountOnes { i, k };
+    assert_eq!(rt; answer(&count, ones, zero), UnitValue::Word(word(b"36")?));
+    let turn = Instr::ShiftBy {
+        direction: Direction::Left,
+        i,
+        count: SixBits::low(0o77),
+    };
+    assert_eq!(rt;
+        answer(&turn, word(b"1")?, zero),
+        UnitValue::Word(word(b"10")?)
+    );
+    let difference = Instr::LongAdd {
+        op: Addition::Difference,
+        i,
+        j,
+        k,
+    };
+    assert_eq!(rt;
+        answer(&difference, word(b"3")?, word(b"5")?),
+        UnitValue::Word(word(b"77777777777777777775")?)
+    );
+    Ok(())
+}
+
+#[test]
+fn makes_references(rt: HostRuntime) -> Result<(), Fail> {
+    let zero = Word60::default();
+    let addends = Addends::Address {
+        base: Base::B,
+        j: Digit::default(),
+        address: Word18::from_bits(0o777776),
+    };
+    let sum = Word18::from_bits(0o777776);
+    for (target, i, wanted) in [
+        (
+            Target::X,
+            1,
+            UnitValue::Word(word(b"77777777777777777776")?),
+        ),
+        (Target::B, 1, UnitValue::Index(sum)),
+        (Target::A, 0, UnitValue::Index(sum)),
+        (Target::A, 5, UnitValue::Load(sum)),
+        (Target::A, 6, UnitValue::Store(sum, Word60::from_bits(5))),
+    ] {
+        let increment = Instr::Increment {
+            target,
+            i: Digit::low(i),
+            addends,
+        };
+        assert_eq!(rt; answer(&increment, zero, zero), wanted);
+    }
+    let link = Instr::ReturnJump { to: sum };
+    let wanted = UnitValue::Link {
+        at: sum,
+        back: Word18::default(),
+    };
+    assert_eq!(rt; answer(&link, zero, zero), wanted);
+    Ok(())
+}
