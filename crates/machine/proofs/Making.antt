@@ -202,10 +202,10 @@ store_made w u s v g place fault left ms p e eg ep ef el em =
     ap (λ l. record w { state = record w.state { registers = g; place = place; fault = fault }; pending = l }) em
     ∙ ap (λ l. record w { state = record w.state { registers = g; place = place; fault = fault }; pending = take s.index w.pending ++ (kept s.member l ++ drop (suc s.index) w.pending) }) el
     ∙ ap (λ t. record w { state = t; pending = take s.index w.pending ++ (kept s.member (rest_of b (unwrap_or (place_for w.pending) 0) (reference_for h v)) ++ drop (suc s.index) w.pending) }) (
-      ap (λ x. record w.state { registers = x; place = place; fault = fault }) eg
-      ∙ ap (λ x. record w.state { registers = put_all w.state.registers (puts_of h) (number_in v); place = x; fault = fault }) ep
-      ∙ ap (λ x. record w.state { registers = put_all w.state.registers (puts_of h) (number_in v); place = gone w.state.place (jump_for h v); fault = x }) ef
-      ∙ worked b w.state h v
+    ap (λ x. record w.state { registers = x; place = place; fault = fault }) eg
+    ∙ ap (λ x. record w.state { registers = put_all w.state.registers (puts_of h) (number_in v); place = x; fault = fault }) ep
+    ∙ ap (λ x. record w.state { registers = put_all w.state.registers (puts_of h) (number_in v); place = gone w.state.place (jump_for h v); fault = x }) ef
+    ∙ worked b w.state h v
     )
     ∙ by_work w s v s.what e
     ∙ ap (λ q. after_found w q (λ f. after_store w f f.what)) (sym p.found)
@@ -282,7 +282,6 @@ pub room_to_issue : (is_open : Bool) (request : Option ℕ) (room : ℕ) → owe
 room_to_issue true request room h e = cc
 room_to_issue false None room h e = omega arith
 room_to_issue false (Some n) room h e = omega arith
-
 
 pub owed_issued : (was_open is_open : Bool) (request : Option ℕ) (old new spent : ℕ) → owed was_open request ≤ old → is_open ≡ true → new + spent ≡ old → spent ≡ owed was_open None → owed is_open request ≤ new
 owed_issued true false request old new spent h e k i = cc

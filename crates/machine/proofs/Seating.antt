@@ -103,9 +103,11 @@ two_seats size m n a b c d = seats_differ size (shape_of m.instr) (shape_of n.in
 
 all_seats : (size : ℕ) (ms : List Member) → Each (IsProper size) ms → Pairs (λ m n. clash m n ≡ false) ms → Pairs IsApart ms → Pairs (λ m n. seat_of m ≢ seat_of n) ms
 all_seats size [] a b c = tt
-all_seats size (m ∷ ms) a b c =
-    (each_both (λ n. IsProper size n × (clash m n ≡ false)) (IsApart m) (λ n. seat_of m ≢ seat_of n) (λ n x y. two_seats size m n a.0 x.0 x.1 y) ms
-    (each_both (IsProper size) (λ n. clash m n ≡ false) (λ n. IsProper size n × (clash m n ≡ false)) (λ n x y. (x, y)) ms a.1 b.0) c.0, all_seats size ms a.1 b.1 c.1)
+all_seats size (m ∷ ms) a b c = (
+  each_both (λ n. IsProper size n × (clash m n ≡ false)) (IsApart m) (λ n. seat_of m ≢ seat_of n) (λ n x y. two_seats size m n a.0 x.0 x.1 y) ms
+      (each_both (IsProper size) (λ n. clash m n ≡ false) (λ n. IsProper size n × (clash m n ≡ false)) (λ n x y. (x, y)) ms a.1 b.0) c.0,
+  all_seats size ms a.1 b.1 c.1,
+)
 
 -- no more than sixteen have a seat
 pub seated_bound : (size : ℕ) (ms : List Member) → IsSeated size ms → Pairs IsApart ms → length ms ≤ 16

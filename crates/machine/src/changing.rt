@@ -29,7 +29,12 @@ fn entering(place: u8, absolute: Option<u32>, access: &Access) -> Option<Later>
 /// What is left of a reference behind the store event: in range it waits in the place of the hopper; out
 /// of range a load has +0 in its channel, and of a store nothing is left.
 #[tactic(auto, unfolding(crate::specs::Whole::rest_of))]
-pub fn rest_of(area: &Area, size: u32, place: u8, reference: &Option<ProgramReference>) -> Option<Later>
+pub fn rest_of(
+    area: &Area,
+    size: u32,
+    place: u8,
+    reference: &Option<ProgramReference>,
+) -> Option<Later>
     ensures { result ≡ rest_of (record { area = area.now; size = size }) place reference.now }
 {
     match reference {
@@ -51,7 +56,12 @@ pub fn enters_hopper(left: &Option<Later>) -> bool
 }
 
 /// The fault flag behind a reference; it stays once it is set.
-pub fn fault_after(fault: bool, area: &Area, size: u32, reference: &Option<ProgramReference>) -> bool
+pub fn fault_after(
+    fault: bool,
+    area: &Area,
+    size: u32,
+    reference: &Option<ProgramReference>,
+) -> bool
     ensures { result ≡ (fault || fault_of (record { area = area.now; size = size }) reference.now) }
 {
     fault || faults(area, size, reference)

@@ -6,12 +6,17 @@ ghost use Rattle.machine.specs.Changes.{refusal_in};
 ghost use Rattle.machine.specs.Spots.{IsSpot};
 ghost use Rattle.machine.specs.Whole.{refusal_of, tests_found, seek, stage_at, entry_at, arrival_at, fetch_waits, row_tests, issue_tests, read_tests, finish_tests, store_tests, accept_tests, return_tests, free_tests, ask_tests, exchange_tests};
 
-use crate::asking::{any_awaited, any_branch, any_delay, any_in_bank, any_to_be_read, any_turn, first_awaited, first_to_be_read, is_to_be_read};
+use crate::asking::{
+    any_awaited, any_branch, any_delay, any_in_bank, any_to_be_read, any_turn, first_awaited,
+    first_to_be_read, is_to_be_read,
+};
 use crate::changing::{enters_hopper, rest_of};
-use crate::choosing::{Spot, find_arrival, find_entry, find_stage, first_unit, is_pending, place_for, unit_for};
+use crate::choosing::{
+    Spot, find_arrival, find_entry, find_stage, first_unit, is_pending, place_for, unit_for,
+};
 use crate::{Arrival, Entry, Member, Stage};
 use hopper::bank_of;
-use instruction_table::{Reg, Refusal, Unit, results, sources};
+use instruction_table::{Refusal, Reg, Unit, results, sources};
 use relocation::{Area, relocate};
 use sequential::{Fetched, State, reference};
 use unit_ops::{Operands, UnitValue};
@@ -30,7 +35,12 @@ fn fetch_waits(state: &State, members: &[Member]) -> bool
     if state.place.held.is_some() {
         return false;
     }
-    match relocate(state.place.p, state.area.ra, state.area.fl, state.memory.size()) {
+    match relocate(
+        state.place.p,
+        state.area.ra,
+        state.area.fl,
+        state.memory.size(),
+    ) {
         Some(address) => any_delay(members, address),
         None => false,
     }
@@ -243,7 +253,11 @@ pub fn judge_ask(asked: u32, request: &Option<u32>, size: u32, at: u32) -> Resul
 
 /// Whether the exchange may be made, with the address of its package.
 #[tactic(auto, unfolding(crate::specs::Whole::refusal_of, crate::specs::Whole::exchange_tests))]
-pub fn judge_exchange(request: &Option<u32>, members: &[Member], state: &State) -> Result<u32, Refusal>
+pub fn judge_exchange(
+    request: &Option<u32>,
+    members: &[Member],
+    state: &State,
+) -> Result<u32, Refusal>
     ensures answer { refusal_of (exchange_tests request.now members.now state.now) ≡ refusal_in result }
     ensures request { IfOk result (λ at. request.now ≡ Some at) }
 {

@@ -17,3 +17,6 @@ pub use law::every_run_is_faithful;
 pub use member::{Arrival, Entry, Later, Member, Phase, Stage};
 pub use processor::{MOST_ISSUES, Machine};
 pub use snapshot::Snapshot;
+
+#[cfg(test)]
+mod tests;

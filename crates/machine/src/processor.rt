@@ -4,13 +4,19 @@ ghost use Rattle.machine.specs.declared.event.Event.TheVariants.{Issue, Read, Fi
 ghost use Rattle.machine.specs.Run.{IsAnswer, answer_of, settled};
 ghost use Rattle.machine.specs.Whole.{boot_whole, is_pending};
 
-use crate::changing::{fault_after, halt_after, join, newcomer, note_of, number_after, perform, place_after, put_rest, replace, rest_of, set_busy, write_registers};
+use crate::changing::{
+    fault_after, halt_after, join, newcomer, note_of, number_after, perform, place_after, put_rest,
+    replace, rest_of, set_busy, write_registers,
+};
 use crate::choosing::{is_pending, place_for};
-use crate::judging::{judge_accept, judge_ask, judge_exchange, judge_finish, judge_free, judge_issue, judge_read, judge_return, judge_store};
+use crate::judging::{
+    judge_accept, judge_ask, judge_exchange, judge_finish, judge_free, judge_issue, judge_read,
+    judge_return, judge_store,
+};
 use crate::{Answer, Done, Member, Phase, Snapshot, Stage};
 use arrayvec::ArrayVec;
 use hopper::bank_of;
-use instruction_table::{Reg, Refusal, Unit};
+use instruction_table::{Refusal, Reg, Unit};
 use relocation::Storage;
 use sequential::{Log, State, jump, number, operands, reference};
 use std::alloc::Global;
@@ -94,7 +100,12 @@ impl Machine {
             Ok(fetched) => fetched,
             Err(refusal) => return Err(refusal),
         };
-        let member = newcomer(self.pending.as_slice(), self.state.place.p, self.last, &fetched);
+        let member = newcomer(
+            self.pending.as_slice(),
+            self.state.place.p,
+            self.last,
+            &fetched,
+        );
         self.state.place = place_after(&fetched);
         self.state.halt = halt_after(self.state.halt, &fetched);
         self.last = number_after(self.last, &member);
@@ -190,7 +201,9 @@ impl Machine {
             Err(refusal) => return Err(refusal),
         };
         let arrival = spot.what;
-        self.state.registers.set(Reg::X(arrival.channel), arrival.word);
+        self.state
+            .registers
+            .set(Reg::X(arrival.channel), arrival.word);
         put_rest(&mut self.pending, spot.index, spot.member, None);
         Ok(Done::Made)
     }
