@@ -5,4 +5,4 @@ mod area;
 mod storage;
 
 pub use area::{Access, Area, relocate};
-pub use storage::{SMALLEST, LARGEST, Storage};
+pub use storage::{LARGEST, SMALLEST, Storage};

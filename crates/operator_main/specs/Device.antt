@@ -1,0 +1,32 @@
+-- What calls do to the bytes that an input has left and that an output holds, where those are known.
+use Rattle.std.specs.Prelude.{◌≡◌, ℕ, Bool, true, List, [], ◌∷◌, ◌++◌, Option, Some, None, Result, Ok, Err, ⊤}
+use Rattle.std.specs.Io.KnownBytes.{Appends}
+
+-- P relates the bytes before with the bytes after; nothing is claimed of bytes that are not known
+abbrev pub Moves : Option (List ℕ) → Option (List ℕ) → (List ℕ → List ℕ → Type 0) → Type 0
+Moves None new P = ⊤
+Moves (Some xs) None P = ⊥
+Moves (Some xs) (Some ys) P = P xs ys
+
+-- the next byte was taken, or there was none
+abbrev pub Takes : Option ℕ → List ℕ → List ℕ → Type 0
+Takes (Some b) xs ys = xs ≡ b ∷ ys
+Takes None xs ys = (xs ≡ []) × (ys ≡ [])
+
+-- a device has failed from its first failed call on
+abbrev pub failed_after : {T E : Type 0} → Bool → Result T E → Bool
+failed_after before (Ok x) = before
+failed_after before (Err e) = true
+
+-- of the text all but the rest was written
+abbrev pub WritesAllBut : List ℕ → Option (List ℕ) → Option (List ℕ) → List ℕ → Type 0
+WritesAllBut rest old new all = (front : List ℕ) × (all ≡ front ++ rest) × Appends old new front
+
+-- a beginning of the text was written
+abbrev pub WritesFront : Option (List ℕ) → Option (List ℕ) → List ℕ → Type 0
+WritesFront old new all = (rest : List ℕ) × WritesAllBut rest old new all
+
+-- the whole text was written, or at an error a beginning of it
+abbrev pub Writes : {E : Type 0} → Result (Unit {0}) E → Option (List ℕ) → Option (List ℕ) → List ℕ → Type 0
+Writes (Ok x) old new all = Appends old new all
+Writes (Err e) old new all = WritesFront old new all

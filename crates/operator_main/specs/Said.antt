@@ -1,0 +1,13 @@
+-- What a line of the code says.
+use Rattle.operator_main.specs.Deck.{Said, SaysCore, SaysAt, SaysWord, SaysStart, SaysShow, SaysEnd, SaysNothing}
+use Rattle.operator_main.specs.declared.parsing.Line.{Line}
+use Rattle.operator_main.specs.declared.parsing.Line.TheVariants as lines
+
+abbrev pub said : Line → Said
+said (lines.Core w) = SaysCore w.now
+said (lines.At a) = SaysAt a.now
+said (lines.Word v) = SaysWord v.now
+said (lines.Start n) = SaysStart n.now
+said (lines.Show a b) = SaysShow a.now b.now
+said lines.End = SaysEnd
+said lines.Unknown = SaysNothing

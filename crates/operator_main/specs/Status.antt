@@ -1,0 +1,45 @@
+-- How a machine stands that has come to its end.
+use Rattle.std.specs.Prelude.{ℕ, Bool, true, false, Option, Some, None}
+use Rattle.instruction_table.specs.declared.refusal.Halt.{Halt}
+use Rattle.instruction_table.specs.declared.refusal.Halt.TheVariants.{Stop, Illegal, Straddle, FetchRange}
+use Rattle.instruction_table.specs.declared.refusal.Refusal.{Refusal}
+use Rattle.instruction_table.specs.declared.refusal.Refusal.TheVariants as refusals
+use Rattle.operator_main.specs.declared.fault.ProgramFault.{ProgramFault}
+use Rattle.operator_main.specs.declared.fault.ProgramFault.TheVariants as faults
+use Rattle.operator_main.specs.declared.status.Status.{Status}
+use Rattle.operator_main.specs.declared.status.Status.TheVariants.{Stopped, Refused, Usage, Halted, AddressFault, Running, OutOfMemory, Device}
+
+-- a fault wins over a halt
+abbrev pub status_of : Bool → Option Halt → Status
+status_of true halt = AddressFault
+status_of false None = Running
+status_of false (Some Stop) = Stopped
+status_of false (Some (Illegal op)) = Halted
+status_of false (Some Straddle) = Halted
+status_of false (Some FetchRange) = Halted
+
+-- the exit status
+abbrev pub code_of : Status → ℕ
+code_of Stopped = 0
+code_of Refused = 1
+code_of Usage = 2
+code_of Halted = 3
+code_of AddressFault = 4
+code_of Running = 5
+code_of OutOfMemory = 6
+code_of Device = 7
+
+-- how the program ends where it has no output
+abbrev pub fault_status : ProgramFault → Status
+fault_status (faults.Deck line fault) = Refused
+fault_status faults.OutOfMemory = OutOfMemory
+fault_status faults.Read = Device
+fault_status faults.Write = Device
+fault_status faults.Stuck = Running
+
+-- the refusals of an issue that a drain doesn't help against
+abbrev pub is_end : Refusal → Bool
+is_end (refusals.Halted halt) = true
+is_end refusals.Faulted = true
+is_end refusals.Budget = true
+is_end other = false

@@ -1,0 +1,84 @@
+ghost use Rattle.std.specs.Prelude.{◌≡◌};
+
+use super::output::WriteFailed;
+use super::status::Status;
+use instruction_table::{DeckFault, Refusal};
+use std::alloc::AllocError;
+use thiserror::Error;
+
+/// Why the program ends without its output.
+#[derive(Debug, Drop, Error)]
+pub enum ProgramFault {
+    #[error("E20 line {line}: {}", fault_text(.fault))]
+    Deck { line: u32, fault: DeckFault },
+    #[error("E21 out of memory")]
+    OutOfMemory,
+    #[error("E22 read failed")]
+    Read,
+    #[error("E23 write failed")]
+    Write,
+    /// The machine refused what a run asks of it, which it never does: the deck was judged.
+    #[error("the machine refused a step of the run")]
+    Stuck,
+}
+
+impl ProgramFault {
+    ghost use Rattle.operator_main.specs.Status.{fault_status};
+
+    /// How the program ends.
+    pub fn status(&self) -> Status
+        ensures { result ≡ fault_status self.now }
+    {
+        match self {
+            ProgramFault::Deck { .. } => Status::Refused,
+            ProgramFault::OutOfMemory => Status::OutOfMemory,
+            ProgramFault::Read => Status::Device,
+            ProgramFault::Write => Status::Device,
+            ProgramFault::Stuck => Status::Running,
+        }
+    }
+}
+
+/// The fault of a deck's line as it is printed.
+fn fault_text(fault: &DeckFault) -> &'static str {
+    match fault {
+        DeckFault::Lines => "lines",
+        DeckFault::Long => "long",
+        DeckFault::First => "first",
+        DeckFault::Unknown => "unknown",
+        DeckFault::Number => "number",
+        DeckFault::Size => "size",
+        DeckFault::Repeated => "repeated",
+        DeckFault::Many => "many",
+        DeckFault::Range => "range",
+        DeckFault::Package => "package",
+        DeckFault::Instruction => "instruction",
+        DeckFault::Full => "full",
+        DeckFault::NoStart => "no start",
+        DeckFault::NoEnd => "no end",
+    }
+}
+
+impl From<AllocError> for ProgramFault {
+    fn from(_error: AllocError) -> ProgramFault {
+        ProgramFault::OutOfMemory
+    }
+}
+
+impl From<WriteFailed> for ProgramFault {
+    fn from(_error: WriteFailed) -> ProgramFault {
+        ProgramFault::Write
+    }
+}
+
+impl From<Refusal> for ProgramFault {
+    fn from(refusal: Refusal) -> ProgramFault {
+        match refusal {
+            Refusal::Deck { line, fault } => ProgramFault::Deck { line, fault },
+            Refusal::OutOfMemory => ProgramFault::OutOfMemory,
+            Refusal::Read => ProgramFault::Read,
+            Refusal::Write => ProgramFault::Write,
+            _ => ProgramFault::Stuck,
+        }
+    }
+}

@@ -1,0 +1,43 @@
+//! The program `cdc6600`: it reads a deck, runs it on the machine and prints the machine's dump.
+#![tactic(auto)]
+
+mod arguments;
+mod deck;
+mod digits;
+mod dumping;
+mod fault;
+mod input;
+mod judging;
+mod line;
+mod output;
+mod parsing;
+mod piece;
+mod program;
+mod reading;
+mod running;
+mod status;
+
+use std::env;
+use std::process::ExitCode;
+
+fn main(rt: HostRuntime) -> ExitCode {
+    let mut stderr = rt.stderr();
+    let mut words = match env::args(&rt) {
+        Ok(words) => words,
+        Err(error) => return ExitCode::from(program::unreadable(&mut stderr, error)),
+    };
+    let _ = words.next();
+    let Ok(words) = words.collect::<Vec<String>>(rt.alloc()) else {
+        return ExitCode::from(program::refused(&mut stderr, fault::ProgramFault::OutOfMemory));
+    };
+    ExitCode::from(program::program(
+        rt.alloc(),
+        words.as_slice(),
+        &mut rt.stdin(),
+        &mut rt.stdout(),
+        &mut stderr,
+    ))
+}
+
+#[cfg(test)]
+mod tests;

@@ -1,0 +1,114 @@
+ghost use Rattle.std.specs.Prelude.{◌≤◌};
+
+use super::arguments::{Request, read_arguments};
+use super::deck::Deck;
+use super::dumping::dump;
+use super::fault::ProgramFault;
+use super::input::Watched;
+use super::output::{Output, Tracked};
+use super::reading::read_deck;
+use super::running::{BUDGET, run};
+use super::status::{Status, end_status};
+use clap::Error;
+use clap::error::ErrorKind;
+use std::alloc::Global;
+use std::io;
+use std::io::{BufReader, BufWriter, Read, Write};
+
+/// Says on the fault stream why the program ends, and answers its exit status.
+pub fn refused<F: Write>(faults: &mut F, fault: ProgramFault) -> u8 {
+    let _ = writeln!(faults, "cdc6600: {fault}");
+    fault.status().code()
+}
+
+/// The answer where the arguments can't be had: they are no text, or there is no memory for them.
+pub fn unreadable<F: Write>(faults: &mut F, error: io::Error) -> u8 {
+    if error.kind() == io::ErrorKind::OutOfMemory {
+        return refused(faults, ProgramFault::OutOfMemory);
+    }
+    let _ = writeln!(faults, "error: an argument is no text");
+    Status::Usage.code()
+}
+
+/// The answer to a command line that names no work: `clap`'s text, to the output where help was asked
+/// for.
+fn unparsed<W: Write, F: Write>(output: &mut W, faults: &mut F, error: Error) -> u8 {
+    if error.kind() == ErrorKind::OutOfMemory {
+        return refused(faults, ProgramFault::OutOfMemory);
+    }
+    if error.use_stderr() {
+        let _ = write!(faults, "{error}");
+        return Status::Usage.code();
+    }
+    match write!(output, "{error}") {
+        Ok(()) => Status::Stopped.code(),
+        Err(_) => refused(faults, ProgramFault::Write),
+    }
+}
+
+/// Reads a deck, runs it and prints the machine's dump.
+///
+/// # Errors
+/// Why the dump wasn't printed; a beginning of it may have been.
+pub fn run_deck<R: Read, W: Write>(
+    alloc: Global,
+    input: &mut R,
+    output: &mut W,
+    budget: u64,
+) -> Result<Status, ProgramFault>
+    requires { budget ≤ 10000000 }
+{
+    let Deck {
+        memory,
+        start,
+        shows,
+    } = read_deck(alloc, input)?;
+    let snapshot = run(alloc, memory, start, budget)?;
+    let mut output = Tracked::new(output);
+    dump(
+        &mut output,
+        snapshot.state(),
+        snapshot.log().entries(),
+        shows.as_slice(),
+    )?;
+    output.flush()?;
+    Ok(end_status(snapshot.state()))
+}
+
+/// The same with buffers between, so that neither a byte that is read nor a piece that is written
+/// costs a call of the system.
+fn run_buffered<R: Read, W: Write>(
+    alloc: Global,
+    input: &mut R,
+    output: &mut W,
+) -> Result<Status, ProgramFault> {
+    let Ok(mut reader) = BufReader::new(alloc, input) else {
+        return Err(ProgramFault::OutOfMemory);
+    };
+    let Ok(mut writer) = BufWriter::new(alloc, output) else {
+        return Err(ProgramFault::OutOfMemory);
+    };
+    run_deck(alloc, &mut reader, &mut writer, BUDGET)
+}
+
+/// The whole program, over its arguments without the program's name, its input, output and fault
+/// stream. It answers the exit status, which a failed write to the fault stream doesn't change.
+pub fn program<R: Read, W: Write, F: Write>(
+    alloc: Global,
+    words: &[String],
+    input: &mut R,
+    output: &mut W,
+    faults: &mut F,
+) -> u8 {
+    let request = match read_arguments(alloc, words) {
+        Ok(request) => request,
+        Err(error) => return unparsed(output, faults, error),
+    };
+    let outcome = match request {
+        Request::Run => run_buffered(alloc, input, output),
+    };
+    match outcome {
+        Ok(status) => status.code(),
+        Err(fault) => refused(faults, fault),
+    }
+}
