@@ -59,7 +59,8 @@ impl Package {
     {
         let registers = RegisterFile {
             x: [
-                words[8], words[9], words[10], words[11], words[12], words[13], words[14], words[15],
+                words[8], words[9], words[10], words[11], words[12], words[13], words[14],
+                words[15],
             ],
             a: [
                 middle(words[0]),

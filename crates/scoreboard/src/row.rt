@@ -3,8 +3,8 @@ ghost use Rattle.scoreboard.specs.Rows.{returning_to, to_come, reads, comes, rea
 ghost use Rattle.instruction_table.specs.Table.{reg_eq};
 ghost use Rattle.instruction_table.specs.RegisterLists.{is_in};
 
-use arrayvec::ArrayVec;
 use crate::is_same_unit;
+use arrayvec::ArrayVec;
 use instruction_table::{Digit, Instr, Reg, Unit, results, sources};
 
 /// How far the scoreboard has seen an issued instruction come.
