@@ -2,7 +2,7 @@ use crate::{
     Entry, Fetched, Log, ParcelNumber, Place, ProgramReference, State, faults, jump, number,
     operands, reference,
 };
-use instruction_table::{Addends, Addition, Digit, Halt, Instr, Op, Pair, Refusal, Target};
+use instruction_table::{Addends, Addition, Digit, Halt, Instr, Op, Pair, Refusal, Reg, Target};
 use registers::RegisterFile;
 use relocation::{Access, Area, Storage};
 use std::test::Fail;
@@ -147,7 +147,7 @@ fn exchanges(rt: HostRuntime) -> Result<(), Fail> {
     assert_eq!(rt; state.place, place(0o100, 0, None)?);
     assert_eq!(rt; state.halt, None);
     assert_eq!(rt; state.area.fl, Word18::from_bits(0o200));
-    assert_eq!(rt; state.registers.x[1], five);
+    assert_eq!(rt; state.registers.get(Reg::X(Digit::low(1))), five);
     // All zero but for the status of a halted machine in word 7.
     let halted = word(b"00000001000000000000")?;
     let left = [zero, zero, zero, zero, zero, zero, zero, halted, zero, zero];
@@ -168,9 +168,9 @@ fn exchanges(rt: HostRuntime) -> Result<(), Fail> {
 fn works_with_values(rt: HostRuntime) -> Result<(), Fail> {
     let (one, two, six) = (word(b"1")?, word(b"2")?, word(b"77777777777777777776")?);
     let mut registers = RegisterFile::default();
-    registers.x[1] = one;
-    registers.b[0] = Word18::from_bits(2);
-    registers.x[6] = six;
+    registers.set(Reg::X(Digit::low(1)), one);
+    registers.set(Reg::B(Digit::low(1)), two);
+    registers.set(Reg::X(Digit::low(6)), six);
     let place = Word18::from_bits(5);
     let wanted = Operands {
         first: one,
