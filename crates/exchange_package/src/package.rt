@@ -8,7 +8,7 @@ use registers::RegisterFile;
 use relocation::{Area, Storage};
 use word60::{Word18, Word60};
 
-/// How many words a package has.
+/// How many words a package has (Control Data 60100000, exchange jump).
 pub const SIZE: u32 = 16;
 
 /// What a package holds (Control Data 60100000, exchange jump).
@@ -16,7 +16,9 @@ pub const SIZE: u32 = 16;
 pub struct Package {
     /// P, the address of the next word.
     pub p: Word18,
+    /// X0 to X7, A0 to A7 and B1 to B7.
     pub registers: RegisterFile,
+    /// RA, FL and the exit mode.
     pub area: Area,
     /// Whether the machine was halted when the package was written.
     pub halted: bool,

@@ -2,5 +2,7 @@
 #![tactic(auto)]
 
 mod reference;
+#[cfg(test)]
+mod tests;
 
 pub use reference::{BANKS, PLACES, Reference, bank_of};

@@ -3,10 +3,10 @@ ghost use Rattle.hopper.specs.Hopper.{bank_of, stores_to};
 
 use relocation::Access;
 
-/// How many references can wait at a time. Places are numbered from 0.
+/// How many references can wait at a time (Thornton, stunt box). Places are numbered from 0.
 pub const PLACES: u8 = 4;
 
-/// How many banks the memory has.
+/// How many banks the memory has (Control Data 60100000, central memory). Banks are numbered from 0.
 pub const BANKS: u8 = 32;
 
 /// A reference to a word of memory.
@@ -14,6 +14,7 @@ pub const BANKS: u8 = 32;
 pub struct Reference {
     /// The absolute address.
     pub address: u32,
+    /// What it does to the word there.
     pub access: Access,
 }
 
@@ -27,7 +28,7 @@ pub fn bank_of(address: u32) -> u8
 }
 
 impl Reference {
-    /// Whether it waits for a bank.
+    /// Whether it waits for the bank of this number.
     pub fn is_for_bank(&self, bank: u8) -> bool
         ensures { result ≡ (bank_of self.now.address == bank) }
     {

@@ -2,5 +2,7 @@
 #![tactic(auto)]
 
 mod file;
+#[cfg(test)]
+mod tests;
 
 pub use file::RegisterFile;

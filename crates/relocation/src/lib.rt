@@ -3,6 +3,8 @@
 
 mod area;
 mod storage;
+#[cfg(test)]
+mod tests;
 
 pub use area::{Access, Area, relocate};
 pub use storage::{LARGEST, SMALLEST, Storage};

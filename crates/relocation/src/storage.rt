@@ -7,10 +7,10 @@ use std::alloc::Global;
 use std::marker::Model;
 use word60::Word60;
 
-/// The fewest words that a memory has.
+/// The fewest words that a memory has, one for each bank; this is the project's choice.
 pub const SMALLEST: u32 = 32;
 
-/// The most words that a memory has.
+/// The most words that a memory has (Control Data 60100000, central memory).
 pub const LARGEST: u32 = 131_072;
 
 /// Central memory: a list of 32 to 131,072 words.
@@ -70,7 +70,7 @@ impl Storage {
         self.words.len() as u32
     }
 
-    /// The word at an absolute address.
+    /// The word at an absolute address, which is below the size.
     pub fn load(&self, address: u32) -> Word60
         requires { address < length self.now }
         ensures { result ≡ slice_index_or self.now address 0 }
@@ -78,7 +78,7 @@ impl Storage {
         self.words[address as usize]
     }
 
-    /// Changes the word at an absolute address.
+    /// Changes the word at an absolute address, which is below the size.
     pub fn store(&mut self, address: u32, word: Word60)
         requires { address < length self.old }
         ensures { self.new ≡ slice_set self.old address word }
@@ -86,7 +86,7 @@ impl Storage {
         self.words[address as usize] = word;
     }
 
-    /// So many words from an absolute address on.
+    /// So many words from an absolute address on; all of them lie in memory.
     pub fn words(&self, from: u32, count: u32) -> &[Word60]
         requires { from + count ≤ length self.now }
         ensures { result.now ≡ slice_range self.now from (from + count) }
@@ -94,7 +94,7 @@ impl Storage {
         &self.words[from as usize..(from + count) as usize]
     }
 
-    /// Changes the words from an absolute address on.
+    /// Changes the words from an absolute address on; all of them lie in memory.
     #[tactic(auto, unfolding(crate::specs::Relocation::overwritten))]
     pub fn overwrite(&mut self, from: u32, words: &[Word60])
         requires { from + length words.now ≤ length self.old }

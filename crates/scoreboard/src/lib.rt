@@ -3,6 +3,8 @@
 #![tactic(auto)]
 
 mod row;
+#[cfg(test)]
+mod tests;
 mod units;
 
 pub use row::{Progress, Row};

@@ -25,8 +25,11 @@ pub enum Progress {
 /// An issued instruction as the scoreboard sees it.
 #[derive(Clone, Copy, Debug, Drop, PartialEq, Eq)]
 pub struct Row {
+    /// What was issued.
     pub instr: Instr,
+    /// The unit that it was issued to.
     pub unit: Unit,
+    /// How far it has come.
     pub progress: Progress,
 }
 

@@ -5,6 +5,8 @@ mod fetching;
 mod log;
 mod place;
 mod state;
+#[cfg(test)]
+mod tests;
 mod work;
 
 pub use fetching::Fetched;

@@ -34,6 +34,7 @@ impl ParcelNumber {
         }
     }
 
+    /// The number, 0 to 3.
     pub fn get(self) -> u8
         ensures value { result ≡ self }
         ensures range { result < 4 }
@@ -65,7 +66,8 @@ impl Place {
         }
     }
 
-    /// The place behind an instruction of a word: its next parcel, or the beginning of the next word.
+    /// The place behind an instruction of the word at `p`: its parcel `next`, or from 4 on the beginning of
+    /// the next word. After the word at 777777 comes the one at 0.
     #[tactic(auto, unfolding(crate::specs::Place::moved_on))]
     pub fn behind(p: Word18, word: Word60, next: u8) -> Place
         ensures { result ≡ moved_on p word next }
@@ -80,7 +82,7 @@ impl Place {
         }
     }
 
-    /// The place after a jump, if there is one.
+    /// The place after a jump to this address, or the same place where there is none.
     #[tactic(auto, unfolding(crate::specs::Place::gone))]
     pub fn after_jump(self, to: Option<Word18>) -> Place
         ensures { result ≡ gone self to }

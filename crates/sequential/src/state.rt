@@ -13,8 +13,11 @@ use relocation::{Area, Storage};
 /// The state of the machine that does one instruction at a time.
 #[derive(Drop)]
 pub struct State {
+    /// X0 to X7, A0 to A7 and B1 to B7.
     pub registers: RegisterFile,
+    /// Central memory.
     pub memory: Storage,
+    /// P, the next parcel and the held word.
     pub place: Place,
     /// RA, FL and the exit mode.
     pub area: Area,

@@ -12,7 +12,9 @@ use word60::{Word18, Word60};
 /// A reference by the program's own address.
 #[derive(Clone, Copy, Debug, Drop, PartialEq, Eq)]
 pub struct ProgramReference {
+    /// The address, which is counted from RA.
     pub address: Word18,
+    /// What it does to the word there.
     pub access: Access,
 }
 
@@ -27,7 +29,7 @@ fn operand_at(registers: &RegisterFile, register: Option<Reg>) -> Word60
     }
 }
 
-/// What an instruction of the word at `place` computes with.
+/// What an instruction of the word at the address `place` computes with.
 #[tactic(auto, unfolding(crate::specs::Work::operands))]
 pub fn operands(instr: &Instr, place: Word18, registers: &RegisterFile) -> Operands
     ensures { result ≡ operands instr.now place registers.now }
@@ -101,7 +103,7 @@ fn word(value: &UnitValue) -> Word60
     }
 }
 
-/// Where an instruction jumps; RJ goes on behind its link word.
+/// The address that an instruction jumps to, if it does; RJ goes on behind its link word.
 #[tactic(auto, unfolding(crate::specs::Work::jump_for, crate::specs::Work::jump_in))]
 pub fn jump(instr: &Instr, value: &UnitValue) -> Option<Word18>
     ensures { result ≡ jump_for (shape_of instr.now) value.now }
@@ -119,7 +121,8 @@ pub fn jump(instr: &Instr, value: &UnitValue) -> Option<Word18>
     }
 }
 
-/// The reference that an instruction makes.
+/// The reference that an instruction makes: SA1 to SA5 load, SA6 and SA7 store, RJ stores its link word
+/// (Control Data 60100000), and all others make none.
 #[tactic(auto, unfolding(crate::specs::Work::reference_for, instruction_table::specs::Shape::shape_of))]
 pub fn reference(instr: &Instr, value: &UnitValue) -> Option<ProgramReference>
     ensures { result ≡ reference_for (shape_of instr.now) value.now }
@@ -147,7 +150,7 @@ pub fn reference(instr: &Instr, value: &UnitValue) -> Option<ProgramReference>
 }
 
 impl ProgramReference {
-    /// The absolute address, None where it is out of range.
+    /// The absolute address in a memory of `size` words, None where it is out of range.
     #[tactic(auto, unfolding(crate::specs::State::absolute))]
     pub fn absolute(&self, area: &Area, size: u32) -> Option<u32>
         ensures value { result ≡ absolute (record { area = area.now; size = size }) self.now.address }
