@@ -106,7 +106,7 @@ impl Log {
         }
     }
 
-    /// The entries. No count is 0, and no two counts stand side by side.
+    /// The entries, in order. That no count is 0 and no two stand side by side isn't in the contract.
     pub fn entries(&self) -> &[Entry]
         ensures { steps_of result.now ≡ self.now.steps }
     {
