@@ -1,2 +1,5 @@
 pub mod DecodingLaws
 pub mod RoundTrip
+pub mod OctalLaws
+pub mod ReadingLaws
+pub mod TextLaws

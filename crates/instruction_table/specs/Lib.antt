@@ -5,3 +5,5 @@ pub mod Octal
 pub mod Opcode
 pub mod Shape
 pub mod RegisterLists
+pub mod Candidate
+pub mod Spelling

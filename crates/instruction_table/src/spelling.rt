@@ -1,0 +1,286 @@
+ghost use Rattle.std.specs.Prelude.{◌≡◌, ◌<◌, ◌≤◌, ◌+◌, ◌++◌, codes, length, MatchResult};
+ghost use Rattle.std.specs.String.{string_bytes};
+ghost use Rattle.arrayvec.specs.ArrayString.{array_string_len};
+ghost use Rattle.instruction_table.specs.declared.refusal.Refusal.TheVariants.{OutOfMemory};
+ghost use Rattle.instruction_table.specs.Octal.{octal};
+ghost use Rattle.instruction_table.specs.Spelling.{x_name, b_name, shift_name, increment_name, logic_text, addition_text, base_text, addends_text, spelling};
+ghost use Rattle.instruction_table.specs.Table.{digit};
+
+use crate::{
+    Addends, Addition, BTest, Base, Digit, Direction, Instr, Logic, Pair, Refusal, SixBits, Target,
+    XTest,
+};
+use arrayvec::ArrayString;
+use std::alloc::Global;
+use word60::Word18;
+
+/// The text of an instruction. The longest have 15 bytes, as `EQ B1,B2,777777`.
+pub type InstrText = ArrayString<16>;
+
+impl XTest {
+    /// The two letters that the text begins with.
+    fn name(self) -> &'static str
+        ensures value { result.now ≡ x_name self }
+        ensures len { length result.now ≡ 2 }
+    {
+        match self {
+            XTest::Zero => "ZR",
+            XTest::NonZero => "NZ",
+            XTest::Positive => "PL",
+            XTest::Negative => "NG",
+            XTest::InRange => "IR",
+            XTest::OutOfRange => "OR",
+            XTest::Definite => "DF",
+            XTest::Indefinite => "ID",
+        }
+    }
+}
+
+impl BTest {
+    /// The two letters that the text begins with.
+    fn name(self) -> &'static str
+        ensures value { result.now ≡ b_name self }
+        ensures len { length result.now ≡ 2 }
+    {
+        match self {
+            BTest::Equal => "EQ",
+            BTest::NotEqual => "NE",
+            BTest::GreaterOrEqual => "GE",
+            BTest::Less => "LT",
+        }
+    }
+}
+
+impl Direction {
+    /// The two letters that the text begins with.
+    fn name(self) -> &'static str
+        ensures value { result.now ≡ shift_name self }
+        ensures len { length result.now ≡ 2 }
+    {
+        match self {
+            Direction::Left => "LX",
+            Direction::Right => "AX",
+        }
+    }
+}
+
+impl Target {
+    /// The two letters that the text begins with.
+    fn name(self) -> &'static str
+        ensures value { result.now ≡ increment_name self }
+        ensures len { length result.now ≡ 2 }
+    {
+        match self {
+            Target::A => "SA",
+            Target::B => "SB",
+            Target::X => "SX",
+        }
+    }
+}
+
+impl Addition {
+    /// What stands between the numbers of the two registers.
+    fn sign(self) -> &'static str
+        ensures value { result.now ≡ addition_text self }
+        ensures len { length result.now ≡ 2 }
+    {
+        match self {
+            Addition::Sum => "+X",
+            Addition::Difference => "-X",
+        }
+    }
+}
+
+impl Base {
+    /// What stands before the number of the register.
+    fn letter(self) -> &'static str
+        ensures value { result.now ≡ base_text self }
+        ensures len { length result.now ≡ 2 }
+    {
+        match self {
+            Base::A => " A",
+            Base::B => " B",
+            Base::X => " X",
+        }
+    }
+}
+
+/// Adds an octal digit.
+fn put_digit(text: &mut InstrText, value: u8)
+    requires room { array_string_len text.old < 16 }
+    requires octal { value < 8 }
+    ensures { text.new.bytes ≡ text.old.bytes ++ digit value }
+{
+    text.push(char::from(b'0' + value));
+}
+
+/// Adds a text and the number of a register.
+fn put(text: &mut InstrText, front: &str, register: Digit)
+    requires { array_string_len text.old + length front.now < 16 }
+    ensures bytes { text.new.bytes ≡ text.old.bytes ++ (front.now ++ digit register) }
+    ensures len { array_string_len text.new ≡ array_string_len text.old + length front.now + 1 }
+{
+    text.push_str(front);
+    put_digit(text, register.get());
+}
+
+/// Adds a number in octal, without leading zeros.
+#[tactic(auto, using(crate::proofs::OctalLaws::octal_ends, crate::proofs::OctalLaws::octal_small))]
+fn put_octal(text: &mut InstrText, number: u32)
+    requires { array_string_len text.old + length (octal number) ≤ 16 }
+    ensures { text.new.bytes ≡ text.old.bytes ++ octal number }
+{
+    let last = (number % 8) as u8;
+    if number < 8 {
+        put_digit(text, last);
+    } else {
+        put_octal(text, number / 8);
+        put_digit(text, last);
+    }
+}
+
+/// Adds a text and an address.
+#[tactic(auto, using(crate::proofs::OctalLaws::octal_length_6))]
+fn put_address(text: &mut InstrText, front: &str, address: Word18)
+    requires { array_string_len text.old + length front.now ≤ 10 }
+    ensures { text.new.bytes ≡ text.old.bytes ++ (front.now ++ octal address) }
+{
+    text.push_str(front);
+    put_octal(text, address.get());
+}
+
+/// Adds a space and a count of places or bits.
+#[tactic(auto, using(crate::proofs::OctalLaws::octal_length_2))]
+fn put_count(text: &mut InstrText, count: SixBits)
+    requires { array_string_len text.old ≤ 10 }
+    ensures { text.new.bytes ≡ text.old.bytes ++ (codes " " ++ octal count) }
+{
+    text.push_str(" ");
+    put_octal(text, u32::from(count.get()));
+}
+
+/// Adds two registers and the operation on them.
+fn put_logic(text: &mut InstrText, op: Logic, j: Digit, k: Digit)
+    requires { array_string_len text.old < 10 }
+    ensures { text.new.bytes ≡ text.old.bytes ++ logic_text op j k }
+{
+    let (front, left, sign, right) = match op {
+        Logic::And => (" X", j, "*X", k),
+        Logic::Or => (" X", j, "+X", k),
+        Logic::Xor => (" X", j, "-X", k),
+        Logic::AndNot => (" -X", k, "*X", j),
+        Logic::OrNot => (" -X", k, "+X", j),
+        Logic::XorNot => (" -X", k, "-X", j),
+    };
+    put(text, front, left);
+    put(text, sign, right);
+}
+
+/// Adds what an increment instruction computes.
+fn put_addends(text: &mut InstrText, addends: Addends)
+    requires { array_string_len text.old < 4 }
+    ensures { text.new.bytes ≡ text.old.bytes ++ addends_text addends }
+{
+    match addends {
+        Addends::Address { base, j, address } => {
+            put(text, base.letter(), j);
+            put_address(text, "+", address);
+        }
+        Addends::Registers { pair, j, k } => {
+            let (left, right) = match pair {
+                Pair::XPlusB => (" X", "+B"),
+                Pair::APlusB => (" A", "+B"),
+                Pair::AMinusB => (" A", "-B"),
+                Pair::BPlusB => (" B", "+B"),
+                Pair::BMinusB => (" B", "-B"),
+            };
+            put(text, left, j);
+            put(text, right, k);
+        }
+    }
+}
+
+/// The one text of an instruction, which takes no memory.
+pub fn spell(instr: &Instr) -> InstrText
+    ensures { result.bytes ≡ spelling instr.now }
+{
+    let mut text = ArrayString::new();
+    match *instr {
+        Instr::Stop => text.push_str("PS"),
+        Instr::Pass => text.push_str("NO"),
+        Instr::ReturnJump { to } => put_address(&mut text, "RJ ", to),
+        Instr::Jump { i, to } => {
+            put(&mut text, "JP B", i);
+            put_address(&mut text, "+", to);
+        }
+        Instr::BranchX { test, j, to } => {
+            text.push_str(test.name());
+            put(&mut text, " X", j);
+            put_address(&mut text, ",", to);
+        }
+        Instr::BranchB { test, i, j, to } => {
+            text.push_str(test.name());
+            put(&mut text, " B", i);
+            put(&mut text, ",B", j);
+            put_address(&mut text, ",", to);
+        }
+        Instr::Copy { i, j } => {
+            put(&mut text, "BX", i);
+            put(&mut text, " X", j);
+        }
+        Instr::Invert { i, k } => {
+            put(&mut text, "BX", i);
+            put(&mut text, " -X", k);
+        }
+        Instr::Logical { op, i, j, k } => {
+            put(&mut text, "BX", i);
+            put_logic(&mut text, op, j, k);
+        }
+        Instr::ShiftBy {
+            direction,
+            i,
+            count,
+        } => {
+            put(&mut text, direction.name(), i);
+            put_count(&mut text, count);
+        }
+        Instr::ShiftNominal { direction, i, j, k } => {
+            put(&mut text, direction.name(), i);
+            put(&mut text, " B", j);
+            put(&mut text, ",X", k);
+        }
+        Instr::LongAdd { op, i, j, k } => {
+            put(&mut text, "IX", i);
+            put(&mut text, " X", j);
+            put(&mut text, op.sign(), k);
+        }
+        Instr::Mask { i, count } => {
+            put(&mut text, "MX", i);
+            put_count(&mut text, count);
+        }
+        Instr::CountOnes { i, k } => {
+            put(&mut text, "CX", i);
+            put(&mut text, " X", k);
+        }
+        Instr::Increment { target, i, addends } => {
+            put(&mut text, target.name(), i);
+            put_addends(&mut text, addends);
+        }
+    }
+    text
+}
+
+/// The one text of an instruction, in memory of its own.
+///
+/// # Errors
+/// `OutOfMemory`.
+pub fn text(alloc: Global, instr: &Instr) -> Result<String, Refusal>
+    ensures { MatchResult result
+        (λ text. string_bytes text ≡ spelling instr.now)
+        (λ refusal. refusal ≡ OutOfMemory) }
+{
+    match String::from_str(alloc, spell(instr).as_str()) {
+        Ok(text) => Ok(text),
+        Err(_) => Err(Refusal::OutOfMemory),
+    }
+}
