@@ -19,3 +19,5 @@ pub mod Steps
 pub mod Making
 pub mod There
 pub mod Runs
+pub mod Draining
+pub mod Counting

@@ -1,6 +1,8 @@
 -- Different numbers below n are no more than n.
 use Rattle.std.proofs.Common.{◌≡◌, ◌≢◌, ◌<◌, ◌≤◌, ℕ, zero, suc, Bool, true, false, cond, List, [], ◌∷◌, length, refl, ap, eqb, arith}
 use Rattle.std.proofs.lemmas.Bool.{eqb-true, eqb-false}
+use Rattle.std.specs.Prelude.{◌||◌}
+use Rattle.std.specs.List.{list_any}
 use Rattle.machine.specs.Each.{Each, Pairs}
 
 -- the elements whose key is another
@@ -58,6 +60,32 @@ without_one key n (x ∷ xs) h = by_test (eqb (key x) n) refl (without_one key n
     by_test : (b : Bool) → eqb (key x) n ≡ b → length xs ≤ suc (length (without key n xs)) → length (x ∷ xs) ≤ suc (length (cond b (without key n xs) (x ∷ without key n xs)))
     by_test true e r = let k : length xs ≤ length (without key n xs) = without_none key n xs (same_key n (eqb-true (key x) n e) xs h.0) in omega (arith, k)
     by_test false e r = omega (arith, r)
+
+drop_first : (b c : Bool) → b ≡ false → (b || c) ≡ true → c ≡ true
+drop_first false c e h = h
+drop_first true c e h = cc
+
+-- what is left has keys among the others
+without_listed : {K : Type 0} (key : K → ℕ) (n : ℕ) (ns : List ℕ) (xs : List K) → Each (λ x. list_any (eqb (key x)) (n ∷ ns) ≡ true) xs → Each (λ x. list_any (eqb (key x)) ns ≡ true) (without key n xs)
+unfolding without
+without_listed key n ns [] h = tt
+without_listed key n ns (x ∷ xs) h = by_test (eqb (key x) n) refl (without_listed key n ns xs h.1)
+  where
+    by_test : (b : Bool) → eqb (key x) n ≡ b → Each (λ y. list_any (eqb (key y)) ns ≡ true) (without key n xs) → Each (λ y. list_any (eqb (key y)) ns ≡ true) (cond b (without key n xs) (x ∷ without key n xs))
+    by_test true e r = r
+    by_test false e r = (drop_first (eqb (key x) n) (list_any (eqb (key x)) ns) e h.0, r)
+
+-- different numbers of a list are no more than it has
+pub listed_bound : {K : Type 0} (key : K → ℕ) (ns : List ℕ) (xs : List K) → Pairs (λ a b. key a ≢ key b) xs → Each (λ x. list_any (eqb (key x)) ns ≡ true) xs → length xs ≤ length ns
+listed_bound key [] [] d h = omega arith
+listed_bound key [] (x ∷ xs) d h = absurd (not_listed h.0)
+  where
+    not_listed : false ≡ true → ⊥
+    not_listed e = cc
+listed_bound key (n ∷ ns) xs d h =
+    let k : length (without key n xs) ≤ length ns = listed_bound key ns (without key n xs) (without_pairs key n (λ a b. key a ≢ key b) xs d) (without_listed key n ns xs h) in
+    let l = without_one key n xs d in
+    omega (arith, k, l)
 
 pub distinct_bound : {K : Type 0} (key : K → ℕ) (n : ℕ) (xs : List K) → Pairs (λ a b. key a ≢ key b) xs → Each (λ x. key x < n) xs → length xs ≤ n
 distinct_bound key zero [] d h = omega arith

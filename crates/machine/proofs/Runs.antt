@@ -1,5 +1,5 @@
 -- One more event of a run, and one more of a drain.
-use Rattle.std.proofs.Common.{◌≡◌, ◌<◌, ◌≤◌, ◌+◌, ◌-◌, ℕ, zero, suc, true, List, [], ◌∷◌, ◌++◌, Option, Some, None, take, drop, length, length-append, get_or, append_assoc, refl, sym, ap, ◌∙◌, subst, add-one, arith, inl, inr}
+use Rattle.std.proofs.Common.{◌≡◌, ◌<◌, ◌≤◌, ◌+◌, ◌-◌, ℕ, zero, suc, Bool, true, false, List, [], ◌∷◌, ◌++◌, Option, Some, None, take, drop, length, length-append, get_or, append_assoc, refl, sym, ap, ◌∙◌, subst, add-one, arith, inl, inr}
 use Rattle.std.proofs.lemmas.List.{append-nil, take_all}
 use Rattle.std.proofs.Math.Seq.{drop-append_seam}
 use Rattle.std.specs.Prelude.{Result, Ok, Err}
@@ -7,11 +7,13 @@ use Rattle.instruction_table.specs.declared.refusal.Refusal.{Refusal}
 use Rattle.machine.specs.declared.event.Done.{Done}
 use Rattle.machine.specs.declared.event.Event.{Event}
 use Rattle.machine.specs.Headline.{IsFaithful}
-use Rattle.machine.specs.Run.{IsAnswer, settled, IsAnswered, settled_all, IsRun}
-use Rattle.machine.specs.Whole.{Whole, allowed, after, boot_whole}
-use Rattle.machine.specs.Working.{is_work, Accepts, leads_to, Works}
+use Rattle.machine.specs.declared.event.Event.TheVariants.{Issue, Read, Finish, Store as StoreResult, Accept, Return, BankFree, Ask, Exchange}
+use Rattle.machine.specs.Run.{answer_by, done_by, answer_of, is_ask, IsAnswer, settled, IsAnswered, settled_all, IsRun}
+use Rattle.machine.specs.Whole.{Whole, is_pending, allowed, after, boot_whole}
+use Rattle.machine.specs.Working.{is_work, Accepts, leads_to, Works, next_of, work_left}
 use Rattle.machine.proofs.Headline.{faithful}
 use Rattle.machine.proofs.Theorem.{made_allowed}
+use Rattle.machine.proofs.Draining.{Eases, start_of, next_works, nothing_next, next_eases, all_done}
 
 -- ---- a run ----
 
@@ -80,11 +82,11 @@ unfolding leads_to
 leads_more w [] e = refl
 leads_more w (x ∷ es) e = leads_more (after w x) es e
 
-pub works_none : (w : Whole) → Works w w 0
+works_none : (w : Whole) → Works w w 0
 unfolding leads_to
 works_none w = record { events = []; accepted = tt; leads = refl; counted = refl; limit = omega arith }
 
-pub works_more : (w v x : Whole) (n : ℕ) (e : Event) (d : Done) (a : Result Done Refusal) → Works w v n → n < 40 → a ≡ Ok d → IsAnswer v e a → x ≡ settled v e a → is_work e ≡ true → Works w x (n + 1)
+works_more : (w v x : Whole) (n : ℕ) (e : Event) (d : Done) (a : Result Done Refusal) → Works w v n → n < 40 → a ≡ Ok d → IsAnswer v e a → x ≡ settled v e a → is_work e ≡ true → Works w x (n + 1)
 unfolding settled
 works_more w v x n e d a k l o h s i =
     let none : allowed v e ≡ None = made_allowed v e d (subst (λ y. IsAnswer v e y) o h) in
@@ -99,6 +101,59 @@ works_more w v x n e d a k l o h s i =
       limit = omega (arith, l);
     }
 
-pub works_still : (w v x : Whole) (n : ℕ) (e : Event) (k : Refusal) (a : Result Done Refusal) → Works w v n → a ≡ Err k → x ≡ settled v e a → Works w x n
+-- so many events were made, and what is left to be done fits what is left of the forty
+pub record Draining (w v : Whole) (made : ℕ) : Type 0 where
+  pub works : Works w v made
+  pub left : 0 < made → made + work_left v.pending ≤ 40 + start_of v.pending v.busy
+
+pub draining_none : (w : Whole) → Draining w w 0
+draining_none w = record { works = works_none w; left = λ h. absurd (omega (arith, h)) }
+
+eased : (v x : Whole) (n : ℕ) → (0 < n → n + work_left v.pending ≤ 40 + start_of v.pending v.busy) → work_left v.pending ≤ 40 → Eases v x → n + 1 + work_left x.pending ≤ 40 + start_of x.pending x.busy
+eased v x zero h l e = omega (arith, l, e)
+eased v x (suc n) h l e = let k = h (omega arith) in omega (arith, k, e)
+
+some_event : (o : Option Event) (e : Event) (v : Whole) → o ≡ next_of v.pending v.busy → o ≡ Some e → next_of v.pending v.busy ≡ Some e
+some_event o e v h k = sym h ∙ k
+
+pub draining_more : (w v x : Whole) (n : ℕ) (o : Option Event) (e : Event) (d : Done) (a : Result Done Refusal) → Draining w v n → n < 40 → work_left v.pending ≤ 40 → o ≡ next_of v.pending v.busy → o ≡ Some e → a ≡ Ok d → IsAnswer v e a → x ≡ settled v e a → Draining w x (n + 1)
 unfolding settled
-works_still w v x n e k a h o s = subst (λ y. Works w y n) (sym (s ∙ ap (settled v e) o)) h
+draining_more w v x n o e d a k l b oh oe h s i =
+    let next = some_event o e v oh oe in
+    record {
+      works = works_more w v x n e d a k.works l h s i (next_works v.pending v.busy e next);
+      left = λ _. eased v x n k.left b (subst (Eases v) (sym (i ∙ ap (settled v e) h)) (next_eases v e next));
+    }
+
+-- a refusal can't come
+not_made : (v : Whole) (e : Event) (k : Refusal) → allowed v e ≡ None → is_work e ≡ true → IsAnswer v e (Err k) → ⊥
+unfolding answer_of answer_by is_work is_ask
+not_made v e k h i (inl a) = no_answer (a ∙ ap (answer_by (done_by v e)) h)
+  where
+    no_answer : Err k ≡ answer_by (done_by v e) None → ⊥
+    no_answer f = cc
+not_made v e k h i (inr a) = no_ask e i a.ask
+  where
+    no_ask : (e : Event) → is_work e ≡ true → is_ask e ≡ true → ⊥
+    no_ask Issue f g = cc
+    no_ask (Read u) f g = cc
+    no_ask (Finish u) f g = cc
+    no_ask (StoreResult u) f g = cc
+    no_ask (Accept p) f g = cc
+    no_ask (Return n) f g = cc
+    no_ask (BankFree b) f g = cc
+    no_ask (Ask n) f g = cc
+    no_ask Exchange f g = cc
+
+pub never_refused : (v : Whole) (o : Option Event) (e : Event) (k : Refusal) (a : Result Done Refusal) → allowed v e ≡ None → o ≡ next_of v.pending v.busy → o ≡ Some e → a ≡ Err k → IsAnswer v e a → ⊥
+never_refused v o e k a h oh oe ak i = not_made v e k h (next_works v.pending v.busy e (some_event o e v oh oe)) (subst (IsAnswer v e) ak i)
+
+-- nothing is next
+pub nothing_left : (v : Whole) (o : Option Event) → o ≡ next_of v.pending v.busy → o ≡ None → is_pending v.pending ≡ false
+nothing_left v o h k = nothing_next v.pending v.busy (sym h ∙ k)
+
+-- forty events were made
+pub forty_made : (w v : Whole) (n : ℕ) → Draining w v n → 40 ≤ n → is_pending v.pending ≡ false
+forty_made w v n d l =
+    let k : n + work_left v.pending ≤ 40 + start_of v.pending v.busy = d.left (omega (arith, l)) in
+    all_done v.pending v.busy (omega (arith, k, l))

@@ -50,7 +50,7 @@ use Rattle.machine.specs.declared.member.Stage.TheVariants.{Waiting, Read as Has
 use Rattle.machine.specs.Each.{Each, Pairs}
 use Rattle.machine.specs.Member.{progress_of, row_of, holds}
 use Rattle.machine.specs.Run.{IsAnswer, settled}
-use Rattle.machine.specs.Seats.{unit_seat, clash_in, clash, IsChannel, IsLoadable, IsPlaced, IsProper, IsSeated}
+use Rattle.machine.specs.Seats.{unit_seat, clash_in, clash, IsChannel, IsLoadable, IsPlaced, is_of_kind, IsProper, IsSeated}
 use Rattle.machine.specs.Whole.{Whole, Test, refusal_of, Found, seek, tests_found, stage_at, entry_at, entry_in, arrival_at, in_place, is_taken, place_for, unit_for, row_tests, issue_tests, store_tests, accept_tests, return_tests, exchange_tests, is_pending, tests_of, allowed, entering, rest_of, enters, after_issue, put_back, in_phase, kept, stage_after_read, stage_after_finish, after_read, after_finish, after_work, after_store, after_accept, after_return, after_found, after_exchange, after}
 use Rattle.machine.proofs.Effects.{do_now-bounds}
 use Rattle.machine.proofs.Finding.{refusal_none, not_nothing, seek_splits, stage_found, entry_found, arrival_found}
@@ -80,7 +80,7 @@ clash_left x m t s e = stage_left m.unit x.unit x.phase s t ∙ ap (λ p. clash_
 
 proper_stage : (size : ℕ) (m : Member) (t s : Stage) → m.phase ≡ Before t → IsProper size m → IsProper size (in_phase m (Before s))
 unfolding in_phase
-proper_stage size m t s e p = record { has_unit = p.has_unit; placed = placed_in size m (Before t) e p }
+proper_stage size m t s e p = record { of_kind = p.of_kind; placed = placed_in size m (Before t) e p }
 
 pub seated_stage : (size : ℕ) (es : List Member) (m : Member) (ls : List Member) (t s : Stage) → m.phase ≡ Before t → IsSeated size (es ++ m ∷ ls) → IsSeated size (es ++ in_phase m (Before s) ∷ ls)
 seated_stage size es m ls t s e h =
@@ -123,7 +123,7 @@ after_left u v (After (Accepted k z)) (Accepted n w) m e h = refl
 
 proper_after : (size : ℕ) (m : Member) (l : Later) → IsProper size m → IsPlaced size m.unit (After l) → IsProper size (in_phase m (After l))
 unfolding in_phase
-proper_after size m l p k = record { has_unit = p.has_unit; placed = k }
+proper_after size m l p k = record { of_kind = p.of_kind; placed = k }
 
 clash_after_right : (x m : Member) (l : Later) → taken_by l x ≡ false → clash x (in_phase m (After l)) ≡ false
 unfolding clash in_phase
@@ -345,27 +345,31 @@ return_seated w c (Some f) e h =
 
 -- ---- issue ----
 
-in_use : (kind : UnitKind) → Each (λ u. unit_seat u < 7) (units_of kind)
-unfolding units_of unit_seat
-in_use BranchKind = (omega arith, tt)
-in_use BooleanKind = (omega arith, tt)
-in_use ShiftKind = (omega arith, tt)
-in_use LongAddKind = (omega arith, tt)
-in_use DivideKind = (omega arith, tt)
-in_use IncrementKind = (omega arith, (omega arith, tt))
+-- a unit of the kind has a seat
+abbrev IsInUse : UnitKind → FunctionalUnit → Type 0
+IsInUse kind u = (unit_seat u < 7) × (is_of_kind (Some kind) u ≡ true)
 
-first_free_found : (held : FunctionalUnit → Bool) (us : List FunctionalUnit) (u : FunctionalUnit) → Each (λ v. unit_seat v < 7) us → first_free held us ≡ Some u → (held u ≡ false) × (unit_seat u < 7)
+in_use : (kind : UnitKind) → Each (IsInUse kind) (units_of kind)
+unfolding units_of unit_seat is_of_kind same_unit
+in_use BranchKind = ((omega arith, refl), tt)
+in_use BooleanKind = ((omega arith, refl), tt)
+in_use ShiftKind = ((omega arith, refl), tt)
+in_use LongAddKind = ((omega arith, refl), tt)
+in_use DivideKind = ((omega arith, refl), tt)
+in_use IncrementKind = ((omega arith, refl), ((omega arith, refl), tt))
+
+first_free_found : (kind : UnitKind) (held : FunctionalUnit → Bool) (us : List FunctionalUnit) (u : FunctionalUnit) → Each (IsInUse kind) us → first_free held us ≡ Some u → (held u ≡ false) × IsInUse kind u
 unfolding first_free
-first_free_found held [] u h e = cc
-first_free_found held (v ∷ us) u h e = by_test (held v) refl e (first_free_found held us u h.1)
+first_free_found kind held [] u h e = cc
+first_free_found kind held (v ∷ us) u h e = by_test (held v) refl e (first_free_found kind held us u h.1)
   where
-    by_test : (t : Bool) → held v ≡ t → cond t (first_free held us) (Some v) ≡ Some u → (first_free held us ≡ Some u → (held u ≡ false) × (unit_seat u < 7)) → (held u ≡ false) × (unit_seat u < 7)
+    by_test : (t : Bool) → held v ≡ t → cond t (first_free held us) (Some v) ≡ Some u → (first_free held us ≡ Some u → (held u ≡ false) × IsInUse kind u) → (held u ≡ false) × IsInUse kind u
     by_test true i k rest = rest k
-    by_test false i k rest = let g : v ≡ u = cc in (ap held (sym g) ∙ i, subst (λ x. unit_seat x < 7) g h.0)
+    by_test false i k rest = let g : v ≡ u = cc in (ap held (sym g) ∙ i, subst (IsInUse kind) g h.0)
 
 -- the unit that an instruction takes
 record TakesUnit (ms : List Member) (kind : Option UnitKind) (u : FunctionalUnit) : Type 0 where
-  has_kind : is_some kind ≡ true
+  of_kind : is_of_kind kind u ≡ true
   free : list_any (holds u) ms ≡ false
   in_use : unit_seat u < 7
 
@@ -381,8 +385,8 @@ unit_found ms (Some kind) h = by_unit (first_free (is_held row_of ms) (units_of 
     by_unit : (o : Option FunctionalUnit) → first_free (is_held row_of ms) (units_of kind) ≡ o → is_none o ≡ false → TakesUnit ms (Some kind) (unwrap_or o Branch)
     by_unit None i k = cc
     by_unit (Some u) i k =
-        let f = first_free_found (is_held row_of ms) (units_of kind) u (in_use kind) i in
-        record { has_kind = refl; free = sym (held_is ms u) ∙ f.0; in_use = f.1 }
+        let f = first_free_found kind (is_held row_of ms) (units_of kind) u (in_use kind) i in
+        record { of_kind = f.1.1; free = sym (held_is ms u) ∙ f.0; in_use = f.1.0 }
 
 and_false : (f : Bool) → (f && true) ≡ false → f ≡ false
 and_false true k = cc
@@ -397,12 +401,12 @@ new_clash : (size : ℕ) (x m : Member) → m.phase ≡ Before Waiting → unit_
 unfolding clash holds board.holds row_of
 new_clash size x m e h p k = ap (clash_in x.unit x.phase m.unit) e ∙ waiting_clash size m.unit x.unit x.phase h p.placed k
 
-pub seated_push : (size : ℕ) (ms : List Member) (m : Member) → m.phase ≡ Before Waiting → is_some (row m.instr).unit ≡ true → unit_seat m.unit < 7 → list_any (holds m.unit) ms ≡ false → IsSeated size ms → IsSeated size (ms ++ m ∷ [])
+pub seated_push : (size : ℕ) (ms : List Member) (m : Member) → m.phase ≡ Before Waiting → is_of_kind (row m.instr).unit m.unit ≡ true → unit_seat m.unit < 7 → list_any (holds m.unit) ms ≡ false → IsSeated size ms → IsSeated size (ms ++ m ∷ [])
 seated_push size ms m e u h free s = record {
   apart = pairs_push (λ a b. clash a b ≡ false) ms m s.apart
       (each_both (IsProper size) (λ x. holds m.unit x ≡ false) (λ x. clash x m ≡ false) (λ x p k. new_clash size x m e h p k) ms s.proper
       (each_of_any (holds m.unit) (λ x. holds m.unit x ≡ false) (λ x k. k) ms free));
-  proper = each_append (IsProper size) ms (m ∷ []) s.proper (record { has_unit = u; placed = subst (IsPlaced size m.unit) (sym e) h }, tt);
+  proper = each_append (IsProper size) ms (m ∷ []) s.proper (record { of_kind = u; placed = subst (IsPlaced size m.unit) (sym e) h }, tt);
 }
 
 pub issue_seated : (w : Whole) (g : Fetched) → Each (λ t. t.fails ≡ false) (row_tests w.pending g) → IsSeatedWhole w → IsSeatedWhole (after_issue w g)
@@ -411,7 +415,7 @@ issue_seated w (Halting k place) h s = s
 issue_seated w (Passing place) h s = s
 issue_seated w (Taking i place) h s =
     let t = unit_found w.pending (row i).unit h.0 in
-    seated_push (length w.state.memory) w.pending _ refl t.has_kind t.in_use t.free s
+    seated_push (length w.state.memory) w.pending _ refl t.of_kind t.in_use t.free s
 
 exchange_seated : (w : Whole) (o : Option ℕ) → w.pending ≡ [] → IsSeatedWhole w → IsSeatedWhole (after_exchange w o)
 unfolding after_exchange

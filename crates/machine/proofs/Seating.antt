@@ -93,7 +93,7 @@ seat_within size u (Before t) h = omega (arith, h)
 seat_within size u (After (Entered p a x)) h = let l : p < 4 = h.0 in omega (arith, l)
 seat_within size u (After (Accepted n w)) h = let l : n < 6 = h.1 in omega (arith, l)
 
-coming : (m n : Member) → overlap (to_come n) (to_come m) ≡ false → overlap (to_come_in (shape_of n.instr) n.phase) (to_come_in (shape_of m.instr) m.phase) ≡ false
+pub coming : (m n : Member) → overlap (to_come n) (to_come m) ≡ false → overlap (to_come_in (shape_of n.instr) n.phase) (to_come_in (shape_of m.instr) m.phase) ≡ false
 unfolding to_come board.to_come row_of to_come_in
 coming m n e = e
 
@@ -101,7 +101,7 @@ two_seats : (size : ℕ) (m n : Member) → IsProper size m → IsProper size n 
 unfolding seat_of clash
 two_seats size m n a b c d = seats_differ size (shape_of m.instr) (shape_of n.instr) m.unit n.unit m.phase n.phase a.placed b.placed c (coming m n d.disjoint)
 
-all_seats : (size : ℕ) (ms : List Member) → Each (IsProper size) ms → Pairs (λ m n. clash m n ≡ false) ms → Pairs IsApart ms → Pairs (λ m n. seat_of m ≢ seat_of n) ms
+pub all_seats : (size : ℕ) (ms : List Member) → Each (IsProper size) ms → Pairs (λ m n. clash m n ≡ false) ms → Pairs IsApart ms → Pairs (λ m n. seat_of m ≢ seat_of n) ms
 all_seats size [] a b c = tt
 all_seats size (m ∷ ms) a b c = (
   each_both (λ n. IsProper size n × (clash m n ≡ false)) (IsApart m) (λ n. seat_of m ≢ seat_of n) (λ n x y. two_seats size m n a.0 x.0 x.1 y) ms

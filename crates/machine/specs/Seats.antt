@@ -1,9 +1,12 @@
 -- Sixteen seats, of which each pending instruction has one of its own: seven units, four places of the
 -- hopper and five channels.
-use Rattle.std.specs.Prelude.{◌≡◌, ◌<◌, ◌+◌, ◌==◌, ℕ, Bool, true, false, List, is_some}
+use Rattle.std.specs.Prelude.{◌≡◌, ◌<◌, ◌+◌, ◌==◌, ℕ, Bool, true, false, List, Option, Some, None}
+use Rattle.std.specs.List.{list_any}
 use Rattle.instruction_table.specs.declared.instr.Unit.{Unit as FunctionalUnit}
 use Rattle.instruction_table.specs.declared.instr.Unit.TheVariants.{Branch, Boolean, Shift, Add, LongAdd, Multiply1, Multiply2, Divide, Increment1, Increment2}
+use Rattle.instruction_table.specs.declared.instr.UnitKind.{UnitKind}
 use Rattle.instruction_table.specs.Table.{row}
+use Rattle.scoreboard.specs.Units.{same_unit, units_of}
 use Rattle.relocation.specs.declared.area.Access.{Access}
 use Rattle.relocation.specs.declared.area.Access.TheVariants.{Load, Store}
 use Rattle.machine.specs.declared.member.Later.TheVariants.{Entered, Accepted}
@@ -60,8 +63,13 @@ IsPlaced size unit (Before t) = unit_seat unit < 7
 IsPlaced size unit (After (Entered place a access)) = (place < 4) × (a < size) × IsLoadable access
 IsPlaced size unit (After (Accepted n word)) = IsChannel n
 
+-- the unit is one of the kind
+unfoldable pub is_of_kind : Option UnitKind → FunctionalUnit → Bool
+is_of_kind None unit = false
+is_of_kind (Some kind) unit = list_any (same_unit unit) (units_of kind)
+
 pub record IsProper (size : ℕ) (m : Member) : Type 0 where
-  pub has_unit : is_some (row m.instr).unit ≡ true
+  pub of_kind : is_of_kind (row m.instr).unit m.unit ≡ true
   pub placed : IsPlaced size m.unit m.phase
 
 pub record IsSeated (size : ℕ) (ms : List Member) : Type 0 where

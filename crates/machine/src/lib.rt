@@ -11,6 +11,7 @@ mod member;
 mod processor;
 mod running;
 mod snapshot;
+mod working;
 
 pub use event::{Answer, Done, Event, Note};
 pub use law::every_run_is_faithful;

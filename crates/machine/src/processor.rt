@@ -1,8 +1,9 @@
-ghost use Rattle.std.specs.Prelude.{◌≡◌, ◌≤◌, ◌<◌, true, false, not, MatchResult, if◌then◌else◌};
+ghost use Rattle.std.specs.Prelude.{◌≡◌, ◌≤◌, ◌<◌, true, false, not, IfSome, None, MatchResult, if◌then◌else◌};
 ghost use Rattle.instruction_table.specs.declared.refusal.Refusal.TheVariants.{OutOfMemory};
 ghost use Rattle.machine.specs.declared.event.Event.TheVariants.{Issue, Read, Finish, Store, Accept, Return, BankFree, Ask, Exchange};
 ghost use Rattle.machine.specs.Run.{IsAnswer, answer_of, settled};
-ghost use Rattle.machine.specs.Whole.{boot_whole, is_pending};
+ghost use Rattle.machine.specs.Whole.{boot_whole, is_pending, allowed};
+ghost use Rattle.machine.specs.Working.{next_of, work_left};
 
 use crate::changing::{
     fault_after, halt_after, join, newcomer, note_of, number_after, perform, place_after, put_rest,
@@ -13,7 +14,8 @@ use crate::judging::{
     judge_accept, judge_ask, judge_exchange, judge_finish, judge_free, judge_issue, judge_read,
     judge_return, judge_store,
 };
-use crate::{Answer, Done, Member, Phase, Snapshot, Stage};
+use crate::working::next_work;
+use crate::{Answer, Done, Event, Member, Phase, Snapshot, Stage};
 use arrayvec::ArrayVec;
 use hopper::bank_of;
 use instruction_table::{Refusal, Reg, Unit};
@@ -263,11 +265,13 @@ impl Machine {
         self.pending.as_slice()
     }
 
-    /// The busy banks.
-    pub(crate) fn busy(&self) -> &[bool]
-        ensures { result.now ≡ self.now.busy }
+    /// What is next to be done for the oldest pending instruction, which is allowed.
+    pub(crate) fn next_work(&self) -> Option<Event>
+        ensures next { result ≡ next_of self.now.pending self.now.busy }
+        ensures allowed { IfSome result (λ event. allowed self.now event ≡ None) }
+        ensures limit { work_left self.now.pending ≤ 40 }
     {
-        &self.busy
+        next_work(self.pending.as_slice(), &self.busy)
     }
 
     /// What was issued and exchanged since boot.

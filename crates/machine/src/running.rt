@@ -4,49 +4,16 @@ ghost use Rattle.sequential.specs.Replay.{boot, replay};
 ghost use Rattle.machine.specs.Headline.{IsFaithful};
 ghost use Rattle.machine.specs.Run.{IsAnswer, IsRun, settled};
 ghost use Rattle.machine.specs.Whole.{boot_whole, is_pending};
-ghost use Rattle.machine.specs.Working.{is_work, Works};
+ghost use Rattle.machine.specs.Working.{Works};
 
 use crate::choosing::is_pending;
-use crate::judging::is_busy;
-use crate::{Answer, Event, Later, Machine, Member, Phase, Snapshot, Stage};
-use hopper::bank_of;
+use crate::{Answer, Event, Machine, Snapshot};
 use instruction_table::Refusal;
 use sequential::Log;
 
 /// The most events that a drain makes: 21 of the seven units, 7 acceptances with the release of their
 /// banks, and 5 returns.
 const MOST_WORK: u32 = 40;
-
-/// What is next to be done for a member that waits for nobody else.
-#[tactic(auto, unfolding(crate::specs::Working::is_work))]
-fn next_for(member: &Member, busy: &[bool]) -> Event
-    ensures { is_work result ≡ true }
-{
-    match member.phase {
-        Phase::Before(Stage::Waiting) => Event::Read(member.unit),
-        Phase::Before(Stage::Read(_)) => Event::Finish(member.unit),
-        Phase::Before(Stage::Finished(_)) => Event::Store(member.unit),
-        Phase::After(Later::Entered(place, address, _)) => {
-            let bank = bank_of(address);
-            if is_busy(busy, bank) {
-                Event::BankFree(bank)
-            } else {
-                Event::Accept(place)
-            }
-        }
-        Phase::After(Later::Accepted(channel, _)) => Event::Return(channel.get()),
-    }
-}
-
-/// What is next to be done for the oldest member.
-fn next_work(members: &[Member], busy: &[bool]) -> Option<Event>
-    ensures { IfSome result (λ event. is_work event ≡ true) }
-{
-    match members.first() {
-        Some(member) => Some(next_for(member, busy)),
-        None => None,
-    }
-}
 
 impl Machine {
     /// Makes an event, or refuses it and stays as it was. Only `Ask` takes memory: where the log can't
@@ -95,13 +62,14 @@ impl Machine {
         Ok(())
     }
 
-    /// Makes events that work on what is pending, at most 40, and answers how many were made. It neither
-    /// issues nor asks for an exchange nor makes one.
+    /// Makes events that work on what is pending, at most 40, until nothing is pending, and answers how
+    /// many were made. It neither issues nor asks for an exchange nor makes one.
     pub fn drain(&mut self) -> u32
-        ensures { Works self.old self.new result }
+        ensures works { Works self.old self.new result }
+        ensures drained { is_pending self.new.pending ≡ false }
     {
         for made in 0..MOST_WORK {
-            let Some(event) = next_work(self.pending(), self.busy()) else {
+            let Some(event) = self.next_work() else {
                 return made;
             };
             if let Err(_) = self.apply(event) {

@@ -1,15 +1,14 @@
 -- The step of the machine that does one instruction at a time.
-use Rattle.std.specs.Prelude.{ℕ, Bool, true, false, if◌then◌else◌, List, Option, Some, None, slice_index_or}
+use Rattle.std.specs.Prelude.{ℕ, Bool, ◌&&◌, not, if◌then◌else◌, List, Option, Some, None, slice_index_or}
 use Rattle.instruction_table.specs.declared.instr.Instr.{Instr}
-use Rattle.instruction_table.specs.declared.instr.Instr.TheVariants.{Stop, Pass, LongAdd, Increment}
-use Rattle.instruction_table.specs.declared.instr.Target.TheVariants.{X as TargetX}
+use Rattle.instruction_table.specs.declared.instr.Instr.TheVariants.{Stop, Pass}
 use Rattle.instruction_table.specs.declared.decoding.Decoded.{Decoded}
 use Rattle.instruction_table.specs.declared.decoding.Decoded.TheVariants.{Legal, Refused, Straddle}
 use Rattle.instruction_table.specs.declared.refusal.Halt.{Halt}
 use Rattle.instruction_table.specs.declared.refusal.Halt.TheVariants.{Stop as StopHalt, Illegal, Straddle as StraddleHalt, FetchRange}
 use Rattle.instruction_table.specs.Decoding.{reading_at}
 use Rattle.instruction_table.specs.Opcode.{op_of}
-use Rattle.instruction_table.specs.Shape.{shape_of}
+use Rattle.instruction_table.specs.Shape.{shape_of, is_branch_shape, has_reference}
 use Rattle.unit_ops.specs.Values.{value_of}
 use Rattle.sequential.specs.declared.fetching.Fetched.{Fetched}
 use Rattle.sequential.specs.declared.fetching.Fetched.TheVariants.{Halting, Passing, Taking}
@@ -19,12 +18,10 @@ use Rattle.sequential.specs.Place.{beginning, moved_on}
 use Rattle.sequential.specs.State.{Bounds, bounds_of, absolute, move_to, halt_by}
 use Rattle.sequential.specs.Work.{operands, work_of, do_work}
 
--- the rows with a unit that this machine carries out so far: 36, 37 and 70 to 77. Every other one halts
--- as an illegal opcode does
+-- of the rows with a unit this machine carries out all so far but the branches and those that make a
+-- reference to memory. These halt as an illegal opcode does
 unfoldable pub is_carried_out : Instr → Bool
-is_carried_out (LongAdd op i j k) = true
-is_carried_out (Increment TargetX i addends) = true
-is_carried_out instr = false
+is_carried_out instr = not (is_branch_shape (shape_of instr)) && not (has_reference (shape_of instr))
 
 -- the place of an instruction itself, with its word held
 abbrev pub here : ℕ → ℕ → ℕ → Place

@@ -3,7 +3,7 @@ ghost use Rattle.sequential.specs.State.{bounds_of};
 ghost use Rattle.sequential.specs.Step.{is_carried_out, met, here, fetched_by, word_seen, word_at, fetch};
 
 use crate::{Place, State};
-use instruction_table::{Decoded, Halt, Instr, Target, decode, opcode};
+use instruction_table::{Decoded, Halt, Instr, decode, opcode};
 use relocation::relocate;
 use word60::Word60;
 
@@ -18,16 +18,13 @@ pub enum Fetched {
     Taking(Instr, Place),
 }
 
-/// Whether an instruction with a unit is one that this machine carries out so far: 36, 37, 70 to 77.
+/// Whether an instruction with a unit is one that this machine carries out so far: all but the branches
+/// and those that make a reference to memory.
 #[tactic(auto, unfolding(crate::specs::Step::is_carried_out))]
 fn carries_out(instr: &Instr) -> bool
     ensures { result ≡ is_carried_out instr.now }
 {
-    match *instr {
-        Instr::LongAdd { .. } => true,
-        Instr::Increment { target, .. } => target == Target::X,
-        _ => false,
-    }
+    !instr.is_branch() && !instr.has_reference()
 }
 
 /// What an instruction does that stands at one place and ends at another.

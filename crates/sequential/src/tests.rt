@@ -2,7 +2,9 @@ use crate::{
     Entry, Fetched, Log, ParcelNumber, Place, ProgramReference, State, faults, jump, number,
     operands, reference,
 };
-use instruction_table::{Addends, Addition, Digit, Halt, Instr, Op, Pair, Refusal, Reg, Target};
+use instruction_table::{
+    Addends, Addition, Base, Digit, Direction, Halt, Instr, Op, Pair, Refusal, Reg, SixBits, Target,
+};
 use registers::RegisterFile;
 use relocation::{Access, Area, Storage};
 use std::test::Fail;
@@ -64,7 +66,10 @@ fn fetches_from_a_held_word(rt: HostRuntime) -> Result<(), Fail> {
         j: Digit::low(1),
         k: Digit::low(2),
     };
-    let boolean = Halt::Illegal(Op::Plain(Digit::low(1), Digit::low(0)));
+    let copy = Instr::Copy {
+        i: Digit::low(1),
+        j: Digit::low(2),
+    };
     let refused = Halt::Illegal(Op::Plain(Digit::low(2), Digit::low(4)));
     // IX3 X1+X2; NO; BX1 X2; 24
     let one = word(b"36312460001012024000")?;
@@ -74,7 +79,7 @@ fn fetches_from_a_held_word(rt: HostRuntime) -> Result<(), Fail> {
     for (held, parcel, wanted) in [
         (one, 0, Fetched::Taking(sum, place(5, 1, Some(one))?)),
         (one, 1, Fetched::Passing(place(5, 2, Some(one))?)),
-        (one, 2, Fetched::Halting(boolean, place(5, 2, Some(one))?)),
+        (one, 2, Fetched::Taking(copy, place(5, 3, Some(one))?)),
         (one, 3, Fetched::Halting(refused, place(5, 3, Some(one))?)),
         (
             other,
@@ -90,6 +95,91 @@ fn fetches_from_a_held_word(rt: HostRuntime) -> Result<(), Fail> {
         state.place = place(5, parcel, Some(held))?;
         let fetched = state.fetch();
         assert_eq!(rt; fetched, wanted, "at {parcel}");
+    }
+    Ok(())
+}
+
+/// Branches, and what makes a reference to memory, halt with their codes.
+#[test]
+fn halts_at_branches_and_references(rt: HostRuntime) -> Result<(), Fail> {
+    let mut state = State::boot(Storage::new(rt.alloc(), 32)?);
+    let (zero, one) = (Digit::low(0), Digit::low(1));
+    for (octal, code) in [
+        // RJ 10
+        (b"01000000104600046000", Op::Extended(zero, one, zero)),
+        // JP B1+10
+        (b"02100000104600046000", Op::Plain(zero, Digit::low(2))),
+        // ZR X1,10
+        (
+            b"03010000104600046000",
+            Op::Extended(zero, Digit::low(3), zero),
+        ),
+        // EQ B0,B0,0
+        (b"04000000004600046000", Op::Plain(zero, Digit::low(4))),
+        // SA1 B0+0
+        (b"51100000004600046000", Op::Plain(Digit::low(5), one)),
+        // SA7 X1+B1
+        (
+            b"53711460004600046000",
+            Op::Plain(Digit::low(5), Digit::low(3)),
+        ),
+    ] {
+        state.place = place(5, 0, Some(word(octal)?))?;
+        let fetched = state.fetch();
+        assert_eq!(rt; fetched, Fetched::Halting(Halt::Illegal(code), state.place));
+    }
+    Ok(())
+}
+
+/// Rows that work on registers alone go to their units.
+#[test]
+fn takes_register_rows(rt: HostRuntime) -> Result<(), Fail> {
+    let mut state = State::boot(Storage::new(rt.alloc(), 32)?);
+    let (zero, one) = (Digit::low(0), Digit::low(1));
+    let shift = Instr::ShiftBy {
+        direction: Direction::Left,
+        i: Digit::low(3),
+        count: SixBits::low(1),
+    };
+    let mask = Instr::Mask {
+        i: one,
+        count: SixBits::low(0o11),
+    };
+    let count = Instr::CountOnes { i: one, k: zero };
+    // LX3 1; MX1 11; CX1 X0; NO
+    let held = word(b"20301431114710046000")?;
+    for (parcel, instr, next) in [(0, shift, 1), (1, mask, 2), (2, count, 3)] {
+        state.place = place(5, parcel, Some(held))?;
+        let fetched = state.fetch();
+        assert_eq!(rt; fetched, Fetched::Taking(instr, place(5, next, Some(held))?));
+    }
+    Ok(())
+}
+
+/// Of the rows that set an A or B register SA0 and SB0 are taken too: they make no reference.
+#[test]
+fn takes_sa0_and_sb0(rt: HostRuntime) -> Result<(), Fail> {
+    let mut state = State::boot(Storage::new(rt.alloc(), 32)?);
+    let zero = Digit::low(0);
+    // SA0 B0+5; SB0 B0+5
+    let held = word(b"51000000056100000005")?;
+    let addends = Addends::Address {
+        base: Base::B,
+        j: zero,
+        address: Word18::from_bits(5),
+    };
+    for (target, parcel, behind) in [
+        (Target::A, 0, place(5, 2, Some(held))?),
+        (Target::B, 2, place(6, 0, None)?),
+    ] {
+        state.place = place(5, parcel, Some(held))?;
+        let fetched = state.fetch();
+        let instr = Instr::Increment {
+            target,
+            i: zero,
+            addends,
+        };
+        assert_eq!(rt; fetched, Fetched::Taking(instr, behind));
     }
     Ok(())
 }
