@@ -1,6 +1,7 @@
 use crate::{
     Addends, Addition, BTest, Base, Decoded, Digit, Instr, Op, Pair, Reg, SixBits, Target,
-    UnitKind, XTest, decode, encode, opcode, operand_registers, results, sources, unit_kind,
+    UnitKind, XTest, decode, encode, opcode, operand_registers, read_bytes, read_text, results,
+    sources, spell, text, unit_kind,
 };
 use std::test::Fail;
 use word60::{Word18, Word60};
@@ -236,4 +237,141 @@ fn makes_fields(rt: HostRuntime) {
     assert_eq!(rt; SixBits::new(63), Some(SixBits::low(0o177)));
     assert_eq!(rt; SixBits::new(64), None);
     assert_eq!(rt; SixBits::of(digit(7), digit(5)).get(), 61);
+}
+
+/// The parcels of an instruction as one number.
+fn code(instr: &Instr) -> u32 {
+    let mut number = 0;
+    for parcel in encode(instr).as_slice() {
+        number = number << 15 | u32::from(*parcel);
+    }
+    number
+}
+
+#[test]
+fn reads_and_spells_branches(rt: HostRuntime) -> Result<(), Fail> {
+    for (line, wanted) in [
+        ("PS", 0),
+        ("RJ 20", 0o0100000020),
+        ("JP B2+10", 0o0220000010),
+        ("ZR X1,100", 0o0301000100),
+        ("NZ X7,0", 0o0317000000),
+        ("PL X2,1", 0o0322000001),
+        ("NG X3,777777", 0o0333777777),
+        ("IR X4,40", 0o0344000040),
+        ("OR X5,41", 0o0355000041),
+        ("DF X6,42", 0o0366000042),
+        ("ID X0,43", 0o0370000043),
+        ("EQ B0,B2,10", 0o0402000010),
+        ("NE B3,B4,100000", 0o0534100000),
+        ("GE B5,B6,7", 0o0656000007),
+        ("LT B7,B1,200", 0o0771000200),
+    ] {
+        let instr = read_text(line).ok_or("no instruction")?;
+        assert_eq!(rt; code(&instr), wanted);
+        assert_eq!(rt; spell(&instr).as_str(), line);
+    }
+    Ok(())
+}
+
+#[test]
+fn reads_and_spells_words(rt: HostRuntime) -> Result<(), Fail> {
+    for (line, wanted) in [
+        ("BX6 X5", 0o10650),
+        ("BX3 X1*X2", 0o11312),
+        ("BX4 X3+X2", 0o12432),
+        ("BX5 X1-X7", 0o13517),
+        ("BX6 -X2", 0o14602),
+        ("BX1 -X2*X3", 0o15132),
+        ("BX2 -X4+X5", 0o16254),
+        ("BX7 -X0-X6", 0o17760),
+        ("LX3 1", 0o20301),
+        ("AX4 77", 0o21477),
+        ("LX5 B1,X2", 0o22512),
+        ("AX1 B2,X3", 0o23123),
+        ("IX3 X1+X2", 0o36312),
+        ("IX4 X2-X1", 0o37421),
+        ("MX1 75", 0o43175),
+        ("NO", 0o46000),
+        ("CX2 X1", 0o47201),
+    ] {
+        let instr = read_text(line).ok_or("no instruction")?;
+        assert_eq!(rt; code(&instr), wanted);
+        assert_eq!(rt; spell(&instr).as_str(), line);
+    }
+    Ok(())
+}
+
+#[test]
+fn reads_and_spells_increments(rt: HostRuntime) -> Result<(), Fail> {
+    for (line, wanted) in [
+        ("SA1 A2+3", 0o5012000003),
+        ("SA1 B0+17", 0o5110000017),
+        ("SA7 X5+0", 0o5275000000),
+        ("SA2 X3+B4", 0o53234),
+        ("SA3 A4+B5", 0o54345),
+        ("SA4 A5-B6", 0o55456),
+        ("SA5 B6+B7", 0o56567),
+        ("SA6 B7-B0", 0o57670),
+        ("SB1 A2+3", 0o6012000003),
+        ("SB2 B1+777777", 0o6121777777),
+        ("SB3 X0+1", 0o6230000001),
+        ("SB4 X5+B6", 0o63456),
+        ("SB5 A6+B7", 0o64567),
+        ("SB2 A3-B4", 0o65234),
+        ("SB6 B1+B2", 0o66612),
+        ("SB7 B2-B3", 0o67723),
+        ("SX0 A1+2", 0o7001000002),
+        ("SX1 B0+777776", 0o7110777776),
+        ("SX2 X3+4", 0o7223000004),
+        ("SX3 X4+B5", 0o73345),
+        ("SX4 A5+B6", 0o74456),
+        ("SX5 A6-B7", 0o75567),
+        ("SX6 B7+B0", 0o76670),
+        ("SX7 B0-B1", 0o77701),
+    ] {
+        let instr = read_text(line).ok_or("no instruction")?;
+        assert_eq!(rt; code(&instr), wanted);
+        assert_eq!(rt; spell(&instr).as_str(), line);
+    }
+    Ok(())
+}
+
+#[test]
+fn refuses_other_texts(rt: HostRuntime) {
+    for line in [
+        "",
+        "NO ",
+        " NO",
+        "no",
+        "N",
+        "XX1 X2",
+        "sx1 B0+5",
+        "SX1 B0+05",
+        "SX1  B0+5",
+        "SX1 B0+1000000",
+        "SX1 B0+8",
+        "SX1 B0+",
+        "SX8 B0+1",
+        "SX1 X2-B3",
+        "LX1 100",
+        "BX1 X2*",
+        "BX1 X2*X3 ",
+    ] {
+        assert_eq!(rt; read_text(line), None, "at {line}");
+    }
+}
+
+#[test]
+fn gives_texts(rt: HostRuntime) -> Result<(), Fail> {
+    let stop = Instr::Stop;
+    assert_eq!(rt; text(rt.alloc(), &stop)?.as_str(), "PS");
+    assert_eq!(rt; read_bytes(b"PS"), Some(stop));
+    let copy = Instr::Copy {
+        i: digit(6),
+        j: digit(5),
+    };
+    assert_eq!(rt; text(rt.alloc(), &copy)?.as_str(), "BX6 X5");
+    assert_eq!(rt; read_bytes(b"BX6 X5"), Some(copy));
+    Ok(())
 }

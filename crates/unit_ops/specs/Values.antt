@@ -1,5 +1,5 @@
 -- What a row computes from its operands.
-use Rattle.std.specs.Prelude.{ℕ, ◌+◌, ◌/◌, ◌%◌, ◌^◌, Bool, not, ◌||◌, ◌==◌, nat_lt, nat_le, if◌then◌else◌, Some, None, bit_and, bit_or, bit_xor, count_ones}
+use Rattle.std.specs.Prelude.{ℕ, ◌+◌, ◌/◌, ◌%◌, ◌^◌, Bool, not, ◌||◌, ◌==◌, nat_lt, nat_le, if◌then◌else◌, Option, Some, None, bit_and, bit_or, bit_xor, count_ones}
 use Rattle.word60.specs.Words.{all_ones, bit, sum, difference, complement, rotate_left, shift_right, mask, low18, extend}
 use Rattle.instruction_table.specs.declared.instr.XTest.{XTest}
 use Rattle.instruction_table.specs.declared.instr.XTest.TheVariants.{Zero, NonZero, Positive, Negative, InRange, OutOfRange, Definite, Indefinite}
@@ -129,11 +129,15 @@ increment_value TargetX i v outgoing = Word (extend v)
 abbrev pub branch_to : Bool → ℕ → UnitValue
 branch_to taken K = Jump (if taken then Some K else None)
 
+-- the address after another; 0 comes after 777777
+abbrev pub next_place : ℕ → ℕ
+next_place place = (place + 1) % 2 ^ 18
+
 -- the value of a row; a pass and a stop have none
 abbrev pub value_of : Instr → Operands → UnitValue
 value_of Stop o = Index 0
 value_of Pass o = Index 0
-value_of (ReturnJump K) o = Link K ((o.place + 1) % 2 ^ 18)
+value_of (ReturnJump K) o = Link K (next_place o.place)
 value_of (JumpTo i K) o = Jump (Some (sum 18 (low18 o.first) K))
 value_of (BranchX test j K) o = branch_to (x_holds test o.first) K
 value_of (BranchB test i j K) o = branch_to (b_holds test (low18 o.first) (low18 o.second)) K
@@ -146,3 +150,16 @@ value_of (LongAdd op i j k) o = Word (added op o.first o.second)
 value_of (Mask i jk) o = Word (mask jk)
 value_of (CountOnes i k) o = Word (count_ones o.first)
 value_of (Increment target i addends) o = increment_value target i (addends_value addends o.first o.second) o.outgoing
+
+-- where the answer of a unit sends the machine: after a return jump to the word behind the one that it stores
+abbrev pub destination : UnitValue → Option ℕ
+destination (Word x) = None
+destination (Index b) = None
+destination (Load a) = None
+destination (Store a x) = None
+destination (Jump to) = to
+destination (Link at back) = Some (next_place at)
+
+-- where a branch that is taken goes; None is for one that isn't, and for every other instruction
+abbrev pub branch_of : Instr → Operands → Option ℕ
+branch_of instr o = destination (value_of instr o)

@@ -1,6 +1,6 @@
 ghost use Rattle.std.specs.Prelude.{◌≡◌, ◌+◌, ◌%◌, ◌^◌, ◌==◌, IsSome};
 ghost use Rattle.instruction_table.specs.Table.{row};
-ghost use Rattle.unit_ops.specs.Values.{x_holds, is_zero, is_out_of_range, is_indefinite, b_holds, rank, logic, is_negative, magnitude, shifted_out, shifted_nominally, pair_value, addends_value, increment_value, branch_to, value_of};
+ghost use Rattle.unit_ops.specs.Values.{x_holds, is_zero, is_out_of_range, is_indefinite, b_holds, rank, logic, is_negative, magnitude, shifted_out, shifted_nominally, pair_value, addends_value, increment_value, branch_to, next_place, value_of, destination, branch_of};
 ghost use Rattle.word60.specs.Words.{bit};
 
 use crate::{Operands, UnitValue};
@@ -179,7 +179,7 @@ fn branch_to(taken: bool, to: Word18) -> UnitValue
 
 /// The address after another; 0 comes after 777777.
 fn next_place(place: Word18) -> Word18
-    ensures { result ≡ (place + 1) % 2 ^ 18 }
+    ensures { result ≡ next_place place }
 {
     Word18::from_bits((place.get() + 1) % 0x4_0000)
 }
@@ -231,5 +231,30 @@ pub fn value(instr: &Instr, operands: &Operands) -> UnitValue
         Instr::Increment { target, i, addends } => {
             increment_value(target, i, addends_value(addends, x, y), operands.outgoing)
         }
+    }
+}
+
+/// Where the answer of a unit sends the machine, and None where it stays in order.
+fn destination(value: UnitValue) -> Option<Word18>
+    ensures { result ≡ destination value }
+{
+    match value {
+        UnitValue::Jump(to) => to,
+        UnitValue::Link { at, .. } => Some(next_place(at)),
+        _ => None,
+    }
+}
+
+/// The address that a branch goes to where it is taken, which for `RJ K` is K + 1. None is for a branch that is
+/// not taken, and for an instruction that is no branch.
+pub fn branch_taken(instr: &Instr, operands: &Operands) -> Option<Word18>
+    ensures { result ≡ branch_of instr.now operands.now }
+{
+    match instr {
+        Instr::ReturnJump { .. }
+        | Instr::Jump { .. }
+        | Instr::BranchX { .. }
+        | Instr::BranchB { .. } => { destination(value(instr, operands)) }
+        _ => None,
     }
 }

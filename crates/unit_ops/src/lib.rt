@@ -10,7 +10,7 @@ mod compute;
 #[cfg(test)]
 mod tests;
 
-pub use compute::value;
+pub use compute::{branch_taken, value};
 use word60::{Word18, Word60};
 
 /// What a unit reads. An operand of 18 bits stands in bits 17 to 0, and the bits above it do not count; an

@@ -1,9 +1,9 @@
 ghost use Rattle.std.specs.Prelude.{IsSome};
 ghost use Rattle.instruction_table.specs.Table.{row};
 
-use crate::{Operands, UnitValue, value};
+use crate::{Operands, UnitValue, branch_taken, value};
 use instruction_table::{
-    Addends, Addition, BTest, Base, Digit, Direction, Instr, SixBits, Target, XTest,
+    Addends, Addition, BTest, Base, Digit, Direction, Instr, SixBits, Target, XTest, read_text,
 };
 use std::test::Fail;
 use word60::{Word18, Word60};
@@ -93,6 +93,11 @@ fn computes_words(rt: HostRuntime) -> Result<(), Fail> {
     };
     let ones = word(b"77777777770000000000")?;
     assert_eq!(rt; answer(&mask, zero, zero), UnitValue::Word(ones));
+    let all = Instr::Mask {
+        i,
+        count: SixBits::low(0o75),
+    };
+    assert_eq!(rt; answer(&all, zero, zero), UnitValue::Word(word(ONES)?));
     let count = Instr::CountOnes { i, k };
     assert_eq!(rt; answer(&count, ones, zero), UnitValue::Word(word(b"36")?));
     let turn = Instr::ShiftBy {
@@ -150,5 +155,68 @@ fn makes_references(rt: HostRuntime) -> Result<(), Fail> {
         back: Word18::default(),
     };
     assert_eq!(rt; answer(&link, zero, zero), wanted);
+    Ok(())
+}
+
+#[test]
+fn takes_branches(rt: HostRuntime) -> Result<(), Fail> {
+    // The columns: the instruction, its first operand, and where it goes to.
+    for (line, first, wanted) in [
+        ("RJ 20", b"0".as_slice(), Some(0o21)),
+        ("RJ 777777", b"0", Some(0)),
+        ("JP B2+10", b"5", Some(0o15)),
+        ("ZR X1,10", ONES, Some(0o10)),
+        ("ZR X1,10", b"1", None),
+        ("NZ X1,10", b"1", Some(0o10)),
+        ("NZ X1,10", ONES, None),
+        ("PL X1,10", b"0", Some(0o10)),
+        ("PL X1,10", ONES, None),
+        ("NG X1,10", b"40000000000000000000", Some(0o10)),
+        ("NG X1,10", b"37777777777777777777", None),
+        ("IR X1,10", b"37760000000000000000", Some(0o10)),
+        ("IR X1,10", b"37770000000000000001", None),
+        ("OR X1,10", b"40000000000000000001", Some(0o10)),
+        ("OR X1,10", b"40010000000000000000", None),
+        ("DF X1,10", b"37770000000000000000", Some(0o10)),
+        ("DF X1,10", b"60000000000000000001", None),
+        ("ID X1,10", b"17770000000000000001", Some(0o10)),
+        ("ID X1,10", b"17760000000000000000", None),
+    ] {
+        let instr = read_text(line).ok_or("no instruction")?;
+        let operands = Operands {
+            first: word(first)?,
+            second: Word60::default(),
+            outgoing: Word60::default(),
+            place: Word18::default(),
+        };
+        let place = branch_taken(&instr, &operands).map(Word18::get);
+        assert_eq!(rt; place, wanted);
+    }
+    Ok(())
+}
+
+#[test]
+fn takes_branches_on_indexes(rt: HostRuntime) -> Result<(), Fail> {
+    // +0 and -0, and then what is no branch.
+    for (line, wanted) in [
+        ("EQ B0,B2,10", None),
+        ("NE B0,B2,10", Some(0o10)),
+        ("GE B0,B2,10", Some(0o10)),
+        ("LT B0,B2,10", None),
+        ("PS", None),
+        ("NO", None),
+        ("BX1 X2-X3", None),
+        ("SA1 B2+10", None),
+    ] {
+        let instr = read_text(line).ok_or("no instruction")?;
+        let operands = Operands {
+            first: Word60::default(),
+            second: word(b"777777")?,
+            outgoing: Word60::default(),
+            place: Word18::default(),
+        };
+        let place = branch_taken(&instr, &operands).map(Word18::get);
+        assert_eq!(rt; place, wanted);
+    }
     Ok(())
 }
