@@ -1,5 +1,5 @@
 -- From a parcel to its reading. A row for each of the 64 opcodes, in order; 01 and 03 go on by the digit i.
-use Rattle.std.specs.Prelude.{ℕ, ◌+◌, ◌*◌, ◌/◌, ◌%◌, ◌^◌, nat_lt, if◌then◌else◌, List, [], ◌∷◌, get_or}
+use Rattle.std.specs.Prelude.{ℕ, ◌+◌, ◌*◌, ◌/◌, ◌%◌, ◌^◌, ◌<◌, ◌≤◌, ⊤, nat_lt, if◌then◌else◌, List, [], ◌∷◌, get_or}
 use Rattle.parcel.specs.Parcels.{parcel_at}
 use Rattle.instruction_table.specs.declared.instr.Instr.TheVariants.{Stop, Pass, ReturnJump, Jump, BranchX, BranchB, Copy, Invert, Logical, ShiftBy, ShiftNominal, LongAdd, Mask, CountOnes, Increment}
 use Rattle.instruction_table.specs.declared.instr.Op.TheVariants.{Plain, Extended}
@@ -152,3 +152,9 @@ following_at word place = if nat_lt place 3 then parcel_at word (place + 1) else
 -- the one reading of a place: a refused opcode comes before its length
 unfoldable pub reading_at : ℕ → ℕ → Decoded
 reading_at word place = settled (entry_of (parcel_at word place) (following_at word place)) place
+
+-- the place after an instruction lies behind it, in the word or at its end
+abbrev pub GoesOn : ℕ → Decoded → Type 0
+GoesOn place (Legal instr next) = (place < next) × (next ≤ 4)
+GoesOn place (RefusedOp op) = ⊤
+GoesOn place Straddle = ⊤

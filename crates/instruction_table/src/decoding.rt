@@ -1,6 +1,6 @@
 ghost use Rattle.instruction_table.specs.Table.{parcels_of, IsInstr, StandsAt};
 ghost use Rattle.std.specs.Prelude.{length, ◌≡◌, ◌<◌, ◌+◌, ◌*◌, ◌^◌};
-ghost use Rattle.instruction_table.specs.Decoding.{branches, logicals, shifts, additions, others, increments, rows, x_test_at, refused_01, entry, entry_of, following_at, reading_at};
+ghost use Rattle.instruction_table.specs.Decoding.{branches, logicals, shifts, additions, others, increments, rows, x_test_at, refused_01, entry, entry_of, following_at, reading_at, GoesOn};
 
 use crate::{
     Addends, Addition, BTest, Base, Digit, Direction, Instr, Logic, Op, Pair, SixBits, Target,
@@ -275,6 +275,7 @@ fn following(word: Word60, place: u8) -> u16
 pub fn decode(word: Word60, place: u8) -> Decoded
     requires { place < 4 }
     ensures value { result ≡ reading_at word place }
+    ensures range { GoesOn place result }
 
     // Where the parcels of an instruction stand, that instruction is read.
     ensures encoded { (instr : Instr) → IsInstr instr → StandsAt word place (parcels_of instr)

@@ -1,10 +1,1 @@
-pub mod Device
-pub mod Line
-pub mod Text
-pub mod Deck
-pub mod Said
-pub mod Views
-pub mod Reading
-pub mod Pieces
-pub mod Dump
 pub mod Status

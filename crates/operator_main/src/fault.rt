@@ -1,6 +1,5 @@
 ghost use Rattle.std.specs.Prelude.{◌≡◌};
 
-use super::output::WriteFailed;
 use super::status::Status;
 use instruction_table::{DeckFault, Refusal};
 use std::alloc::AllocError;
@@ -62,12 +61,6 @@ fn fault_text(fault: &DeckFault) -> &'static str {
 impl From<AllocError> for ProgramFault {
     fn from(_error: AllocError) -> ProgramFault {
         ProgramFault::OutOfMemory
-    }
-}
-
-impl From<WriteFailed> for ProgramFault {
-    fn from(_error: WriteFailed) -> ProgramFault {
-        ProgramFault::Write
     }
 }
 

@@ -1,19 +1,10 @@
-//! The program `cdc6600`: it reads a deck, runs it on the machine and prints the machine's dump.
+//! The program `cdc6600`: it reads a deck, and runs it on the machine and prints the machine's dump, or lists
+//! the deck's words.
 #![tactic(auto)]
 
 mod arguments;
-mod deck;
-mod digits;
-mod dumping;
 mod fault;
-mod input;
-mod judging;
-mod line;
-mod output;
-mod parsing;
-mod piece;
 mod program;
-mod reading;
 mod running;
 mod status;
 

@@ -1,16 +1,12 @@
 ghost use Rattle.std.specs.Prelude.{◌≤◌};
 
 use super::arguments::{Request, read_arguments};
-use super::deck::Deck;
-use super::dumping::dump;
 use super::fault::ProgramFault;
-use super::input::Watched;
-use super::output::{Output, Tracked};
-use super::reading::read_deck;
 use super::running::{BUDGET, run};
 use super::status::{Status, end_status};
 use clap::Error;
 use clap::error::ErrorKind;
+use job_deck::{dump, list, read_deck};
 use std::alloc::Global;
 use std::io;
 use std::io::{BufReader, BufWriter, Read, Write};
@@ -58,27 +54,18 @@ pub fn run_deck<R: Read, W: Write>(
 ) -> Result<Status, ProgramFault>
     requires { budget ≤ 10000000 }
 {
-    let Deck {
-        memory,
-        start,
-        shows,
-    } = read_deck(alloc, input)?;
-    let snapshot = run(alloc, memory, start, budget)?;
-    let mut output = Tracked::new(output);
-    dump(
-        &mut output,
-        snapshot.state(),
-        snapshot.log().entries(),
-        shows.as_slice(),
-    )?;
-    output.flush()?;
+    let deck = read_deck(alloc, input)?;
+    let memory = deck.image.memory().copy()?;
+    let snapshot = run(alloc, memory, deck.start, budget)?;
+    dump(snapshot.state(), snapshot.log(), &deck, output)?;
     Ok(end_status(snapshot.state()))
 }
 
-/// The same with buffers between, so that neither a byte that is read nor a piece that is written
-/// costs a call of the system.
-fn run_buffered<R: Read, W: Write>(
+/// Does what is asked, with buffers between, so that neither a byte that is read nor a piece that is
+/// written costs a call of the system.
+fn perform<R: Read, W: Write>(
     alloc: Global,
+    request: Request,
     input: &mut R,
     output: &mut W,
 ) -> Result<Status, ProgramFault> {
@@ -88,7 +75,13 @@ fn run_buffered<R: Read, W: Write>(
     let Ok(mut writer) = BufWriter::new(alloc, output) else {
         return Err(ProgramFault::OutOfMemory);
     };
-    run_deck(alloc, &mut reader, &mut writer, BUDGET)
+    match request {
+        Request::Run => run_deck(alloc, &mut reader, &mut writer, BUDGET),
+        Request::List => {
+            list(alloc, &mut reader, &mut writer)?;
+            Ok(Status::Stopped)
+        }
+    }
 }
 
 /// The whole program, over its arguments without the program's name, its input, output and fault
@@ -104,10 +97,7 @@ pub fn program<R: Read, W: Write, F: Write>(
         Ok(request) => request,
         Err(error) => return unparsed(output, faults, error),
     };
-    let outcome = match request {
-        Request::Run => run_buffered(alloc, input, output),
-    };
-    match outcome {
+    match perform(alloc, request, input, output) {
         Ok(status) => status.code(),
         Err(fault) => refused(faults, fault),
     }

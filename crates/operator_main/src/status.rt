@@ -7,7 +7,7 @@ use sequential::State;
 /// How the program ends, by its exit status.
 #[derive(Clone, Copy, Debug, Drop, PartialEq, Eq)]
 pub enum Status {
-    /// The program of the deck stopped, or help was printed.
+    /// The program of the deck stopped, or all that was asked for is written.
     Stopped = 0,
     /// The deck is refused.
     Refused = 1,

@@ -3,7 +3,7 @@ use Rattle.std.proofs.Common.{◌≡◌, ◌<◌, ◌≤◌, ◌+◌, ◌-◌, �
 use Rattle.std.specs.Prelude.{replicate, slice_get, slice_set}
 use Rattle.sequential.specs.declared.log.Entry.{Entry}
 use Rattle.sequential.specs.declared.log.Entry.TheVariants.{Issued as Count, Exchange}
-use Rattle.sequential.specs.Log.{steps_of, ends_open, issued}
+use Rattle.sequential.specs.Log.{steps_of, entries_of, one_before, one_behind, ends_open, issued}
 use Rattle.sequential.specs.Replay.{LogStep, Issued, Exchanged}
 
 pub steps-append : (es fs : List Entry) → steps_of (es ++ fs) ≡ steps_of es ++ steps_of fs
@@ -141,3 +141,63 @@ read_within (x ∷ es) (suc i) e h = let k : i < length es = read_within es i e 
 -- the last place of a list with an element there
 pub last_place : (es : List Entry) (e : Entry) → slice_get es (length es - 1) ≡ Some e → length es ≡ suc (length es - 1)
 last_place es e h = let k = read_within es (length es - 1) e h in omega (arith, k)
+
+-- ---- the shortest entries ----
+
+exchange_behind : (es : List Entry) (n : ℕ) → one_before (es ++ Exchange n ∷ []) ≡ one_before es ++ Exchange n ∷ []
+exchange_behind [] n = refl
+exchange_behind (Count k ∷ es) n = refl
+exchange_behind (Exchange k ∷ es) n = refl
+
+pub shortest_exchange : (steps : List LogStep) (n : ℕ) → entries_of (steps ++ Exchanged n ∷ []) ≡ entries_of steps ++ Exchange n ∷ []
+unfolding entries_of
+shortest_exchange [] n = refl
+shortest_exchange (Issued ∷ steps) n = ap one_before (shortest_exchange steps n) ∙ exchange_behind (entries_of steps) n
+shortest_exchange (Exchanged k ∷ steps) n = ap (λ l. Exchange k ∷ l) (shortest_exchange steps n)
+
+behind_exchange : (k : ℕ) (es : List Entry) → Exchange k ∷ one_behind es ≡ one_behind (Exchange k ∷ es)
+unfolding one_behind
+behind_exchange k [] = refl
+behind_exchange k (e ∷ es) = refl
+
+before_and_behind : (es : List Entry) → one_before (one_behind es) ≡ one_behind (one_before es)
+unfolding one_behind
+before_and_behind [] = refl
+before_and_behind (Count n ∷ []) = refl
+before_and_behind (Exchange n ∷ []) = refl
+before_and_behind (Count n ∷ e ∷ es) = refl
+before_and_behind (Exchange n ∷ e ∷ es) = refl
+
+pub shortest_issue : (steps : List LogStep) → entries_of (steps ++ Issued ∷ []) ≡ one_behind (entries_of steps)
+unfolding entries_of one_behind
+shortest_issue [] = refl
+shortest_issue (Issued ∷ steps) = ap one_before (shortest_issue steps) ∙ before_and_behind (entries_of steps)
+shortest_issue (Exchanged k ∷ steps) = ap (λ l. Exchange k ∷ l) (shortest_issue steps) ∙ behind_exchange k (entries_of steps)
+
+last_behind : (before : List Entry) (n : ℕ) → one_behind (before ++ Count n ∷ []) ≡ before ++ Count (n + 1) ∷ []
+unfolding one_behind
+last_behind [] n = refl
+last_behind (Count k ∷ []) n = refl
+last_behind (Exchange k ∷ []) n = refl
+last_behind (e ∷ f ∷ es) n = ap (λ l. e ∷ l) (last_behind (f ∷ es) n)
+
+-- the last count, one higher
+pub raised_behind : (es : List Entry) (i n : ℕ) → length es ≡ suc i → slice_get es i ≡ Some (Count n) → slice_set es i (Count (n + 1)) ≡ one_behind es
+raised_behind es i n l h =
+    let r = ends_at es i (Count n) l h in
+    r.2 (Count (n + 1)) ∙ sym (last_behind r.0 n) ∙ ap one_behind (sym r.1)
+
+-- a count of its own
+pub added_behind : (es : List Entry) → ends_open es ≡ false → es ++ Count 1 ∷ [] ≡ one_behind es
+unfolding one_behind ends_open
+added_behind [] h = refl
+added_behind (Count k ∷ []) h = cc
+added_behind (Exchange k ∷ []) h = refl
+added_behind (e ∷ f ∷ es) h = ap (λ l. e ∷ l) (added_behind (f ∷ es) h)
+
+-- the entries stay the shortest ones
+pub shortest_after_issue : (es fs : List Entry) → es ≡ entries_of (steps_of es) → fs ≡ one_behind es → steps_of fs ≡ steps_of es ++ Issued ∷ [] → fs ≡ entries_of (steps_of fs)
+shortest_after_issue es fs h p q = p ∙ ap one_behind h ∙ sym (shortest_issue (steps_of es)) ∙ ap entries_of (sym q)
+
+pub shortest_after_exchange : (es fs : List Entry) (n : ℕ) → es ≡ entries_of (steps_of es) → fs ≡ es ++ Exchange n ∷ [] → fs ≡ entries_of (steps_of fs)
+shortest_after_exchange es fs n h p = p ∙ ap (λ l. l ++ Exchange n ∷ []) h ∙ sym (shortest_exchange (steps_of es) n) ∙ ap entries_of (sym (exchange_added es n)) ∙ ap (λ l. entries_of (steps_of l)) (sym p)

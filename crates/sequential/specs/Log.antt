@@ -1,5 +1,5 @@
 -- The log as its callers see it: the steps, and the room that was made for more.
-use Rattle.std.specs.Prelude.{ℕ, suc, Bool, true, false, List, [], ◌∷◌, ◌++◌, replicate}
+use Rattle.std.specs.Prelude.{ℕ, suc, ◌+◌, Bool, true, false, List, [], ◌∷◌, ◌++◌, replicate}
 use Rattle.sequential.specs.declared.log.Entry.{Entry}
 use Rattle.sequential.specs.declared.log.Entry.TheVariants.{Issued as Count, Exchange}
 use Rattle.sequential.specs.Replay.{LogStep, Issued, Exchanged}
@@ -16,6 +16,25 @@ unfoldable pub steps_of : List Entry → List LogStep
 steps_of [] = []
 steps_of (Count n ∷ es) = replicate n Issued ++ steps_of es
 steps_of (Exchange n ∷ es) = Exchanged n ∷ steps_of es
+
+-- an instruction goes to the count that comes first, or is a count of its own
+abbrev pub one_before : List Entry → List Entry
+one_before [] = Count 1 ∷ []
+one_before (Count n ∷ es) = Count (n + 1) ∷ es
+one_before (Exchange n ∷ es) = Count 1 ∷ Exchange n ∷ es
+
+-- the shortest entries of these steps: no count is 0, and no two stand side by side
+unfoldable pub entries_of : List LogStep → List Entry
+entries_of [] = []
+entries_of (Issued ∷ steps) = one_before (entries_of steps)
+entries_of (Exchanged n ∷ steps) = Exchange n ∷ entries_of steps
+
+-- the entries with one more instruction at the end
+unfoldable pub one_behind : List Entry → List Entry
+one_behind [] = Count 1 ∷ []
+one_behind (Count n ∷ []) = Count (n + 1) ∷ []
+one_behind (Exchange n ∷ []) = Exchange n ∷ Count 1 ∷ []
+one_behind (e ∷ f ∷ es) = e ∷ one_behind (f ∷ es)
 
 unfoldable pub ends_open : List Entry → Bool
 ends_open [] = false

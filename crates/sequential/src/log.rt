@@ -1,6 +1,6 @@
 ghost use Rattle.std.specs.Prelude.{◌≡◌, ◌<◌, ◌≤◌, ◌+◌, ◌++◌, ◌^◌, [], ◌∷◌, true, false, MatchResult, if◌then◌else◌, ◌-◌, length, slice_get, Some, is_some, IfSome};
 ghost use Rattle.instruction_table.specs.declared.refusal.Refusal.TheVariants.{OutOfMemory};
-ghost use Rattle.sequential.specs.Log.{issued, steps_of, ends_open};
+ghost use Rattle.sequential.specs.Log.{issued, steps_of, entries_of, one_behind, ends_open};
 ghost use Rattle.sequential.specs.declared.log.Entry.TheVariants.{Issued as Count};
 ghost use Rattle.std.specs.Vec.{vec_len, vec_capacity};
 ghost use Rattle.sequential.specs.Replay.{Issued, Exchanged};
@@ -38,6 +38,7 @@ fn raise_last(entries: &mut [Entry], count: u64)
     ensures steps { steps_of entries.new ≡ steps_of entries.old ++ Issued ∷ [] }
     ensures open { ends_open entries.new ≡ true }
     ensures len { length entries.new ≡ length entries.old }
+    ensures entries { entries.new ≡ one_behind entries.old }
 {
     let place = entries.len() - 1;
     entries[place] = Entry::Issued(count + 1);
@@ -51,6 +52,7 @@ fn add_one(entries: &mut Vec<Entry>)
     ensures open { ends_open entries.new.items ≡ true }
     ensures len { vec_len entries.new ≡ vec_len entries.old + (if ends_open entries.old.items then 0 else 1) }
     ensures capacity { vec_capacity entries.new ≡ vec_capacity entries.old }
+    ensures entries { entries.new.items ≡ one_behind entries.old.items }
 {
     match last_count(entries.as_slice()) {
         Some(count) => raise_last(entries.as_mut_slice(), count),
@@ -68,18 +70,18 @@ pub struct Log {
 impl Model for Log {
     ghost use Rattle.std.specs.Prelude.{◌≡◌, ◌-◌};
     ghost use Rattle.std.specs.Vec.{vec_len, vec_capacity};
-    ghost use Rattle.sequential.specs.Log.{Logged, steps_of, ends_open, issued};
+    ghost use Rattle.sequential.specs.Log.{Logged, steps_of, entries_of, ends_open, issued};
 
     ghost Value = { Logged };
 
     ghost view = { λ l. record { steps = steps_of l.entries.items; room = vec_capacity l.entries - vec_len l.entries; is_open = ends_open l.entries.items } };
 
-    ghost invariant = { λ l. l.issues ≡ issued (steps_of l.entries.items) };
+    ghost invariant = { λ l. record { count : l.issues ≡ issued (steps_of l.entries.items); shortest : l.entries.items ≡ entries_of (steps_of l.entries.items) } };
 }
 
 impl Log {
     /// The empty log.
-    #[tactic(auto, unfolding(crate::specs::Log::steps_of, crate::specs::Log::ends_open, crate::specs::Log::issued))]
+    #[tactic(auto, unfolding(crate::specs::Log::steps_of, crate::specs::Log::entries_of, crate::specs::Log::ends_open, crate::specs::Log::issued))]
     pub fn new(alloc: Global) -> Log
         ensures steps { result.steps ≡ [] }
         ensures is_open { result.is_open ≡ false }
@@ -106,9 +108,10 @@ impl Log {
         }
     }
 
-    /// The entries, in order. That no count is 0 and no two stand side by side isn't in the contract.
+    /// The entries, in order: no count is 0, and no two stand side by side.
     pub fn entries(&self) -> &[Entry]
-        ensures { steps_of result.now ≡ self.now.steps }
+        ensures steps { steps_of result.now ≡ self.now.steps }
+        ensures shortest { result.now ≡ entries_of self.now.steps }
     {
         self.entries.as_slice()
     }

@@ -1,6 +1,6 @@
-use Rattle.std.proofs.Common.{ap, ◌∙◌}
+use Rattle.std.proofs.Common.{ap, sym, ◌∙◌}
 use Rattle.sequential.specs.Log.{steps_of, ends_open}
-use Rattle.sequential.proofs.Entries.{count_added, opened_by_count}
+use Rattle.sequential.proofs.Entries.{count_added, opened_by_count, added_behind}
 use Rattle.sequential.proofs.log.add_one.Goals as goal
 
 pub returns-in-None-clause-steps : goal.returns-in-None-clause-steps
@@ -8,3 +8,6 @@ returns-in-None-clause-steps c = ap steps_of c.push_reserved.ensures.items ∙ c
 
 pub returns-in-None-clause-open : goal.returns-in-None-clause-open
 returns-in-None-clause-open c = ap ends_open c.push_reserved.ensures.items ∙ opened_by_count c.args.entries.now.items 1
+
+pub returns-in-None-clause-entries : goal.returns-in-None-clause-entries
+returns-in-None-clause-entries c = c.push_reserved.ensures.items ∙ added_behind c.args.entries.now.items (rw c.as_slice.ensures.value at c.in-None.ensures.open)

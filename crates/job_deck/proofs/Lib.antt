@@ -1,0 +1,10 @@
+pub mod Moving
+pub mod Fields
+pub mod Numbers
+pub mod Lines
+pub mod DeckLines
+pub mod Texts
+pub mod Ranges
+pub mod Logs
+pub mod Codes
+pub mod Listings

@@ -1,0 +1,8 @@
+use Rattle.job_deck.specs.Dump.{dump_text}
+use Rattle.job_deck.specs.Views.{shown}
+use Rattle.sequential.specs.Log.{entries_of}
+use Rattle.job_deck.proofs.Moving.{flushed}
+use Rattle.job_deck.proofs.dumping.dump_to.Goals as goal
+
+pub returns-clause-written : goal.returns-clause-written
+returns-clause-written g c = flushed c.flush.result _ _ _ _ (rw (c.entries.ensures.shortest, c.as_slice.ensures.value) at c.in_ok-put_dump.ensures.written) c.flush.ensures.bytes

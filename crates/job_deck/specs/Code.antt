@@ -1,0 +1,51 @@
+-- The word of a `code` line.
+use Rattle.std.specs.Prelude.{◌≡◌, ℕ, Bool, true, false, List, [], ◌∷◌, ◌++◌, Option, Some, None, ◌==◌, if◌then◌else◌, slice_index, slice_index_or}
+use Rattle.std.specs.List.{slice_split}
+use Rattle.parcel.specs.Parcels.{joined}
+use Rattle.instruction_table.specs.declared.instr.Instr.{Instr}
+use Rattle.instruction_table.specs.declared.instr.Instr.TheVariants.{Pass}
+use Rattle.instruction_table.specs.Table.{parcels_of}
+use Rattle.instruction_table.specs.Spelling.{instr_of}
+
+-- ` TEXT; TEXT; TEXT`, what follows the word `code`: between the semicolons stand texts with a space before each
+abbrev pub items_of : List ℕ → List (List ℕ)
+items_of texts = slice_split (λ b. b == 59) texts
+
+-- the instruction of a text with a space before it
+abbrev pub instr_in : List ℕ → Option Instr
+instr_in [] = None
+instr_in (b ∷ text) = if b == 32 then instr_of text else None
+
+abbrev pub put_before : List ℕ → Option (List ℕ) → Option (List ℕ)
+put_before parcels None = None
+put_before parcels (Some more) = Some (parcels ++ more)
+
+abbrev pub parcels_if : Option Instr → Option (List ℕ)
+parcels_if None = None
+parcels_if (Some instr) = Some (parcels_of instr)
+
+-- the parcels of an item, if it is an instruction's
+abbrev pub item_parcels : List ℕ → Option (List ℕ)
+item_parcels item = parcels_if (instr_in item)
+
+abbrev pub all_parcels : Option (List ℕ) → Option (List ℕ) → Option (List ℕ)
+all_parcels None more = None
+all_parcels (Some parcels) more = put_before parcels more
+
+-- the parcels of all items, if each is an instruction's
+abbrev pub parcels_in : List (List ℕ) → Option (List ℕ)
+parcels_in [] = Some []
+parcels_in (item ∷ more) = all_parcels (item_parcels item) (parcels_in more)
+
+-- these items, if it is so
+abbrev pub OptionalItems : Bool → List ℕ → Option (List ℕ) → Type 0
+OptionalItems false items found = found ≡ None
+OptionalItems true items found = found ≡ Some items
+
+-- this one of the parcels, and where there are fewer, that of a pass
+abbrev pub parcel_or_pass : List ℕ → ℕ → ℕ
+parcel_or_pass parcels n = slice_index_or parcels n (slice_index (parcels_of Pass) 0)
+
+-- the word of at most four parcels, filled up with passes
+abbrev pub word_of : List ℕ → ℕ
+word_of parcels = joined (parcel_or_pass parcels 0 ∷ parcel_or_pass parcels 1 ∷ parcel_or_pass parcels 2 ∷ parcel_or_pass parcels 3 ∷ [])

@@ -1,0 +1,15 @@
+-- The words of memory, and which of them a deck has placed.
+use Rattle.std.specs.Prelude.{ℕ, Bool, true, false, List, replicate, slice_set}
+
+pub record Placed : Type 0 where
+  pub memory : List ℕ
+  -- for each word of memory, whether the deck has placed it
+  pub placed : List Bool
+
+-- so many words, all +0, none of them placed
+abbrev pub blank : ℕ → Placed
+blank n = record { memory = replicate n 0; placed = replicate n false }
+
+-- with a word at an address
+abbrev pub placed_at : Placed → ℕ → ℕ → Placed
+placed_at image address word = record { memory = slice_set image.memory address word; placed = slice_set image.placed address true }

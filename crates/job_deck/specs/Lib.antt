@@ -1,0 +1,12 @@
+pub mod Device
+pub mod Image
+pub mod Line
+pub mod Text
+pub mod Code
+pub mod Deck
+pub mod Said
+pub mod Views
+pub mod Reading
+pub mod Pieces
+pub mod Dump
+pub mod Listing

@@ -1,0 +1,76 @@
+-- The lines of a listing: each word that a deck placed, with what its parcels say.
+use Rattle.std.specs.Prelude.{◌≡◌, ⊤, Bool, true, Option, Result, Ok, Err, ℕ, zero, suc, ◌+◌, ◌==◌, if◌then◌else◌, false, List, [], ◌∷◌, ◌++◌, codes, length, nat_lt, slice_index_or}
+use Rattle.std.specs.List.{flat_map, concat}
+use Rattle.word60.specs.Words.{octal_text}
+use Rattle.instruction_table.specs.declared.decoding.Decoded.{Decoded}
+use Rattle.instruction_table.specs.declared.decoding.Decoded.TheVariants.{Legal, Refused, Straddle}
+use Rattle.instruction_table.specs.Decoding.{reading_at}
+use Rattle.instruction_table.specs.Spelling.{spelling}
+use Rattle.std.specs.Io.KnownBytes.{Keeps, Appends}
+use Rattle.instruction_table.specs.declared.refusal.Refusal.{Refusal}
+use Rattle.instruction_table.specs.declared.refusal.Refusal.TheVariants as refusals
+use Rattle.job_deck.specs.Deck.{Reading, Good, Bad}
+use Rattle.job_deck.specs.Device.{WritesFront}
+use Rattle.job_deck.specs.Image.{Placed}
+use Rattle.job_deck.specs.Pieces.{code_text}
+use Rattle.job_deck.specs.Dump.{addresses}
+
+-- a legal instruction's text; or a question mark and why there is none
+abbrev pub item_text : Decoded → List ℕ
+item_text (Legal instr next) = spelling instr
+item_text (Refused op) = codes "?" ++ code_text op
+item_text Straddle = codes "?straddle"
+
+-- the parcel behind an item; an opcode that is refused counts as one parcel
+abbrev pub behind : ℕ → Decoded → ℕ
+behind parcel (Legal instr next) = next
+behind parcel (Refused op) = parcel + 1
+behind parcel Straddle = parcel + 1
+
+-- what stands before an item: nothing before the first
+abbrev pub separator : ℕ → List ℕ
+separator parcel = if parcel == 0 then [] else codes "; "
+
+-- the items of a word from a parcel on, at most so many
+abbrev pub items_from : ℕ → ℕ → ℕ → List ℕ
+items_from zero word parcel = []
+items_from (suc more) word parcel =
+    if nat_lt parcel 4 then separator parcel ++ (item_text (reading_at word parcel) ++ items_from more word (behind parcel (reading_at word parcel))) else []
+
+-- a word has at most four
+unfoldable pub items_text : ℕ → List ℕ
+items_text word = items_from 4 word 0
+
+abbrev pub placed_word : ℕ → ℕ → List ℕ
+placed_word address word = concat (octal_text 6 address ∷ codes " " ∷ octal_text 20 word ∷ codes " " ∷ [])
+
+abbrev pub listed_word : ℕ → ℕ → List ℕ
+listed_word address word = concat (placed_word address word ∷ items_text word ∷ codes "\n" ∷ [])
+
+-- the line of a word that the deck placed; the others have none
+abbrev pub listed : Placed → ℕ → List ℕ
+listed image address = if slice_index_or image.placed address false then listed_word address (slice_index_or image.memory address 0) else []
+
+-- in order of address
+abbrev pub listing : Placed → List ℕ
+listing image = flat_map (listed image) (addresses (length image.memory) 0)
+
+-- what listing a deck answers, reads and writes: its listing, or at a failed write a beginning of it; else nothing
+abbrev pub Lists : Result (Unit {0}) Refusal → Reading → List ℕ → Option (List ℕ) → Option (List ℕ) → Type 0
+Lists (Ok x) (Good plan n after) rest old new = (rest ≡ after) × Appends old new (listing plan.image)
+Lists (Ok x) (Bad n fault) rest old new = ⊥
+Lists (Err (refusals.Deck m fault)) reading rest old new = (reading ≡ Bad m fault) × Keeps old new
+Lists (Err refusals.OutOfMemory) reading rest old new = Keeps old new
+Lists (Err refusals.Read) reading rest old new = Keeps old new
+Lists (Err refusals.Write) (Good plan n after) rest old new = (rest ≡ after) × WritesFront old new (listing plan.image)
+Lists (Err refusals.Write) (Bad n fault) rest old new = ⊥
+Lists (Err other) reading rest old new = ⊥
+
+-- whether the answer is that a read failed, or a write
+abbrev pub is_read_refusal : {T : Type 0} → Result T Refusal → Bool
+is_read_refusal (Err refusals.Read) = true
+is_read_refusal other = false
+
+abbrev pub is_write_refusal : {T : Type 0} → Result T Refusal → Bool
+is_write_refusal (Err refusals.Write) = true
+is_write_refusal other = false

@@ -1,0 +1,14 @@
+-- What a line of the code says.
+use Rattle.job_deck.specs.Deck.{Said, SaysCore, SaysAt, SaysWord, SaysCode, SaysStart, SaysShow, SaysEnd, SaysNothing}
+use Rattle.job_deck.specs.declared.parsing.Line.{Line}
+use Rattle.job_deck.specs.declared.parsing.Line.TheVariants as lines
+
+abbrev pub said : Line → Said
+said (lines.Core w) = SaysCore w.now
+said (lines.At a) = SaysAt a.now
+said (lines.Word v) = SaysWord v.now
+said (lines.Code texts) = SaysCode texts.now
+said (lines.Start n) = SaysStart n.now
+said (lines.Show a b) = SaysShow a.now b.now
+said lines.End = SaysEnd
+said lines.Unknown = SaysNothing

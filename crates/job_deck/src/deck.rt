@@ -1,0 +1,53 @@
+use crate::Image;
+use instruction_table::DeckFault;
+use word60::Word18;
+
+/// Addresses of words that are shown, the first and the last one too.
+#[derive(Clone, Copy, Debug, Drop, PartialEq, Eq)]
+pub struct Show {
+    pub first: Word18,
+    pub last: Word18,
+}
+
+/// A deck: the words of memory, the absolute address of the first exchange package, and what is shown.
+#[derive(Drop)]
+pub struct Deck {
+    pub image: Image,
+    pub start: u32,
+    pub shows: Vec<Show>,
+}
+
+/// A deck whose `end` line hasn't come.
+#[derive(Drop)]
+pub struct Draft {
+    pub image: Image,
+    /// Where the next word goes.
+    pub place: u32,
+    pub start: Option<u32>,
+    pub shows: Vec<Show>,
+}
+
+/// How a deck goes on after a line.
+#[derive(Drop)]
+pub enum Step {
+    Goes(Draft),
+    Ends(Deck),
+}
+
+/// Why a line isn't taken.
+#[derive(Clone, Copy, Debug, Drop, PartialEq, Eq)]
+pub enum LineError {
+    Faulty(DeckFault),
+    OutOfMemory,
+}
+
+/// Why no deck was read.
+#[derive(Clone, Copy, Debug, Drop, PartialEq, Eq)]
+pub enum DeckError {
+    /// A line of the deck is refused.
+    Deck { line: u32, fault: DeckFault },
+    /// No memory was to be had.
+    OutOfMemory,
+    /// A read failed.
+    Read,
+}

@@ -1,0 +1,384 @@
+ghost use Rattle.std.specs.Prelude.{◌≡◌, ◌<◌, ◌≤◌, ◌∷◌, List, map, length, slice_index_or, OnErr, Err};
+ghost use Rattle.std.specs.List.{flat_map};
+ghost use Rattle.job_deck.specs.Device.{Writes, failed_after};
+ghost use Rattle.job_deck.specs.Dump.{held_text, place_line, halt_text, fault_text, area_line, a_line, b_line, x_lines, state_lines, register_lines, word_line, show_lines, log_text, log_line, spaced_entry, entry_text, dump_text};
+ghost use Rattle.job_deck.specs.Pieces.{text_of};
+ghost use Rattle.job_deck.specs.Views.{shown_of, shown};
+ghost use Rattle.instruction_table.specs.declared.refusal.Refusal.TheVariants.{Write as WriteRefusal};
+ghost use Rattle.sequential.specs.Log.{entries_of};
+
+use crate::deck::{Deck, Show};
+use crate::output::{Output, Tracked, WriteFailed};
+use crate::piece::{Piece, put_pieces};
+use instruction_table::{Halt, Refusal};
+use registers::RegisterFile;
+use relocation::{Area, Storage};
+use sequential::{Entry, Log, Place, State};
+use std::io::Write;
+use word60::{Word18, Word60};
+
+/// The held word, if there is one.
+fn held_piece(held: &Option<Word60>) -> Piece<'static>
+    ensures { text_of result ≡ held_text held.now }
+{
+    match *held {
+        None => Piece::Text(b"none"),
+        Some(word) => Piece::Word(word),
+    }
+}
+
+/// Writes where the machine stands.
+fn put_place<O: Output>(output: &mut O, place: &Place) -> Result<(), WriteFailed>
+    ensures written { Writes result (O.contents output.old) (O.contents output.new) (place_line place.now) }
+    ensures failure { O.has_failed output.new ≡ failed_after (O.has_failed output.old) result }
+    ensures same { O.lender output.new ≡ O.lender output.old }
+{
+    put_pieces(
+        output,
+        &[
+            Piece::Text(b"P "),
+            Piece::Index(place.p),
+            Piece::Text(b" PARCEL "),
+            Piece::Parcel(place.parcel),
+            Piece::Text(b" HELD "),
+            held_piece(&place.held),
+            Piece::Text(b"\n"),
+        ],
+    )
+}
+
+/// Writes why the machine stands.
+fn put_halt<O: Output>(output: &mut O, halt: &Option<Halt>) -> Result<(), WriteFailed>
+    ensures written { Writes result (O.contents output.old) (O.contents output.new) (halt_text halt.now) }
+    ensures failure { O.has_failed output.new ≡ failed_after (O.has_failed output.old) result }
+    ensures same { O.lender output.new ≡ O.lender output.old }
+{
+    match halt {
+        None => output.put(b"HALT running"),
+        Some(Halt::Stop) => output.put(b"HALT stop"),
+        Some(Halt::Straddle) => output.put(b"HALT straddle"),
+        Some(Halt::FetchRange) => output.put(b"HALT fetch"),
+        Some(Halt::Illegal(op)) => put_pieces(
+            output,
+            &[Piece::Text(b"HALT illegal "), Piece::Opcode(*op)],
+        ),
+    }
+}
+
+/// Writes the rest of that line, whether the fault flag is set.
+fn put_fault<O: Output>(output: &mut O, fault: bool) -> Result<(), WriteFailed>
+    ensures written { Writes result (O.contents output.old) (O.contents output.new) (fault_text fault) }
+    ensures failure { O.has_failed output.new ≡ failed_after (O.has_failed output.old) result }
+    ensures same { O.lender output.new ≡ O.lender output.old }
+{
+    output.put(if fault {
+        b" FAULT address\n"
+    } else {
+        b" FAULT none\n"
+    })
+}
+
+/// Writes the part of memory that the program has.
+fn put_area<O: Output>(output: &mut O, area: &Area) -> Result<(), WriteFailed>
+    ensures written { Writes result (O.contents output.old) (O.contents output.new) (area_line area.now) }
+    ensures failure { O.has_failed output.new ≡ failed_after (O.has_failed output.old) result }
+    ensures same { O.lender output.new ≡ O.lender output.old }
+{
+    put_pieces(
+        output,
+        &[
+            Piece::Text(b"RA "),
+            Piece::Index(area.ra),
+            Piece::Text(b" FL "),
+            Piece::Index(area.fl),
+            Piece::Text(b" EM "),
+            Piece::Index(area.mode),
+            Piece::Text(b"\n"),
+        ],
+    )
+}
+
+/// Writes A0 to A7.
+fn put_a<O: Output>(output: &mut O, registers: &RegisterFile) -> Result<(), WriteFailed>
+    ensures written { Writes result (O.contents output.old) (O.contents output.new) (a_line registers.now) }
+    ensures failure { O.has_failed output.new ≡ failed_after (O.has_failed output.old) result }
+    ensures same { O.lender output.new ≡ O.lender output.old }
+{
+    put_pieces(
+        output,
+        &[
+            Piece::Text(b"A "),
+            Piece::Index(registers.a[0]),
+            Piece::Text(b" "),
+            Piece::Index(registers.a[1]),
+            Piece::Text(b" "),
+            Piece::Index(registers.a[2]),
+            Piece::Text(b" "),
+            Piece::Index(registers.a[3]),
+            Piece::Text(b" "),
+            Piece::Index(registers.a[4]),
+            Piece::Text(b" "),
+            Piece::Index(registers.a[5]),
+            Piece::Text(b" "),
+            Piece::Index(registers.a[6]),
+            Piece::Text(b" "),
+            Piece::Index(registers.a[7]),
+            Piece::Text(b"\n"),
+        ],
+    )
+}
+
+/// Writes B0, which is always +0, to B7.
+fn put_b<O: Output>(output: &mut O, registers: &RegisterFile) -> Result<(), WriteFailed>
+    ensures written { Writes result (O.contents output.old) (O.contents output.new) (b_line registers.now) }
+    ensures failure { O.has_failed output.new ≡ failed_after (O.has_failed output.old) result }
+    ensures same { O.lender output.new ≡ O.lender output.old }
+{
+    put_pieces(
+        output,
+        &[
+            Piece::Text(b"B 000000 "),
+            Piece::Index(registers.b[0]),
+            Piece::Text(b" "),
+            Piece::Index(registers.b[1]),
+            Piece::Text(b" "),
+            Piece::Index(registers.b[2]),
+            Piece::Text(b" "),
+            Piece::Index(registers.b[3]),
+            Piece::Text(b" "),
+            Piece::Index(registers.b[4]),
+            Piece::Text(b" "),
+            Piece::Index(registers.b[5]),
+            Piece::Text(b" "),
+            Piece::Index(registers.b[6]),
+            Piece::Text(b"\n"),
+        ],
+    )
+}
+
+/// Writes X0 to X7, one a line.
+fn put_x<O: Output>(output: &mut O, registers: &RegisterFile) -> Result<(), WriteFailed>
+    ensures written { Writes result (O.contents output.old) (O.contents output.new) (x_lines registers.now) }
+    ensures failure { O.has_failed output.new ≡ failed_after (O.has_failed output.old) result }
+    ensures same { O.lender output.new ≡ O.lender output.old }
+{
+    put_pieces(
+        output,
+        &[
+            Piece::Text(b"X0 "),
+            Piece::Word(registers.x[0]),
+            Piece::Text(b"\nX1 "),
+            Piece::Word(registers.x[1]),
+            Piece::Text(b"\nX2 "),
+            Piece::Word(registers.x[2]),
+            Piece::Text(b"\nX3 "),
+            Piece::Word(registers.x[3]),
+            Piece::Text(b"\nX4 "),
+            Piece::Word(registers.x[4]),
+            Piece::Text(b"\nX5 "),
+            Piece::Word(registers.x[5]),
+            Piece::Text(b"\nX6 "),
+            Piece::Word(registers.x[6]),
+            Piece::Text(b"\nX7 "),
+            Piece::Word(registers.x[7]),
+            Piece::Text(b"\n"),
+        ],
+    )
+}
+
+/// Writes the lines of the machine's state, but for the registers.
+fn put_state<O: Output>(output: &mut O, state: &State) -> Result<(), WriteFailed>
+    ensures written { Writes result (O.contents output.old) (O.contents output.new) (state_lines state.now) }
+    ensures failure { O.has_failed output.new ≡ failed_after (O.has_failed output.old) result }
+    ensures same { O.lender output.new ≡ O.lender output.old }
+{
+    put_place(output, &state.place)?;
+    put_halt(output, &state.halt)?;
+    put_fault(output, state.fault)?;
+    put_area(output, &state.area)
+}
+
+/// Writes the lines of the registers.
+fn put_registers<O: Output>(output: &mut O, registers: &RegisterFile) -> Result<(), WriteFailed>
+    ensures written { Writes result (O.contents output.old) (O.contents output.new) (register_lines registers.now) }
+    ensures failure { O.has_failed output.new ≡ failed_after (O.has_failed output.old) result }
+    ensures same { O.lender output.new ≡ O.lender output.old }
+{
+    put_a(output, registers)?;
+    put_b(output, registers)?;
+    put_x(output, registers)
+}
+
+/// The word at an address, +0 where the memory has none.
+fn word_at(memory: &Storage, address: Word18) -> Word60
+    ensures { result ≡ slice_index_or memory.now address 0 }
+{
+    if address.get() < memory.size() {
+        memory.load(address.get())
+    } else {
+        Word60::default()
+    }
+}
+
+/// Writes a word with its address.
+fn put_word<O: Output>(output: &mut O, memory: &Storage, address: Word18) -> Result<(), WriteFailed>
+    ensures written { Writes result (O.contents output.old) (O.contents output.new) (word_line memory.now address) }
+    ensures failure { O.has_failed output.new ≡ failed_after (O.has_failed output.old) result }
+    ensures same { O.lender output.new ≡ O.lender output.old }
+{
+    put_pieces(
+        output,
+        &[
+            Piece::Text(b"M "),
+            Piece::Index(address),
+            Piece::Text(b" "),
+            Piece::Word(word_at(memory, address)),
+            Piece::Text(b"\n"),
+        ],
+    )
+}
+
+/// Writes the words of a `show` line.
+fn put_show<O: Output>(output: &mut O, memory: &Storage, show: Show) -> Result<(), WriteFailed>
+    ensures written { Writes result (O.contents output.old) (O.contents output.new) (show_lines memory.now (shown_of show)) }
+    ensures failure { O.has_failed output.new ≡ failed_after (O.has_failed output.old) result }
+    ensures same { O.lender output.new ≡ O.lender output.old }
+{
+    for address in show.first.get()..show.last.get() + 1 {
+        put_word(output, memory, Word18::from_bits(address))?;
+    }
+    Ok(())
+}
+
+/// Writes the words of all `show` lines.
+fn put_shows<O: Output>(output: &mut O, memory: &Storage, shows: &[Show]) -> Result<(), WriteFailed>
+    ensures written { Writes result (O.contents output.old) (O.contents output.new) (flat_map (λ show. show_lines memory.now (shown_of show)) shows.now) }
+    ensures failure { O.has_failed output.new ≡ failed_after (O.has_failed output.old) result }
+    ensures same { O.lender output.new ≡ O.lender output.old }
+{
+    for show in shows {
+        put_show(output, memory, *show)?;
+    }
+    Ok(())
+}
+
+/// Writes an entry of a log after the first.
+fn put_entry<O: Output>(output: &mut O, entry: Entry) -> Result<(), WriteFailed>
+    ensures written { Writes result (O.contents output.old) (O.contents output.new) (spaced_entry entry) }
+    ensures failure { O.has_failed output.new ≡ failed_after (O.has_failed output.old) result }
+    ensures same { O.lender output.new ≡ O.lender output.old }
+{
+    match entry {
+        Entry::Exchange(address) => put_pieces(
+            output,
+            &[Piece::Text(b" E"), Piece::Address(address)],
+        ),
+        Entry::Issued(count) => put_pieces(output, &[Piece::Text(b" I"), Piece::Count(count)]),
+    }
+}
+
+/// Writes the entries of a log after the first.
+fn put_entries<O: Output>(output: &mut O, entries: &[Entry]) -> Result<(), WriteFailed>
+    ensures written { Writes result (O.contents output.old) (O.contents output.new) (flat_map spaced_entry entries.now) }
+    ensures failure { O.has_failed output.new ≡ failed_after (O.has_failed output.old) result }
+    ensures same { O.lender output.new ≡ O.lender output.old }
+{
+    for entry in entries {
+        put_entry(output, *entry)?;
+    }
+    Ok(())
+}
+
+/// Writes the first entry of a log.
+fn put_first<O: Output>(output: &mut O, entry: Entry) -> Result<(), WriteFailed>
+    ensures written { Writes result (O.contents output.old) (O.contents output.new) (entry_text entry) }
+    ensures failure { O.has_failed output.new ≡ failed_after (O.has_failed output.old) result }
+    ensures same { O.lender output.new ≡ O.lender output.old }
+{
+    match entry {
+        Entry::Exchange(address) => put_pieces(
+            output,
+            &[Piece::Text(b"E"), Piece::Address(address)],
+        ),
+        Entry::Issued(count) => put_pieces(output, &[Piece::Text(b"I"), Piece::Count(count)]),
+    }
+}
+
+/// Writes the text of a log.
+fn put_log<O: Output>(output: &mut O, entries: &[Entry]) -> Result<(), WriteFailed>
+    ensures written { Writes result (O.contents output.old) (O.contents output.new) (log_text entries.now) }
+    ensures failure { O.has_failed output.new ≡ failed_after (O.has_failed output.old) result }
+    ensures same { O.lender output.new ≡ O.lender output.old }
+{
+    match entries {
+        [] => output.put(b"none"),
+        [first, others @ ..] => {
+            put_first(output, *first)?;
+            put_entries(output, others)
+        }
+    }
+}
+
+/// Writes the line of the log.
+fn put_log_line<O: Output>(output: &mut O, entries: &[Entry]) -> Result<(), WriteFailed>
+    ensures written { Writes result (O.contents output.old) (O.contents output.new) (log_line entries.now) }
+    ensures failure { O.has_failed output.new ≡ failed_after (O.has_failed output.old) result }
+    ensures same { O.lender output.new ≡ O.lender output.old }
+{
+    output.put(b"LOG ")?;
+    put_log(output, entries)?;
+    output.put(b"\n")
+}
+
+/// Writes a machine's state, the words that are shown and the log.
+fn put_dump<O: Output>(
+    output: &mut O,
+    state: &State,
+    entries: &[Entry],
+    shows: &[Show],
+) -> Result<(), WriteFailed>
+    ensures written { Writes result (O.contents output.old) (O.contents output.new) (dump_text state.now entries.now (map shown_of shows.now)) }
+    ensures failure { O.has_failed output.new ≡ failed_after (O.has_failed output.old) result }
+    ensures same { O.lender output.new ≡ O.lender output.old }
+{
+    put_state(output, state)?;
+    put_registers(output, &state.registers)?;
+    put_shows(output, &state.memory, shows)?;
+    put_log_line(output, entries)
+}
+
+/// Writes a machine's state, the words that the deck shows and the log, and hands them on.
+///
+/// # Errors
+/// Where a write or the flush fails; a beginning of the text is then written.
+pub fn dump_to<O: Output>(
+    output: &mut O,
+    state: &State,
+    log: &Log,
+    deck: &Deck,
+) -> Result<(), WriteFailed>
+    ensures written { Writes result (O.contents output.old) (O.contents output.new) (dump_text state.now (entries_of log.now.steps) (shown deck.now.shows.items)) }
+    ensures failure { O.has_failed output.new ≡ failed_after (O.has_failed output.old) result }
+    ensures same { O.lender output.new ≡ O.lender output.old }
+{
+    put_dump(output, state, log.entries(), deck.shows.as_slice())?;
+    output.flush()
+}
+
+/// The same to any writer.
+///
+/// # Errors
+/// `Write` where a write or the flush fails; a beginning of the text is then written.
+pub fn dump<W: Write>(state: &State, log: &Log, deck: &Deck, writer: &mut W) -> Result<(), Refusal>
+    ensures written { Writes result (W.contents writer.old) (W.contents writer.new) (dump_text state.now (entries_of log.now.steps) (shown deck.now.shows.items)) }
+    ensures refusal { OnErr result (result ≡ Err WriteRefusal) }
+{
+    let mut output = Tracked::new(writer);
+    let result = dump_to(&mut output, state, log, deck);
+    // No effect at run time. The proof reads what the writer holds from this use.
+    let _ = &*output.into_inner();
+    match result {
+        Ok(()) => Ok(()),
+        Err(_) => Err(Refusal::Write),
+    }
+}

@@ -1,0 +1,29 @@
+//! Texts of the machine: decks are read, and memory, machines and logs are printed.
+//!
+//! A deck says on lines what stands in memory, where the package of the first exchange is, and which words are
+//! shown; docs/formats.md has its lines and their faults. All texts are lines of bytes.
+#![tactic(auto)]
+
+mod coding;
+mod deck;
+mod digits;
+mod dumping;
+mod image;
+mod input;
+mod judging;
+mod line;
+mod listing;
+mod output;
+mod parsing;
+mod piece;
+mod reading;
+#[cfg(test)]
+mod tests;
+
+pub use deck::{Deck, DeckError, Show};
+pub use dumping::{dump, dump_to};
+pub use image::Image;
+pub use input::{Input, ReadFailed, Watched};
+pub use listing::{list, list_to};
+pub use output::{Output, Tracked, WriteFailed};
+pub use reading::{read_deck, read_deck_from};

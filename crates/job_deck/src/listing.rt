@@ -1,0 +1,169 @@
+ghost use Rattle.std.specs.Prelude.{◌≡◌, ◌<◌, ◌≤◌, ◌^◌, ◌||◌, length};
+ghost use Rattle.job_deck.specs.Device.{Moves, Writes, failed_after};
+ghost use Rattle.job_deck.specs.Deck.{deck};
+ghost use Rattle.job_deck.specs.Listing.{item_text, behind, separator, items_text, listed_word, listed, listing, Lists, is_read_refusal, is_write_refusal};
+
+use crate::Image;
+use crate::input::{Input, Watched};
+use crate::output::{Output, Tracked, WriteFailed};
+use crate::piece::{Piece, put_pieces};
+use crate::reading::{read_deck_from, refusal};
+use instruction_table::{Decoded, Refusal, decode, spell};
+use std::alloc::Global;
+use std::io::{Read, Write};
+use word60::{Word18, Word60};
+
+/// Writes an item: a legal instruction's text, or a question mark and why there is none.
+fn put_item<O: Output>(output: &mut O, item: &Decoded) -> Result<(), WriteFailed>
+    ensures written { Writes result (O.contents output.old) (O.contents output.new) (item_text item.now) }
+    ensures failure { O.has_failed output.new ≡ failed_after (O.has_failed output.old) result }
+    ensures same { O.lender output.new ≡ O.lender output.old }
+{
+    match item {
+        Decoded::Legal(instr, _) => output.put(spell(instr).as_str().as_bytes()),
+        Decoded::Refused(op) => put_pieces(output, &[Piece::Text(b"?"), Piece::Opcode(*op)]),
+        Decoded::Straddle => output.put(b"?straddle"),
+    }
+}
+
+/// The parcel behind an item; an opcode that is refused counts as one parcel.
+fn behind(parcel: u8, item: &Decoded) -> u8
+    requires { parcel < 4 }
+    ensures { result ≡ behind parcel item.now }
+{
+    match *item {
+        Decoded::Legal(_, next) => next,
+        Decoded::Refused(_) => parcel + 1,
+        Decoded::Straddle => parcel + 1,
+    }
+}
+
+/// Writes what stands before an item: nothing before the first.
+fn put_separator<O: Output>(output: &mut O, parcel: u8) -> Result<(), WriteFailed>
+    ensures written { Writes result (O.contents output.old) (O.contents output.new) (separator parcel) }
+    ensures failure { O.has_failed output.new ≡ failed_after (O.has_failed output.old) result }
+    ensures same { O.lender output.new ≡ O.lender output.old }
+{
+    output.put(if parcel == 0 { b"" } else { b"; " })
+}
+
+/// Writes the items of a word.
+fn put_items<O: Output>(output: &mut O, word: Word60) -> Result<(), WriteFailed>
+    ensures written { Writes result (O.contents output.old) (O.contents output.new) (items_text word) }
+    ensures failure { O.has_failed output.new ≡ failed_after (O.has_failed output.old) result }
+    ensures same { O.lender output.new ≡ O.lender output.old }
+{
+    let mut parcel = 0u8;
+    while parcel < 4 {
+        let item = decode(word, parcel);
+        put_separator(output, parcel)?;
+        put_item(output, &item)?;
+        parcel = behind(parcel, &item);
+    }
+    Ok(())
+}
+
+/// Writes the line of a word.
+fn put_listed_word<O: Output>(
+    output: &mut O,
+    address: Word18,
+    word: Word60,
+) -> Result<(), WriteFailed>
+    ensures written { Writes result (O.contents output.old) (O.contents output.new) (listed_word address word) }
+    ensures failure { O.has_failed output.new ≡ failed_after (O.has_failed output.old) result }
+    ensures same { O.lender output.new ≡ O.lender output.old }
+{
+    put_pieces(
+        output,
+        &[
+            Piece::Index(address),
+            Piece::Text(b" "),
+            Piece::Word(word),
+            Piece::Text(b" "),
+        ],
+    )?;
+    put_items(output, word)?;
+    output.put(b"\n")
+}
+
+/// Writes the line of the word at an address, if the deck placed it.
+fn put_listed<O: Output>(output: &mut O, image: &Image, address: u32) -> Result<(), WriteFailed>
+    requires within { address < length image.now.memory }
+    requires range { address < 2 ^ 18 }
+    ensures written { Writes result (O.contents output.old) (O.contents output.new) (listed image.now address) }
+    ensures failure { O.has_failed output.new ≡ failed_after (O.has_failed output.old) result }
+    ensures same { O.lender output.new ≡ O.lender output.old }
+{
+    if image.is_placed(address) {
+        let word = image.memory().load(address);
+        put_listed_word(output, Word18::from_bits(address), word)
+    } else {
+        Ok(())
+    }
+}
+
+/// Writes the words that a deck placed, in order of address, each with what its parcels say.
+///
+/// # Errors
+/// Where a write fails; a beginning of the text is then written.
+fn put_listing<O: Output>(output: &mut O, image: &Image) -> Result<(), WriteFailed>
+    ensures written { Writes result (O.contents output.old) (O.contents output.new) (listing image.now) }
+    ensures failure { O.has_failed output.new ≡ failed_after (O.has_failed output.old) result }
+    ensures same { O.lender output.new ≡ O.lender output.old }
+{
+    for address in 0..image.size() {
+        put_listed(output, image, address)?;
+    }
+    Ok(())
+}
+
+/// Writes the listing and hands it on.
+fn print_listing<O: Output>(output: &mut O, image: &Image) -> Result<(), WriteFailed>
+    ensures written { Writes result (O.contents output.old) (O.contents output.new) (listing image.now) }
+    ensures failure { O.has_failed output.new ≡ failed_after (O.has_failed output.old) result }
+    ensures same { O.lender output.new ≡ O.lender output.old }
+{
+    put_listing(output, image)?;
+    output.flush()
+}
+
+/// Reads a deck, and writes the words that it places, in order of address, each with what its parcels say.
+///
+/// # Errors
+/// `Deck` with a line and its fault, `OutOfMemory`, and `Read` and `Write` where the device fails. Before
+/// all but the last of these nothing was written; before that a beginning of the text was.
+pub fn list_to<I: Input, O: Output>(
+    alloc: Global,
+    input: &mut I,
+    output: &mut O,
+) -> Result<(), Refusal>
+    ensures listed { Moves (I.remaining input.old) (I.remaining input.new) (λ xs ys. Lists result (deck xs) ys (O.contents output.old) (O.contents output.new)) }
+    ensures read { I.has_failed input.new ≡ (I.has_failed input.old || is_read_refusal result) }
+    ensures write { O.has_failed output.new ≡ (O.has_failed output.old || is_write_refusal result) }
+    ensures input { I.lender input.new ≡ I.lender input.old }
+    ensures output { O.lender output.new ≡ O.lender output.old }
+{
+    match read_deck_from(alloc, input) {
+        Ok((deck, _)) => match print_listing(output, &deck.image) {
+            Ok(()) => Ok(()),
+            Err(_) => Err(Refusal::Write),
+        },
+        Err(error) => Err(refusal(error)),
+    }
+}
+
+/// The same from any reader to any writer.
+///
+/// # Errors
+/// As `list_to`.
+pub fn list<R: Read, W: Write>(alloc: Global, reader: &mut R, writer: &mut W) -> Result<(), Refusal>
+    ensures { Moves (R.remaining reader.old) (R.remaining reader.new) (λ xs ys. Lists result (deck xs) ys (W.contents writer.old) (W.contents writer.new)) }
+{
+    let mut input = Watched::new(reader);
+    let mut output = Tracked::new(writer);
+    let result = list_to(alloc, &mut input, &mut output);
+    // No effect at run time. The proof reads what reader and writer hold from these uses.
+    let _ = &*input.into_inner();
+    let _ = &*output.into_inner();
+    result
+}

@@ -1,0 +1,103 @@
+ghost use Rattle.std.specs.Prelude.{◌≡◌, ◌==◌, ◌<◌, ◌≤◌, ◌+◌, position, ◌∷◌, [], List, ℕ, length, IfSome};
+ghost use Rattle.std.specs.List.{slice_split};
+ghost use Rattle.job_deck.specs.Text.{fields_of, other_parts, from_space};
+ghost use Rattle.job_deck.specs.Deck.{said_of, said_in, said_code};
+ghost use Rattle.job_deck.specs.Said.{said};
+
+/// A line by its fields.
+#[derive(Clone, Copy)]
+pub enum Line<'a> {
+    Core(&'a [u8]),
+    At(&'a [u8]),
+    Word(&'a [u8]),
+    /// What follows the word `code`: instruction texts, each with the space before it.
+    Code(&'a [u8]),
+    Start(&'a [u8]),
+    Show(&'a [u8], &'a [u8]),
+    End,
+    Unknown,
+}
+
+/// Where the byte stands first.
+fn place_of(text: &[u8], separator: u8) -> Option<usize>
+    ensures { result ≡ position (λ b. b == separator) text.now }
+{
+    text.iter().position(|byte| *byte == separator)
+}
+
+/// What stands before the first separator, and what comes after it.
+pub fn first_part(text: &[u8], separator: u8) -> (&[u8], Option<&[u8]>)
+    ensures parts { slice_split (λ b. b == separator) text.now ≡ result.0.now ∷ other_parts separator result.1 }
+    ensures shorter { IfSome result.1 (λ rest. length result.0.now + length rest.now < length text.now) }
+{
+    match place_of(text, separator) {
+        Some(at) => (&text[..at], Some(&text[at + 1..])),
+        None => (text, None),
+    }
+}
+
+/// The first field, and what comes after its space.
+pub fn first_field(text: &[u8]) -> (&[u8], Option<&[u8]>)
+    ensures { fields_of text.now ≡ result.0.now ∷ other_parts 32 result.1 }
+{
+    first_part(text, b' ')
+}
+
+/// What a line says that begins with the word `code`.
+fn code_line(text: &[u8]) -> Line<'_>
+    ensures { said result ≡ said_code (from_space text.now) }
+{
+    match place_of(text, b' ') {
+        Some(at) if text.len() - at > 1 => Line::Code(&text[at..]),
+        _ => Line::Unknown,
+    }
+}
+
+/// What a line says that begins with another word.
+#[tactic(auto, using(crate::proofs::Fields::too_many))]
+fn line_of_fields<'a>(word: &[u8], rest: Option<&'a [u8]>) -> Line<'a>
+    ensures { said result ≡ said_of (word.now ∷ other_parts 32 rest.entry) }
+{
+    let Some(rest) = rest else {
+        return if word == b"end".as_slice() {
+            Line::End
+        } else {
+            Line::Unknown
+        };
+    };
+    let (first, rest) = first_field(rest);
+    let Some(rest) = rest else {
+        return if word == b"core".as_slice() {
+            Line::Core(first)
+        } else if word == b"at".as_slice() {
+            Line::At(first)
+        } else if word == b"word".as_slice() {
+            Line::Word(first)
+        } else if word == b"start".as_slice() {
+            Line::Start(first)
+        } else {
+            Line::Unknown
+        };
+    };
+    let (second, rest) = first_field(rest);
+    let Some(_) = rest else {
+        return if word == b"show".as_slice() {
+            Line::Show(first, second)
+        } else {
+            Line::Unknown
+        };
+    };
+    Line::Unknown
+}
+
+/// What a line says.
+pub fn parse_line(text: &[u8]) -> Line<'_>
+    ensures { said result ≡ said_in text.now }
+{
+    let (word, rest) = first_field(text);
+    if word == b"code".as_slice() {
+        code_line(text)
+    } else {
+        line_of_fields(word, rest)
+    }
+}
