@@ -151,7 +151,10 @@ fn takes_register_rows(rt: HostRuntime) -> Result<(), Fail> {
     for (parcel, instr, next) in [(0, shift, 1), (1, mask, 2), (2, count, 3)] {
         state.place = place(5, parcel, Some(held))?;
         let fetched = state.fetch();
-        assert_eq!(rt; fetched, Fetched::Taking(instr, place(5, next, Some(held))?));
+        assert_eq!(rt;
+            fetched,
+            Fetched::Taking(instr, place(5, next, Some(held))?)
+        );
     }
     Ok(())
 }
