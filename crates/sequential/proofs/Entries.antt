@@ -1,9 +1,9 @@
 -- The entries of a log, with one more at the end or a count raised.
-use Rattle.std.proofs.Common.{◌≡◌, ◌<◌, ◌≤◌, ◌+◌, ◌-◌, ℕ, zero, suc, true, false, List, [], ◌∷◌, ◌++◌, Some, None, length, refl, sym, ap, ◌∙◌, append_assoc, append-nil, arith}
+use Rattle.std.proofs.Common.{◌≡◌, ◌<◌, ◌≤◌, ◌+◌, ◌-◌, ℕ, zero, suc, true, false, List, [], ◌∷◌, ◌++◌, Some, None, length, refl, sym, ap, subst, ◌∙◌, append_assoc, append-nil, arith}
 use Rattle.std.specs.Prelude.{replicate, slice_get, slice_set}
 use Rattle.sequential.specs.declared.log.Entry.{Entry}
 use Rattle.sequential.specs.declared.log.Entry.TheVariants.{Issued as Count, Exchange}
-use Rattle.sequential.specs.Log.{steps_of, ends_open, issued}
+use Rattle.sequential.specs.Log.{steps_of, ends_open, begins_with_count, IsShortest, issued}
 use Rattle.sequential.specs.Replay.{LogStep, Issued, Exchanged}
 
 pub steps-append : (es fs : List Entry) → steps_of (es ++ fs) ≡ steps_of es ++ steps_of fs
@@ -141,3 +141,44 @@ read_within (x ∷ es) (suc i) e h = let k : i < length es = read_within es i e 
 -- the last place of a list with an element there
 pub last_place : (es : List Entry) (e : Entry) → slice_get es (length es - 1) ≡ Some e → length es ≡ suc (length es - 1)
 last_place es e h = let k = read_within es (length es - 1) e h in omega (arith, k)
+
+-- ---- no count is 0, and no two stand side by side ----
+
+begins-append : (f : Entry) (es gs : List Entry) → begins_with_count ((f ∷ es) ++ gs) ≡ begins_with_count (f ∷ es)
+unfolding begins_with_count
+begins-append (Count n) es gs = refl
+begins-append (Exchange n) es gs = refl
+
+no_count_added : (es : List Entry) (n : ℕ) → begins_with_count (es ++ Exchange n ∷ []) ≡ begins_with_count es
+unfolding begins_with_count
+no_count_added [] n = refl
+no_count_added (f ∷ es) n = begins-append f es (Exchange n ∷ [])
+
+pub shortest_exchange : (es : List Entry) (n : ℕ) → IsShortest es → IsShortest (es ++ Exchange n ∷ [])
+shortest_exchange [] n h = tt
+shortest_exchange (Count k ∷ es) n h = (h.0, no_count_added es n ∙ h.1, shortest_exchange es n h.2)
+shortest_exchange (Exchange k ∷ es) n h = shortest_exchange es n h
+
+pub shortest_count : (es : List Entry) → ends_open es ≡ false → IsShortest es → IsShortest (es ++ Count 1 ∷ [])
+unfolding ends_open begins_with_count
+shortest_count [] e h = (omega arith, refl, tt)
+shortest_count (Count k ∷ []) e h = cc
+shortest_count (Count k ∷ f ∷ es) e h = (h.0, begins-append f es (Count 1 ∷ []) ∙ h.1, shortest_count (f ∷ es) e h.2)
+shortest_count (Exchange k ∷ []) e h = (omega arith, refl, tt)
+shortest_count (Exchange k ∷ f ∷ es) e h = shortest_count (f ∷ es) e h
+
+count_raised : (es : List Entry) (n : ℕ) → IsShortest (es ++ Count n ∷ []) → IsShortest (es ++ Count (n + 1) ∷ [])
+unfolding begins_with_count
+count_raised [] n h = (omega arith, refl, tt)
+count_raised (Count k ∷ []) n h = absurd (two_counts h.1)
+  where
+    two_counts : true ≡ false → ⊥
+    two_counts i = cc
+count_raised (Count k ∷ f ∷ es) n h =
+    (h.0, begins-append f es (Count (n + 1) ∷ []) ∙ sym (begins-append f es (Count n ∷ [])) ∙ h.1, count_raised (f ∷ es) n h.2)
+count_raised (Exchange k ∷ es) n h = count_raised es n h
+
+pub raised_shortest : (es : List Entry) (i n : ℕ) → length es ≡ suc i → slice_get es i ≡ Some (Count n) → IsShortest es → IsShortest (slice_set es i (Count (n + 1)))
+raised_shortest es i n l h k =
+    let r = ends_at es i (Count n) l h in
+    subst IsShortest (sym (r.2 (Count (n + 1)))) (count_raised r.0 n (subst IsShortest r.1 k))

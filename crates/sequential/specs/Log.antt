@@ -1,5 +1,5 @@
 -- The log as its callers see it: the steps, and the room that was made for more.
-use Rattle.std.specs.Prelude.{ℕ, suc, Bool, true, false, List, [], ◌∷◌, ◌++◌, replicate}
+use Rattle.std.specs.Prelude.{◌≡◌, ◌<◌, ℕ, suc, Bool, true, false, List, [], ◌∷◌, ◌++◌, replicate}
 use Rattle.sequential.specs.declared.log.Entry.{Entry}
 use Rattle.sequential.specs.declared.log.Entry.TheVariants.{Issued as Count, Exchange}
 use Rattle.sequential.specs.Replay.{LogStep, Issued, Exchanged}
@@ -22,6 +22,17 @@ ends_open [] = false
 ends_open (Count n ∷ []) = true
 ends_open (Exchange n ∷ []) = false
 ends_open (e ∷ f ∷ es) = ends_open (f ∷ es)
+
+unfoldable pub begins_with_count : List Entry → Bool
+begins_with_count [] = false
+begins_with_count (Count n ∷ es) = true
+begins_with_count (Exchange n ∷ es) = false
+
+-- no count is 0, and no two counts stand side by side
+abbrev pub IsShortest : List Entry → Type 0
+IsShortest [] = Unit {0}
+IsShortest (Count n ∷ es) = (0 < n) × (begins_with_count es ≡ false) × IsShortest es
+IsShortest (Exchange n ∷ es) = IsShortest es
 
 -- how many instructions there are
 unfoldable pub issued : List LogStep → ℕ

@@ -1,6 +1,6 @@
 ghost use Rattle.std.specs.Prelude.{◌≡◌, ◌<◌, ◌≤◌, ◌+◌, ◌++◌, ◌^◌, [], ◌∷◌, true, false, MatchResult, if◌then◌else◌, ◌-◌, length, slice_get, Some, is_some, IfSome};
 ghost use Rattle.instruction_table.specs.declared.refusal.Refusal.TheVariants.{OutOfMemory};
-ghost use Rattle.sequential.specs.Log.{issued, steps_of, ends_open};
+ghost use Rattle.sequential.specs.Log.{issued, steps_of, ends_open, IsShortest};
 ghost use Rattle.sequential.specs.declared.log.Entry.TheVariants.{Issued as Count};
 ghost use Rattle.std.specs.Vec.{vec_len, vec_capacity};
 ghost use Rattle.sequential.specs.Replay.{Issued, Exchanged};
@@ -37,6 +37,7 @@ fn raise_last(entries: &mut [Entry], count: u64)
     requires bound { count + 1 < 2 ^ 64 }
     ensures steps { steps_of entries.new ≡ steps_of entries.old ++ Issued ∷ [] }
     ensures open { ends_open entries.new ≡ true }
+    ensures shortest { IsShortest entries.old → IsShortest entries.new }
     ensures len { length entries.new ≡ length entries.old }
 {
     let place = entries.len() - 1;
@@ -49,6 +50,7 @@ fn add_one(entries: &mut Vec<Entry>)
     requires count { issued (steps_of entries.old.items) + 1 < 2 ^ 64 }
     ensures steps { steps_of entries.new.items ≡ steps_of entries.old.items ++ Issued ∷ [] }
     ensures open { ends_open entries.new.items ≡ true }
+    ensures shortest { IsShortest entries.old.items → IsShortest entries.new.items }
     ensures len { vec_len entries.new ≡ vec_len entries.old + (if ends_open entries.old.items then 0 else 1) }
     ensures capacity { vec_capacity entries.new ≡ vec_capacity entries.old }
 {
@@ -68,13 +70,13 @@ pub struct Log {
 impl Model for Log {
     ghost use Rattle.std.specs.Prelude.{◌≡◌, ◌-◌};
     ghost use Rattle.std.specs.Vec.{vec_len, vec_capacity};
-    ghost use Rattle.sequential.specs.Log.{Logged, steps_of, ends_open, issued};
+    ghost use Rattle.sequential.specs.Log.{Logged, steps_of, ends_open, issued, IsShortest};
 
     ghost Value = { Logged };
 
     ghost view = { λ l. record { steps = steps_of l.entries.items; room = vec_capacity l.entries - vec_len l.entries; is_open = ends_open l.entries.items } };
 
-    ghost invariant = { λ l. l.issues ≡ issued (steps_of l.entries.items) };
+    ghost invariant = { λ l. (l.issues ≡ issued (steps_of l.entries.items)) × IsShortest l.entries.items };
 }
 
 impl Log {
@@ -106,9 +108,10 @@ impl Log {
         }
     }
 
-    /// The entries, in order. That no count is 0 and no two stand side by side isn't in the contract.
+    /// The entries, in order. No count is 0, and no two counts stand side by side.
     pub fn entries(&self) -> &[Entry]
-        ensures { steps_of result.now ≡ self.now.steps }
+        ensures steps { steps_of result.now ≡ self.now.steps }
+        ensures shortest { IsShortest result.now }
     {
         self.entries.as_slice()
     }

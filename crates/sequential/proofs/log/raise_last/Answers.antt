@@ -1,4 +1,4 @@
-use Rattle.sequential.proofs.Entries.{last_place, raised_steps, raised_open}
+use Rattle.sequential.proofs.Entries.{last_place, raised_steps, raised_open, raised_shortest}
 use Rattle.sequential.proofs.log.raise_last.Goals as goal
 
 pub returns-clause-steps : goal.returns-clause-steps
@@ -6,3 +6,6 @@ returns-clause-steps c = raised_steps c.args.entries.now _ c.args.count (last_pl
 
 pub returns-clause-open : goal.returns-clause-open
 returns-clause-open c = raised_open c.args.entries.now _ c.args.count (last_place c.args.entries.now _ c.requires.last) c.requires.last
+
+pub returns-clause-shortest : goal.returns-clause-shortest
+returns-clause-shortest c = raised_shortest c.args.entries.now _ c.args.count (last_place c.args.entries.now _ c.requires.last) c.requires.last

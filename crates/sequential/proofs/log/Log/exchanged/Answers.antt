@@ -1,11 +1,14 @@
-use Rattle.std.proofs.Common.{sym, ap, ◌∙◌, ◌∷◌, [], ◌++◌}
-use Rattle.sequential.specs.Log.{Logged, steps_of, ends_open, issued}
+use Rattle.std.proofs.Common.{sym, ap, ◌∙◌, subst, ◌∷◌, [], ◌++◌}
+use Rattle.sequential.specs.Log.{Logged, steps_of, ends_open, IsShortest, issued}
 use Rattle.sequential.specs.Replay.{Exchanged}
-use Rattle.sequential.proofs.Entries.{exchange_added, closed_by_exchange, issued-exchange}
+use Rattle.sequential.proofs.Entries.{exchange_added, closed_by_exchange, issued-exchange, shortest_exchange}
 use Rattle.sequential.proofs.log.Log.exchanged.Goals as goal
 
 pub invariant_of-self : goal.invariant_of-self
-invariant_of-self c = c.self.invariant ∙ sym (issued-exchange c.self.inside.entries.items c.args.at) ∙ ap (λ es. issued (steps_of es)) (sym c.push_reserved.ensures.items)
+invariant_of-self c = (
+  c.self.invariant.0 ∙ sym (issued-exchange c.self.inside.entries.items c.args.at) ∙ ap (λ es. issued (steps_of es)) (sym c.push_reserved.ensures.items),
+  subst IsShortest (sym c.push_reserved.ensures.items) (shortest_exchange c.self.inside.entries.items c.args.at c.self.invariant.1),
+)
 
 pub returns-clause-steps : goal.returns-clause-steps
 returns-clause-steps c = ap steps_of c.push_reserved.ensures.items ∙ exchange_added c.self.inside.entries.items c.args.at ∙ ap (λ (l : Logged). l.steps ++ Exchanged c.args.at ∷ []) c.self.view_is
