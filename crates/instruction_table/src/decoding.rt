@@ -67,40 +67,20 @@ fn return_jump(i: Digit, to: Word18) -> Entry
 fn branch(m: Digit, i: Digit, j: Digit, to: Word18) -> Entry
     ensures { result ≡ entry (branches i j to) m }
 {
-    match m.get() {
-        0 => Entry::Short(Instr::Stop),
-        1 => return_jump(i, to),
-        2 => Entry::Long(Instr::Jump { i, to }),
-        3 => Entry::Long(Instr::BranchX {
-            test: x_test(i),
-            j,
-            to,
-        }),
-        4 => Entry::Long(Instr::BranchB {
-            test: BTest::Equal,
-            i,
-            j,
-            to,
-        }),
-        5 => Entry::Long(Instr::BranchB {
-            test: BTest::NotEqual,
-            i,
-            j,
-            to,
-        }),
-        6 => Entry::Long(Instr::BranchB {
-            test: BTest::GreaterOrEqual,
-            i,
-            j,
-            to,
-        }),
-        _ => Entry::Long(Instr::BranchB {
-            test: BTest::Less,
-            i,
-            j,
-            to,
-        }),
-    }
+    let test = match m.get() {
+        0 => return Entry::Short(Instr::Stop),
+        1 => return return_jump(i, to),
+        2 => return Entry::Long(Instr::Jump { i, to }),
+        3 => {
+            let test = x_test(i);
+            return Entry::Long(Instr::BranchX { test, j, to });
+        }
+        4 => BTest::Equal,
+        5 => BTest::NotEqual,
+        6 => BTest::GreaterOrEqual,
+        _ => BTest::Less,
+    };
+    Entry::Long(Instr::BranchB { test, i, j, to })
 }
 
 /// 10 to 17.
@@ -155,21 +135,12 @@ fn shift(m: Digit, i: Digit, j: Digit, k: Digit) -> Entry
 fn addition(m: Digit, i: Digit, j: Digit, k: Digit) -> Entry
     ensures { result ≡ entry (additions i j k) m }
 {
-    match m.get() {
-        0..=5 => refused(3, m),
-        6 => Entry::Short(Instr::LongAdd {
-            op: Addition::Sum,
-            i,
-            j,
-            k,
-        }),
-        _ => Entry::Short(Instr::LongAdd {
-            op: Addition::Difference,
-            i,
-            j,
-            k,
-        }),
-    }
+    let op = match m.get() {
+        0..=5 => return refused(3, m),
+        6 => Addition::Sum,
+        _ => Addition::Difference,
+    };
+    Entry::Short(Instr::LongAdd { op, i, j, k })
 }
 
 /// 40 to 47.
@@ -188,49 +159,30 @@ fn other(m: Digit, i: Digit, j: Digit, k: Digit) -> Entry
     }
 }
 
+/// The instructions of 50 to 77 that add an address.
+fn address_increment(target: Target, i: Digit, base: Base, j: Digit, address: Word18) -> Entry
+    ensures { result ≡ Entry.Long (Instr.Increment target i (Addends.Address base j address)) }
+{
+    let addends = Addends::Address { base, j, address };
+    Entry::Long(Instr::Increment { target, i, addends })
+}
+
 /// 50 to 77.
 fn increment(target: Target, m: Digit, i: Digit, j: Digit, k: Digit, address: Word18) -> Entry
     ensures { result ≡ entry (increments target i j k address) m }
 {
     let pair = match m.get() {
-        0 => return Entry::Long(Instr::Increment {
-            target,
-            i,
-            addends: Addends::Address {
-                base: Base::A,
-                j,
-                address,
-            },
-        }),
-        1 => return Entry::Long(Instr::Increment {
-            target,
-            i,
-            addends: Addends::Address {
-                base: Base::B,
-                j,
-                address,
-            },
-        }),
-        2 => return Entry::Long(Instr::Increment {
-            target,
-            i,
-            addends: Addends::Address {
-                base: Base::X,
-                j,
-                address,
-            },
-        }),
+        0 => return address_increment(target, i, Base::A, j, address),
+        1 => return address_increment(target, i, Base::B, j, address),
+        2 => return address_increment(target, i, Base::X, j, address),
         3 => Pair::XPlusB,
         4 => Pair::APlusB,
         5 => Pair::AMinusB,
         6 => Pair::BPlusB,
         _ => Pair::BMinusB,
     };
-    Entry::Short(Instr::Increment {
-        target,
-        i,
-        addends: Addends::Registers { pair, j, k },
-    })
+    let addends = Addends::Registers { pair, j, k };
+    Entry::Short(Instr::Increment { target, i, addends })
 }
 
 /// The reading of a parcel that is followed by another.

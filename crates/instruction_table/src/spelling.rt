@@ -3,8 +3,9 @@ ghost use Rattle.std.specs.String.{string_bytes};
 ghost use Rattle.arrayvec.specs.ArrayString.{array_string_len};
 ghost use Rattle.instruction_table.specs.declared.refusal.Refusal.TheVariants.{OutOfMemory};
 ghost use Rattle.instruction_table.specs.Octal.{octal};
-ghost use Rattle.instruction_table.specs.Spelling.{x_name, b_name, shift_name, increment_name, logic_text, addition_text, base_text, addends_text, spelling};
+ghost use Rattle.instruction_table.specs.Spelling.{name_of, logic_text, addends_text, spelling};
 ghost use Rattle.instruction_table.specs.Table.{digit};
+ghost use Rattle.instruction_table.specs.declared.instr.Addends.TheVariants.{Registers};
 
 use crate::{
     Addends, Addition, BTest, Base, Digit, Direction, Instr, Logic, Pair, Refusal, SixBits, Target,
@@ -17,13 +18,17 @@ use word60::Word18;
 /// The text of an instruction. The longest have 15 bytes, as `EQ B1,B2,777777`.
 pub type InstrText = ArrayString<16>;
 
-impl XTest {
-    /// The two letters that the text begins with.
-    fn name(self) -> &'static str
-        ensures value { result.now ≡ x_name self }
-        ensures len { length result.now ≡ 2 }
-    {
-        match self {
+/// The two letters that the text of an instruction begins with.
+fn name(instr: &Instr) -> &'static str
+    ensures value { result.now ≡ name_of instr.now }
+    ensures len { length result.now ≡ 2 }
+{
+    match *instr {
+        Instr::Stop => "PS",
+        Instr::Pass => "NO",
+        Instr::ReturnJump { .. } => "RJ",
+        Instr::Jump { .. } => "JP",
+        Instr::BranchX { test, .. } => match test {
             XTest::Zero => "ZR",
             XTest::NonZero => "NZ",
             XTest::Positive => "PL",
@@ -32,76 +37,27 @@ impl XTest {
             XTest::OutOfRange => "OR",
             XTest::Definite => "DF",
             XTest::Indefinite => "ID",
-        }
-    }
-}
-
-impl BTest {
-    /// The two letters that the text begins with.
-    fn name(self) -> &'static str
-        ensures value { result.now ≡ b_name self }
-        ensures len { length result.now ≡ 2 }
-    {
-        match self {
+        },
+        Instr::BranchB { test, .. } => match test {
             BTest::Equal => "EQ",
             BTest::NotEqual => "NE",
             BTest::GreaterOrEqual => "GE",
             BTest::Less => "LT",
-        }
-    }
-}
-
-impl Direction {
-    /// The two letters that the text begins with.
-    fn name(self) -> &'static str
-        ensures value { result.now ≡ shift_name self }
-        ensures len { length result.now ≡ 2 }
-    {
-        match self {
-            Direction::Left => "LX",
-            Direction::Right => "AX",
-        }
-    }
-}
-
-impl Target {
-    /// The two letters that the text begins with.
-    fn name(self) -> &'static str
-        ensures value { result.now ≡ increment_name self }
-        ensures len { length result.now ≡ 2 }
-    {
-        match self {
+        },
+        Instr::Copy { .. } | Instr::Invert { .. } | Instr::Logical { .. } => "BX",
+        Instr::ShiftBy { direction, .. } | Instr::ShiftNominal { direction, .. } =>
+            match direction {
+                Direction::Left => "LX",
+                Direction::Right => "AX",
+            },
+        Instr::LongAdd { .. } => "IX",
+        Instr::Mask { .. } => "MX",
+        Instr::CountOnes { .. } => "CX",
+        Instr::Increment { target, .. } => match target {
             Target::A => "SA",
             Target::B => "SB",
             Target::X => "SX",
-        }
-    }
-}
-
-impl Addition {
-    /// What stands between the numbers of the two registers.
-    fn sign(self) -> &'static str
-        ensures value { result.now ≡ addition_text self }
-        ensures len { length result.now ≡ 2 }
-    {
-        match self {
-            Addition::Sum => "+X",
-            Addition::Difference => "-X",
-        }
-    }
-}
-
-impl Base {
-    /// What stands before the number of the register.
-    fn letter(self) -> &'static str
-        ensures value { result.now ≡ base_text self }
-        ensures len { length result.now ≡ 2 }
-    {
-        match self {
-            Base::A => " A",
-            Base::B => " B",
-            Base::X => " X",
-        }
+        },
     }
 }
 
@@ -176,6 +132,22 @@ fn put_logic(text: &mut InstrText, op: Logic, j: Digit, k: Digit)
     put(text, sign, right);
 }
 
+/// Adds two registers and what joins them.
+fn put_pair(text: &mut InstrText, pair: Pair, j: Digit, k: Digit)
+    requires { array_string_len text.old < 10 }
+    ensures { text.new.bytes ≡ text.old.bytes ++ addends_text (Registers pair j k) }
+{
+    let (left, right) = match pair {
+        Pair::XPlusB => (" X", "+B"),
+        Pair::APlusB => (" A", "+B"),
+        Pair::AMinusB => (" A", "-B"),
+        Pair::BPlusB => (" B", "+B"),
+        Pair::BMinusB => (" B", "-B"),
+    };
+    put(text, left, j);
+    put(text, right, k);
+}
+
 /// Adds what an increment instruction computes.
 fn put_addends(text: &mut InstrText, addends: Addends)
     requires { array_string_len text.old < 4 }
@@ -183,20 +155,15 @@ fn put_addends(text: &mut InstrText, addends: Addends)
 {
     match addends {
         Addends::Address { base, j, address } => {
-            put(text, base.letter(), j);
+            let front = match base {
+                Base::A => " A",
+                Base::B => " B",
+                Base::X => " X",
+            };
+            put(text, front, j);
             put_address(text, "+", address);
         }
-        Addends::Registers { pair, j, k } => {
-            let (left, right) = match pair {
-                Pair::XPlusB => (" X", "+B"),
-                Pair::APlusB => (" A", "+B"),
-                Pair::AMinusB => (" A", "-B"),
-                Pair::BPlusB => (" B", "+B"),
-                Pair::BMinusB => (" B", "-B"),
-            };
-            put(text, left, j);
-            put(text, right, k);
-        }
+        Addends::Registers { pair, j, k } => put_pair(text, pair, j, k),
     }
 }
 
@@ -205,65 +172,55 @@ pub fn spell(instr: &Instr) -> InstrText
     ensures { result.bytes ≡ spelling instr.now }
 {
     let mut text = ArrayString::new();
+    text.push_str(name(instr));
     match *instr {
-        Instr::Stop => text.push_str("PS"),
-        Instr::Pass => text.push_str("NO"),
-        Instr::ReturnJump { to } => put_address(&mut text, "RJ ", to),
+        Instr::Stop | Instr::Pass => {}
+        Instr::ReturnJump { to } => put_address(&mut text, " ", to),
         Instr::Jump { i, to } => {
-            put(&mut text, "JP B", i);
+            put(&mut text, " B", i);
             put_address(&mut text, "+", to);
         }
-        Instr::BranchX { test, j, to } => {
-            text.push_str(test.name());
+        Instr::BranchX { j, to, .. } => {
             put(&mut text, " X", j);
             put_address(&mut text, ",", to);
         }
-        Instr::BranchB { test, i, j, to } => {
-            text.push_str(test.name());
+        Instr::BranchB { i, j, to, .. } => {
             put(&mut text, " B", i);
             put(&mut text, ",B", j);
             put_address(&mut text, ",", to);
         }
-        Instr::Copy { i, j } => {
-            put(&mut text, "BX", i);
-            put(&mut text, " X", j);
+        Instr::Copy { i, j: x } | Instr::CountOnes { i, k: x } => {
+            put(&mut text, "", i);
+            put(&mut text, " X", x);
         }
         Instr::Invert { i, k } => {
-            put(&mut text, "BX", i);
+            put(&mut text, "", i);
             put(&mut text, " -X", k);
         }
         Instr::Logical { op, i, j, k } => {
-            put(&mut text, "BX", i);
+            put(&mut text, "", i);
             put_logic(&mut text, op, j, k);
         }
-        Instr::ShiftBy {
-            direction,
-            i,
-            count,
-        } => {
-            put(&mut text, direction.name(), i);
+        Instr::ShiftBy { i, count, .. } | Instr::Mask { i, count } => {
+            put(&mut text, "", i);
             put_count(&mut text, count);
         }
-        Instr::ShiftNominal { direction, i, j, k } => {
-            put(&mut text, direction.name(), i);
+        Instr::ShiftNominal { i, j, k, .. } => {
+            put(&mut text, "", i);
             put(&mut text, " B", j);
             put(&mut text, ",X", k);
         }
         Instr::LongAdd { op, i, j, k } => {
-            put(&mut text, "IX", i);
+            put(&mut text, "", i);
             put(&mut text, " X", j);
-            put(&mut text, op.sign(), k);
+            let sign = match op {
+                Addition::Sum => "+X",
+                Addition::Difference => "-X",
+            };
+            put(&mut text, sign, k);
         }
-        Instr::Mask { i, count } => {
-            put(&mut text, "MX", i);
-            put_count(&mut text, count);
-        }
-        Instr::CountOnes { i, k } => {
-            put(&mut text, "CX", i);
-            put(&mut text, " X", k);
-        }
-        Instr::Increment { target, i, addends } => {
-            put(&mut text, target.name(), i);
+        Instr::Increment { i, addends, .. } => {
+            put(&mut text, "", i);
             put_addends(&mut text, addends);
         }
     }
