@@ -2,4 +2,5 @@ pub mod DecodingLaws
 pub mod RoundTrip
 pub mod OctalLaws
 pub mod ReadingLaws
+pub mod FieldLaws
 pub mod TextLaws

@@ -1,5 +1,5 @@
 -- `instr_of` reads the spelling of each instruction, and nothing else.
-use Rattle.std.proofs.Common.{ℕ, ◌≡◌, List, Some, refl, sym, ◌∙◌, ap}
+use Rattle.std.proofs.Common.{ℕ, ◌≡◌, List, Some, refl, sym, ◌∙◌, ap, subst}
 use Rattle.std.specs.Str.{bytes_eq}
 use Rattle.std.proofs.lemmas.Option.{cond_some}
 use Rattle.std.proofs.lemmas.Slice.Eq.{bytes_eq-Decides}
@@ -7,6 +7,7 @@ use Rattle.instruction_table.specs.declared.instr.Instr.{Instr}
 use Rattle.instruction_table.specs.Candidate.{candidate_in}
 use Rattle.instruction_table.specs.Spelling.{spelling, instr_of}
 use Rattle.instruction_table.specs.Table.{IsInstr}
+use Rattle.instruction_table.proofs.FieldLaws.{candidate_fields}
 use Rattle.instruction_table.proofs.ReadingLaws.{candidate_of_spelling}
 
 pub instr_of_spelling : (instr : Instr) → IsInstr instr → instr_of (spelling instr) ≡ Some instr
@@ -24,3 +25,8 @@ unfolding instr_of
 spelling_of_instr t instr found =
     let parts = cond_some (bytes_eq (spelling (candidate_in t)) t) (candidate_in t) instr found in
     ap spelling (sym parts.1) ∙ (bytes_eq-Decides (spelling (candidate_in t)) t).0 parts.0
+
+pub fields_of_instr : (t : List ℕ) (instr : Instr) → instr_of t ≡ Some instr → IsInstr instr
+unfolding instr_of
+fields_of_instr t instr found =
+    subst IsInstr (cond_some (bytes_eq (spelling (candidate_in t)) t) (candidate_in t) instr found).1 (candidate_fields t)

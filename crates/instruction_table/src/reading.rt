@@ -251,9 +251,10 @@ fn instr_of(text: &[u8]) -> Option<Instr>
 
 /// The instruction whose one text these bytes are, and None where they are the text of none: other spacing, small
 /// letters, leading zeros and numbers out of range are refused.
-#[tactic(auto, using(crate::proofs::TextLaws::spelling_of_instr))]
+#[tactic(auto, using(crate::proofs::TextLaws::spelling_of_instr, crate::proofs::TextLaws::fields_of_instr))]
 pub fn read_bytes(text: &[u8]) -> Option<Instr>
     ensures value { result ≡ instr_of text.now }
+    ensures fields { IfSome result IsInstr }
     ensures spelled { IfSome result (λ instr. spelling instr ≡ text.now) }
     ensures all { (instr : Instr) → IsInstr instr → spelling instr ≡ text.now → result ≡ Some instr }
 {
@@ -263,6 +264,7 @@ pub fn read_bytes(text: &[u8]) -> Option<Instr>
 /// The instruction whose one text this is, and None where it is the text of none.
 pub fn read_text(text: &str) -> Option<Instr>
     ensures value { result ≡ instr_of text.now }
+    ensures fields { IfSome result IsInstr }
     ensures spelled { IfSome result (λ instr. spelling instr ≡ text.now) }
     ensures all { (instr : Instr) → IsInstr instr → spelling instr ≡ text.now → result ≡ Some instr }
 {
