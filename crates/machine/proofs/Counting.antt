@@ -1,6 +1,6 @@
 -- The work that is left is at most forty: of seven units, three of which make references, four places and
 -- five channels.
-use Rattle.std.proofs.Common.{◌≡◌, ◌≢◌, ◌<◌, ◌≤◌, ◌+◌, ◌*◌, ℕ, zero, suc, Bool, true, false, cond, List, [], ◌∷◌, Option, Some, None, length, refl, sym, ap, ◌∙◌, subst, eqb, arith}
+use Rattle.std.proofs.Common.{◌≡◌, ◌≢◌, ◌<◌, ◌≤◌, ◌+◌, ◌*◌, ℕ, zero, suc, Bool, true, false, cond, List, [], ◌∷◌, Some, length, refl, sym, ap, ◌∙◌, eqb, arith}
 use Rattle.std.specs.Prelude.{◌&&◌, ◌||◌}
 use Rattle.std.proofs.lemmas.Bool.{or_parts, eq-eqb, eqb-true}
 use Rattle.std.specs.List.{list_any}
@@ -15,7 +15,6 @@ use Rattle.instruction_table.specs.declared.instr.Reg.TheVariants.{X, A, B}
 use Rattle.instruction_table.specs.declared.instr.Target.TheVariants.{A as TargetA, B as TargetB, X as TargetX}
 use Rattle.instruction_table.specs.declared.instr.Unit.{Unit as FunctionalUnit}
 use Rattle.instruction_table.specs.declared.instr.Unit.TheVariants.{Branch, Boolean, Shift, Add, LongAdd, Multiply1, Multiply2, Divide, Increment1, Increment2}
-use Rattle.instruction_table.specs.declared.instr.UnitKind.{UnitKind}
 use Rattle.instruction_table.specs.declared.instr.UnitKind.TheVariants.{Branch as BranchKind, Increment as IncrementKind}
 use Rattle.instruction_table.specs.RegisterLists.{is_in, overlap}
 use Rattle.instruction_table.specs.Shape.{Shape, Puts, Loads, Stores, Jumps, Links, shape_of, puts_of, loads_of, results, has_reference}
@@ -31,7 +30,7 @@ use Rattle.machine.specs.declared.member.Phase.TheVariants.{Before, After}
 use Rattle.machine.specs.declared.member.Stage.{Stage}
 use Rattle.machine.specs.declared.member.Stage.TheVariants.{Waiting, Read as HasRead, Finished}
 use Rattle.machine.specs.Each.{Each, Pairs}
-use Rattle.machine.specs.Member.{progress_of, returning, row_of, to_come, entered_in, is_entered, has_turn}
+use Rattle.machine.specs.Member.{progress_of, returning, row_of, entered_in, is_entered, has_turn}
 use Rattle.machine.specs.Seats.{unit_seat, seat_in, seat_of, IsChannel, IsPlaced, is_of_kind, IsProper, IsSeated}
 use Rattle.machine.specs.Sound.{IsApart}
 use Rattle.machine.specs.Working.{reference_cost, stage_cost, later_cost, phase_cost, cost, work_left}

@@ -1,5 +1,5 @@
 -- What is next to be done for the oldest member is allowed, and takes from the work that is left.
-use Rattle.std.proofs.Common.{◌≡◌, ◌<◌, ◌≤◌, ◌+◌, ℕ, zero, suc, Bool, true, false, cond, List, [], ◌∷◌, ◌++◌, Option, Some, None, refl, sym, ap, ◌∙◌, subst, eqb, get_or, set, arith}
+use Rattle.std.proofs.Common.{◌≡◌, ◌≤◌, ◌+◌, ℕ, zero, suc, Bool, true, false, cond, List, [], ◌∷◌, ◌++◌, Option, Some, None, refl, sym, ap, ◌∙◌, subst, get_or, set, arith}
 use Rattle.std.specs.Prelude.{◌&&◌, not, is_some, is_none, IfSome}
 use Rattle.std.proofs.lemmas.Bool.{or_from, and_left, and_right, eq-eqb}
 use Rattle.std.specs.List.{list_any}
@@ -19,8 +19,6 @@ use Rattle.unit_ops.specs.declared.Operands.{Operands}
 use Rattle.unit_ops.specs.declared.UnitValue.{UnitValue}
 use Rattle.machine.specs.declared.event.Event.{Event}
 use Rattle.machine.specs.declared.event.Event.TheVariants.{Read, Finish, Store as StoreResult, Accept, Return, BankFree}
-use Rattle.machine.specs.declared.member.Arrival.{Arrival}
-use Rattle.machine.specs.declared.member.Entry.{Entry}
 use Rattle.machine.specs.declared.member.Later.{Later}
 use Rattle.machine.specs.declared.member.Later.TheVariants.{Entered, Accepted}
 use Rattle.machine.specs.declared.member.Member.{Member}

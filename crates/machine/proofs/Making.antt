@@ -1,13 +1,12 @@
 -- What the made and the refused events leave, over a plain whole.
-use Rattle.std.proofs.Common.{◌≡◌, ◌≤◌, ◌<◌, ◌+◌, ℕ, suc, Bool, true, false, List, [], ◌∷◌, ◌++◌, Option, Some, None, take, drop, length, refl, sym, ap, ◌∙◌, subst, add-one, arith, inl, inr}
-use Rattle.std.specs.Prelude.{Result, Ok, Err, ◌||◌, unwrap_or, set, get_or, is_some, is_none, IfSome}
+use Rattle.std.proofs.Common.{◌≡◌, ◌≤◌, ◌<◌, ◌+◌, ℕ, suc, Bool, true, false, List, [], ◌∷◌, ◌++◌, Option, Some, None, take, drop, length, refl, sym, ap, ◌∙◌, subst, add-one, arith}
+use Rattle.std.specs.Prelude.{Result, Ok, Err, ◌||◌, unwrap_or, set, IfSome}
 use Rattle.instruction_table.specs.declared.instr.Reg.{Reg}
 use Rattle.instruction_table.specs.declared.instr.Reg.TheVariants.{X}
 use Rattle.instruction_table.specs.declared.instr.Unit.{Unit as FunctionalUnit}
 use Rattle.instruction_table.specs.declared.instr.Unit.TheVariants.{Branch}
 use Rattle.instruction_table.specs.declared.refusal.Halt.{Halt}
 use Rattle.instruction_table.specs.declared.refusal.Refusal.{Refusal}
-use Rattle.instruction_table.specs.declared.refusal.Refusal.TheVariants.{OutOfMemory}
 use Rattle.instruction_table.specs.Shape.{Shape, shape_of, puts_of}
 use Rattle.instruction_table.specs.Table.{row}
 use Rattle.registers.specs.declared.file.RegisterFile.{RegisterFile}
@@ -32,7 +31,7 @@ use Rattle.sequential.specs.Replay.{LogStep, Issued, Exchanged}
 use Rattle.sequential.specs.Log.{Logged, issued}
 use Rattle.machine.specs.declared.choosing.Spot.{Spot}
 use Rattle.machine.specs.declared.event.Done.{Done}
-use Rattle.machine.specs.declared.event.Done.TheVariants.{Issued as DoneIssue, Made}
+use Rattle.machine.specs.declared.event.Done.TheVariants.{Issued as DoneIssue}
 use Rattle.machine.specs.declared.event.Event.{Event}
 use Rattle.machine.specs.declared.event.Event.TheVariants.{Issue, Read, Finish, Store as StoreResult, Accept, Return, BankFree, Ask, Exchange}
 use Rattle.machine.specs.declared.member.Arrival.{Arrival}
@@ -43,7 +42,7 @@ use Rattle.machine.specs.declared.member.Phase.TheVariants.{Before}
 use Rattle.machine.specs.declared.member.Stage.{Stage}
 use Rattle.machine.specs.declared.member.Stage.TheVariants.{Waiting, Read as HasRead, Finished}
 use Rattle.machine.specs.Changes.{refusal_in, put_all, performed, left_by, place_after, halt_after, newcomer, joined_by, number_after, note_of}
-use Rattle.machine.specs.Run.{note_by, done_by, answer_by, answer_of, is_ask, IsRefusedGrowth, IsAnswer, settled}
+use Rattle.machine.specs.Run.{note_by, done_by, answer_by, answer_of, settled}
 use Rattle.machine.specs.Spots.{around, IsSpot}
 use Rattle.machine.specs.View.{owed, IsKept}
 use Rattle.machine.specs.Whole.{Whole, Found, unit_for, refusal_of, tests_found, seek, read_tests, finish_tests, store_tests, accept_tests, return_tests, free_tests, ask_tests, exchange_tests, issue_tests, tests_of, stage_at, entry_at, arrival_at, allowed, rest_of, place_for, put_back, in_phase, kept, stage_after_read, stage_after_finish, after_issue, after_read, after_finish, after_work, after_store, after_accept, after_return, after_found, after_exchange, after}

@@ -1,11 +1,10 @@
 -- What each event leaves, member by member: seats stay apart.
-use Rattle.std.proofs.Common.{◌≡◌, ◌≢◌, ◌<◌, ◌≤◌, ◌+◌, ℕ, zero, suc, Bool, true, false, cond, List, [], ◌∷◌, ◌++◌, Option, Some, None, length, refl, sym, ap, ◌∙◌, subst, eqb, get_or, set, arith, inl, inr}
-use Rattle.std.proofs.lemmas.Bool.{eqb-true, eqb-false, ne_eqb, or_parts}
+use Rattle.std.proofs.Common.{◌≡◌, ◌≢◌, ◌<◌, ◌≤◌, ◌+◌, ℕ, Bool, true, false, cond, List, [], ◌∷◌, ◌++◌, Option, Some, None, length, refl, sym, ap, ◌∙◌, subst, eqb, get_or, arith}
+use Rattle.std.proofs.lemmas.Bool.{eqb-false, ne_eqb}
 use Rattle.std.proofs.lemmas.Bool.Decides.{nat_tests}
 use Rattle.std.proofs.lemmas.List.{length-set}
-use Rattle.std.specs.Prelude.{Result, Ok, Err, ◌&&◌, ◌==◌, nat_le, nat_lt, is_some, is_none, unwrap_or}
+use Rattle.std.specs.Prelude.{Result, Ok, Err, ◌&&◌, nat_le, nat_lt, is_some, is_none, unwrap_or}
 use Rattle.std.specs.List.{list_any}
-use Rattle.instruction_table.specs.declared.instr.Addends.{Addends}
 use Rattle.instruction_table.specs.declared.instr.Instr.{Instr}
 use Rattle.instruction_table.specs.declared.instr.Instr.TheVariants.{Stop, Pass, ReturnJump, Jump, BranchX, BranchB, Copy, Invert, Logical, ShiftBy, ShiftNominal, LongAdd as LongSum, Mask, CountOnes, Increment}
 use Rattle.instruction_table.specs.declared.instr.Reg.TheVariants.{A}
@@ -24,16 +23,12 @@ use Rattle.hopper.specs.Hopper.{first_place, free_place}
 use Rattle.scoreboard.specs.Rows as board
 use Rattle.scoreboard.specs.Rows.{is_reserved}
 use Rattle.scoreboard.specs.Units.{same_unit, units_of}
-use Rattle.scoreboard.specs.Conflicts as conflict
 use Rattle.scoreboard.specs.Conflicts.{is_held, first_free, free_unit}
 use Rattle.sequential.specs.declared.work.ProgramReference.{ProgramReference}
-use Rattle.sequential.specs.declared.state.State.{State}
 use Rattle.sequential.specs.declared.fetching.Fetched.{Fetched}
 use Rattle.sequential.specs.declared.fetching.Fetched.TheVariants.{Halting, Passing, Taking}
 use Rattle.sequential.specs.State.{Bounds, bounds_of, absolute, poke, write, move_to, halt_by}
 use Rattle.sequential.specs.Work.{reference_for, work_of}
-use Rattle.sequential.specs.Step.{fetch}
-use Rattle.sequential.specs.Log.{issued}
 use Rattle.unit_ops.specs.declared.UnitValue.{UnitValue}
 use Rattle.machine.specs.declared.event.Done.{Done}
 use Rattle.machine.specs.declared.event.Event.{Event}
@@ -47,13 +42,13 @@ use Rattle.machine.specs.declared.member.Phase.TheVariants.{Before, After}
 use Rattle.machine.specs.declared.member.Member.{Member}
 use Rattle.machine.specs.declared.member.Stage.{Stage}
 use Rattle.machine.specs.declared.member.Stage.TheVariants.{Waiting, Read as HasRead, Finished}
-use Rattle.machine.specs.Each.{Each, Pairs}
+use Rattle.machine.specs.Each.{Each}
 use Rattle.machine.specs.Member.{progress_of, row_of, holds}
 use Rattle.machine.specs.Run.{IsAnswer, settled}
 use Rattle.machine.specs.Seats.{unit_seat, clash_in, clash, IsChannel, IsLoadable, IsPlaced, is_of_kind, IsProper, IsSeated}
-use Rattle.machine.specs.Whole.{Whole, Test, refusal_of, Found, seek, tests_found, stage_at, entry_at, entry_in, arrival_at, in_place, is_taken, place_for, unit_for, row_tests, issue_tests, store_tests, accept_tests, return_tests, exchange_tests, is_pending, tests_of, allowed, entering, rest_of, enters, after_issue, put_back, in_phase, kept, stage_after_read, stage_after_finish, after_read, after_finish, after_work, after_store, after_accept, after_return, after_found, after_exchange, after}
+use Rattle.machine.specs.Whole.{Whole, refusal_of, Found, seek, tests_found, stage_at, entry_at, entry_in, arrival_at, in_place, is_taken, place_for, unit_for, row_tests, issue_tests, store_tests, exchange_tests, tests_of, allowed, entering, rest_of, enters, after_issue, put_back, in_phase, kept, after_read, after_finish, after_work, after_store, after_accept, after_return, after_found, after_exchange, after}
 use Rattle.machine.proofs.Effects.{do_now-bounds}
-use Rattle.machine.proofs.Finding.{refusal_none, not_nothing, seek_splits, stage_found, entry_found, arrival_found}
+use Rattle.machine.proofs.Finding.{refusal_none, seek_splits, stage_found, entry_found}
 use Rattle.machine.proofs.Lists.{each_of_any, each_left, each_right, each_append, each_map, each_both, pairs_before, pairs_right, pairs_push}
 use Rattle.machine.proofs.Seating.{other_seat, seated_without, seated_with, proper_there, placed_in}
 use Rattle.machine.proofs.Theorem.{made_allowed, not_pending}

@@ -1,44 +1,25 @@
 -- Each event leaves every member with a seat of its own, so that sixteen places are enough.
-use Rattle.std.proofs.Common.{◌≡◌, ◌≢◌, ◌<◌, ◌≤◌, ◌+◌, ℕ, zero, suc, Bool, true, false, cond, List, [], ◌∷◌, ◌++◌, Option, Some, None, length, length-append, refl, sym, ap, ◌∙◌, subst, eqb, get_or, set, arith, inl, inr}
-use Rattle.std.proofs.lemmas.Bool.{eqb-true, eqb-false, ne_eqb, or_parts}
-use Rattle.std.proofs.lemmas.List.{length-set}
-use Rattle.std.specs.Prelude.{Result, Ok, Err, ◌&&◌, is_some, is_none, unwrap_or}
+use Rattle.std.proofs.Common.{◌≡◌, ◌≢◌, ◌<◌, ◌≤◌, ℕ, false, List, [], ◌∷◌, ◌++◌, length, refl, sym, ap, ◌∙◌, subst, eqb, get_or, arith}
+use Rattle.std.proofs.lemmas.Bool.{eqb-false, ne_eqb, or_parts}
 use Rattle.std.specs.List.{list_any}
-use Rattle.instruction_table.specs.declared.instr.Instr.{Instr}
-use Rattle.instruction_table.specs.declared.instr.Reg.{Reg}
 use Rattle.instruction_table.specs.declared.instr.Reg.TheVariants.{X}
 use Rattle.instruction_table.specs.declared.instr.Unit.{Unit as FunctionalUnit}
 use Rattle.instruction_table.specs.declared.instr.Unit.TheVariants.{Branch, Boolean, Shift, Add, LongAdd, Multiply1, Multiply2, Divide, Increment1, Increment2}
-use Rattle.instruction_table.specs.declared.instr.UnitKind.{UnitKind}
-use Rattle.instruction_table.specs.declared.instr.UnitKind.TheVariants.{Branch as BranchKind, Boolean as BooleanKind, Shift as ShiftKind, LongAdd as LongAddKind, Divide as DivideKind, Increment as IncrementKind}
-use Rattle.instruction_table.specs.declared.refusal.Refusal.{Refusal}
 use Rattle.instruction_table.specs.RegisterLists.{is_in, overlap}
 use Rattle.instruction_table.specs.Shape.{Shape, shape_of}
-use Rattle.instruction_table.specs.Table.{row, reg_eq}
-use Rattle.relocation.specs.declared.area.Access.{Access}
-use Rattle.relocation.specs.declared.area.Access.TheVariants.{Load as LoadInto, Store as StoreWord}
-use Rattle.hopper.specs.Hopper.{first_place, free_place}
+use Rattle.instruction_table.specs.Table.{reg_eq}
 use Rattle.scoreboard.specs.Rows as board
 use Rattle.scoreboard.specs.Rows.{is_reserved, returning_to}
-use Rattle.scoreboard.specs.Units.{unit_number, same_unit, units_of}
-use Rattle.scoreboard.specs.Conflicts as conflict
-use Rattle.scoreboard.specs.Conflicts.{is_held, first_free, free_unit}
-use Rattle.sequential.specs.declared.fetching.Fetched.{Fetched}
-use Rattle.sequential.specs.declared.fetching.Fetched.TheVariants.{Halting, Passing, Taking}
-use Rattle.machine.specs.declared.event.Done.{Done}
-use Rattle.machine.specs.declared.event.Event.{Event}
-use Rattle.machine.specs.declared.member.Later.{Later}
+use Rattle.scoreboard.specs.Units.{unit_number, same_unit}
 use Rattle.machine.specs.declared.member.Later.TheVariants.{Entered, Accepted}
 use Rattle.machine.specs.declared.member.Phase.{Phase}
 use Rattle.machine.specs.declared.member.Phase.TheVariants.{Before, After}
 use Rattle.machine.specs.declared.member.Member.{Member}
-use Rattle.machine.specs.declared.member.Stage.{Stage}
-use Rattle.machine.specs.declared.member.Stage.TheVariants.{Waiting}
 use Rattle.machine.specs.Each.{Each, Pairs}
-use Rattle.machine.specs.Member.{progress_of, returning, row_of, to_come, holds}
-use Rattle.machine.specs.Seats.{unit_seat, seat_in, seat_of, clash_in, clash, IsChannel, IsLoadable, IsPlaced, IsProper, IsSeated}
+use Rattle.machine.specs.Member.{progress_of, returning, row_of, to_come}
+use Rattle.machine.specs.Seats.{unit_seat, seat_in, seat_of, clash_in, clash, IsPlaced, IsProper, IsSeated}
 use Rattle.machine.specs.Sound.{IsApart}
-use Rattle.machine.proofs.Lists.{each_of_any, each_left, each_right, each_append, each_map, each_both, pairs_before, pairs_right, pairs_without, pairs_push}
+use Rattle.machine.proofs.Lists.{each_left, each_right, each_append, each_map, each_both, pairs_without}
 use Rattle.machine.proofs.Phases.{to_come_in}
 use Rattle.machine.proofs.Pigeons.{distinct_bound}
 

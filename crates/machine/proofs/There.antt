@@ -1,5 +1,5 @@
 -- What the seats say of the member that was found.
-use Rattle.std.proofs.Common.{◌≡◌, ◌<◌, ℕ, true, List, Option, Some, None, length, refl, subst}
+use Rattle.std.proofs.Common.{◌≡◌, ◌<◌, ℕ, true, Option, Some, None, length, refl, subst}
 use Rattle.std.specs.Prelude.{IsSome}
 use Rattle.instruction_table.specs.Table.{row}
 use Rattle.instruction_table.specs.declared.instr.UnitKind.{UnitKind}
@@ -9,7 +9,7 @@ use Rattle.machine.specs.declared.member.Later.TheVariants.{Entered}
 use Rattle.machine.specs.declared.member.Member.{Member}
 use Rattle.machine.specs.declared.member.Phase.TheVariants.{After}
 use Rattle.instruction_table.specs.declared.instr.Unit.{Unit as FunctionalUnit}
-use Rattle.machine.specs.Seats.{IsSeated, is_of_kind, IsProper, IsPlaced}
+use Rattle.machine.specs.Seats.{IsSeated, is_of_kind, IsProper}
 use Rattle.machine.specs.Spots.{around, IsSpot}
 use Rattle.machine.specs.Whole.{Whole, entry_at}
 use Rattle.machine.proofs.Finding.{seek_splits, entry_found}

@@ -1,5 +1,4 @@
 use Rattle.machine.proofs.Seating.{seated_bound}
-use Rattle.machine.proofs.Seated.{settled_seated}
 use Rattle.machine.proofs.law.seats.Goals as goal
 
 pub returns : goal.returns

@@ -1,6 +1,4 @@
-use Rattle.std.proofs.Common.{◌≡◌, refl, ◌∙◌}
-use Rattle.machine.specs.Whole.{boot_whole}
-use Rattle.machine.specs.contracts.processor.Machine.{the_view}
+use Rattle.std.proofs.Common.{refl, ◌∙◌}
 use Rattle.machine.proofs.Making.{booted, boot_kept}
 use Rattle.machine.proofs.processor.Machine.boot.Goals as goal
 
