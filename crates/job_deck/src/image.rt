@@ -64,7 +64,7 @@ impl Image {
         requires { address < length self.now.memory }
         ensures { result ≡ slice_index_or self.now.placed address false }
     {
-        self.placed[address as usize]
+        self.placed.as_slice()[address as usize]
     }
 
     /// Places a word at an absolute address, which is below the size.

@@ -2,7 +2,6 @@ ghost use Rattle.std.specs.Prelude.{Some, vec_items};
 
 use super::fault::ProgramFault;
 use super::program::{program, run_deck};
-use super::reading::read_deck;
 use super::status::{Status, end_status};
 use instruction_table::{DeckFault, Digit, Halt, Op};
 use registers::RegisterFile;
@@ -175,7 +174,13 @@ fn refused_decks(rt: HostRuntime) -> Result<(), Fail> {
         ("core 256\nword  5\n", "2: unknown"),
         ("core 256\nshow 1\n", "2: unknown"),
         ("core 256\nshow 1 2 3\n", "2: unknown"),
-        ("core 256\ncode NO\n", "2: unknown"),
+        ("core 256\ncode\n", "2: unknown"),
+        ("core 256\ncode \n", "2: unknown"),
+        ("core 256\ncodes NO\n", "2: unknown"),
+        ("core 256\ncode SX1 B0+05\n", "2: instruction"),
+        ("core 256\ncode NO;NO\n", "2: instruction"),
+        ("core 256\ncode NO; NO; NO; SX1 B0+5\n", "2: full"),
+        ("core 256\nat 377\ncode NO\ncode sx1\n", "4: range"),
         ("core 256\nask 40 free\n", "2: unknown"),
         ("core 256\nEND\n", "2: unknown"),
         ("core 256\nend \n", "2: unknown"),
@@ -215,15 +220,6 @@ fn long_decks(rt: HostRuntime) -> Result<(), Fail> {
     expect_refused_long(&rt, core, shows, b"show 0 9\n", b"66: number")
 }
 
-#[test]
-fn reads_no_further(rt: HostRuntime) -> Result<(), Fail> {
-    let text = joined(rt.alloc(), [TWO_ADDS, b"rest\n"].as_slice())?;
-    let mut input = text.as_slice();
-    assert!(rt; read_deck(rt.alloc(), &mut input).is_ok());
-    assert_eq!(rt; input, b"rest\n".as_slice());
-    Ok(())
-}
-
 /// A program of one word at 100, the dump's first lines and its log.
 fn expect_halted(
     rt: &(impl Abort + AllocGlobal),
@@ -261,8 +257,8 @@ fn halts(rt: HostRuntime) -> Result<(), Fail> {
     )?;
     expect_halted(
         &rt,
-        b"46000301234600046000",
-        b"P 000000 PARCEL 1 HELD 46000301234600046000\nHALT illegal 30 FAULT none\n",
+        b"20301301234600046000",
+        b"P 000000 PARCEL 1 HELD 20301301234600046000\nHALT illegal 30 FAULT none\n",
         b"LOG E40 I2\n",
     )?;
     expect_halted(
@@ -270,6 +266,30 @@ fn halts(rt: HostRuntime) -> Result<(), Fail> {
         b"01300000004600046000",
         b"P 000000 PARCEL 0 HELD 01300000004600046000\nHALT illegal 013 FAULT none\n",
         b"LOG E40 I1\n",
+    )
+}
+
+#[test]
+fn lists(rt: HostRuntime) -> Result<(), Fail> {
+    expect_run(
+        &rt,
+        ["list"].as_slice(),
+        b"core 256\nat 41\nword 00000100000000000000\nword 00000020000000000000\nat 100\ncode SX1 B0+5; SX2 B0+3\ncode IX3 X1+X2; IX4 X2-X1; NO; PS\nstart 40\nend\n",
+        0,
+        b"000041 00000100000000000000 PS; BX0 X0; PS; PS\n000042 00000020000000000000 PS; JP B0+0; PS\n000100 71100000057120000003 SX1 B0+5; SX2 B0+3\n000101 36312374214600000000 IX3 X1+X2; IX4 X2-X1; NO; PS\n",
+        b"",
+    )
+}
+
+#[test]
+fn lists_no_refused_deck(rt: HostRuntime) -> Result<(), Fail> {
+    expect_run(
+        &rt,
+        ["list"].as_slice(),
+        b"core 31\n",
+        1,
+        b"",
+        b"cdc6600: E20 line 1: size\n",
     )
 }
 
@@ -382,6 +402,7 @@ fn usage(rt: HostRuntime) -> Result<(), Fail> {
     for (texts, status, begins) in [
         (["--help"].as_slice(), 0, "A CDC 6600"),
         (["run", "--help"].as_slice(), 0, "Runs the deck"),
+        (["list", "--help"].as_slice(), 0, "Prints the words"),
         (none, 2, "error: "),
         (["walk"].as_slice(), 2, "error: "),
         (["help"].as_slice(), 2, "error: "),
