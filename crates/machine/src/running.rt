@@ -72,9 +72,8 @@ impl Machine {
             let Some(event) = self.next_work() else {
                 return made;
             };
-            if let Err(_) = self.apply(event) {
-                return made;
-            }
+            // It is allowed and no request, so it is made.
+            let _ = self.apply(event);
         }
         MOST_WORK
     }

@@ -159,7 +159,7 @@ fn takes_register_rows(rt: HostRuntime) -> Result<(), Fail> {
     Ok(())
 }
 
-/// Of the rows that set an A or B register SA0 and SB0 are taken too: they make no reference.
+/// SA0 makes no reference and is taken, as is SB0, which writes nothing.
 #[test]
 fn takes_sa0_and_sb0(rt: HostRuntime) -> Result<(), Fail> {
     let mut state = State::boot(Storage::new(rt.alloc(), 32)?);
