@@ -1,4 +1,5 @@
-//! What the functional units compute: the value of an instruction, as a function of its operands alone.
+//! What the functional units compute: the value of an instruction, as a function of its operands alone, and where a
+//! branch goes by it.
 //!
 //! The operations are the machine's (Control Data 6400/6600 Reference Manual, publication 60100000). This
 //! project's choice are: the order of `GE` and `LT` and the equality of `EQ` and `NE` (`BTest` of
