@@ -5,6 +5,7 @@ pub mod Lines
 pub mod DeckLines
 pub mod Texts
 pub mod Ranges
-pub mod Logs
+pub mod LogTexts
+pub mod LogReading
 pub mod Codes
 pub mod Listings

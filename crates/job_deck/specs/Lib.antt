@@ -10,3 +10,4 @@ pub mod Reading
 pub mod Pieces
 pub mod Dump
 pub mod Listing
+pub mod LogText

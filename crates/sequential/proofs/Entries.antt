@@ -18,7 +18,7 @@ issued-append [] ys = let e : issued ys ≡ 0 + issued ys = omega arith in e
 issued-append (Issued ∷ xs) ys = let e : issued (xs ++ ys) ≡ issued xs + issued ys = issued-append xs ys in omega (arith, e)
 issued-append (Exchanged n ∷ xs) ys = issued-append xs ys
 
-issued-replicate : (n : ℕ) → issued (replicate n Issued) ≡ n
+pub issued-replicate : (n : ℕ) → issued (replicate n Issued) ≡ n
 unfolding issued
 issued-replicate zero = refl
 issued-replicate (suc n) = ap suc (issued-replicate n)
@@ -201,3 +201,16 @@ shortest_after_issue es fs h p q = p ∙ ap one_behind h ∙ sym (shortest_issue
 
 pub shortest_after_exchange : (es fs : List Entry) (n : ℕ) → es ≡ entries_of (steps_of es) → fs ≡ es ++ Exchange n ∷ [] → fs ≡ entries_of (steps_of fs)
 shortest_after_exchange es fs n h p = p ∙ ap (λ l. l ++ Exchange n ∷ []) h ∙ sym (shortest_exchange (steps_of es) n) ∙ ap entries_of (sym (exchange_added es n)) ∙ ap (λ l. entries_of (steps_of l)) (sym p)
+
+-- ---- many instructions ----
+
+-- one instruction behind so many
+pub replicate_on : (steps : List LogStep) (n : ℕ) → (steps ++ replicate n Issued) ++ Issued ∷ [] ≡ steps ++ replicate (n + 1) Issued
+replicate_on steps n =
+    append_assoc steps (replicate n Issued) (Issued ∷ [])
+    ∙ ap (λ l. steps ++ l) (replicate-more n ∙ ap (λ k. replicate k Issued) (let e : suc n ≡ n + 1 = omega arith in e))
+
+pub one_more_issued : (now before first : List LogStep) (n : ℕ) → now ≡ before ++ Issued ∷ [] → issued before ≡ issued first + n → issued now ≡ issued first + (n + 1)
+one_more_issued now before first n h e =
+    let more : issued now ≡ issued before + 1 = ap issued h ∙ issued-more before in
+    omega (arith, more, e)

@@ -1,4 +1,4 @@
-ghost use Rattle.std.specs.Prelude.{◌≡◌, ◌<◌, ◌≤◌, ◌+◌, ◌++◌, ◌^◌, [], ◌∷◌, true, false, MatchResult, if◌then◌else◌, ◌-◌, length, slice_get, Some, is_some, IfSome};
+ghost use Rattle.std.specs.Prelude.{◌≡◌, ◌<◌, ◌≤◌, ◌+◌, ◌++◌, ◌^◌, [], ◌∷◌, true, false, MatchResult, if◌then◌else◌, ◌-◌, length, slice_get, Some, is_some, IfSome, replicate};
 ghost use Rattle.instruction_table.specs.declared.refusal.Refusal.TheVariants.{OutOfMemory};
 ghost use Rattle.sequential.specs.Log.{issued, steps_of, entries_of, one_behind, ends_open};
 ghost use Rattle.sequential.specs.declared.log.Entry.TheVariants.{Issued as Count};
@@ -159,5 +159,15 @@ impl Log {
     {
         add_one(&mut self.entries);
         self.issues += 1;
+    }
+    /// Adds so many instructions.
+    pub fn issued_many(&mut self, count: u64)
+        requires room { self.old.is_open ≡ false → 0 < self.old.room }
+        requires count { issued self.old.steps + count < 2 ^ 64 }
+        ensures steps { self.new.steps ≡ self.old.steps ++ replicate count Issued }
+    {
+        for _ in 0..count {
+            self.issued();
+        }
     }
 }

@@ -3,7 +3,7 @@ use Rattle.std.proofs.lemmas.List.{take_rest}
 use Rattle.std.proofs.lemmas.Result.{err_from_is_err_and}
 use Rattle.job_deck.specs.Device.{Writes, WritesFront}
 use Rattle.job_deck.proofs.Moving.{cut_in, writes_after}
-use Rattle.job_deck.proofs.Logs.{log_parts}
+use Rattle.job_deck.proofs.LogTexts.{log_parts}
 use Rattle.job_deck.proofs.dumping.put_log.Goals as goal
 
 pub returns-in_err-put_first-in-len1-up-clause-written :

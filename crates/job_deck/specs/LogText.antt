@@ -1,0 +1,73 @@
+-- What a log's text says.
+use Rattle.std.specs.Prelude.{◌≡◌, ℕ, ◌-◌, Bool, true, false, ◌||◌, ◌==◌, nat_lt, if◌then◌else◌, List, [], ◌∷◌, ◌++◌, Option, Some, None, codes}
+use Rattle.std.specs.Str.{bytes_eq}
+use Rattle.sequential.specs.declared.log.Entry.{Entry}
+use Rattle.sequential.specs.declared.log.Entry.TheVariants.{Issued as Count, Exchange}
+use Rattle.sequential.specs.declared.log.Log.{Log}
+use Rattle.sequential.specs.Log.{steps_of}
+use Rattle.sequential.specs.Replay.{LogStep}
+use Rattle.job_deck.specs.Text.{fields_of, number_of}
+use Rattle.job_deck.specs.declared.logs.Allowance.{Allowance}
+
+-- at first: at most 10,000,000 instructions and 1,000,000 exchanges
+abbrev pub whole_allowance : Allowance
+whole_allowance = record { after_count = false; instructions = 10000000; exchanges = 1000000 }
+
+-- a nought in front and a digit after it
+abbrev pub has_nought_in_front : List ℕ → Bool
+has_nought_in_front [] = false
+has_nought_in_front (d ∷ []) = false
+has_nought_in_front (d ∷ e ∷ more) = d == 48
+
+-- the number that the digits are, without noughts in front
+abbrev pub plain_number : ℕ → ℕ → List ℕ → Option ℕ
+plain_number base most digits = if has_nought_in_front digits then None else number_of base most digits
+
+abbrev pub exchange_in : Allowance → Option ℕ → Option Entry
+exchange_in left None = None
+exchange_in left (Some n) = if left.exchanges == 0 then None else Some (Exchange n)
+
+-- a count isn't 0, and doesn't stand beside another
+abbrev pub count_in : Allowance → Option ℕ → Option Entry
+count_in left None = None
+count_in left (Some n) = if left.after_count || (n == 0) || nat_lt left.instructions n then None else Some (Count n)
+
+-- `E` and one to six octal digits, or `I` and decimal digits
+abbrev pub entry_in : Allowance → List ℕ → Option Entry
+entry_in left [] = None
+entry_in left (letter ∷ digits) =
+    if letter == 69 then exchange_in left (plain_number 8 6 digits)
+    else if letter == 73 then count_in left (plain_number 10 8 digits)
+    else None
+
+-- how many instructions an entry stands for
+abbrev pub entry_count : Entry → ℕ
+entry_count (Exchange n) = 0
+entry_count (Count n) = n
+
+-- what may come after an entry
+abbrev pub spent : Allowance → Entry → Allowance
+spent left (Exchange n) = record { after_count = false; instructions = left.instructions; exchanges = left.exchanges - 1 }
+spent left (Count n) = record { after_count = true; instructions = left.instructions - n; exchanges = left.exchanges }
+
+abbrev pub put_steps : List LogStep → Option (List LogStep) → Option (List LogStep)
+put_steps steps None = None
+put_steps steps (Some more) = Some (steps ++ more)
+
+abbrev pub with_entry : Option Entry → (Entry → Option (List LogStep)) → Option (List LogStep)
+with_entry None more = None
+with_entry (Some entry) more = put_steps (steps_of (entry ∷ [])) (more entry)
+
+-- the steps of entries, if each field is one that may come
+abbrev pub steps_in : Allowance → List (List ℕ) → Option (List LogStep)
+steps_in left [] = Some []
+steps_in left (field ∷ more) = with_entry (entry_in left field) (λ entry. steps_in (spent left entry) more)
+
+-- `none`, or entries with one space between them
+unfoldable pub log_in : List ℕ → Option (List LogStep)
+log_in text = if bytes_eq text (codes "none") then Some [] else steps_in whole_allowance (fields_of text)
+
+-- a log with these steps, if there are some
+abbrev pub LogHas : Option Log → Option (List LogStep) → Type 0
+LogHas None steps = steps ≡ None
+LogHas (Some log) steps = steps ≡ Some log.steps

@@ -1,0 +1,181 @@
+ghost use Rattle.std.specs.Prelude.{◌≡◌, ◌<◌, ◌≤◌, ◌+◌, ◌++◌, ◌^◌, [], ◌∷◌, MatchResult, IfSome};
+ghost use Rattle.instruction_table.specs.declared.refusal.Refusal.TheVariants.{OutOfMemory};
+ghost use Rattle.sequential.specs.Log.{steps_of, issued};
+ghost use Rattle.job_deck.specs.Text.{fields_of};
+ghost use Rattle.job_deck.specs.LogText.{whole_allowance, has_nought_in_front, plain_number, exchange_in, count_in, entry_in, entry_count, spent, steps_in, log_in, LogHas};
+
+use crate::digits::number;
+use crate::parsing::first_part;
+use instruction_table::Refusal;
+use sequential::{Entry, Log};
+use std::alloc::Global;
+
+/// What may still come in a log's text.
+#[derive(Clone, Copy, Drop)]
+pub struct Allowance {
+    /// The entry before is a count, and no count may follow it.
+    after_count: bool,
+    /// How many instructions, all counts together.
+    instructions: u64,
+    /// How many exchanges.
+    exchanges: u32,
+}
+
+impl Allowance {
+    /// At most 10,000,000 instructions and 1,000,000 exchanges.
+    fn whole() -> Allowance
+        ensures { result ≡ whole_allowance }
+    {
+        Allowance {
+            after_count: false,
+            instructions: 10_000_000,
+            exchanges: 1_000_000,
+        }
+    }
+
+    /// An exchange, if one may come.
+    fn exchange(&self, digits: &[u8]) -> Option<Entry>
+        ensures entry { result ≡ exchange_in self.now (plain_number 8 6 digits.now) }
+        ensures within { IfSome result (λ entry. entry_count entry ≤ self.now.instructions) }
+    {
+        match plain_octal(digits) {
+            Some(at) if self.exchanges > 0 => Some(Entry::Exchange(at)),
+            _ => None,
+        }
+    }
+
+    /// A count, if it may come.
+    fn count(&self, digits: &[u8]) -> Option<Entry>
+        ensures entry { result ≡ count_in self.now (plain_number 10 8 digits.now) }
+        ensures within { IfSome result (λ entry. entry_count entry ≤ self.now.instructions) }
+    {
+        let count = plain_decimal(digits)?;
+        if self.after_count || count == 0 || count > self.instructions {
+            None
+        } else {
+            Some(Entry::Issued(count))
+        }
+    }
+
+    /// The entry of a field, if it may come.
+    fn entry(&self, field: &[u8]) -> Option<Entry>
+        ensures entry { result ≡ entry_in self.now field.now }
+        ensures within { IfSome result (λ entry. entry_count entry ≤ self.now.instructions) }
+    {
+        match field {
+            [b'E', digits @ ..] => self.exchange(digits),
+            [b'I', digits @ ..] => self.count(digits),
+            _ => None,
+        }
+    }
+
+    /// What may come after an entry.
+    fn spent(self, entry: Entry) -> Allowance
+        ensures { result ≡ spent self entry }
+    {
+        match entry {
+            Entry::Exchange(_) => Allowance {
+                after_count: false,
+                exchanges: self.exchanges.saturating_sub(1),
+                ..self
+            },
+            Entry::Issued(count) => Allowance {
+                after_count: true,
+                instructions: self.instructions.saturating_sub(count),
+                ..self
+            },
+        }
+    }
+}
+
+/// Whether a nought stands in front of another digit.
+fn has_nought_in_front(digits: &[u8]) -> bool
+    ensures { result ≡ has_nought_in_front digits.now }
+{
+    digits.len() > 1 && digits[0] == b'0'
+}
+
+/// An address of one to six octal digits without noughts in front.
+fn plain_octal(digits: &[u8]) -> Option<u32>
+    ensures value { result ≡ plain_number 8 6 digits.now }
+{
+    if has_nought_in_front(digits) {
+        return None;
+    }
+    match number(8, 6, digits) {
+        Some(address) => Some(address as u32),
+        None => None,
+    }
+}
+
+/// A number of one to eight decimal digits without noughts in front.
+fn plain_decimal(digits: &[u8]) -> Option<u64>
+    ensures value { result ≡ plain_number 10 8 digits.now }
+{
+    if has_nought_in_front(digits) {
+        return None;
+    }
+    number(10, 8, digits)
+}
+
+/// Adds an entry to a log.
+///
+/// # Errors
+/// `OutOfMemory`.
+#[tactic(auto, unfolding(sequential::specs::Log::steps_of))]
+fn add_entry(log: &mut Log, entry: Entry) -> Result<(), Refusal>
+    requires { issued log.old.steps + entry_count entry < 2 ^ 64 }
+    ensures { MatchResult result (λ _. log.new.steps ≡ log.old.steps ++ steps_of (entry ∷ [])) (λ refusal. refusal ≡ OutOfMemory) }
+{
+    if log.reserve(1).is_err() {
+        return Err(Refusal::OutOfMemory);
+    }
+    match entry {
+        Entry::Exchange(at) => log.exchanged(at),
+        Entry::Issued(count) => log.issued_many(count),
+    }
+    Ok(())
+}
+
+/// Reads entries with one space between them.
+///
+/// # Errors
+/// `OutOfMemory`.
+fn read_entries(alloc: Global, text: &[u8]) -> Result<Option<Log>, Refusal>
+    ensures { MatchResult result (λ found. LogHas found (steps_in whole_allowance (fields_of text.now))) (λ refusal. refusal ≡ OutOfMemory) }
+{
+    let mut log = Log::new(alloc);
+    let mut left = Allowance::whole();
+    let mut rest = text;
+    loop {
+        let (field, after) = first_part(rest, b' ');
+        let Some(entry) = left.entry(field) else {
+            return Ok(None);
+        };
+        if add_entry(&mut log, entry).is_err() {
+            return Err(Refusal::OutOfMemory);
+        }
+        left = left.spent(entry);
+        match after {
+            None => return Ok(Some(log)),
+            Some(more) => rest = more,
+        }
+    }
+}
+
+/// Reads the text of a log, as a dump has it: `none`, or entries with one space between them. An entry is
+/// `E` and an address of one to six octal digits, or `I` and a decimal count that isn't 0, without leading
+/// zeros; no two counts stand side by side. There are at most 10,000,000 instructions and 1,000,000
+/// exchanges. None where the text isn't that of a log.
+///
+/// # Errors
+/// `OutOfMemory`.
+#[tactic(auto, unfolding(crate::specs::LogText::log_in))]
+pub fn read_log(alloc: Global, text: &str) -> Result<Option<Log>, Refusal>
+    ensures { MatchResult result (λ found. LogHas found (log_in text.now)) (λ refusal. refusal ≡ OutOfMemory) }
+{
+    if text == "none" {
+        return Ok(Some(Log::new(alloc)));
+    }
+    read_entries(alloc, text.as_bytes())
+}
