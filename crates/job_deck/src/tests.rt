@@ -1,6 +1,6 @@
 ghost use Rattle.std.specs.Prelude.{Some, vec_items};
 
-use crate::{Deck, dump, list, read_deck};
+use crate::{Deck, dump, list, read_deck, read_log};
 use instruction_table::{DeckFault, Refusal};
 use relocation::Storage;
 use sequential::{Log, State};
@@ -271,5 +271,50 @@ fn dumps(rt: HostRuntime) -> Result<(), Fail> {
             b"M 000000 00000000000000000000\nM 000001 00000000000000000000\nLOG none\n"
         )
     );
+    Ok(())
+}
+
+#[test]
+fn reads_logs(rt: HostRuntime) -> Result<(), Fail> {
+    for (text, entries, issues) in [
+        ("none", 0, 0),
+        ("E40 I4", 2, 4),
+        ("I10000000", 1, 10_000_000),
+        ("E0 I1 E777777 I9999999", 4, 10_000_000),
+    ] {
+        let Ok(Some(log)) = read_log(rt.alloc(), text) else {
+            return Err(Fail::from(AllocError));
+        };
+        assert_eq!(rt; log.entries().len(), entries);
+        assert_eq!(rt; log.issues(), issues);
+    }
+    Ok(())
+}
+
+#[test]
+fn refuses_logs(rt: HostRuntime) -> Result<(), Fail> {
+    for text in [
+        "",
+        " ",
+        "none ",
+        "E40 none",
+        "E",
+        "I",
+        "I0",
+        "I01",
+        "E040",
+        "E8",
+        "E1234567",
+        "e40",
+        "E40 ",
+        " E40",
+        "E40  I1",
+        "E40 I2 I2",
+        "I10000001",
+        "I9999999 E0 I2",
+        "I100000000",
+    ] {
+        assert!(rt; matches!(read_log(rt.alloc(), text), Ok(None)));
+    }
     Ok(())
 }
