@@ -29,6 +29,14 @@ code_of Running = 5
 code_of OutOfMemory = 6
 code_of Device = 7
 
+-- why the program ends where this is refused; the other refusals never come
+abbrev pub fault_of : Refusal → ProgramFault
+fault_of (refusals.Deck line fault) = faults.Deck line fault
+fault_of refusals.OutOfMemory = faults.OutOfMemory
+fault_of refusals.Read = faults.Read
+fault_of refusals.Write = faults.Write
+fault_of other = faults.Stuck
+
 -- how the program ends where it has no output
 abbrev pub fault_status : ProgramFault → Status
 fault_status (faults.Deck line fault) = Refused

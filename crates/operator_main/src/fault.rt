@@ -2,7 +2,6 @@ ghost use Rattle.std.specs.Prelude.{◌≡◌};
 
 use super::status::Status;
 use instruction_table::{DeckFault, Refusal};
-use std::alloc::AllocError;
 use thiserror::Error;
 
 /// Why the program ends without its output.
@@ -22,7 +21,20 @@ pub enum ProgramFault {
 }
 
 impl ProgramFault {
-    ghost use Rattle.operator_main.specs.Status.{fault_status};
+    ghost use Rattle.operator_main.specs.Status.{fault_of, fault_status};
+
+    /// Why the program ends where this is refused.
+    pub fn of(refusal: Refusal) -> ProgramFault
+        ensures { result ≡ fault_of refusal }
+    {
+        match refusal {
+            Refusal::Deck { line, fault } => ProgramFault::Deck { line, fault },
+            Refusal::OutOfMemory => ProgramFault::OutOfMemory,
+            Refusal::Read => ProgramFault::Read,
+            Refusal::Write => ProgramFault::Write,
+            _ => ProgramFault::Stuck,
+        }
+    }
 
     /// How the program ends.
     pub fn status(&self) -> Status
@@ -58,20 +70,8 @@ fn fault_text(fault: &DeckFault) -> &'static str {
     }
 }
 
-impl From<AllocError> for ProgramFault {
-    fn from(_error: AllocError) -> ProgramFault {
-        ProgramFault::OutOfMemory
-    }
-}
-
 impl From<Refusal> for ProgramFault {
     fn from(refusal: Refusal) -> ProgramFault {
-        match refusal {
-            Refusal::Deck { line, fault } => ProgramFault::Deck { line, fault },
-            Refusal::OutOfMemory => ProgramFault::OutOfMemory,
-            Refusal::Read => ProgramFault::Read,
-            Refusal::Write => ProgramFault::Write,
-            _ => ProgramFault::Stuck,
-        }
+        ProgramFault::of(refusal)
     }
 }
