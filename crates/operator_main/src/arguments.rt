@@ -1,20 +1,36 @@
-use clap::{Command, Error};
+ghost use Rattle.std.specs.Prelude.{◌≤◌};
+
+use clap::builder::ValueParser;
+use clap::{Arg, ArgMatches, Command, Error};
 use std::alloc::{AllocError, Global};
+
+/// How many instructions `run` issues at most, if the command line doesn't say.
+const BUDGET: u64 = 1_000_000;
+
+/// The largest budget.
+pub const LARGEST_BUDGET: u64 = 10_000_000;
 
 /// What the command line asks for.
 #[derive(Clone, Copy, Debug, Drop, PartialEq, Eq)]
 pub enum Request {
-    /// To run a deck.
-    Run,
+    /// To run a deck, and to issue at most so many instructions, 1 to 10,000,000.
+    Run(u64),
     /// To list a deck's words.
     List,
 }
 
 /// The command line that is accepted. `help` is no command of its own; `--help` is an option of each.
 fn accepted<'a>(alloc: Global) -> Result<Command<'a>, AllocError> {
+    let budget = Arg::new(alloc, "budget")
+        .long("budget")
+        .value_name("N")
+        .value_parser(ValueParser::unsigned(1, LARGEST_BUDGET))
+        .default_value("1000000")
+        .help("Issues at most N instructions");
     let run = Command::new(alloc, "run")
         .about("Runs the deck on standard input and prints the machine's dump")
-        .override_usage("cdc6600 run");
+        .override_usage("cdc6600 run [--budget N]")
+        .arg(budget)?;
     let list = Command::new(alloc, "list")
         .about("Prints the words of the deck on standard input with their instructions")
         .override_usage("cdc6600 list");
@@ -27,15 +43,21 @@ fn accepted<'a>(alloc: Global) -> Result<Command<'a>, AllocError> {
         .subcommand(list)
 }
 
+/// The budget that a command is given.
+fn budget(matches: &ArgMatches<'_>) -> u64 {
+    matches.get_one::<u64>("budget").unwrap_or(BUDGET)
+}
+
 /// Reads a command line, without the program's name.
 ///
 /// # Errors
 /// `clap`'s own: a refused command line, a request for help, or `OutOfMemory`.
 pub fn read_arguments<'a>(alloc: Global, words: &'a [String]) -> Result<Request, Error> {
     let matches = accepted(alloc)?.try_get_matches_from(words)?;
-    // A command is required, and there are two.
-    match matches.subcommand_name() {
-        Some("list") => Ok(Request::List),
-        _ => Ok(Request::Run),
+    // A command is required, so there is one.
+    match matches.subcommand() {
+        Some(("list", _)) => Ok(Request::List),
+        Some((_, run)) => Ok(Request::Run(budget(run))),
+        None => Ok(Request::Run(BUDGET)),
     }
 }

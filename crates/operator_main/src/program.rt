@@ -1,8 +1,8 @@
 ghost use Rattle.std.specs.Prelude.{◌≤◌};
 
-use super::arguments::{Request, read_arguments};
+use super::arguments::{LARGEST_BUDGET, Request, read_arguments};
 use super::fault::ProgramFault;
-use super::running::{BUDGET, run};
+use super::running::run;
 use super::status::{Status, end_status};
 use clap::Error;
 use clap::error::ErrorKind;
@@ -46,7 +46,7 @@ fn unparsed<W: Write, F: Write>(output: &mut W, faults: &mut F, error: Error) ->
 ///
 /// # Errors
 /// Why the dump wasn't printed; a beginning of it may have been.
-pub fn run_deck<R: Read, W: Write>(
+fn run_deck<R: Read, W: Write>(
     alloc: Global,
     input: &mut R,
     output: &mut W,
@@ -76,7 +76,10 @@ fn perform<R: Read, W: Write>(
         return Err(ProgramFault::OutOfMemory);
     };
     match request {
-        Request::Run => run_deck(alloc, &mut reader, &mut writer, BUDGET),
+        Request::Run(budget) => {
+            let budget = budget.min(LARGEST_BUDGET);
+            run_deck(alloc, &mut reader, &mut writer, budget)
+        }
         Request::List => {
             list(alloc, &mut reader, &mut writer)?;
             Ok(Status::Stopped)

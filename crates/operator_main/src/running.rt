@@ -6,9 +6,6 @@ use machine::{Event, Machine, Snapshot};
 use relocation::Storage;
 use std::alloc::Global;
 
-/// How many instructions a run issues at most.
-pub const BUDGET: u64 = 1_000_000;
-
 /// Issues until the machine refuses, and answers that refusal.
 fn issue_all(machine: &mut Machine, budget: u64) -> Refusal {
     for _ in 0..budget {

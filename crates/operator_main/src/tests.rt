@@ -1,8 +1,8 @@
 ghost use Rattle.std.specs.Prelude.{Some, vec_items};
 
 use super::fault::ProgramFault;
-use super::program::{program, run_deck};
-use super::status::{Status, end_status};
+use super::program::program;
+use super::status::end_status;
 use instruction_table::{DeckFault, Digit, Halt, Op};
 use registers::RegisterFile;
 use relocation::{Area, Storage};
@@ -318,14 +318,12 @@ fn prints_each_register(rt: HostRuntime) -> Result<(), Fail> {
     )
 }
 
+/// A plus sign is as good as none to `clap`.
 #[test]
 fn ends_with_its_budget(rt: HostRuntime) -> Result<(), Fail> {
-    let mut input = TWO_ADDS;
-    let mut output = Vec::new(rt.alloc());
-    let ended = run_deck(rt.alloc(), &mut input, &mut output, 3);
-    assert!(rt; matches!(ended, Ok(Status::Running)));
-    assert_eq!(rt; output.as_slice(), THREE_DUMP);
-    assert_eq!(rt; Status::Running.code(), 5);
+    for text in ["--budget=3", "--budget=+3"] {
+        expect_run(&rt, ["run", text].as_slice(), TWO_ADDS, 5, THREE_DUMP, b"")?;
+    }
     Ok(())
 }
 
@@ -407,7 +405,11 @@ fn usage(rt: HostRuntime) -> Result<(), Fail> {
         (["walk"].as_slice(), 2, "error: "),
         (["help"].as_slice(), 2, "error: "),
         (["run", "more"].as_slice(), 2, "error: "),
-        (["run", "--budget", "3"].as_slice(), 2, "error: "),
+        (["run", "--budget"].as_slice(), 2, "error: "),
+        (["run", "--budget", "0"].as_slice(), 2, "error: "),
+        (["run", "--budget", "10000001"].as_slice(), 2, "error: "),
+        (["run", "--budget", "3x"].as_slice(), 2, "error: "),
+        (["list", "--budget", "3"].as_slice(), 2, "error: "),
     ] {
         let words = words(rt.alloc(), texts)?;
         let mut input = b"core 31\n".as_slice();
