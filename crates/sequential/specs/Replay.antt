@@ -1,5 +1,5 @@
 -- The log, and the machine that goes through it step by step.
-use Rattle.std.specs.Prelude.{ℕ, false, if◌then◌else◌, List, [], ◌∷◌, Option, Some, None, length, replicate}
+use Rattle.std.specs.Prelude.{ℕ, ◌≡◌, false, if◌then◌else◌, List, [], ◌∷◌, ◌++◌, Option, Some, None, length, replicate}
 use Rattle.instruction_table.specs.declared.refusal.Halt.TheVariants.{Stop}
 use Rattle.exchange_package.specs.Package.{package_fits}
 use Rattle.sequential.specs.declared.state.State.{State}
@@ -25,6 +25,16 @@ then_replay (Some s) f = f s
 unfoldable pub replay : State → List LogStep → Option State
 replay s [] = Some s
 replay s (x ∷ xs) = then_replay (do_log_step s x) (λ t. replay t xs)
+
+-- these steps are refused: those before one of their exchanges lead to this state, in whose memory the
+-- package doesn't lie
+pub record IsRefusedAt (start : State) (steps : List LogStep) (end : State) : Type 0 where
+  pub before : List LogStep
+  pub at : ℕ
+  pub behind : List LogStep
+  pub steps_are : steps ≡ before ++ (Exchanged at ∷ behind)
+  pub reached : replay start before ≡ Some end
+  pub outside : package_fits at (length end.memory) ≡ false
 
 -- registers, P, RA, FL and mode +0; halted by a stop
 unfoldable pub boot : List ℕ → State

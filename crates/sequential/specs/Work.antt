@@ -6,7 +6,7 @@ use Rattle.instruction_table.specs.declared.instr.Reg.TheVariants.{X}
 use Rattle.instruction_table.specs.Shape.{Shape, Puts, Loads, Stores, Jumps, Links, puts_of, is_branch_shape}
 use Rattle.instruction_table.specs.Table.{row}
 use Rattle.registers.specs.declared.file.RegisterFile.{RegisterFile}
-use Rattle.registers.specs.Registers.{get}
+use Rattle.registers.specs.Registers.{get, put}
 use Rattle.relocation.specs.declared.area.Access.{Access}
 use Rattle.relocation.specs.declared.area.Access.TheVariants.{Load as LoadInto, Store as StoreWord}
 use Rattle.unit_ops.specs.declared.Operands.{Operands}
@@ -102,6 +102,15 @@ work_of shape v = record {
 unfoldable pub fault_of : Bounds → Option ProgramReference → Bool
 fault_of b None = false
 fault_of b (Some r) = stops_at_fault b && is_none (absolute b r.address)
+
+-- the registers of a row that writes one or none, and that one number written
+abbrev pub listed : Option Reg → List Reg
+listed None = []
+listed (Some r) = r ∷ []
+
+abbrev pub put_any : RegisterFile → Option Reg → ℕ → RegisterFile
+put_any g None v = g
+put_any g (Some r) v = put g r v
 
 -- all but the reference itself
 unfoldable pub do_now : Bounds → State → Work → State

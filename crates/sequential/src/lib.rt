@@ -4,7 +4,9 @@
 mod fetching;
 mod log;
 mod place;
+mod replaying;
 mod state;
+mod stepping;
 #[cfg(test)]
 mod tests;
 mod work;
@@ -12,5 +14,7 @@ mod work;
 pub use fetching::Fetched;
 pub use log::{Entry, Log};
 pub use place::{ParcelNumber, Place};
+pub use replaying::replay;
 pub use state::State;
+pub use stepping::step;
 pub use work::{ProgramReference, faults, jump, number, operands, reference};

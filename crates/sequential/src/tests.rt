@@ -1,12 +1,13 @@
 use crate::{
     Entry, Fetched, Log, ParcelNumber, Place, ProgramReference, State, faults, jump, number,
-    operands, reference,
+    operands, reference, replay, step,
 };
 use instruction_table::{
     Addends, Addition, Base, Digit, Direction, Halt, Instr, Op, Pair, Refusal, Reg, SixBits, Target,
 };
 use registers::RegisterFile;
 use relocation::{Access, Area, Storage};
+use std::alloc::Global;
 use std::test::Fail;
 use unit_ops::{Operands, UnitValue};
 use word60::{Word18, Word60};
@@ -356,5 +357,110 @@ fn logs(rt: HostRuntime) -> Result<(), Fail> {
     let copy = log.copy()?;
     assert_eq!(rt; copy.entries(), wanted.as_slice());
     assert_eq!(rt; copy.issues(), 3);
+    Ok(())
+}
+
+#[test]
+fn steps_over_one_instruction(rt: HostRuntime) -> Result<(), Fail> {
+    let refused = Halt::Illegal(Op::Plain(Digit::low(2), Digit::low(4)));
+    // IX3 X1+X2; NO; BX1 X2; 24
+    let one = word(b"36312460001012024000")?;
+    // NO; NO; PS; and the first parcel of SX1 B1+K
+    let other = word(b"46000460000000071110")?;
+    let mut state = State::boot(Storage::new(rt.alloc(), 32)?);
+    state.fault = true;
+    for (held, parcel, halt, next) in [
+        (one, 0, None, 1),
+        (one, 1, None, 2),
+        (one, 3, Some(refused), 3),
+        (other, 2, Some(Halt::Stop), 2),
+        (other, 3, Some(Halt::Straddle), 3),
+    ] {
+        state.halt = None;
+        state.place = place(5, parcel, Some(held))?;
+        step(&mut state);
+        assert_eq!(rt; state.halt, halt);
+        assert_eq!(rt; state.place, place(5, next, Some(held))?);
+    }
+    assert!(rt; state.fault);
+    Ok(())
+}
+
+/// A fetch out of range halts, and then nothing changes any more.
+#[test]
+fn stays_halted(rt: HostRuntime) -> Result<(), Fail> {
+    let mut state = State::boot(Storage::new(rt.alloc(), 32)?);
+    state.halt = None;
+    state.place = place(5, 0, None)?;
+    step(&mut state);
+    assert_eq!(rt; state.halt, Some(Halt::FetchRange));
+    // NO; NO; NO; NO
+    state.place = place(5, 0, Some(word(b"46000460004600046000")?))?;
+    let halted = state.place;
+    step(&mut state);
+    assert_eq!(rt; state.halt, Some(Halt::FetchRange));
+    assert_eq!(rt; state.place, halted);
+    Ok(())
+}
+
+/// A machine of 64 words. In word 0 stands X3 = X1+X1, X3 = X3+X3, NO and PS, and at 40 the package of a
+/// program with P 0, RA 0, FL 1 and 5 in X1.
+fn doubling(alloc: Global) -> Result<State, Fail> {
+    let mut memory = Storage::new(alloc, 64)?;
+    memory.store(0, word(b"36311363334600000000")?);
+    memory.store(0o42, word(b"00000001000000000000")?);
+    memory.store(0o51, Word60::from_bits(5));
+    Ok(State::boot(memory))
+}
+
+#[test]
+fn replays_nothing(rt: HostRuntime) -> Result<(), Fail> {
+    let mut state = doubling(rt.alloc())?;
+    let place = state.place;
+    let log = Log::new(rt.alloc());
+    replay(&mut state, &log)?;
+    assert_eq!(rt; state.place, place);
+    assert_eq!(rt; state.halt, Some(Halt::Stop));
+    let three = state.registers.get(Reg::X(Digit::low(3)));
+    assert_eq!(rt; three, Word60::default());
+    Ok(())
+}
+
+#[test]
+#[tactic(auto, unfolding(crate::specs::Log::issued))]
+fn replays_a_program(rt: HostRuntime) -> Result<(), Fail> {
+    let mut log = Log::new(rt.alloc());
+    log.reserve(2)?;
+    log.exchanged(0o40);
+    log.issued();
+    log.issued();
+    log.issued();
+    log.issued();
+    let mut state = doubling(rt.alloc())?;
+    replay(&mut state, &log)?;
+    let held = word(b"36311363334600000000")?;
+    assert_eq!(rt; state.place, place(0, 3, Some(held))?);
+    assert_eq!(rt; state.halt, Some(Halt::Stop));
+    let twenty = state.registers.get(Reg::X(Digit::low(3)));
+    assert_eq!(rt; twenty, Word60::from_bits(20));
+    Ok(())
+}
+
+/// The second package has its last word behind the end of memory: what stands before it is done.
+#[test]
+#[tactic(auto, unfolding(crate::specs::Log::issued))]
+fn refuses_a_package_out_of_range(rt: HostRuntime) -> Result<(), Fail> {
+    let mut log = Log::new(rt.alloc());
+    log.reserve(4)?;
+    log.exchanged(0o40);
+    log.issued();
+    log.exchanged(0o61);
+    log.issued();
+    let mut state = doubling(rt.alloc())?;
+    let answer = replay(&mut state, &log);
+    assert_eq!(rt; answer, Err(Refusal::PackageRange));
+    assert_eq!(rt; state.place.parcel.get(), 1);
+    let ten = state.registers.get(Reg::X(Digit::low(3)));
+    assert_eq!(rt; ten, Word60::from_bits(10));
     Ok(())
 }

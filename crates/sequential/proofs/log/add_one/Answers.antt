@@ -1,4 +1,4 @@
-use Rattle.std.proofs.Common.{ap, sym, ◌∙◌}
+use Rattle.std.proofs.Common.{ap, ◌∙◌}
 use Rattle.sequential.specs.Log.{steps_of, ends_open}
 use Rattle.sequential.proofs.Entries.{count_added, opened_by_count, added_behind}
 use Rattle.sequential.proofs.log.add_one.Goals as goal
