@@ -11,3 +11,4 @@ pub mod Pieces
 pub mod Dump
 pub mod Listing
 pub mod LogText
+pub mod Replaying

@@ -18,6 +18,7 @@ mod output;
 mod parsing;
 mod piece;
 mod reading;
+mod replaying;
 #[cfg(test)]
 mod tests;
 
@@ -29,3 +30,4 @@ pub use listing::{list, list_to};
 pub use logs::read_log;
 pub use output::{Output, Tracked, WriteFailed};
 pub use reading::{read_deck, read_deck_from};
+pub use replaying::{replay, replay_to};

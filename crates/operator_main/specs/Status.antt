@@ -32,6 +32,7 @@ code_of Device = 7
 -- why the program ends where this is refused; the other refusals never come
 abbrev pub fault_of : Refusal → ProgramFault
 fault_of (refusals.Deck line fault) = faults.Deck line fault
+fault_of refusals.PackageRange = faults.PackageRange
 fault_of refusals.OutOfMemory = faults.OutOfMemory
 fault_of refusals.Read = faults.Read
 fault_of refusals.Write = faults.Write
@@ -40,6 +41,8 @@ fault_of other = faults.Stuck
 -- how the program ends where it has no output
 abbrev pub fault_status : ProgramFault → Status
 fault_status (faults.Deck line fault) = Refused
+fault_status faults.PackageRange = Usage
+fault_status faults.BadLog = Usage
 fault_status faults.OutOfMemory = OutOfMemory
 fault_status faults.Read = Device
 fault_status faults.Write = Device

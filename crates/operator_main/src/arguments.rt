@@ -12,9 +12,11 @@ pub const LARGEST_BUDGET: u64 = 10_000_000;
 
 /// What the command line asks for.
 #[derive(Clone, Copy, Debug, Drop, PartialEq, Eq)]
-pub enum Request {
+pub enum Request<'a> {
     /// To run a deck, and to issue at most so many instructions, 1 to 10,000,000.
     Run(u64),
+    /// To go through this log on a deck.
+    Replay(&'a str),
     /// To list a deck's words.
     List,
 }
@@ -31,6 +33,15 @@ fn accepted<'a>(alloc: Global) -> Result<Command<'a>, AllocError> {
         .about("Runs the deck on standard input and prints the machine's dump")
         .override_usage("cdc6600 run [--budget N]")
         .arg(budget)?;
+    let log = Arg::new(alloc, "LOG")
+        .required(true)
+        .help("What the dump of a run has behind LOG, as one argument");
+    let replay = Command::new(alloc, "replay")
+        .about(
+            "Goes through LOG on the deck on standard input, one instruction at a time, and prints the machine's dump",
+        )
+        .override_usage("cdc6600 replay LOG")
+        .arg(log)?;
     let list = Command::new(alloc, "list")
         .about("Prints the words of the deck on standard input with their instructions")
         .override_usage("cdc6600 list");
@@ -40,6 +51,7 @@ fn accepted<'a>(alloc: Global) -> Result<Command<'a>, AllocError> {
         .subcommand_required(true)
         .disable_help_subcommand(true)
         .subcommand(run)?
+        .subcommand(replay)?
         .subcommand(list)
 }
 
@@ -52,11 +64,12 @@ fn budget(matches: &ArgMatches<'_>) -> u64 {
 ///
 /// # Errors
 /// `clap`'s own: a refused command line, a request for help, or `OutOfMemory`.
-pub fn read_arguments<'a>(alloc: Global, words: &'a [String]) -> Result<Request, Error> {
+pub fn read_arguments<'a>(alloc: Global, words: &'a [String]) -> Result<Request<'a>, Error> {
     let matches = accepted(alloc)?.try_get_matches_from(words)?;
     // A command is required, so there is one.
     match matches.subcommand() {
         Some(("list", _)) => Ok(Request::List),
+        Some(("replay", replay)) => Ok(Request::Replay(replay.get_str("LOG").unwrap_or(""))),
         Some((_, run)) => Ok(Request::Run(budget(run))),
         None => Ok(Request::Run(BUDGET)),
     }

@@ -9,6 +9,10 @@ use thiserror::Error;
 pub enum ProgramFault {
     #[error("E20 line {line}: {}", fault_text(.fault))]
     Deck { line: u32, fault: DeckFault },
+    #[error("E19 package range")]
+    PackageRange,
+    #[error("bad log")]
+    BadLog,
     #[error("E21 out of memory")]
     OutOfMemory,
     #[error("E22 read failed")]
@@ -29,6 +33,7 @@ impl ProgramFault {
     {
         match refusal {
             Refusal::Deck { line, fault } => ProgramFault::Deck { line, fault },
+            Refusal::PackageRange => ProgramFault::PackageRange,
             Refusal::OutOfMemory => ProgramFault::OutOfMemory,
             Refusal::Read => ProgramFault::Read,
             Refusal::Write => ProgramFault::Write,
@@ -42,6 +47,8 @@ impl ProgramFault {
     {
         match self {
             ProgramFault::Deck { .. } => Status::Refused,
+            ProgramFault::PackageRange => Status::Usage,
+            ProgramFault::BadLog => Status::Usage,
             ProgramFault::OutOfMemory => Status::OutOfMemory,
             ProgramFault::Read => Status::Device,
             ProgramFault::Write => Status::Device,

@@ -6,7 +6,7 @@ use super::running::run;
 use super::status::{Status, end_status};
 use clap::Error;
 use clap::error::ErrorKind;
-use job_deck::{dump, list, read_deck};
+use job_deck::{dump, list, read_deck, replay};
 use std::alloc::Global;
 use std::io;
 use std::io::{BufReader, BufWriter, Read, Write};
@@ -61,11 +61,27 @@ fn run_deck<R: Read, W: Write>(
     Ok(end_status(snapshot.state()))
 }
 
+/// Goes through a log on a deck and prints the dump.
+///
+/// # Errors
+/// Why the dump wasn't printed; a beginning of it may have been.
+fn replay_log<R: Read, W: Write>(
+    alloc: Global,
+    input: &mut R,
+    output: &mut W,
+    log: &str,
+) -> Result<Status, ProgramFault> {
+    match replay(alloc, input, output, log)? {
+        Some(state) => Ok(end_status(&state)),
+        None => Err(ProgramFault::BadLog),
+    }
+}
+
 /// Does what is asked, with buffers between, so that neither a byte that is read nor a piece that is
 /// written costs a call of the system.
 fn perform<R: Read, W: Write>(
     alloc: Global,
-    request: Request,
+    request: Request<'_>,
     input: &mut R,
     output: &mut W,
 ) -> Result<Status, ProgramFault> {
@@ -80,6 +96,7 @@ fn perform<R: Read, W: Write>(
             let budget = budget.min(LARGEST_BUDGET);
             run_deck(alloc, &mut reader, &mut writer, budget)
         }
+        Request::Replay(log) => replay_log(alloc, &mut reader, &mut writer, log),
         Request::List => {
             list(alloc, &mut reader, &mut writer)?;
             Ok(Status::Stopped)

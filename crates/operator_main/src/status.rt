@@ -11,7 +11,7 @@ pub enum Status {
     Stopped = 0,
     /// The deck is refused.
     Refused = 1,
-    /// The command line is refused.
+    /// The command line is refused, or the log on it.
     Usage = 2,
     /// An opcode that is refused, an instruction across a word's end or a fetch out of range halted it.
     Halted = 3,

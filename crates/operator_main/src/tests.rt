@@ -75,6 +75,14 @@ const TWO_ADDS_DUMP: &[u8] =
 const THREE_DUMP: &[u8] =
     b"P 000001 PARCEL 1 HELD 36312374214600000000\nHALT running FAULT none\nRA 000100 FL 000020 EM 000000\nA 000000 000000 000000 000000 000000 000000 000000 000000\nB 000000 000000 000000 000000 000000 000000 000000 000000\nX0 00000000000000000000\nX1 00000000000000000005\nX2 00000000000000000003\nX3 00000000000000000010\nX4 00000000000000000000\nX5 00000000000000000000\nX6 00000000000000000000\nX7 00000000000000000000\nM 000100 71100000057120000003\nM 000101 36312374214600000000\nLOG E40 I3\n";
 
+/// The same deck after four instructions.
+const FOUR_DUMP: &[u8] =
+    b"P 000001 PARCEL 2 HELD 36312374214600000000\nHALT running FAULT none\nRA 000100 FL 000020 EM 000000\nA 000000 000000 000000 000000 000000 000000 000000 000000\nB 000000 000000 000000 000000 000000 000000 000000 000000\nX0 00000000000000000000\nX1 00000000000000000005\nX2 00000000000000000003\nX3 00000000000000000010\nX4 77777777777777777775\nX5 00000000000000000000\nX6 00000000000000000000\nX7 00000000000000000000\nM 000100 71100000057120000003\nM 000101 36312374214600000000\nLOG E40 I4\n";
+
+/// The same deck before any exchange.
+const BOOT_DUMP: &[u8] =
+    b"P 000000 PARCEL 0 HELD none\nHALT stop FAULT none\nRA 000000 FL 000000 EM 000000\nA 000000 000000 000000 000000 000000 000000 000000 000000\nB 000000 000000 000000 000000 000000 000000 000000 000000\nX0 00000000000000000000\nX1 00000000000000000000\nX2 00000000000000000000\nX3 00000000000000000000\nX4 00000000000000000000\nX5 00000000000000000000\nX6 00000000000000000000\nX7 00000000000000000000\nM 000100 71100000057120000003\nM 000101 36312374214600000000\nLOG none\n";
+
 /// The lines from RA to X7 of a program at 100 with 20 words whose registers are all +0.
 const ZEROS: &[u8] =
     b"RA 000100 FL 000020 EM 000000\nA 000000 000000 000000 000000 000000 000000 000000 000000\nB 000000 000000 000000 000000 000000 000000 000000 000000\nX0 00000000000000000000\nX1 00000000000000000000\nX2 00000000000000000000\nX3 00000000000000000000\nX4 00000000000000000000\nX5 00000000000000000000\nX6 00000000000000000000\nX7 00000000000000000000\n";
@@ -294,6 +302,47 @@ fn lists_no_refused_deck(rt: HostRuntime) -> Result<(), Fail> {
 }
 
 #[test]
+fn replays(rt: HostRuntime) -> Result<(), Fail> {
+    let stopped = &TWO_ADDS_DUMP[..TWO_ADDS_DUMP.len() - 2];
+    let stopped = joined(rt.alloc(), [stopped, b"9\n"].as_slice())?;
+    for (log, status, printed) in [
+        ("E40 I4", 5, FOUR_DUMP),
+        ("E40 I9", 0, stopped.as_slice()),
+        ("none", 0, BOOT_DUMP),
+    ] {
+        expect_run(
+            &rt,
+            ["replay", log].as_slice(),
+            TWO_ADDS,
+            status,
+            printed,
+            b"",
+        )?;
+    }
+    Ok(())
+}
+
+#[test]
+fn replays_no_bad_log(rt: HostRuntime) -> Result<(), Fail> {
+    for (log, told) in [
+        ("E40 I2 I2", b"cdc6600: bad log\n".as_slice()),
+        ("", b"cdc6600: bad log\n".as_slice()),
+        ("E361", b"cdc6600: E19 package range\n".as_slice()),
+        ("E40 I1 E361", b"cdc6600: E19 package range\n".as_slice()),
+    ] {
+        expect_run(&rt, ["replay", log].as_slice(), TWO_ADDS, 2, b"", told)?;
+    }
+    expect_run(
+        &rt,
+        ["replay", "bad"].as_slice(),
+        b"core 31\n",
+        1,
+        b"",
+        b"cdc6600: E20 line 1: size\n",
+    )
+}
+
+#[test]
 fn fetches_out_of_range(rt: HostRuntime) -> Result<(), Fail> {
     expect_run(
         &rt,
@@ -365,6 +414,8 @@ fn statuses(rt: HostRuntime) -> Result<(), Fail> {
 #[test]
 fn fault_texts(rt: HostRuntime) -> Result<(), Fail> {
     for (fault, text) in [
+        (ProgramFault::PackageRange, "E19 package range"),
+        (ProgramFault::BadLog, "bad log"),
         (ProgramFault::OutOfMemory, "E21 out of memory"),
         (ProgramFault::Read, "E22 read failed"),
         (ProgramFault::Write, "E23 write failed"),
@@ -401,6 +452,9 @@ fn usage(rt: HostRuntime) -> Result<(), Fail> {
         (["--help"].as_slice(), 0, "A CDC 6600"),
         (["run", "--help"].as_slice(), 0, "Runs the deck"),
         (["list", "--help"].as_slice(), 0, "Prints the words"),
+        (["replay", "--help"].as_slice(), 0, "Goes through LOG"),
+        (["replay"].as_slice(), 2, "error: "),
+        (["replay", "E40", "I4"].as_slice(), 2, "error: "),
         (none, 2, "error: "),
         (["walk"].as_slice(), 2, "error: "),
         (["help"].as_slice(), 2, "error: "),

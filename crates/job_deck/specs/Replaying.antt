@@ -1,0 +1,49 @@
+-- What replaying a log on a deck answers and writes.
+use Rattle.std.specs.Prelude.{◌≡◌, ℕ, List, Option, Some, None, Result, Ok, Err}
+use Rattle.std.specs.Io.KnownBytes.{Keeps, Appends}
+use Rattle.instruction_table.specs.declared.refusal.Refusal.{Refusal}
+use Rattle.instruction_table.specs.declared.refusal.Refusal.TheVariants as refusals
+use Rattle.sequential.specs.declared.state.State.{State}
+use Rattle.sequential.specs.Log.{entries_of}
+use Rattle.sequential.specs.Replay.{LogStep, boot, replay}
+use Rattle.job_deck.specs.Deck.{Plan, Reading, Good, Bad}
+use Rattle.job_deck.specs.Device.{WritesFront}
+use Rattle.job_deck.specs.Dump.{dump_text}
+use Rattle.job_deck.specs.LogText.{log_in}
+
+pub data Replayed : Type 0 where
+  -- the text is no log's
+  BadLog : Replayed
+  -- the package of an exchange doesn't lie in memory
+  Undefined : Replayed
+  -- the state behind these steps
+  Reaches : State → List LogStep → Replayed
+
+abbrev pub reached : List LogStep → Option State → Replayed
+reached steps None = Undefined
+reached steps (Some state) = Reaches state steps
+
+abbrev pub replayed_steps : List ℕ → Option (List LogStep) → Replayed
+replayed_steps memory None = BadLog
+replayed_steps memory (Some steps) = reached steps (replay (boot memory) steps)
+
+-- the machine that was booted with the deck's memory goes through the log of this text
+abbrev pub replayed : Plan → List ℕ → Replayed
+replayed plan text = replayed_steps plan.image.memory (log_in text)
+
+-- the dump of the state that is reached, or at a failed write a beginning of it; else nothing
+abbrev pub Prints : Result (Option State) Refusal → Replayed → List (ℕ × ℕ) → Option (List ℕ) → Option (List ℕ) → Type 0
+Prints (Ok None) BadLog shows old new = Keeps old new
+Prints (Ok (Some s)) (Reaches state steps) shows old new = (s ≡ state) × Appends old new (dump_text state (entries_of steps) shows)
+Prints (Err refusals.PackageRange) Undefined shows old new = Keeps old new
+Prints (Err refusals.Write) (Reaches state steps) shows old new = WritesFront old new (dump_text state (entries_of steps) shows)
+Prints (Err refusals.OutOfMemory) replayed shows old new = Keeps old new
+Prints other replayed shows old new = ⊥
+
+-- the same from a deck's bytes on, of which these are left
+abbrev pub Replays : Result (Option State) Refusal → Reading → List ℕ → List ℕ → Option (List ℕ) → Option (List ℕ) → Type 0
+Replays (Err (refusals.Deck m fault)) reading rest text old new = (reading ≡ Bad m fault) × Keeps old new
+Replays (Err refusals.Read) reading rest text old new = Keeps old new
+Replays (Err refusals.OutOfMemory) reading rest text old new = Keeps old new
+Replays result (Good plan n after) rest text old new = (rest ≡ after) × Prints result (replayed plan text) plan.shows old new
+Replays result (Bad n fault) rest text old new = ⊥

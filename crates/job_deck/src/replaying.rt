@@ -1,0 +1,99 @@
+ghost use Rattle.std.specs.Prelude.{◌≡◌, ◌||◌};
+ghost use Rattle.job_deck.specs.Deck.{deck};
+ghost use Rattle.job_deck.specs.Device.{Moves, failed_after};
+ghost use Rattle.job_deck.specs.Listing.{is_read_refusal, is_write_refusal};
+ghost use Rattle.job_deck.specs.Replaying.{replayed, Prints, Replays};
+ghost use Rattle.job_deck.specs.Views.{plan, shown};
+
+use crate::deck::Deck;
+use crate::dumping::dump_to;
+use crate::input::{Input, Watched};
+use crate::logs::read_log;
+use crate::output::{Output, Tracked};
+use crate::reading::{read_deck_from, refusal};
+use instruction_table::Refusal;
+use sequential::State;
+use std::alloc::Global;
+use std::io::{Read, Write};
+
+/// Boots a machine with a deck's memory, goes through the log of a text and prints the machine's dump.
+/// None where the text isn't that of a log.
+///
+/// # Errors
+/// `PackageRange` where an exchange's words don't lie in memory, `OutOfMemory`, and `Write` where a write
+/// fails.
+fn print_replay<O: Output>(
+    alloc: Global,
+    output: &mut O,
+    deck: &Deck,
+    text: &str,
+) -> Result<Option<State>, Refusal>
+    ensures printed { Prints result (replayed (plan deck.now) text.now) (shown deck.now.shows.items) (O.contents output.old) (O.contents output.new) }
+    ensures failure { O.has_failed output.new ≡ (O.has_failed output.old || is_write_refusal result) }
+    ensures same { O.lender output.new ≡ O.lender output.old }
+{
+    let log = match read_log(alloc, text) {
+        Ok(Some(log)) => log,
+        Ok(None) => return Ok(None),
+        Err(refusal) => return Err(refusal),
+    };
+    let memory = match deck.image.memory().copy() {
+        Ok(memory) => memory,
+        Err(refusal) => return Err(refusal),
+    };
+    let mut state = State::boot(memory);
+    if let Err(refusal) = sequential::replay(&mut state, &log) {
+        return Err(refusal);
+    }
+    match dump_to(output, &state, &log, deck) {
+        Ok(()) => Ok(Some(state)),
+        Err(_) => Err(Refusal::Write),
+    }
+}
+
+/// Reads a deck, boots the machine that does one instruction at a time with its memory, goes through the
+/// log of a text and prints the machine's dump. Answers the machine's state, or None where the text isn't
+/// that of a log. The deck is judged first; its `start` line isn't used.
+///
+/// # Errors
+/// `Deck` with a line and its fault, `PackageRange` where an exchange's words don't lie in memory,
+/// `OutOfMemory`, and `Read` and `Write` where the device fails. Only at the last of these anything was
+/// written, a beginning of the dump.
+pub fn replay_to<I: Input, O: Output>(
+    alloc: Global,
+    input: &mut I,
+    output: &mut O,
+    text: &str,
+) -> Result<Option<State>, Refusal>
+    ensures replayed { Moves (I.remaining input.old) (I.remaining input.new) (λ xs ys. Replays result (deck xs) ys text.now (O.contents output.old) (O.contents output.new)) }
+    ensures read { I.has_failed input.new ≡ (I.has_failed input.old || is_read_refusal result) }
+    ensures write { O.has_failed output.new ≡ (O.has_failed output.old || is_write_refusal result) }
+    ensures input { I.lender input.new ≡ I.lender input.old }
+    ensures output { O.lender output.new ≡ O.lender output.old }
+{
+    match read_deck_from(alloc, input) {
+        Ok((deck, _)) => print_replay(alloc, output, &deck, text),
+        Err(error) => Err(refusal(error)),
+    }
+}
+
+/// The same from any reader to any writer.
+///
+/// # Errors
+/// As `replay_to`.
+pub fn replay<R: Read, W: Write>(
+    alloc: Global,
+    reader: &mut R,
+    writer: &mut W,
+    text: &str,
+) -> Result<Option<State>, Refusal>
+    ensures { Moves (R.remaining reader.old) (R.remaining reader.new) (λ xs ys. Replays result (deck xs) ys text.now (W.contents writer.old) (W.contents writer.new)) }
+{
+    let mut input = Watched::new(reader);
+    let mut output = Tracked::new(writer);
+    let result = replay_to(alloc, &mut input, &mut output, text);
+    // No effect at run time. The proof reads what reader and writer hold from these uses.
+    let _ = &*input.into_inner();
+    let _ = &*output.into_inner();
+    result
+}
