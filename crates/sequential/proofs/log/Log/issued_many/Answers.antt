@@ -30,4 +30,4 @@ loop-preserved c =
 pub returns : goal.returns
 returns c =
     let all : c.loop.counter ≡ c.args.count = omega (arith, c.loop.auto.counter-end, c.loop-test.false) in
-    record { steps = c.loop.invariant.steps ∙ ap (λ n. c.args.self.now.steps ++ replicate n Issued) all; }
+    record { steps = c.loop.invariant.steps ∙ ap (λ n. c.args.self.now.steps ++ replicate n Issued) all }
