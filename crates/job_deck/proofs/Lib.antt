@@ -5,7 +5,6 @@ pub mod Lines
 pub mod DeckLines
 pub mod Texts
 pub mod Ranges
-pub mod LogTexts
 pub mod LogReading
 pub mod Codes
 pub mod Listings

@@ -33,35 +33,31 @@ fault_text false = codes " FAULT none\n"
 abbrev pub area_line : Area → List ℕ
 area_line area = concat (codes "RA " ∷ octal_text 6 area.ra ∷ codes " FL " ∷ octal_text 6 area.fl ∷ codes " EM " ∷ octal_text 6 area.mode ∷ codes "\n" ∷ [])
 
-abbrev pub a_line : RegisterFile → List ℕ
-a_line r = concat (
-    codes "A " ∷ octal_text 6 (slice_index r.a 0) ∷ codes " " ∷ octal_text 6 (slice_index r.a 1) ∷ codes " " ∷ octal_text 6 (slice_index r.a 2) ∷ codes " " ∷ octal_text 6 (slice_index r.a 3)
-    ∷ codes " " ∷ octal_text 6 (slice_index r.a 4) ∷ codes " " ∷ octal_text 6 (slice_index r.a 5) ∷ codes " " ∷ octal_text 6 (slice_index r.a 6) ∷ codes " " ∷ octal_text 6 (slice_index r.a 7)
-    ∷ codes "\n" ∷ [])
+-- with a space before it
+abbrev pub spaced_index : ℕ → List ℕ
+spaced_index n = concat (codes " " ∷ octal_text 6 n ∷ [])
 
--- B0 is always +0
-abbrev pub b_line : RegisterFile → List ℕ
-b_line r = concat (
-    codes "B 000000 " ∷ octal_text 6 (slice_index r.b 0) ∷ codes " " ∷ octal_text 6 (slice_index r.b 1) ∷ codes " " ∷ octal_text 6 (slice_index r.b 2) ∷ codes " " ∷ octal_text 6 (slice_index r.b 3)
-    ∷ codes " " ∷ octal_text 6 (slice_index r.b 4) ∷ codes " " ∷ octal_text 6 (slice_index r.b 5) ∷ codes " " ∷ octal_text 6 (slice_index r.b 6)
-    ∷ codes "\n" ∷ [])
+abbrev pub index_line : List ℕ → List ℕ → List ℕ
+index_line name indexes = concat (name ∷ flat_map spaced_index indexes ∷ codes "\n" ∷ [])
 
-abbrev pub x_lines : RegisterFile → List ℕ
-x_lines r = concat (
-    codes "X0 " ∷ octal_text 20 (slice_index r.x 0) ∷ codes "\nX1 " ∷ octal_text 20 (slice_index r.x 1) ∷ codes "\nX2 " ∷ octal_text 20 (slice_index r.x 2) ∷ codes "\nX3 " ∷ octal_text 20 (slice_index r.x 3)
-    ∷ codes "\nX4 " ∷ octal_text 20 (slice_index r.x 4) ∷ codes "\nX5 " ∷ octal_text 20 (slice_index r.x 5) ∷ codes "\nX6 " ∷ octal_text 20 (slice_index r.x 6) ∷ codes "\nX7 " ∷ octal_text 20 (slice_index r.x 7)
-    ∷ codes "\n" ∷ [])
-
-abbrev pub state_lines : State → List ℕ
-state_lines s = concat (place_line s.place ∷ halt_text s.halt ∷ fault_text s.fault ∷ area_line s.area ∷ [])
-
-abbrev pub register_lines : RegisterFile → List ℕ
-register_lines r = concat (a_line r ∷ b_line r ∷ x_lines r ∷ [])
+abbrev pub x_line : List ℕ → ℕ → List ℕ
+x_line x n = concat (codes "X" ∷ decimal n ∷ codes " " ∷ octal_text 20 (slice_index x n) ∷ codes "\n" ∷ [])
 
 -- a, a + 1, and so on, n of them
 abbrev pub addresses : ℕ → ℕ → List ℕ
 addresses zero a = []
 addresses (suc n) a = a ∷ addresses n (a + 1)
+
+-- X0 to X7
+unfoldable pub x_lines : List ℕ → List ℕ
+x_lines x = flat_map (x_line x) (addresses 8 0)
+
+abbrev pub state_lines : State → List ℕ
+state_lines s = concat (place_line s.place ∷ halt_text s.halt ∷ fault_text s.fault ∷ area_line s.area ∷ [])
+
+-- B0 is always +0
+abbrev pub register_lines : RegisterFile → List ℕ
+register_lines r = concat (index_line (codes "A") r.a ∷ index_line (codes "B 000000") r.b ∷ x_lines r.x ∷ [])
 
 abbrev pub word_line : List ℕ → ℕ → List ℕ
 word_line memory a = concat (codes "M " ∷ octal_text 6 a ∷ codes " " ∷ octal_text 20 (slice_index_or memory a 0) ∷ codes "\n" ∷ [])
@@ -70,21 +66,17 @@ word_line memory a = concat (codes "M " ∷ octal_text 6 a ∷ codes " " ∷ oct
 abbrev pub show_lines : List ℕ → ℕ × ℕ → List ℕ
 show_lines memory show = flat_map (word_line memory) (addresses (show.1 + 1 - show.0) show.0)
 
-abbrev pub entry_text : Entry → List ℕ
-entry_text (entries.Exchange a) = concat (codes "E" ∷ trimmed (octal_text 20 a) ∷ [])
-entry_text (entries.Issued n) = concat (codes "I" ∷ decimal n ∷ [])
-
 -- with a space before it
 abbrev pub spaced_entry : Entry → List ℕ
 spaced_entry (entries.Exchange a) = concat (codes " E" ∷ trimmed (octal_text 20 a) ∷ [])
 spaced_entry (entries.Issued n) = concat (codes " I" ∷ decimal n ∷ [])
 
 abbrev pub log_text : List Entry → List ℕ
-log_text [] = codes "none"
-log_text (entry ∷ more) = entry_text entry ++ flat_map spaced_entry more
+log_text [] = codes " none"
+log_text (entry ∷ more) = flat_map spaced_entry (entry ∷ more)
 
 abbrev pub log_line : List Entry → List ℕ
-log_line log = concat (codes "LOG " ∷ log_text log ∷ codes "\n" ∷ [])
+log_line log = concat (codes "LOG" ∷ log_text log ∷ codes "\n" ∷ [])
 
 -- the state, the words of each `show` line, and the log
 unfoldable pub dump_text : State → List Entry → List (ℕ × ℕ) → List ℕ

@@ -1,7 +1,7 @@
 ghost use Rattle.std.specs.Prelude.{◌≡◌, ◌<◌, ◌≤◌, ◌∷◌, List, map, length, slice_index_or, OnErr, Err};
 ghost use Rattle.std.specs.List.{flat_map};
 ghost use Rattle.job_deck.specs.Device.{Writes, failed_after};
-ghost use Rattle.job_deck.specs.Dump.{held_text, place_line, halt_text, fault_text, area_line, a_line, b_line, x_lines, state_lines, register_lines, word_line, show_lines, log_text, log_line, spaced_entry, entry_text, dump_text};
+ghost use Rattle.job_deck.specs.Dump.{held_text, place_line, halt_text, fault_text, area_line, spaced_index, index_line, x_line, x_lines, state_lines, register_lines, word_line, show_lines, log_text, log_line, spaced_entry, dump_text};
 ghost use Rattle.job_deck.specs.Pieces.{text_of};
 ghost use Rattle.job_deck.specs.Views.{shown_of, shown};
 ghost use Rattle.instruction_table.specs.declared.refusal.Refusal.TheVariants.{Write as WriteRefusal};
@@ -98,92 +98,62 @@ fn put_area<O: Output>(output: &mut O, area: &Area) -> Result<(), WriteFailed>
     )
 }
 
-/// Writes A0 to A7.
-fn put_a<O: Output>(output: &mut O, registers: &RegisterFile) -> Result<(), WriteFailed>
-    ensures written { Writes result (O.contents output.old) (O.contents output.new) (a_line registers.now) }
+/// Writes numbers of six digits, with a space before each.
+fn put_indexes<O: Output>(output: &mut O, indexes: &[Word18]) -> Result<(), WriteFailed>
+    ensures written { Writes result (O.contents output.old) (O.contents output.new) (flat_map spaced_index indexes.now) }
     ensures failure { O.has_failed output.new ≡ failed_after (O.has_failed output.old) result }
     ensures same { O.lender output.new ≡ O.lender output.old }
 {
-    put_pieces(
-        output,
-        &[
-            Piece::Text(b"A "),
-            Piece::Index(registers.a[0]),
-            Piece::Text(b" "),
-            Piece::Index(registers.a[1]),
-            Piece::Text(b" "),
-            Piece::Index(registers.a[2]),
-            Piece::Text(b" "),
-            Piece::Index(registers.a[3]),
-            Piece::Text(b" "),
-            Piece::Index(registers.a[4]),
-            Piece::Text(b" "),
-            Piece::Index(registers.a[5]),
-            Piece::Text(b" "),
-            Piece::Index(registers.a[6]),
-            Piece::Text(b" "),
-            Piece::Index(registers.a[7]),
-            Piece::Text(b"\n"),
-        ],
-    )
+    for index in indexes {
+        put_pieces(output, &[Piece::Text(b" "), Piece::Index(*index)])?;
+    }
+    Ok(())
 }
 
-/// Writes B0, which is always +0, to B7.
-fn put_b<O: Output>(output: &mut O, registers: &RegisterFile) -> Result<(), WriteFailed>
-    ensures written { Writes result (O.contents output.old) (O.contents output.new) (b_line registers.now) }
+/// Writes a line of a name and such numbers.
+fn put_index_line<O: Output>(
+    output: &mut O,
+    name: &[u8],
+    indexes: &[Word18],
+) -> Result<(), WriteFailed>
+    ensures written { Writes result (O.contents output.old) (O.contents output.new) (index_line name.now indexes.now) }
+    ensures failure { O.has_failed output.new ≡ failed_after (O.has_failed output.old) result }
+    ensures same { O.lender output.new ≡ O.lender output.old }
+{
+    output.put(name)?;
+    put_indexes(output, indexes)?;
+    output.put(b"\n")
+}
+
+/// Writes the line of an X register.
+fn put_x<O: Output>(output: &mut O, x: &[Word60; 8], number: u8) -> Result<(), WriteFailed>
+    requires { number < 8 }
+    ensures written { Writes result (O.contents output.old) (O.contents output.new) (x_line x.now number) }
     ensures failure { O.has_failed output.new ≡ failed_after (O.has_failed output.old) result }
     ensures same { O.lender output.new ≡ O.lender output.old }
 {
     put_pieces(
         output,
         &[
-            Piece::Text(b"B 000000 "),
-            Piece::Index(registers.b[0]),
+            Piece::Text(b"X"),
+            Piece::Count(u64::from(number)),
             Piece::Text(b" "),
-            Piece::Index(registers.b[1]),
-            Piece::Text(b" "),
-            Piece::Index(registers.b[2]),
-            Piece::Text(b" "),
-            Piece::Index(registers.b[3]),
-            Piece::Text(b" "),
-            Piece::Index(registers.b[4]),
-            Piece::Text(b" "),
-            Piece::Index(registers.b[5]),
-            Piece::Text(b" "),
-            Piece::Index(registers.b[6]),
+            Piece::Word(x[number as usize]),
             Piece::Text(b"\n"),
         ],
     )
 }
 
 /// Writes X0 to X7, one a line.
-fn put_x<O: Output>(output: &mut O, registers: &RegisterFile) -> Result<(), WriteFailed>
-    ensures written { Writes result (O.contents output.old) (O.contents output.new) (x_lines registers.now) }
+fn put_x_lines<O: Output>(output: &mut O, x: &[Word60; 8]) -> Result<(), WriteFailed>
+    ensures written { Writes result (O.contents output.old) (O.contents output.new) (x_lines x.now) }
     ensures failure { O.has_failed output.new ≡ failed_after (O.has_failed output.old) result }
     ensures same { O.lender output.new ≡ O.lender output.old }
 {
-    put_pieces(
-        output,
-        &[
-            Piece::Text(b"X0 "),
-            Piece::Word(registers.x[0]),
-            Piece::Text(b"\nX1 "),
-            Piece::Word(registers.x[1]),
-            Piece::Text(b"\nX2 "),
-            Piece::Word(registers.x[2]),
-            Piece::Text(b"\nX3 "),
-            Piece::Word(registers.x[3]),
-            Piece::Text(b"\nX4 "),
-            Piece::Word(registers.x[4]),
-            Piece::Text(b"\nX5 "),
-            Piece::Word(registers.x[5]),
-            Piece::Text(b"\nX6 "),
-            Piece::Word(registers.x[6]),
-            Piece::Text(b"\nX7 "),
-            Piece::Word(registers.x[7]),
-            Piece::Text(b"\n"),
-        ],
-    )
+    for number in 0..8u8 {
+        put_x(output, x, number)?;
+    }
+    Ok(())
 }
 
 /// Writes the lines of the machine's state, but for the registers.
@@ -204,9 +174,10 @@ fn put_registers<O: Output>(output: &mut O, registers: &RegisterFile) -> Result<
     ensures failure { O.has_failed output.new ≡ failed_after (O.has_failed output.old) result }
     ensures same { O.lender output.new ≡ O.lender output.old }
 {
-    put_a(output, registers)?;
-    put_b(output, registers)?;
-    put_x(output, registers)
+    put_index_line(output, b"A", &registers.a)?;
+    // B0 is always +0.
+    put_index_line(output, b"B 000000", &registers.b)?;
+    put_x_lines(output, &registers.x)
 }
 
 /// The word at an address, +0 where the memory has none.
@@ -262,7 +233,7 @@ fn put_shows<O: Output>(output: &mut O, memory: &Storage, shows: &[Show]) -> Res
     Ok(())
 }
 
-/// Writes an entry of a log after the first.
+/// Writes an entry of a log with a space before it.
 fn put_entry<O: Output>(output: &mut O, entry: Entry) -> Result<(), WriteFailed>
     ensures written { Writes result (O.contents output.old) (O.contents output.new) (spaced_entry entry) }
     ensures failure { O.has_failed output.new ≡ failed_after (O.has_failed output.old) result }
@@ -277,7 +248,7 @@ fn put_entry<O: Output>(output: &mut O, entry: Entry) -> Result<(), WriteFailed>
     }
 }
 
-/// Writes the entries of a log after the first.
+/// Writes the entries of a log with a space before each.
 fn put_entries<O: Output>(output: &mut O, entries: &[Entry]) -> Result<(), WriteFailed>
     ensures written { Writes result (O.contents output.old) (O.contents output.new) (flat_map spaced_entry entries.now) }
     ensures failure { O.has_failed output.new ≡ failed_after (O.has_failed output.old) result }
@@ -289,33 +260,15 @@ fn put_entries<O: Output>(output: &mut O, entries: &[Entry]) -> Result<(), Write
     Ok(())
 }
 
-/// Writes the first entry of a log.
-fn put_first<O: Output>(output: &mut O, entry: Entry) -> Result<(), WriteFailed>
-    ensures written { Writes result (O.contents output.old) (O.contents output.new) (entry_text entry) }
-    ensures failure { O.has_failed output.new ≡ failed_after (O.has_failed output.old) result }
-    ensures same { O.lender output.new ≡ O.lender output.old }
-{
-    match entry {
-        Entry::Exchange(address) => put_pieces(
-            output,
-            &[Piece::Text(b"E"), Piece::Address(address)],
-        ),
-        Entry::Issued(count) => put_pieces(output, &[Piece::Text(b"I"), Piece::Count(count)]),
-    }
-}
-
-/// Writes the text of a log.
+/// Writes the text of a log with a space before it.
 fn put_log<O: Output>(output: &mut O, entries: &[Entry]) -> Result<(), WriteFailed>
     ensures written { Writes result (O.contents output.old) (O.contents output.new) (log_text entries.now) }
     ensures failure { O.has_failed output.new ≡ failed_after (O.has_failed output.old) result }
     ensures same { O.lender output.new ≡ O.lender output.old }
 {
     match entries {
-        [] => output.put(b"none"),
-        [first, others @ ..] => {
-            put_first(output, *first)?;
-            put_entries(output, others)
-        }
+        [] => output.put(b" none"),
+        _ => put_entries(output, entries),
     }
 }
 
@@ -325,7 +278,7 @@ fn put_log_line<O: Output>(output: &mut O, entries: &[Entry]) -> Result<(), Writ
     ensures failure { O.has_failed output.new ≡ failed_after (O.has_failed output.old) result }
     ensures same { O.lender output.new ≡ O.lender output.old }
 {
-    output.put(b"LOG ")?;
+    output.put(b"LOG")?;
     put_log(output, entries)?;
     output.put(b"\n")
 }
