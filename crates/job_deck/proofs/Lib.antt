@@ -9,3 +9,4 @@ pub mod LogTexts
 pub mod LogReading
 pub mod Codes
 pub mod Listings
+pub mod Speaking

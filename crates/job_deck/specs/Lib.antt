@@ -11,3 +11,6 @@ pub mod Pieces
 pub mod Dump
 pub mod Listing
 pub mod LogText
+pub mod Names
+pub mod Schedule
+pub mod AnswerText

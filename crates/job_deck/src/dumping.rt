@@ -55,13 +55,7 @@ fn put_halt<O: Output>(output: &mut O, halt: &Option<Halt>) -> Result<(), WriteF
 {
     match halt {
         None => output.put(b"HALT running"),
-        Some(Halt::Stop) => output.put(b"HALT stop"),
-        Some(Halt::Straddle) => output.put(b"HALT straddle"),
-        Some(Halt::FetchRange) => output.put(b"HALT fetch"),
-        Some(Halt::Illegal(op)) => put_pieces(
-            output,
-            &[Piece::Text(b"HALT illegal "), Piece::Opcode(*op)],
-        ),
+        Some(halt) => put_pieces(output, &[Piece::Text(b"HALT "), Piece::Reason(*halt)]),
     }
 }
 

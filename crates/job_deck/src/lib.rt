@@ -4,6 +4,7 @@
 //! shown; docs/formats.md has its lines and their faults. All texts are lines of bytes.
 #![tactic(auto)]
 
+mod answering;
 mod coding;
 mod deck;
 mod digits;
@@ -18,6 +19,8 @@ mod output;
 mod parsing;
 mod piece;
 mod reading;
+mod schedule;
+mod spelling;
 #[cfg(test)]
 mod tests;
 
