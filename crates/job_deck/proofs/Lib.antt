@@ -10,3 +10,6 @@ pub mod LogReading
 pub mod Codes
 pub mod Listings
 pub mod Speaking
+pub mod HeardLines
+pub mod Sessions
+pub mod Endings

@@ -14,3 +14,5 @@ pub mod LogText
 pub mod Names
 pub mod Schedule
 pub mod AnswerText
+pub mod Session
+pub mod Told

@@ -314,7 +314,7 @@ fn put_log<O: Output>(output: &mut O, entries: &[Entry]) -> Result<(), WriteFail
 }
 
 /// Writes the line of the log.
-fn put_log_line<O: Output>(output: &mut O, entries: &[Entry]) -> Result<(), WriteFailed>
+pub fn put_log_line<O: Output>(output: &mut O, entries: &[Entry]) -> Result<(), WriteFailed>
     ensures written { Writes result (O.contents output.old) (O.contents output.new) (log_line entries.now) }
     ensures failure { O.has_failed output.new ≡ failed_after (O.has_failed output.old) result }
     ensures same { O.lender output.new ≡ O.lender output.old }

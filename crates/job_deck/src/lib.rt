@@ -9,6 +9,8 @@ mod coding;
 mod deck;
 mod digits;
 mod dumping;
+mod ending;
+mod hearing;
 mod image;
 mod input;
 mod judging;
@@ -20,6 +22,9 @@ mod parsing;
 mod piece;
 mod reading;
 mod schedule;
+mod session;
+#[cfg(test)]
+mod session_tests;
 mod spelling;
 #[cfg(test)]
 mod tests;
@@ -32,3 +37,4 @@ pub use listing::{list, list_to};
 pub use logs::read_log;
 pub use output::{Output, Tracked, WriteFailed};
 pub use reading::{read_deck, read_deck_from};
+pub use session::{events, events_to};
