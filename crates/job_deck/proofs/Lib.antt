@@ -8,3 +8,7 @@ pub mod Ranges
 pub mod LogReading
 pub mod Codes
 pub mod Listings
+pub mod Speaking
+pub mod HeardLines
+pub mod Sessions
+pub mod Endings

@@ -3,14 +3,13 @@ use Rattle.std.specs.Prelude.{ℕ, zero, suc, ◌+◌, ◌-◌, Bool, true, fals
 use Rattle.std.specs.List.{flat_map, concat}
 use Rattle.word60.specs.Words.{octal_text}
 use Rattle.instruction_table.specs.declared.refusal.Halt.{Halt}
-use Rattle.instruction_table.specs.declared.refusal.Halt.TheVariants.{Stop, Illegal, Straddle, FetchRange}
 use Rattle.registers.specs.declared.file.RegisterFile.{RegisterFile}
 use Rattle.relocation.specs.declared.area.Area.{Area}
 use Rattle.sequential.specs.declared.log.Entry.{Entry}
 use Rattle.sequential.specs.declared.log.Entry.TheVariants as entries
 use Rattle.sequential.specs.declared.place.Place.{Place}
 use Rattle.sequential.specs.declared.state.State.{State}
-use Rattle.job_deck.specs.Pieces.{code_text, trimmed}
+use Rattle.job_deck.specs.Pieces.{reason_text, trimmed}
 
 abbrev pub held_text : Option ℕ → List ℕ
 held_text None = codes "none"
@@ -21,10 +20,7 @@ place_line place = concat (codes "P " ∷ octal_text 6 place.p ∷ codes " PARCE
 
 abbrev pub halt_text : Option Halt → List ℕ
 halt_text None = codes "HALT running"
-halt_text (Some Stop) = codes "HALT stop"
-halt_text (Some (Illegal op)) = concat (codes "HALT illegal " ∷ code_text op ∷ [])
-halt_text (Some Straddle) = codes "HALT straddle"
-halt_text (Some FetchRange) = codes "HALT fetch"
+halt_text (Some halt) = concat (codes "HALT " ∷ reason_text halt ∷ [])
 
 abbrev pub fault_text : Bool → List ℕ
 fault_text true = codes " FAULT address\n"

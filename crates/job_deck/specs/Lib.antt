@@ -12,3 +12,8 @@ pub mod Dump
 pub mod Listing
 pub mod LogText
 pub mod Replaying
+pub mod Names
+pub mod Schedule
+pub mod AnswerText
+pub mod Session
+pub mod Told

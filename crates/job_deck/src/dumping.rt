@@ -55,13 +55,7 @@ fn put_halt<O: Output>(output: &mut O, halt: &Option<Halt>) -> Result<(), WriteF
 {
     match halt {
         None => output.put(b"HALT running"),
-        Some(Halt::Stop) => output.put(b"HALT stop"),
-        Some(Halt::Straddle) => output.put(b"HALT straddle"),
-        Some(Halt::FetchRange) => output.put(b"HALT fetch"),
-        Some(Halt::Illegal(op)) => put_pieces(
-            output,
-            &[Piece::Text(b"HALT illegal "), Piece::Opcode(*op)],
-        ),
+        Some(halt) => put_pieces(output, &[Piece::Text(b"HALT "), Piece::Reason(*halt)]),
     }
 }
 
@@ -273,7 +267,7 @@ fn put_log<O: Output>(output: &mut O, entries: &[Entry]) -> Result<(), WriteFail
 }
 
 /// Writes the line of the log.
-fn put_log_line<O: Output>(output: &mut O, entries: &[Entry]) -> Result<(), WriteFailed>
+pub fn put_log_line<O: Output>(output: &mut O, entries: &[Entry]) -> Result<(), WriteFailed>
     ensures written { Writes result (O.contents output.old) (O.contents output.new) (log_line entries.now) }
     ensures failure { O.has_failed output.new ≡ failed_after (O.has_failed output.old) result }
     ensures same { O.lender output.new ≡ O.lender output.old }

@@ -4,10 +4,13 @@
 //! shown; docs/formats.md has its lines and their faults. All texts are lines of bytes.
 #![tactic(auto)]
 
+mod answering;
 mod coding;
 mod deck;
 mod digits;
 mod dumping;
+mod ending;
+mod hearing;
 mod image;
 mod input;
 mod judging;
@@ -19,6 +22,11 @@ mod parsing;
 mod piece;
 mod reading;
 mod replaying;
+mod schedule;
+mod session;
+#[cfg(test)]
+mod session_tests;
+mod spelling;
 #[cfg(test)]
 mod tests;
 
@@ -31,3 +39,4 @@ pub use logs::read_log;
 pub use output::{Output, Tracked, WriteFailed};
 pub use reading::{read_deck, read_deck_from};
 pub use replaying::{replay, replay_to};
+pub use session::{events, events_to};

@@ -1,6 +1,6 @@
 ghost use Rattle.std.specs.Prelude.{◌≡◌, ℕ, List, IfOk, OnErr, OnOk, IsErr, ◌++◌};
 ghost use Rattle.job_deck.specs.Device.{Moves, failed_after};
-ghost use Rattle.job_deck.specs.Line.{LineTaken, LineText};
+ghost use Rattle.job_deck.specs.Line.{IsText, LineTaken, LineText};
 
 use crate::input::{Input, ReadFailed};
 use arrayvec::ArrayVec;
@@ -24,6 +24,7 @@ pub fn read_line<I: Input>(input: &mut I, line: &mut ArrayVec<u8, 201>) -> Resul
     ensures text { IfOk result (λ took. LineText took line.new.items) }
     ensures ok { IfOk result (λ took. Moves (I.remaining input.old) (I.remaining input.new) (LineTaken took line.new.items)) }
     ensures err { OnErr result (Moves (I.remaining input.old) (I.remaining input.new) (λ xs ys. xs ≡ line.new.items ++ ys)) }
+    ensures part { OnErr result (IsText line.new.items) }
     ensures failure { I.has_failed input.new ≡ failed_after (I.has_failed input.old) result }
     ensures same { I.lender input.new ≡ I.lender input.old }
 {

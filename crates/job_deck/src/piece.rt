@@ -1,10 +1,12 @@
 ghost use Rattle.std.specs.Prelude.{◌≡◌, ◌<◌, ◌^◌};
 ghost use Rattle.job_deck.specs.Device.{Writes, failed_after};
-ghost use Rattle.job_deck.specs.Pieces.{code_text, text_of, text_of_all};
+ghost use Rattle.job_deck.specs.Names.{register_text};
+ghost use Rattle.job_deck.specs.Pieces.{code_text, reason_text, text_of, text_of_all};
 
 use crate::digits::trim;
 use crate::output::{Output, WriteFailed};
-use instruction_table::Op;
+use crate::spelling::unit_name;
+use instruction_table::{Halt, Op, Reg, Unit};
 use itoa::Buffer;
 use sequential::ParcelNumber;
 use word60::{Word18, Word60};
@@ -16,6 +18,12 @@ pub enum Piece<'a> {
     Text(&'a [u8]),
     /// The code of an opcode that is refused, two octal digits or three.
     Opcode(Op),
+    /// Why a machine stands.
+    Reason(Halt),
+    /// The name of a unit.
+    UnitName(Unit),
+    /// A register's letter and digit.
+    Register(Reg),
     /// The number of a parcel, one digit.
     Parcel(ParcelNumber),
     /// Six octal digits.
@@ -40,6 +48,36 @@ fn put_opcode<O: Output>(output: &mut O, op: Op) -> Result<(), WriteFailed>
     }
 }
 
+/// Writes why a machine stands.
+fn put_reason<O: Output>(output: &mut O, halt: Halt) -> Result<(), WriteFailed>
+    ensures written { Writes result (O.contents output.old) (O.contents output.new) (reason_text halt) }
+    ensures failure { O.has_failed output.new ≡ failed_after (O.has_failed output.old) result }
+    ensures same { O.lender output.new ≡ O.lender output.old }
+{
+    match halt {
+        Halt::Stop => output.put(b"stop"),
+        Halt::Illegal(op) => {
+            output.put(b"illegal ")?;
+            put_opcode(output, op)
+        }
+        Halt::Straddle => output.put(b"straddle"),
+        Halt::FetchRange => output.put(b"fetch"),
+    }
+}
+
+/// Writes a register's letter and digit.
+fn put_register<O: Output>(output: &mut O, register: Reg) -> Result<(), WriteFailed>
+    ensures written { Writes result (O.contents output.old) (O.contents output.new) (register_text register) }
+    ensures failure { O.has_failed output.new ≡ failed_after (O.has_failed output.old) result }
+    ensures same { O.lender output.new ≡ O.lender output.old }
+{
+    match register {
+        Reg::X(digit) => output.put(&[b'X', b'0' + digit.get()]),
+        Reg::A(digit) => output.put(&[b'A', b'0' + digit.get()]),
+        Reg::B(digit) => output.put(&[b'B', b'0' + digit.get()]),
+    }
+}
+
 /// Writes a piece.
 fn put_piece<O: Output>(output: &mut O, piece: &Piece<'_>) -> Result<(), WriteFailed>
     ensures written { Writes result (O.contents output.old) (O.contents output.new) (text_of piece.now) }
@@ -49,6 +87,9 @@ fn put_piece<O: Output>(output: &mut O, piece: &Piece<'_>) -> Result<(), WriteFa
     match *piece {
         Piece::Text(bytes) => output.put(bytes),
         Piece::Opcode(op) => put_opcode(output, op),
+        Piece::Reason(halt) => put_reason(output, halt),
+        Piece::UnitName(unit) => output.put(unit_name(unit)),
+        Piece::Register(register) => put_register(output, register),
         Piece::Parcel(parcel) => output.put(&[b'0' + parcel.get()]),
         Piece::Index(number) => output.put(&number.octal()),
         Piece::Word(word) => output.put(&word.octal()),

@@ -1,4 +1,4 @@
-ghost use Rattle.std.specs.Prelude.{◌≡◌, ◌||◌, ◌≤◌, ◌∷◌, ℕ, List, length, false, OnOk, IfErr};
+ghost use Rattle.std.specs.Prelude.{◌≡◌, ◌||◌, ◌≤◌, ◌∷◌, ℕ, List, length, false, OnOk, IfOk, IfErr};
 ghost use Rattle.job_deck.specs.Device.{Moves};
 ghost use Rattle.job_deck.specs.Deck.{deck, Judged};
 ghost use Rattle.job_deck.specs.Line.{lines_of};
@@ -62,6 +62,7 @@ fn located(number: u32, step: Result<Step, LineError>) -> Result<Step, DeckError
 /// A line and its fault, want of memory, and a failed read.
 pub fn read_deck_from<I: Input>(alloc: Global, input: &mut I) -> Result<(Deck, u32), DeckError>
     ensures deck { Moves (I.remaining input.old) (I.remaining input.new) (λ xs ys. Gives result (deck xs) ys) }
+    ensures number { IfOk result (λ found. found.1 ≤ 10000000) }
     ensures failure { I.has_failed input.new ≡ (I.has_failed input.old || is_read result) }
     ensures same { I.lender input.new ≡ I.lender input.old }
 {

@@ -12,10 +12,10 @@ use std::test::Fail;
 
 /// Bytes in memory that come a few a read; the reads fail from one on.
 #[derive(Drop)]
-struct Failing<'a> {
-    bytes: &'a [u8],
-    turn: u64,
-    fails_from: u64,
+pub struct Failing<'a> {
+    pub bytes: &'a [u8],
+    pub turn: u64,
+    pub fails_from: u64,
 }
 
 impl Read for Failing<'_> {
@@ -33,10 +33,10 @@ impl Read for Failing<'_> {
 
 /// Takes one byte a call; the calls fail from one on.
 #[derive(Drop)]
-struct Dripping {
-    bytes: Vec<u8>,
-    turn: u64,
-    fails_from: u64,
+pub struct Dripping {
+    pub bytes: Vec<u8>,
+    pub turn: u64,
+    pub fails_from: u64,
 }
 
 impl Write for Dripping {
@@ -62,7 +62,7 @@ impl Write for Dripping {
 }
 
 /// Texts one after another.
-fn joined(alloc: Global, texts: &[&str]) -> Result<Vec<u8>, AllocError> {
+pub fn joined(alloc: Global, texts: &[&str]) -> Result<Vec<u8>, AllocError> {
     let mut all = Vec::new(alloc);
     for text in texts {
         all.extend_from_slice(text.as_bytes())?;

@@ -1,0 +1,64 @@
+-- What a line of a schedule says, or what is wrong with it.
+use Rattle.std.specs.Prelude.{ℕ, List, [], ◌∷◌, length, Option, Some, None, nat_lt, if◌then◌else◌, codes}
+use Rattle.std.specs.Str.{bytes_eq}
+use Rattle.instruction_table.specs.declared.instr.Unit.{Unit as FunctionalUnit}
+use Rattle.instruction_table.specs.declared.refusal.DeckFault.TheVariants as faults
+use Rattle.machine.specs.declared.event.Event.{Event}
+use Rattle.machine.specs.declared.event.Event.TheVariants as events
+use Rattle.job_deck.specs.Text.{fields_of, number_of}
+use Rattle.job_deck.specs.Names.{unit_named}
+use Rattle.job_deck.specs.declared.schedule.Spoken.{Spoken}
+use Rattle.job_deck.specs.declared.schedule.Spoken.TheVariants.{Makes, Ends, Drains, Faulty}
+
+-- the event with the unit, or there is no such unit
+abbrev pub with_unit : Option FunctionalUnit → (FunctionalUnit → Event) → Spoken
+with_unit None event = Faulty faults.Unknown
+with_unit (Some unit) event = Makes (event unit)
+
+-- the event with the number, or it is none
+abbrev pub with_number : Option ℕ → (ℕ → Event) → Spoken
+with_number None event = Faulty faults.Number
+with_number (Some n) event = Makes (event n)
+
+-- a line of one field
+abbrev pub spoken_alone : List ℕ → Spoken
+spoken_alone word =
+    if bytes_eq word (codes "issue") then Makes events.Issue
+    else if bytes_eq word (codes "exchange") then Makes events.Exchange
+    else if bytes_eq word (codes "end") then Ends
+    else if bytes_eq word (codes "drain") then Drains
+    else Faulty faults.Unknown
+
+-- a line of two fields: places, channels and banks are decimal, addresses octal
+abbrev pub spoken_number : List ℕ → List ℕ → Spoken
+spoken_number word field =
+    if bytes_eq word (codes "accept") then with_number (number_of 10 2 field) events.Accept
+    else if bytes_eq word (codes "return") then with_number (number_of 10 2 field) events.Return
+    else if bytes_eq word (codes "bank") then with_number (number_of 10 2 field) events.BankFree
+    else if bytes_eq word (codes "ask") then with_number (number_of 8 6 field) events.Ask
+    else Faulty faults.Unknown
+
+abbrev pub spoken_with : List ℕ → List ℕ → Spoken
+spoken_with word field =
+    if bytes_eq word (codes "read") then with_unit (unit_named field) events.Read
+    else if bytes_eq word (codes "finish") then with_unit (unit_named field) events.Finish
+    else if bytes_eq word (codes "store") then with_unit (unit_named field) events.Store
+    else spoken_number word field
+
+abbrev pub spoken_of : List (List ℕ) → Spoken
+spoken_of [] = Faulty faults.Unknown
+spoken_of (word ∷ []) = spoken_alone word
+spoken_of (word ∷ field ∷ []) = spoken_with word field
+spoken_of (word ∷ field ∷ other ∷ more) = Faulty faults.Unknown
+
+-- what a line of at most 200 bytes says
+abbrev pub spoken : List ℕ → Spoken
+spoken text = spoken_of (fields_of text)
+
+-- what line n says, the first of these lines, of which each comes with the bytes after it
+abbrev pub heard : ℕ → List (List ℕ × List ℕ) → Spoken
+heard n [] = Faulty (if nat_lt 10000000 n then faults.Lines else faults.NoEnd)
+heard n (line ∷ more) =
+    if nat_lt 10000000 n then Faulty faults.Lines
+    else if nat_lt 200 (length line.0) then Faulty faults.Long
+    else spoken line.0

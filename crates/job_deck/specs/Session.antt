@@ -1,0 +1,62 @@
+-- A session: a line of the schedule, a line of the answer, and so on to the last line and what it writes.
+use Rattle.std.specs.Prelude.{◌≡◌, ◌⊎◌, ℕ, ◌+◌, true, false, List, [], ◌∷◌, length, codes, Some, Result}
+use Rattle.std.specs.List.{flat_map, concat}
+use Rattle.instruction_table.specs.declared.refusal.Refusal.{Refusal}
+use Rattle.sequential.specs.Log.{entries_of}
+use Rattle.machine.specs.declared.event.Done.{Done}
+use Rattle.machine.specs.declared.event.Event.{Event}
+use Rattle.machine.specs.Run.{IsAnswer, IsAnswered, settled_all}
+use Rattle.machine.specs.Whole.{Whole, is_pending, replayed}
+use Rattle.machine.specs.Working.{Works}
+use Rattle.job_deck.specs.AnswerText.{answer_line}
+use Rattle.job_deck.specs.Dump.{dump_text, log_line}
+use Rattle.job_deck.specs.Schedule.{heard}
+use Rattle.job_deck.specs.declared.schedule.Spoken.{Spoken}
+use Rattle.job_deck.specs.declared.schedule.Spoken.TheVariants.{Makes, Ends, Drains, Faulty}
+
+-- the lines from line n on say these events, one a line, and then these are left
+abbrev pub Says : ℕ → List Event → List (List ℕ × List ℕ) → List (List ℕ × List ℕ) → Type 0
+Says n [] lines left = lines ≡ left
+Says n (e ∷ events) [] left = ⊥
+Says n (e ∷ events) (line ∷ lines) left = (heard n (line ∷ lines) ≡ Makes e) × Says (n + 1) events lines left
+
+-- a session so far, with machine w and these lines from line n on: the first lines said events, and each event got an answer that may be given
+pub record Session (w : Whole) (n : ℕ) (lines : List (List ℕ × List ℕ)) : Type 0 where
+  pub events : List Event
+  pub left : List (List ℕ × List ℕ)
+  pub said : Says n events lines left
+  pub answers : List (Result Done Refusal)
+  pub answered : IsAnswered w events answers
+  -- the machine that the answers leave
+  pub machine : Whole
+  pub leads : machine ≡ settled_all w events answers
+  -- the number of the line that comes next
+  pub number : ℕ
+  pub numbered : number ≡ n + length events
+  -- the answers' lines
+  pub text : List ℕ
+  pub written : text ≡ flat_map answer_line answers
+
+-- the dump of a drained machine, whose state is the replay of its log
+pub record IsDump (w : Whole) (shows : List (ℕ × ℕ)) (text : List ℕ) : Type 0 where
+  pub drained : is_pending w.pending ≡ false
+  pub replay : replayed w ≡ Some w.state
+  pub dump : text ≡ dump_text w.state (entries_of w.log) shows
+
+-- of a machine that isn't drained only the log is shown
+abbrev pub not_drained_text : Whole → List ℕ
+not_drained_text w = concat (codes "NOT DRAINED\n" ∷ log_line (entries_of w.log) ∷ [])
+
+-- what may be written for what a line says: an answer's line; at the end the dump, or that the machine isn't drained; and the dump of the machine to which at most forty accepted events lead that neither issue nor exchange
+abbrev pub IsReply : Spoken → Whole → List (ℕ × ℕ) → List ℕ → Type 0
+IsReply (Makes e) w shows text = (answer : Result Done Refusal) × IsAnswer w e answer × (text ≡ answer_line answer)
+IsReply Ends w shows text = IsDump w shows text ⊎ ((is_pending w.pending ≡ true) × (text ≡ not_drained_text w))
+IsReply Drains w shows text = (v : Whole) × (count : ℕ) × Works w v count × IsDump v shows text
+IsReply (Faulty fault) w shows text = ⊥
+
+-- no line comes after it
+abbrev pub IsLast : Spoken → Type 0
+IsLast (Makes e) = ⊥
+IsLast Ends = Unit {0}
+IsLast Drains = Unit {0}
+IsLast (Faulty fault) = ⊥

@@ -1,0 +1,97 @@
+ghost use Rattle.std.specs.Prelude.{◌≡◌, ◌||◌, true, false};
+ghost use Rattle.machine.specs.Whole.{is_pending};
+ghost use Rattle.sequential.specs.Log.{entries_of};
+ghost use Rattle.job_deck.specs.Device.{Writes, failed_after};
+ghost use Rattle.job_deck.specs.Dump.{log_line};
+ghost use Rattle.job_deck.specs.Session.{IsReply, not_drained_text};
+ghost use Rattle.job_deck.specs.Told.{Closes, Dumps, is_write_error, last_said};
+ghost use Rattle.job_deck.specs.Views.{shown};
+
+use crate::deck::Deck;
+use crate::dumping::{dump_to, put_log_line};
+use crate::output::{Output, WriteFailed};
+use crate::session::SessionError;
+use machine::Machine;
+
+/// Writes the dump of a drained machine and hands it on.
+///
+/// # Errors
+/// `OutOfMemory` where the machine's state can't be copied, and `Write` where a write fails.
+fn put_drained<O: Output>(
+    output: &mut O,
+    machine: &Machine,
+    deck: &Deck,
+) -> Result<(), SessionError>
+    requires { is_pending machine.now.pending ≡ false }
+    ensures closed { Dumps result machine.now (shown deck.now.shows.items) (O.contents output.old) (O.contents output.new) }
+    ensures write { O.has_failed output.new ≡ (O.has_failed output.old || is_write_error result) }
+    ensures same { O.lender output.new ≡ O.lender output.old }
+{
+    match machine.snapshot() {
+        Ok(snapshot) => match dump_to(output, snapshot.state(), snapshot.log(), deck) {
+            Ok(()) => Ok(()),
+            Err(_) => Err(SessionError::Write),
+        },
+        Err(_) => Err(SessionError::OutOfMemory),
+    }
+}
+
+/// Writes that a machine isn't drained, and its log.
+fn put_not_drained<O: Output>(output: &mut O, machine: &Machine) -> Result<(), WriteFailed>
+    ensures written { Writes result (O.contents output.old) (O.contents output.new) (not_drained_text machine.now) }
+    ensures failure { O.has_failed output.new ≡ failed_after (O.has_failed output.old) result }
+    ensures same { O.lender output.new ≡ O.lender output.old }
+{
+    output.put(b"NOT DRAINED\n")?;
+    put_log_line(output, machine.log().entries())
+}
+
+/// Writes that a machine isn't drained, and its log, and hands it on.
+fn print_not_drained<O: Output>(output: &mut O, machine: &Machine) -> Result<(), WriteFailed>
+    ensures written { Writes result (O.contents output.old) (O.contents output.new) (not_drained_text machine.now) }
+    ensures failure { O.has_failed output.new ≡ failed_after (O.has_failed output.old) result }
+    ensures same { O.lender output.new ≡ O.lender output.old }
+{
+    put_not_drained(output, machine)?;
+    output.flush()
+}
+
+/// Writes the end of a session: the dump of a drained machine, or that it isn't drained.
+///
+/// # Errors
+/// As `put_drained`.
+fn put_end<O: Output>(output: &mut O, machine: &Machine, deck: &Deck) -> Result<(), SessionError>
+    ensures closed { Closes result (last_said false) machine.now (shown deck.now.shows.items) (O.contents output.old) (O.contents output.new) }
+    ensures write { O.has_failed output.new ≡ (O.has_failed output.old || is_write_error result) }
+    ensures same { O.lender output.new ≡ O.lender output.old }
+{
+    if machine.drained() {
+        return put_drained(output, machine, deck);
+    }
+    match print_not_drained(output, machine) {
+        Ok(()) => Ok(()),
+        Err(_) => Err(SessionError::Write),
+    }
+}
+
+/// Writes what the last line of a schedule says: `drain` drains the machine first.
+///
+/// # Errors
+/// `OutOfMemory` where the state of a drained machine can't be copied, and `Write` where a write fails.
+pub fn finish<O: Output>(
+    output: &mut O,
+    machine: &mut Machine,
+    deck: &Deck,
+    drains: bool,
+) -> Result<(), SessionError>
+    ensures closed { Closes result (last_said drains) machine.old (shown deck.now.shows.items) (O.contents output.old) (O.contents output.new) }
+    ensures write { O.has_failed output.new ≡ (O.has_failed output.old || is_write_error result) }
+    ensures same { O.lender output.new ≡ O.lender output.old }
+{
+    if drains {
+        machine.drain();
+        put_drained(output, machine, deck)
+    } else {
+        put_end(output, machine, deck)
+    }
+}

@@ -1,0 +1,30 @@
+ghost use Rattle.std.specs.Prelude.{◌≡◌, ◌≤◌, IfOk, OnErr};
+ghost use Rattle.job_deck.specs.Device.{Moves, failed_after};
+ghost use Rattle.job_deck.specs.Told.{Hears, ReadsPart};
+
+use crate::input::{Input, ReadFailed};
+use crate::line::{Took, read_line};
+use crate::schedule::{Spoken, spoken_in};
+use arrayvec::ArrayVec;
+use instruction_table::DeckFault;
+
+/// Reads line `number` of a schedule, and nothing past it, and answers what it says or what is wrong
+/// with it.
+///
+/// # Errors
+/// Where a read fails.
+pub fn hear<I: Input>(input: &mut I, number: u32) -> Result<Spoken, ReadFailed>
+    requires { number ≤ 10000000 }
+    ensures heard { IfOk result (λ spoken. Moves (I.remaining input.old) (I.remaining input.new) (Hears number spoken)) }
+    ensures part { OnErr result (Moves (I.remaining input.old) (I.remaining input.new) ReadsPart) }
+    ensures failure { I.has_failed input.new ≡ failed_after (I.has_failed input.old) result }
+    ensures same { I.lender input.new ≡ I.lender input.old }
+{
+    let mut line = ArrayVec::new();
+    match read_line(input, &mut line) {
+        Ok(Took::Whole) => Ok(spoken_in(line.as_slice())),
+        Ok(Took::Long) => Ok(Spoken::Faulty(DeckFault::Long)),
+        Ok(Took::Nothing) => Ok(Spoken::Faulty(DeckFault::NoEnd)),
+        Err(error) => Err(error),
+    }
+}

@@ -1,0 +1,192 @@
+ghost use Rattle.std.specs.Prelude.{◌≡◌, ◌||◌, ◌≤◌, ◌+◌, MatchResult};
+ghost use Rattle.instruction_table.specs.declared.refusal.Refusal.TheVariants.{OutOfMemory};
+ghost use Rattle.machine.specs.Whole.{boot_whole};
+ghost use Rattle.job_deck.specs.Deck.{deck};
+ghost use Rattle.job_deck.specs.Device.{Moves, failed_after};
+ghost use Rattle.job_deck.specs.Listing.{is_read_refusal, is_write_refusal};
+ghost use Rattle.job_deck.specs.Told.{Converses, IsMade, Performs, Tells, is_read_error, is_write_error, refusal_of};
+ghost use Rattle.job_deck.specs.Views.{shown};
+
+use crate::answering::put_answer;
+use crate::deck::Deck;
+use crate::ending::finish;
+use crate::hearing::hear;
+use crate::input::{Input, Watched};
+use crate::output::{Output, Tracked, WriteFailed};
+use crate::reading::{read_deck_from, refusal};
+use crate::schedule::Spoken;
+use instruction_table::{DeckFault, Refusal};
+use machine::{Event, Machine};
+use std::alloc::Global;
+use std::io::{Read, Write};
+
+/// Why a session ends before its last line is done.
+#[derive(Clone, Copy, Debug, Drop, PartialEq, Eq)]
+pub enum SessionError {
+    /// A line of the schedule is refused.
+    Line { line: u32, fault: DeckFault },
+    /// No memory was to be had for the dump.
+    OutOfMemory,
+    /// A read failed.
+    Read,
+    /// A write failed.
+    Write,
+}
+
+/// Makes an event or refuses it, and writes and hands on the line of its answer.
+fn make<O: Output>(output: &mut O, machine: &mut Machine, event: Event) -> Result<(), WriteFailed>
+    ensures made { IsMade result machine.old machine.new event (O.contents output.old) (O.contents output.new) }
+    ensures failure { O.has_failed output.new ≡ failed_after (O.has_failed output.old) result }
+    ensures same { O.lender output.new ≡ O.lender output.old }
+{
+    let answer = machine.apply(event);
+    put_answer(output, &answer)
+}
+
+/// Answers the lines of a schedule that say events, each before the next is read, up to the last line.
+/// They come behind line `before`. Answers whether the machine is to be drained.
+///
+/// # Errors
+/// A line and its fault, and a failed read or write.
+fn converse<I: Input, O: Output>(
+    input: &mut I,
+    output: &mut O,
+    machine: &mut Machine,
+    before: u32,
+) -> Result<bool, SessionError>
+    requires { before ≤ 10000000 }
+    ensures told { Moves (I.remaining input.old) (I.remaining input.new) (λ xs ys. Converses result machine.old machine.new (before + 1) xs ys (O.contents output.old) (O.contents output.new)) }
+    ensures read { I.has_failed input.new ≡ (I.has_failed input.old || is_read_error result) }
+    ensures write { O.has_failed output.new ≡ (O.has_failed output.old || is_write_error result) }
+    ensures input { I.lender input.new ≡ I.lender input.old }
+    ensures output { O.lender output.new ≡ O.lender output.old }
+{
+    for number in before + 1..10_000_001u32 {
+        match hear(input, number) {
+            Err(_) => return Err(SessionError::Read),
+            Ok(Spoken::Ends) => return Ok(false),
+            Ok(Spoken::Drains) => return Ok(true),
+            Ok(Spoken::Faulty(fault)) => {
+                return Err(SessionError::Line {
+                    line: number,
+                    fault,
+                });
+            }
+            Ok(Spoken::Makes(event)) => match make(output, machine, event) {
+                Ok(()) => {}
+                Err(_) => return Err(SessionError::Write),
+            },
+        }
+    }
+    Err(SessionError::Line {
+        line: 10_000_001,
+        fault: DeckFault::Lines,
+    })
+}
+
+/// Holds a session: answers the lines of a schedule that come behind line `before`, and does what the last
+/// one says.
+///
+/// # Errors
+/// A line and its fault, want of memory for the dump, and a failed read or write.
+fn hold<I: Input, O: Output>(
+    input: &mut I,
+    output: &mut O,
+    machine: &mut Machine,
+    deck: &Deck,
+    before: u32,
+) -> Result<(), SessionError>
+    requires { before ≤ 10000000 }
+    ensures told { Moves (I.remaining input.old) (I.remaining input.new) (λ xs ys. Tells result machine.old (before + 1) (shown deck.now.shows.items) xs ys (O.contents output.old) (O.contents output.new)) }
+    ensures read { I.has_failed input.new ≡ (I.has_failed input.old || is_read_error result) }
+    ensures write { O.has_failed output.new ≡ (O.has_failed output.old || is_write_error result) }
+    ensures input { I.lender input.new ≡ I.lender input.old }
+    ensures output { O.lender output.new ≡ O.lender output.old }
+{
+    match converse(input, output, machine, before) {
+        Ok(drains) => finish(output, machine, deck, drains),
+        Err(error) => Err(error),
+    }
+}
+
+/// A machine that was just booted with the deck's memory.
+///
+/// # Errors
+/// `OutOfMemory`.
+fn booted(alloc: Global, deck: &Deck, budget: u64) -> Result<Machine, Refusal>
+    requires { budget ≤ 10000000 }
+    ensures { MatchResult result (λ machine. machine ≡ boot_whole deck.now.image.memory budget) (λ refusal. refusal ≡ OutOfMemory) }
+{
+    match deck.image.memory().copy() {
+        Ok(memory) => Machine::boot(alloc, memory, budget),
+        Err(refusal) => Err(refusal),
+    }
+}
+
+/// Why a session ended, as a refusal.
+fn session_refusal(error: SessionError) -> Refusal
+    ensures { result ≡ refusal_of error }
+{
+    match error {
+        SessionError::Line { line, fault } => Refusal::Deck { line, fault },
+        SessionError::OutOfMemory => Refusal::OutOfMemory,
+        SessionError::Read => Refusal::Read,
+        SessionError::Write => Refusal::Write,
+    }
+}
+
+/// Reads a deck and the schedule that follows it, makes the schedule's events on a machine that is booted
+/// with the deck's memory and issues at most `budget` instructions, and answers each line before the next
+/// is read. The last line is followed by the dump of the drained machine.
+///
+/// # Errors
+/// `Deck` with a line and its fault, `OutOfMemory`, and `Read` and `Write` where a device fails. The lines
+/// before have their answers then; only a failed write may have cut one.
+pub fn events_to<I: Input, O: Output>(
+    alloc: Global,
+    input: &mut I,
+    output: &mut O,
+    budget: u64,
+) -> Result<(), Refusal>
+    requires { budget ≤ 10000000 }
+    ensures performed { Moves (I.remaining input.old) (I.remaining input.new) (λ xs ys. Performs result budget (deck xs) ys (O.contents output.old) (O.contents output.new)) }
+    ensures read { I.has_failed input.new ≡ (I.has_failed input.old || is_read_refusal result) }
+    ensures write { O.has_failed output.new ≡ (O.has_failed output.old || is_write_refusal result) }
+    ensures input { I.lender input.new ≡ I.lender input.old }
+    ensures output { O.lender output.new ≡ O.lender output.old }
+{
+    let (deck, lines) = match read_deck_from(alloc, input) {
+        Ok(found) => found,
+        Err(error) => return Err(refusal(error)),
+    };
+    let mut machine = match booted(alloc, &deck, budget) {
+        Ok(machine) => machine,
+        Err(_) => return Err(Refusal::OutOfMemory),
+    };
+    match hold(input, output, &mut machine, &deck, lines) {
+        Ok(()) => Ok(()),
+        Err(error) => Err(session_refusal(error)),
+    }
+}
+
+/// The same from any reader to any writer.
+///
+/// # Errors
+/// As `events_to`.
+pub fn events<R: Read, W: Write>(
+    alloc: Global,
+    reader: &mut R,
+    writer: &mut W,
+    budget: u64,
+) -> Result<(), Refusal>
+    requires { budget ≤ 10000000 }
+    ensures { Moves (R.remaining reader.old) (R.remaining reader.new) (λ xs ys. Performs result budget (deck xs) ys (W.contents writer.old) (W.contents writer.new)) }
+{
+    let mut input = Watched::new(reader);
+    let mut output = Tracked::new(writer);
+    let result = events_to(alloc, &mut input, &mut output, budget);
+    // No effect at run time. The proof reads what reader and writer hold from these uses.
+    let _ = &*input.into_inner();
+    let _ = &*output.into_inner();
+    result
+}

@@ -1,0 +1,161 @@
+use crate::events;
+use crate::tests::{Dripping, Failing, joined};
+use instruction_table::{DeckFault, Refusal};
+use std::alloc::AllocGlobal;
+use std::process::Abort;
+use std::test::Fail;
+
+/// A deck of ten lines: a package at 40, and a program of two increments and two sums.
+const DECK: &str =
+    "core 256\nat 41\nword 00000100000000000000\nword 00000020000000000000\nat 100\nword 71100000057120000003\nword 36312374214600000000\nstart 40\nshow 100 101\nend\n";
+
+const EXCHANGED: &str =
+    "RA 000100 FL 000020 EM 000000\nA 000000 000000 000000 000000 000000 000000 000000 000000\nB 000000 000000 000000 000000 000000 000000 000000 000000\nX0 00000000000000000000\nX1 00000000000000000005\nX2 00000000000000000003\nX3 00000000000000000010\nX4 00000000000000000000\nX5 00000000000000000000\nX6 00000000000000000000\nX7 00000000000000000000\nM 000100 71100000057120000003\nM 000101 36312374214600000000\n";
+
+const BOOTED: &str =
+    "P 000000 PARCEL 0 HELD none\nHALT stop FAULT none\nRA 000000 FL 000000 EM 000000\nA 000000 000000 000000 000000 000000 000000 000000 000000\nB 000000 000000 000000 000000 000000 000000 000000 000000\nX0 00000000000000000000\nX1 00000000000000000000\nX2 00000000000000000000\nX3 00000000000000000000\nX4 00000000000000000000\nX5 00000000000000000000\nX6 00000000000000000000\nX7 00000000000000000000\nLOG none\n";
+
+/// The session of a deck with its schedule, which writes these texts and leaves the rest.
+fn expect_session(
+    rt: &(impl Abort + AllocGlobal),
+    deck: &str,
+    schedule: &str,
+    rest: &str,
+    texts: &[&str],
+) -> Result<(), Fail> {
+    let bytes = joined(rt.alloc(), [deck, schedule, rest].as_slice())?;
+    let written = joined(rt.alloc(), texts)?;
+    let mut input = bytes.as_slice();
+    let mut output = Vec::new(rt.alloc());
+    assert!(rt; events(rt.alloc(), &mut input, &mut output, 4).is_ok());
+    assert_eq!(rt; output.as_slice(), written.as_slice());
+    assert_eq!(rt; input, rest.as_bytes());
+    Ok(())
+}
+
+#[test]
+fn drains_two_sums(rt: HostRuntime) -> Result<(), Fail> {
+    expect_session(
+        &rt,
+        DECK,
+        "ask 40\nexchange\nissue\nissue\nissue\nissue\nread longadd\ndrain\n",
+        "more\n",
+        [
+            "ok\nok\nok increment1 1\nok increment2 2\nok longadd 3\nE7 unit busy longadd\nE9 operand awaited X1\n",
+            "P 000001 PARCEL 1 HELD 36312374214600000000\nHALT running FAULT none\n",
+            EXCHANGED,
+            "LOG E40 I3\n",
+        ]
+        .as_slice(),
+    )
+}
+
+#[test]
+fn ends_where_it_stands(rt: HostRuntime) -> Result<(), Fail> {
+    for (deck, schedule, text) in [
+        ("core 32\nstart 0\nend\n", "end\n", BOOTED),
+        (
+            DECK,
+            "ask 40\nexchange\nissue\nend\n",
+            "ok\nok\nok increment1 1\nNOT DRAINED\nLOG E40 I1\n",
+        ),
+    ] {
+        expect_session(&rt, deck, schedule, "", [text].as_slice())?;
+    }
+    Ok(())
+}
+
+/// A schedule that is refused at a line behind the deck's ten, after these answers.
+fn expect_fault(
+    rt: &(impl Abort + AllocGlobal),
+    schedule: &str,
+    answers: &str,
+    line: u32,
+    fault: DeckFault,
+) -> Result<(), Fail> {
+    let bytes = joined(rt.alloc(), [DECK, schedule].as_slice())?;
+    let mut input = bytes.as_slice();
+    let mut output = Vec::new(rt.alloc());
+    let held = events(rt.alloc(), &mut input, &mut output, 4);
+    assert!(rt; held == Err(Refusal::Deck { line, fault }));
+    assert_eq!(rt; output.as_slice(), answers.as_bytes());
+    Ok(())
+}
+
+#[test]
+fn faulty_schedules(rt: HostRuntime) -> Result<(), Fail> {
+    for (schedule, answers, line, fault) in [
+        ("", "", 11, DeckFault::NoEnd),
+        ("issue\n", "E1 halted stop\n", 12, DeckFault::NoEnd),
+        ("ask 40\nread jump\nend\n", "ok\n", 12, DeckFault::Unknown),
+        ("read add add\n", "", 11, DeckFault::Unknown),
+        ("end \n", "", 11, DeckFault::Unknown),
+        ("\n", "", 11, DeckFault::Unknown),
+        ("jump 9\n", "", 11, DeckFault::Unknown),
+        ("ask 48\n", "", 11, DeckFault::Number),
+        ("ask 0000040\n", "", 11, DeckFault::Number),
+        ("accept 123\n", "", 11, DeckFault::Number),
+        ("bank \n", "", 11, DeckFault::Number),
+    ] {
+        expect_fault(&rt, schedule, answers, line, fault)?;
+    }
+    Ok(())
+}
+
+#[test]
+fn answers(rt: HostRuntime) -> Result<(), Fail> {
+    for (schedule, answers) in [
+        (
+            "finish add\nstore divide\naccept 3\nreturn 05\nbank 31\nexchange\n",
+            "E15 nothing\nE15 nothing\nE15 nothing\nE15 nothing\nE15 nothing\nE15 nothing\n",
+        ),
+        (
+            "ask 361\nask 360\nask 0\n",
+            "E19 package range\nok\nE17 exchange busy\n",
+        ),
+        (
+            "ask 40\nexchange\nissue\nask 40\nexchange\n",
+            "ok\nok\nok increment1 1\nok\nE18 not drained\n",
+        ),
+    ] {
+        let bytes = joined(rt.alloc(), [DECK, schedule].as_slice())?;
+        let mut input = bytes.as_slice();
+        let mut output = Vec::new(rt.alloc());
+        assert!(rt; events(rt.alloc(), &mut input, &mut output, 4).is_err());
+        assert_eq!(rt; output.as_slice(), answers.as_bytes());
+    }
+    Ok(())
+}
+
+/// Each line is answered before the next is read.
+#[test]
+fn answers_before_a_failing_read(rt: HostRuntime) -> Result<(), Fail> {
+    let bytes = joined(rt.alloc(), [DECK, "issue\nissue\n"].as_slice())?;
+    let deck = DECK.len() as u64;
+    for (read, answers) in [(deck + 6, ""), (deck + 7, "E1 halted stop\n")] {
+        let mut input = Failing {
+            bytes: bytes.as_slice(),
+            turn: 0,
+            fails_from: read,
+        };
+        let mut output = Vec::new(rt.alloc());
+        assert!(rt; events(rt.alloc(), &mut input, &mut output, 4) == Err(Refusal::Read));
+        assert_eq!(rt; output.as_slice(), answers.as_bytes());
+    }
+    Ok(())
+}
+
+#[test]
+fn answers_to_a_failing_writer(rt: HostRuntime) -> Result<(), Fail> {
+    let bytes = joined(rt.alloc(), [DECK, "issue\nissue\n"].as_slice())?;
+    let mut input = bytes.as_slice();
+    let mut output = Dripping {
+        bytes: Vec::new(rt.alloc()),
+        turn: 0,
+        fails_from: 5,
+    };
+    assert!(rt; events(rt.alloc(), &mut input, &mut output, 4) == Err(Refusal::Write));
+    assert_eq!(rt; output.bytes.as_slice(), b"E1 h".as_slice());
+    assert_eq!(rt; input, b"issue\n".as_slice());
+    Ok(())
+}
