@@ -4,7 +4,7 @@ use clap::builder::ValueParser;
 use clap::{Arg, ArgMatches, Command, Error};
 use std::alloc::{AllocError, Global};
 
-/// How many instructions `run` issues at most, if the command line doesn't say.
+/// How many instructions are issued at most, if the command line doesn't say.
 const BUDGET: u64 = 1_000_000;
 
 /// The largest budget.
@@ -17,22 +17,28 @@ pub enum Request<'a> {
     Run(u64),
     /// To go through this log on a deck.
     Replay(&'a str),
+    /// To answer the events of a schedule, and to issue at most so many instructions, 1 to 10,000,000.
+    Events(u64),
     /// To list a deck's words.
     List,
 }
 
-/// The command line that is accepted. `help` is no command of its own; `--help` is an option of each.
-fn accepted<'a>(alloc: Global) -> Result<Command<'a>, AllocError> {
-    let budget = Arg::new(alloc, "budget")
+/// The option `--budget N`.
+fn budget_option<'a>(alloc: Global) -> Arg<'a> {
+    Arg::new(alloc, "budget")
         .long("budget")
         .value_name("N")
         .value_parser(ValueParser::unsigned(1, LARGEST_BUDGET))
         .default_value("1000000")
-        .help("Issues at most N instructions");
+        .help("Issues at most N instructions")
+}
+
+/// The command line that is accepted. `help` is no command of its own; `--help` is an option of each.
+fn accepted<'a>(alloc: Global) -> Result<Command<'a>, AllocError> {
     let run = Command::new(alloc, "run")
         .about("Runs the deck on standard input and prints the machine's dump")
         .override_usage("cdc6600 run [--budget N]")
-        .arg(budget)?;
+        .arg(budget_option(alloc))?;
     let log = Arg::new(alloc, "LOG")
         .required(true)
         .help("What the dump of a run has behind LOG, as one argument");
@@ -42,6 +48,12 @@ fn accepted<'a>(alloc: Global) -> Result<Command<'a>, AllocError> {
         )
         .override_usage("cdc6600 replay LOG")
         .arg(log)?;
+    let events = Command::new(alloc, "events")
+        .about(
+            "Makes the events of the schedule behind the deck on standard input, one a line, and answers each",
+        )
+        .override_usage("cdc6600 events [--budget N]")
+        .arg(budget_option(alloc))?;
     let list = Command::new(alloc, "list")
         .about("Prints the words of the deck on standard input with their instructions")
         .override_usage("cdc6600 list");
@@ -52,6 +64,7 @@ fn accepted<'a>(alloc: Global) -> Result<Command<'a>, AllocError> {
         .disable_help_subcommand(true)
         .subcommand(run)?
         .subcommand(replay)?
+        .subcommand(events)?
         .subcommand(list)
 }
 
@@ -69,6 +82,7 @@ pub fn read_arguments<'a>(alloc: Global, words: &'a [String]) -> Result<Request<
     // A command is required, so there is one.
     match matches.subcommand() {
         Some(("list", _)) => Ok(Request::List),
+        Some(("events", events)) => Ok(Request::Events(budget(events))),
         Some(("replay", replay)) => Ok(Request::Replay(replay.get_str("LOG").unwrap_or(""))),
         Some((_, run)) => Ok(Request::Run(budget(run))),
         None => Ok(Request::Run(BUDGET)),

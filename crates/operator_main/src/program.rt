@@ -6,7 +6,7 @@ use super::running::run;
 use super::status::{Status, end_status};
 use clap::Error;
 use clap::error::ErrorKind;
-use job_deck::{dump, list, read_deck, replay};
+use job_deck::{dump, events, list, read_deck, replay};
 use std::alloc::Global;
 use std::io;
 use std::io::{BufReader, BufWriter, Read, Write};
@@ -97,6 +97,11 @@ fn perform<R: Read, W: Write>(
             run_deck(alloc, &mut reader, &mut writer, budget)
         }
         Request::Replay(log) => replay_log(alloc, &mut reader, &mut writer, log),
+        Request::Events(budget) => {
+            let budget = budget.min(LARGEST_BUDGET);
+            events(alloc, &mut reader, &mut writer, budget)?;
+            Ok(Status::Stopped)
+        }
         Request::List => {
             list(alloc, &mut reader, &mut writer)?;
             Ok(Status::Stopped)

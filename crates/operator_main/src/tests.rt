@@ -342,6 +342,86 @@ fn replays_no_bad_log(rt: HostRuntime) -> Result<(), Fail> {
     )
 }
 
+/// A session on the deck of two adds: its schedule, and what is printed before the dump.
+fn expect_session(
+    rt: &(impl Abort + AllocGlobal),
+    schedule: &[u8],
+    begins: &[u8],
+    ends: &[u8],
+) -> Result<(), Fail> {
+    let words = words(rt.alloc(), ["events"].as_slice())?;
+    let input = joined(rt.alloc(), [TWO_ADDS, schedule].as_slice())?;
+    let mut input = input.as_slice();
+    let mut output = Vec::new(rt.alloc());
+    let mut faults = Vec::new(rt.alloc());
+    let answer = program(
+        rt.alloc(),
+        words.as_slice(),
+        &mut input,
+        &mut output,
+        &mut faults,
+    );
+    assert!(rt; faults.is_empty());
+    assert!(rt; output.as_slice().starts_with(begins));
+    assert!(rt; output.as_slice().ends_with(ends));
+    assert_eq!(rt; answer, 0);
+    Ok(())
+}
+
+#[test]
+fn answers_conflicts(rt: HostRuntime) -> Result<(), Fail> {
+    expect_session(
+        &rt,
+        b"ask 40\nexchange\nissue\nissue\nissue\nissue\nread longadd\ndrain\n",
+        b"ok\nok\nok increment1 1\nok increment2 2\nok longadd 3\nE7 unit busy longadd\nE9 operand awaited X1\nP 000001 PARCEL 1 HELD 36312374214600000000\nHALT running FAULT none\n",
+        b"LOG E40 I3\n",
+    )
+}
+
+#[test]
+fn answers_in_mid_word(rt: HostRuntime) -> Result<(), Fail> {
+    expect_session(
+        &rt,
+        b"ask 40\nexchange\nissue\nread increment1\nfinish increment1\nstore increment1\nask 60\nexchange\nissue\nissue\nend\n",
+        b"ok\nok\nok increment1 1\nok\nok\nok\nok\nE25 mid word\nok increment1 2\nE5 exchange waiting\nNOT DRAINED\n",
+        b"LOG E40 I2\n",
+    )
+}
+
+#[test]
+fn answers_an_end(rt: HostRuntime) -> Result<(), Fail> {
+    expect_session(&rt, b"end\n", BOOT_DUMP, b"LOG none\n")
+}
+
+#[test]
+fn refused_schedules(rt: HostRuntime) -> Result<(), Fail> {
+    for (schedule, answers, told) in [
+        ("", "", "12: no end"),
+        ("ask 40\n", "ok\n", "13: no end"),
+        ("ask 40\n\n", "ok\n", "13: unknown"),
+        ("ask 8\n", "", "12: number"),
+        ("read core\n", "", "12: unknown"),
+        ("return 123\n", "", "12: number"),
+        ("issue now\n", "", "12: unknown"),
+    ] {
+        let schedule = schedule.as_bytes();
+        let input = joined(rt.alloc(), [TWO_ADDS, schedule].as_slice())?;
+        let told = joined(
+            rt.alloc(),
+            [b"cdc6600: E20 line ".as_slice(), told.as_bytes(), b"\n"].as_slice(),
+        )?;
+        expect_run(
+            &rt,
+            ["events"].as_slice(),
+            input.as_slice(),
+            1,
+            answers.as_bytes(),
+            told.as_slice(),
+        )?;
+    }
+    Ok(())
+}
+
 #[test]
 fn fetches_out_of_range(rt: HostRuntime) -> Result<(), Fail> {
     expect_run(
@@ -453,6 +533,7 @@ fn usage(rt: HostRuntime) -> Result<(), Fail> {
         (["run", "--help"].as_slice(), 0, "Runs the deck"),
         (["list", "--help"].as_slice(), 0, "Prints the words"),
         (["replay", "--help"].as_slice(), 0, "Goes through LOG"),
+        (["events", "--help"].as_slice(), 0, "Makes the events"),
         (["replay"].as_slice(), 2, "error: "),
         (["replay", "E40", "I4"].as_slice(), 2, "error: "),
         (none, 2, "error: "),
