@@ -1,7 +1,7 @@
 -- The parcels of a `code` line's texts, one text after another.
-use Rattle.std.proofs.Common.{◌≡◌, ℕ, List, [], ◌∷◌, ◌++◌, Option, Some, None, refl, sym, ap, ◌∙◌, append-nil}
+use Rattle.std.proofs.Common.{◌≡◌, ℕ, List, [], ◌++◌, Option, Some, None, refl, sym, ap, ◌∙◌, append-nil}
 use Rattle.std.proofs.lemmas.List.{append_assoc}
-use Rattle.job_deck.specs.Code.{put_before, all_parcels, item_parcels, parcels_in}
+use Rattle.job_deck.specs.Code.{put_before, all_parcels}
 
 pub before_none : (found : Option (List ℕ)) → found ≡ put_before [] found
 before_none None = refl

@@ -1,11 +1,11 @@
 -- The steps of a log's text, one entry after another.
-use Rattle.std.proofs.Common.{◌≡◌, ℕ, ◌+◌, ◌-◌, ◌≤◌, false, List, [], ◌∷◌, ◌++◌, Option, Some, None, Result, Ok, Err, refl, sym, ap, ◌∙◌, subst, append_assoc, append-nil, arith}
+use Rattle.std.proofs.Common.{◌≡◌, ℕ, ◌+◌, ◌≤◌, false, List, [], ◌∷◌, ◌++◌, Option, Some, None, Result, Ok, Err, refl, sym, ap, ◌∙◌, append_assoc, append-nil, arith}
 use Rattle.std.specs.Prelude.{replicate, MatchResult, is_err}
 use Rattle.instruction_table.specs.declared.refusal.Refusal.{Refusal}
 use Rattle.sequential.specs.declared.log.Entry.{Entry}
 use Rattle.sequential.specs.declared.log.Entry.TheVariants.{Issued as Count, Exchange}
 use Rattle.sequential.specs.Log.{steps_of, issued}
-use Rattle.sequential.specs.Replay.{LogStep, Issued, Exchanged}
+use Rattle.sequential.specs.Replay.{LogStep, Issued}
 use Rattle.sequential.proofs.Entries.{issued-append, issued-replicate}
 use Rattle.job_deck.specs.LogText.{entry_in, entry_count, spent, put_steps, with_entry, steps_in}
 use Rattle.job_deck.specs.declared.logs.Allowance.{Allowance}

@@ -1,5 +1,5 @@
 -- What a deck's lines say, and how a deck is judged, one line after another.
-use Rattle.std.specs.Prelude.{ℕ, ◌+◌, Bool, false, not, List, [], ◌∷◌, ◌++◌, length, Option, Some, None, is_some, nat_lt, nat_le, ◌||◌, if◌then◌else◌, codes, replicate, slice_set}
+use Rattle.std.specs.Prelude.{ℕ, ◌+◌, Bool, false, not, List, [], ◌∷◌, ◌++◌, length, Option, Some, None, is_some, nat_lt, nat_le, ◌||◌, if◌then◌else◌, codes}
 use Rattle.std.specs.Str.{bytes_eq}
 use Rattle.job_deck.specs.Image.{Placed, blank, placed_at}
 use Rattle.job_deck.specs.Line.{lines_of}

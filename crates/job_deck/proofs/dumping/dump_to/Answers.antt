@@ -1,6 +1,3 @@
-use Rattle.job_deck.specs.Dump.{dump_text}
-use Rattle.job_deck.specs.Views.{shown}
-use Rattle.sequential.specs.Log.{entries_of}
 use Rattle.job_deck.proofs.Moving.{flushed}
 use Rattle.job_deck.proofs.dumping.dump_to.Goals as goal
 

@@ -1,9 +1,8 @@
-use Rattle.std.proofs.Common.{◌≡◌, ◌<◌, rules, refl, arith}
+use Rattle.std.proofs.Common.{◌<◌, rules, refl, arith}
 use Rattle.std.proofs.lemmas.Result.{err_from_is_err_and}
-use Rattle.instruction_table.specs.Decoding.{reading_at, GoesOn}
 use Rattle.job_deck.specs.Listing.{behind, items_text}
 use Rattle.job_deck.proofs.Moving.{nothing_written}
-use Rattle.job_deck.proofs.Listings.{goes_on, item_done, separator_cut, item_cut, items_done}
+use Rattle.job_deck.proofs.Listings.{goes_on, item_done, separator_cut, item_cut}
 use Rattle.job_deck.proofs.listing.put_items.Goals as goal
 
 pub loop-parcel-init : goal.loop-parcel-init

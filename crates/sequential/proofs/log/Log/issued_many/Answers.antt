@@ -1,8 +1,7 @@
-use Rattle.std.proofs.Common.{◌≡◌, ◌+◌, ◌<◌, ◌++◌, ◌∷◌, [], true, false, arith, rules, refl, sym, ap, ◌∙◌, append-nil}
+use Rattle.std.proofs.Common.{◌≡◌, ◌++◌, ◌∷◌, [], arith, sym, ap, ◌∙◌, append-nil}
 use Rattle.std.specs.Prelude.{replicate}
-use Rattle.sequential.specs.Log.{issued}
 use Rattle.sequential.specs.Replay.{Issued}
-use Rattle.sequential.proofs.Entries.{issued-more, replicate_on, one_more_issued}
+use Rattle.sequential.proofs.Entries.{replicate_on, one_more_issued}
 use Rattle.sequential.proofs.log.Log.issued_many.Goals as goal
 
 pub loop-init : goal.loop-init
