@@ -1,5 +1,5 @@
 -- What holding a session answers, reads and writes.
-use Rattle.std.specs.Prelude.{◌≡◌, ◌⊎◌, ℕ, ◌+◌, Bool, true, false, List, ◌∷◌, ◌++◌, Option, Result, Ok, Err}
+use Rattle.std.specs.Prelude.{◌≡◌, ◌⊎◌, ℕ, ◌+◌, ◌≤◌, length, Bool, true, false, List, ◌∷◌, ◌++◌, Option, Result, Ok, Err}
 use Rattle.std.specs.Io.KnownBytes.{Keeps, Appends}
 use Rattle.instruction_table.specs.declared.refusal.Refusal.{Refusal}
 use Rattle.instruction_table.specs.declared.refusal.Refusal.TheVariants as refusals
@@ -28,10 +28,6 @@ Hears n (Makes e) xs ys = (heard n (lines_of xs) ≡ Makes e) × IsTaken (lines_
 Hears n Ends xs ys = (heard n (lines_of xs) ≡ Ends) × IsTaken (lines_of xs) ys
 Hears n Drains xs ys = (heard n (lines_of xs) ≡ Drains) × IsTaken (lines_of xs) ys
 Hears n (Faulty fault) xs ys = heard n (lines_of xs) ≡ Faulty fault
-
--- of the next line some bytes were read at most, and not its end
-abbrev pub ReadsPart : List ℕ → List ℕ → Type 0
-ReadsPart xs ys = (part : List ℕ) × IsText part × (xs ≡ part ++ ys)
 
 -- the event was made or refused, and its answer's line written
 abbrev pub IsMade : {E : Type 0} → Result (Unit {0}) E → Whole → Whole → Event → Option (List ℕ) → Option (List ℕ) → Type 0
@@ -82,15 +78,19 @@ Tells (Err errors.Read) w n shows xs rest old new = (s : Session w n (lines_of x
 Tells (Err errors.Write) w n shows xs rest old new =
     (s : Session w n (lines_of xs)) × (text : List ℕ) × IsReply (heard s.number s.left) s.machine shows text × IsTaken s.left rest × WritesCut old new s.text text
 
--- the same of a deck with its schedule: the session of a machine that was booted with the deck's memory, from the line behind the deck on. Where memory ran out or a read failed before that, nothing was written
+-- nothing was written, and nothing read of the bytes behind the deck
+abbrev pub HasNotBegun : List ℕ → List ℕ → Option (List ℕ) → Option (List ℕ) → Type 0
+HasNotBegun after rest old new = (length after ≤ length rest) × Keeps old new
+
+-- the same of a deck with its schedule: the session of a machine that was booted with the deck's memory, from the line behind the deck on; memory may run out and a read may fail before it begins
 abbrev pub Performs : Result (Unit {0}) Refusal → ℕ → Reading → List ℕ → Option (List ℕ) → Option (List ℕ) → Type 0
 Performs (Ok x) budget (Good plan n after) rest old new = Tells (Ok x) (boot_whole plan.image.memory budget) (n + 1) plan.shows after rest old new
 Performs (Ok x) budget (Bad n fault) rest old new = ⊥
 Performs (Err (refusals.Deck m fault)) budget (Good plan n after) rest old new = Tells (Err (errors.Line m fault)) (boot_whole plan.image.memory budget) (n + 1) plan.shows after rest old new
 Performs (Err (refusals.Deck m fault)) budget (Bad n other) rest old new = (m ≡ n) × (fault ≡ other) × Keeps old new
-Performs (Err refusals.OutOfMemory) budget (Good plan n after) rest old new = Keeps old new ⊎ Tells (Err errors.OutOfMemory) (boot_whole plan.image.memory budget) (n + 1) plan.shows after rest old new
+Performs (Err refusals.OutOfMemory) budget (Good plan n after) rest old new = HasNotBegun after rest old new ⊎ Tells (Err errors.OutOfMemory) (boot_whole plan.image.memory budget) (n + 1) plan.shows after rest old new
 Performs (Err refusals.OutOfMemory) budget (Bad n fault) rest old new = Keeps old new
-Performs (Err refusals.Read) budget (Good plan n after) rest old new = Keeps old new ⊎ Tells (Err errors.Read) (boot_whole plan.image.memory budget) (n + 1) plan.shows after rest old new
+Performs (Err refusals.Read) budget (Good plan n after) rest old new = HasNotBegun after rest old new ⊎ Tells (Err errors.Read) (boot_whole plan.image.memory budget) (n + 1) plan.shows after rest old new
 Performs (Err refusals.Read) budget (Bad n fault) rest old new = Keeps old new
 Performs (Err refusals.Write) budget (Good plan n after) rest old new = Tells (Err errors.Write) (boot_whole plan.image.memory budget) (n + 1) plan.shows after rest old new
 Performs (Err refusals.Write) budget (Bad n fault) rest old new = ⊥
