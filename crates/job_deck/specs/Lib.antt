@@ -16,3 +16,4 @@ pub mod Schedule
 pub mod AnswerText
 pub mod Session
 pub mod Told
+pub mod Holding
