@@ -14,7 +14,8 @@ use Rattle.job_deck.specs.Device.{Moves}
 use Rattle.job_deck.specs.Dump.{dump_text}
 use Rattle.job_deck.specs.Schedule.{heard}
 use Rattle.job_deck.specs.Session.{IsDump, IsLast, IsReply}
-use Rattle.job_deck.specs.Told.{Closes, Converses, Performs, Tells, last_said, refusal_of}
+use Rattle.job_deck.specs.Holding.{Closes, Converses, last_said, refusal_of}
+use Rattle.job_deck.specs.Told.{Performs, Tells}
 use Rattle.job_deck.specs.declared.schedule.Spoken.{Spoken}
 use Rattle.job_deck.specs.declared.session.SessionError.{SessionError}
 use Rattle.job_deck.specs.declared.session.SessionError.TheVariants as errors

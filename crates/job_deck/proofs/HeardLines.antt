@@ -5,7 +5,7 @@ use Rattle.instruction_table.specs.declared.refusal.DeckFault.TheVariants as fau
 use Rattle.job_deck.specs.Device.{Moves}
 use Rattle.job_deck.specs.Line.{IsText, LineTaken, lines_of}
 use Rattle.job_deck.specs.Schedule.{heard, spoken}
-use Rattle.job_deck.specs.Told.{Hears}
+use Rattle.job_deck.specs.Holding.{Hears}
 use Rattle.job_deck.specs.declared.line.Took.TheVariants.{Whole, Long}
 use Rattle.job_deck.specs.declared.schedule.Spoken.{Spoken}
 use Rattle.job_deck.specs.declared.schedule.Spoken.TheVariants.{Makes, Ends, Drains, Faulty}

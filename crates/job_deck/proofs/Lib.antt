@@ -12,3 +12,4 @@ pub mod Speaking
 pub mod HeardLines
 pub mod Sessions
 pub mod Endings
+pub mod Unread

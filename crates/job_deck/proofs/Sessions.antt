@@ -14,10 +14,10 @@ use Rattle.machine.specs.Run.{IsAnswer, IsAnswered, settled, settled_all}
 use Rattle.machine.specs.Whole.{Whole}
 use Rattle.job_deck.specs.AnswerText.{answer_line}
 use Rattle.job_deck.specs.Device.{Moves, WritesFront}
-use Rattle.job_deck.specs.Line.{lines_of}
+use Rattle.job_deck.specs.Line.{ReadsPart, lines_of}
 use Rattle.job_deck.specs.Schedule.{heard}
 use Rattle.job_deck.specs.Session.{Says, Session}
-use Rattle.job_deck.specs.Told.{Converses, Hears, ReadsPart}
+use Rattle.job_deck.specs.Holding.{Converses, Hears}
 use Rattle.job_deck.specs.declared.schedule.Spoken.{Spoken}
 use Rattle.job_deck.specs.declared.schedule.Spoken.TheVariants.{Makes, Ends, Drains, Faulty}
 use Rattle.job_deck.specs.declared.session.SessionError.TheVariants as errors

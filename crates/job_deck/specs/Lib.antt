@@ -17,3 +17,4 @@ pub mod Schedule
 pub mod AnswerText
 pub mod Session
 pub mod Told
+pub mod Holding

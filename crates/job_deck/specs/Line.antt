@@ -17,6 +17,10 @@ lines_of (b ∷ bytes) = if b == 10 then ([], bytes) ∷ lines_of bytes else ont
 abbrev pub IsText : List ℕ → Type 0
 IsText text = All (λ b. b ≢ 10) text
 
+-- of the next line some bytes were read at most, and not its end
+abbrev pub ReadsPart : List ℕ → List ℕ → Type 0
+ReadsPart xs ys = (part : List ℕ) × IsText part × (xs ≡ part ++ ys)
+
 -- the text that a reading of a line leaves
 abbrev pub LineText : Took → List ℕ → Type 0
 LineText Whole text = IsText text × (length text ≤ 200)

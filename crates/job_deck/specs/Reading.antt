@@ -1,5 +1,5 @@
 -- What reading a deck answers.
-use Rattle.std.specs.Prelude.{◌≡◌, ℕ, ◌<◌, List, [], ◌∷◌, length, Bool, true, false, Result, Ok, Err, ⊤}
+use Rattle.std.specs.Prelude.{◌≡◌, ℕ, ◌<◌, ◌≤◌, List, [], ◌∷◌, length, Bool, true, false, Result, Ok, Err, ⊤}
 use Rattle.job_deck.specs.Deck.{Reading, Good, Bad, Judged, Goes, Ends, Faulty}
 use Rattle.job_deck.specs.Views.{plan, sketch}
 use Rattle.job_deck.specs.declared.deck.Deck.{Deck}
@@ -53,6 +53,18 @@ abbrev pub GivesRefusal : DeckError → Refusal → Type 0
 GivesRefusal (errors.Deck n fault) refusal = refusal ≡ refusals.Deck n fault
 GivesRefusal errors.OutOfMemory refusal = refusal ≡ refusals.OutOfMemory
 GivesRefusal errors.Read refusal = refusal ≡ refusals.Read
+
+-- the bytes behind the deck, where it has an end, are at most so many
+abbrev pub EndsWithin : ℕ → Reading → Type 0
+EndsWithin k (Good plan n after) = length after ≤ k
+EndsWithin k (Bad n fault) = ⊤
+
+-- whether neither the deck nor a fault of it was found
+abbrev pub is_cut : {T : Type 0} → Result T DeckError → Bool
+is_cut (Ok x) = false
+is_cut (Err (errors.Deck n fault)) = false
+is_cut (Err errors.OutOfMemory) = true
+is_cut (Err errors.Read) = true
 
 -- whether the error is that a read failed
 abbrev pub is_read : {T : Type 0} → Result T DeckError → Bool

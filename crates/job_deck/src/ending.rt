@@ -4,7 +4,7 @@ ghost use Rattle.sequential.specs.Log.{entries_of};
 ghost use Rattle.job_deck.specs.Device.{Writes, failed_after};
 ghost use Rattle.job_deck.specs.Dump.{log_line};
 ghost use Rattle.job_deck.specs.Session.{IsReply, not_drained_text};
-ghost use Rattle.job_deck.specs.Told.{Closes, Dumps, is_write_error, last_said};
+ghost use Rattle.job_deck.specs.Holding.{Closes, Dumps, is_write_error, last_said};
 ghost use Rattle.job_deck.specs.Views.{shown};
 
 use crate::deck::Deck;

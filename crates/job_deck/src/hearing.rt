@@ -1,6 +1,7 @@
 ghost use Rattle.std.specs.Prelude.{◌≡◌, ◌≤◌, IfOk, OnErr};
 ghost use Rattle.job_deck.specs.Device.{Moves, failed_after};
-ghost use Rattle.job_deck.specs.Told.{Hears, ReadsPart};
+ghost use Rattle.job_deck.specs.Line.{ReadsPart};
+ghost use Rattle.job_deck.specs.Holding.{Hears};
 
 use crate::input::{Input, ReadFailed};
 use crate::line::{Took, read_line};

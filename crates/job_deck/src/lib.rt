@@ -1,7 +1,9 @@
-//! Texts of the machine: decks are read, and memory, machines and logs are printed.
+//! Texts of the machine: decks are read, and memory, machines and logs are printed; and sessions, in which a
+//! machine's events are said and answered line by line.
 //!
 //! A deck says on lines what stands in memory, where the package of the first exchange is, and which words are
-//! shown; docs/formats.md has its lines and their faults. All texts are lines of bytes.
+//! shown; docs/formats.md has its lines and their faults. A schedule says one event a line. All texts are lines
+//! of bytes.
 #![tactic(auto)]
 
 mod answering;

@@ -1,9 +1,9 @@
-ghost use Rattle.std.specs.Prelude.{◌≡◌, ◌||◌, ◌≤◌, ◌∷◌, ℕ, List, length, false, OnOk, IfOk, IfErr};
+ghost use Rattle.std.specs.Prelude.{◌≡◌, ◌||◌, ◌≤◌, ◌∷◌, ℕ, List, length, false, true, OnOk, IfOk, IfErr};
 ghost use Rattle.job_deck.specs.Device.{Moves};
 ghost use Rattle.job_deck.specs.Deck.{deck, Judged};
-ghost use Rattle.job_deck.specs.Line.{lines_of};
+ghost use Rattle.job_deck.specs.Line.{ReadsPart, lines_of};
 ghost use Rattle.job_deck.specs.Views.{Answers};
-ghost use Rattle.job_deck.specs.Reading.{Gives, GivesDeck, GivesRefusal, Refuses, Follows, is_read};
+ghost use Rattle.job_deck.specs.Reading.{EndsWithin, Gives, GivesDeck, GivesRefusal, Refuses, Follows, is_cut, is_read};
 
 use crate::deck::{Deck, DeckError, LineError, Step};
 use crate::input::{Input, Watched};
@@ -23,6 +23,7 @@ fn next_line<I: Input>(
     ensures text { OnOk result (length line.new.items ≤ 200) }
     ensures ok { OnOk result (Moves (I.remaining input.old) (I.remaining input.new) (λ xs ys. lines_of xs ≡ (line.new.items, ys) ∷ lines_of ys)) }
     ensures err { IfErr result (λ e. Moves (I.remaining input.old) (I.remaining input.new) (λ xs ys. Refuses number e (lines_of xs))) }
+    ensures part { is_read result ≡ true → Moves (I.remaining input.old) (I.remaining input.new) ReadsPart }
     ensures failure { I.has_failed input.new ≡ (I.has_failed input.old || is_read result) }
     ensures same { I.lender input.new ≡ I.lender input.old }
 {
@@ -63,6 +64,7 @@ fn located(number: u32, step: Result<Step, LineError>) -> Result<Step, DeckError
 pub fn read_deck_from<I: Input>(alloc: Global, input: &mut I) -> Result<(Deck, u32), DeckError>
     ensures deck { Moves (I.remaining input.old) (I.remaining input.new) (λ xs ys. Gives result (deck xs) ys) }
     ensures number { IfOk result (λ found. found.1 ≤ 10000000) }
+    ensures unread { is_cut result ≡ true → Moves (I.remaining input.old) (I.remaining input.new) (λ xs ys. EndsWithin (length ys) (deck xs)) }
     ensures failure { I.has_failed input.new ≡ (I.has_failed input.old || is_read result) }
     ensures same { I.lender input.new ≡ I.lender input.old }
 {

@@ -4,7 +4,8 @@ ghost use Rattle.machine.specs.Whole.{boot_whole};
 ghost use Rattle.job_deck.specs.Deck.{deck};
 ghost use Rattle.job_deck.specs.Device.{Moves, failed_after};
 ghost use Rattle.job_deck.specs.Listing.{is_read_refusal, is_write_refusal};
-ghost use Rattle.job_deck.specs.Told.{Converses, IsMade, Performs, Tells, is_read_error, is_write_error, refusal_of};
+ghost use Rattle.job_deck.specs.Holding.{Converses, IsMade, is_read_error, is_write_error, refusal_of};
+ghost use Rattle.job_deck.specs.Told.{Performs, Tells};
 ghost use Rattle.job_deck.specs.Views.{shown};
 
 use crate::answering::put_answer;

@@ -4,6 +4,7 @@ use Rattle.std.proofs.lemmas.Result.{err_from_is_err_and}
 use Rattle.job_deck.specs.Deck.{judged_first, judged_line}
 use Rattle.job_deck.specs.Views.{sketch}
 use Rattle.job_deck.proofs.DeckLines.{first_err, first_goes, first_ends, later_refused, later_err, later_goes, later_ends, lines_over}
+use Rattle.job_deck.proofs.Unread.{first_cut, first_taken, later_cut, later_taken}
 use Rattle.job_deck.proofs.reading.read_deck_from.Goals as goal
 
 pub returns-in_err-draft-clause-deck : goal.returns-in_err-draft-clause-deck
@@ -71,3 +72,21 @@ loop-number-preserved g c =
       same = search rules;
       failures = search rules;
     }
+
+pub returns-in_err-next_line-clause-unread : goal.returns-in_err-next_line-clause-unread
+returns-in_err-next_line-clause-unread g c =
+    let p = err_from_is_err_and c.from_residual.result c.from_residual.ensures.1 in
+    rw (p.1, p.2) (first_cut (g.I.Input.remaining c.args.input.now) (g.I.Input.remaining c.next_line.new.input) _ c.in_err-next_line.ensures.err c.in_err-next_line.ensures.part)
+
+pub returns-in_err-draft-clause-unread : goal.returns-in_err-draft-clause-unread
+returns-in_err-draft-clause-unread g c =
+    λ cut. first_taken (g.I.Input.remaining c.args.input.now) (g.I.Input.remaining c.next_line.new.input) c.next_line.new.line.items c.in_ok-next_line.ensures.ok
+
+pub returns-in_err-next_line-2-clause-unread : goal.returns-in_err-next_line-2-clause-unread
+returns-in_err-next_line-2-clause-unread g c =
+    let p = err_from_is_err_and c.from_residual-in_err-next_line-2.result c.from_residual-in_err-next_line-2.ensures.1 in
+    rw (p.1, p.2) (later_cut (g.I.Input.remaining c.args.input.now) (g.I.Input.remaining c.loop-number.input) (g.I.Input.remaining c.next_line-in-loop-number.new.input) c.loop-number.number c.loop-number.draft _ c.loop-number.invariant.told c.in_err-next_line-2.ensures.err c.in_err-next_line-2.ensures.part)
+
+pub returns-in_err-next-clause-unread : goal.returns-in_err-next-clause-unread
+returns-in_err-next-clause-unread g c =
+    λ cut. later_taken (g.I.Input.remaining c.args.input.now) (g.I.Input.remaining c.loop-number.input) (g.I.Input.remaining c.next_line-in-loop-number.new.input) c.loop-number.number c.loop-number.draft c.next_line-in-loop-number.new.line.items c.loop-number.invariant.told c.in_ok-next_line-2.ensures.ok

@@ -1,0 +1,82 @@
+-- What the parts of holding a session answer, read and write.
+use Rattle.std.specs.Prelude.{◌≡◌, ℕ, Bool, true, false, List, ◌++◌, Option, Result, Ok, Err}
+use Rattle.std.specs.Io.KnownBytes.{Keeps, Appends}
+use Rattle.instruction_table.specs.declared.refusal.Refusal.{Refusal}
+use Rattle.instruction_table.specs.declared.refusal.Refusal.TheVariants as refusals
+use Rattle.machine.specs.declared.event.Done.{Done}
+use Rattle.machine.specs.declared.event.Event.{Event}
+use Rattle.machine.specs.Run.{IsAnswer, settled}
+use Rattle.machine.specs.Whole.{Whole}
+use Rattle.job_deck.specs.AnswerText.{answer_line}
+use Rattle.job_deck.specs.Device.{Writes, WritesFront}
+use Rattle.job_deck.specs.Line.{IsText, lines_of}
+use Rattle.job_deck.specs.Schedule.{heard}
+use Rattle.job_deck.specs.Session.{IsDump, IsReply, Session}
+use Rattle.job_deck.specs.declared.schedule.Spoken.{Spoken}
+use Rattle.job_deck.specs.declared.schedule.Spoken.TheVariants.{Makes, Ends, Drains, Faulty}
+use Rattle.job_deck.specs.declared.session.SessionError.{SessionError}
+use Rattle.job_deck.specs.declared.session.SessionError.TheVariants as errors
+use Rattle.job_deck.specs.Told.{IsTaken, WritesCut}
+
+abbrev pub refusal_of : SessionError → Refusal
+refusal_of (errors.Line n fault) = refusals.Deck n fault
+refusal_of errors.OutOfMemory = refusals.OutOfMemory
+refusal_of errors.Read = refusals.Read
+refusal_of errors.Write = refusals.Write
+
+-- whether the error is that a read failed, or a write
+abbrev pub is_read_error : {T : Type 0} → Result T SessionError → Bool
+is_read_error (Ok x) = false
+is_read_error (Err (errors.Line n fault)) = false
+is_read_error (Err errors.OutOfMemory) = false
+is_read_error (Err errors.Read) = true
+is_read_error (Err errors.Write) = false
+
+abbrev pub is_write_error : {T : Type 0} → Result T SessionError → Bool
+is_write_error (Ok x) = false
+is_write_error (Err (errors.Line n fault)) = false
+is_write_error (Err errors.OutOfMemory) = false
+is_write_error (Err errors.Read) = false
+is_write_error (Err errors.Write) = true
+
+-- what line n says was heard; a line that isn't at fault was taken
+abbrev pub Hears : ℕ → Spoken → List ℕ → List ℕ → Type 0
+Hears n (Makes e) xs ys = (heard n (lines_of xs) ≡ Makes e) × IsTaken (lines_of xs) ys
+Hears n Ends xs ys = (heard n (lines_of xs) ≡ Ends) × IsTaken (lines_of xs) ys
+Hears n Drains xs ys = (heard n (lines_of xs) ≡ Drains) × IsTaken (lines_of xs) ys
+Hears n (Faulty fault) xs ys = heard n (lines_of xs) ≡ Faulty fault
+
+-- the event was made or refused, and its answer's line written
+abbrev pub IsMade : {E : Type 0} → Result (Unit {0}) E → Whole → Whole → Event → Option (List ℕ) → Option (List ℕ) → Type 0
+IsMade result w v event old new = (answer : Result Done Refusal) × IsAnswer w event answer × (v ≡ settled w event answer) × Writes result old new (answer_line answer)
+
+-- what the last line says: whether the machine is drained first
+abbrev pub last_said : Bool → Spoken
+last_said true = Drains
+last_said false = Ends
+
+-- the lines that say events were answered, up to the last line; or to a fault, a failed read or a failed write
+abbrev pub Converses : Result Bool SessionError → Whole → Whole → ℕ → List ℕ → List ℕ → Option (List ℕ) → Option (List ℕ) → Type 0
+Converses (Ok drains) w v n xs rest old new =
+    (s : Session w n (lines_of xs)) × (s.machine ≡ v) × (heard s.number s.left ≡ last_said drains) × IsTaken s.left rest × Appends old new s.text
+Converses (Err (errors.Line m fault)) w v n xs rest old new = (s : Session w n (lines_of xs)) × (m ≡ s.number) × (heard s.number s.left ≡ Faulty fault) × Appends old new s.text
+Converses (Err errors.OutOfMemory) w v n xs rest old new = ⊥
+Converses (Err errors.Read) w v n xs rest old new = (s : Session w n (lines_of xs)) × (part : List ℕ) × IsText part × (s.left ≡ lines_of (part ++ rest)) × Appends old new s.text
+Converses (Err errors.Write) w v n xs rest old new =
+    (s : Session w n (lines_of xs)) × (event : Event) × (answer : Result Done Refusal) × (heard s.number s.left ≡ Makes event) × IsAnswer s.machine event answer × IsTaken s.left rest × WritesCut old new s.text (answer_line answer)
+
+-- the dump of a drained machine; where its state couldn't be copied nothing
+abbrev pub Dumps : Result (Unit {0}) SessionError → Whole → List (ℕ × ℕ) → Option (List ℕ) → Option (List ℕ) → Type 0
+Dumps (Ok x) w shows old new = (text : List ℕ) × IsDump w shows text × Appends old new text
+Dumps (Err (errors.Line m fault)) w shows old new = ⊥
+Dumps (Err errors.OutOfMemory) w shows old new = Keeps old new
+Dumps (Err errors.Read) w shows old new = ⊥
+Dumps (Err errors.Write) w shows old new = (text : List ℕ) × IsDump w shows text × WritesFront old new text
+
+-- what the last line writes
+abbrev pub Closes : Result (Unit {0}) SessionError → Spoken → Whole → List (ℕ × ℕ) → Option (List ℕ) → Option (List ℕ) → Type 0
+Closes (Ok x) said w shows old new = (text : List ℕ) × IsReply said w shows text × Appends old new text
+Closes (Err (errors.Line m fault)) said w shows old new = ⊥
+Closes (Err errors.OutOfMemory) said w shows old new = Keeps old new
+Closes (Err errors.Read) said w shows old new = ⊥
+Closes (Err errors.Write) said w shows old new = (text : List ℕ) × IsReply said w shows text × WritesFront old new text
