@@ -30,6 +30,7 @@ enum Entry {
 }
 
 /// 030 to 037, by the digit i.
+#[inline(always)]
 fn x_test(digit: Digit) -> XTest
     ensures { result ≡ x_test_at digit }
 {
@@ -46,6 +47,7 @@ fn x_test(digit: Digit) -> XTest
 }
 
 /// A refused opcode of two digits.
+#[inline(always)]
 fn refused(f: u16, m: Digit) -> Entry
     requires { f < 8 }
     ensures { result ≡ Entry.Refused (Op.Plain f m) }
@@ -54,6 +56,7 @@ fn refused(f: u16, m: Digit) -> Entry
 }
 
 /// 010 to 017.
+#[inline(always)]
 fn return_jump(i: Digit, to: Word18) -> Entry
     ensures { result ≡ refused_01 i to }
 {
@@ -64,6 +67,7 @@ fn return_jump(i: Digit, to: Word18) -> Entry
 }
 
 /// 00 to 07.
+#[inline(always)]
 fn branch(m: Digit, i: Digit, j: Digit, to: Word18) -> Entry
     ensures { result ≡ entry (branches i j to) m }
 {
@@ -84,6 +88,7 @@ fn branch(m: Digit, i: Digit, j: Digit, to: Word18) -> Entry
 }
 
 /// 10 to 17.
+#[inline(always)]
 fn logical(m: Digit, i: Digit, j: Digit, k: Digit) -> Entry
     ensures { result ≡ entry (logicals i j k) m }
 {
@@ -101,6 +106,7 @@ fn logical(m: Digit, i: Digit, j: Digit, k: Digit) -> Entry
 }
 
 /// 20 to 27.
+#[inline(always)]
 fn shift(m: Digit, i: Digit, j: Digit, k: Digit) -> Entry
     ensures { result ≡ entry (shifts i j k) m }
 {
@@ -132,6 +138,7 @@ fn shift(m: Digit, i: Digit, j: Digit, k: Digit) -> Entry
 }
 
 /// 30 to 37.
+#[inline(always)]
 fn addition(m: Digit, i: Digit, j: Digit, k: Digit) -> Entry
     ensures { result ≡ entry (additions i j k) m }
 {
@@ -144,6 +151,7 @@ fn addition(m: Digit, i: Digit, j: Digit, k: Digit) -> Entry
 }
 
 /// 40 to 47.
+#[inline(always)]
 fn other(m: Digit, i: Digit, j: Digit, k: Digit) -> Entry
     ensures { result ≡ entry (others i j k) m }
 {
@@ -160,6 +168,7 @@ fn other(m: Digit, i: Digit, j: Digit, k: Digit) -> Entry
 }
 
 /// The instructions of 50 to 77 that add an address.
+#[inline(always)]
 fn address_increment(target: Target, i: Digit, base: Base, j: Digit, address: Word18) -> Entry
     ensures { result ≡ Entry.Long (Instr.Increment target i (Addends.Address base j address)) }
 {
@@ -168,6 +177,7 @@ fn address_increment(target: Target, i: Digit, base: Base, j: Digit, address: Wo
 }
 
 /// 50 to 77.
+#[inline(always)]
 fn increment(target: Target, m: Digit, i: Digit, j: Digit, k: Digit, address: Word18) -> Entry
     ensures { result ≡ entry (increments target i j k address) m }
 {
@@ -186,6 +196,7 @@ fn increment(target: Target, m: Digit, i: Digit, j: Digit, k: Digit, address: Wo
 }
 
 /// The reading of a parcel that is followed by another.
+#[inline(always)]
 fn entry_at(parcel: u16, following: u16) -> Entry
     requires parcel { parcel < 2 ^ 15 }
     requires following { following < 2 ^ 15 }
@@ -209,6 +220,7 @@ fn entry_at(parcel: u16, following: u16) -> Entry
 }
 
 /// The parcel after a place, and 0 after the last.
+#[inline(always)]
 fn following(word: Word60, place: u8) -> u16
     ensures value { result ≡ following_at word place }
     ensures range { result < 2 ^ 15 }
@@ -224,6 +236,7 @@ fn following(word: Word60, place: u8) -> u16
 ///
 /// Fields that an instruction does not use are ignored, which is this project's choice: i, j and k of `PS` and
 /// `NO`, j of `RJ` and `JP`, k of `BXi Xj`, j of `BXi -Xk` and `CXi Xk`.
+#[inline(always)]
 pub fn decode(word: Word60, place: u8) -> Decoded
     requires { place < 4 }
     ensures value { result ≡ reading_at word place }

@@ -87,6 +87,7 @@ pub fn results(instr: &Instr) -> ArrayVec<Reg, 2>
 
 impl Base {
     /// Register j of this kind.
+    #[inline(always)]
     fn register(self, j: Digit) -> Reg
         ensures { result ≡ base_reg self j }
     {
@@ -100,6 +101,7 @@ impl Base {
 
 impl Pair {
     /// The first of the two registers.
+    #[inline(always)]
     fn register(self, j: Digit) -> Reg
         ensures { result ≡ pair_reg self j }
     {
@@ -150,6 +152,7 @@ pub struct OperandRegisters {
 
 impl OperandRegisters {
     /// Operands of which none is stored.
+    #[inline(always)]
     fn computed(first: Option<Reg>, second: Option<Reg>) -> Self
         ensures first { result.first ≡ first }
         ensures second { result.second ≡ second }
@@ -164,6 +167,7 @@ impl OperandRegisters {
 }
 
 /// What SA6 and SA7 store.
+#[inline(always)]
 fn stored(target: Target, i: Digit) -> Option<Reg>
     ensures { result ≡ stored target i }
 {
@@ -175,6 +179,7 @@ fn stored(target: Target, i: Digit) -> Option<Reg>
 }
 
 /// The registers that the operands of an instruction come from.
+#[inline(always)]
 pub fn operand_registers(instr: &Instr) -> OperandRegisters
     ensures first { result.first ≡ (row instr.now).first }
     ensures second { result.second ≡ (row instr.now).second }

@@ -7,6 +7,7 @@ use arrayvec::ArrayVec;
 impl Instr {
     /// Whether it is a branch: it jumps, or may jump.
     #[tactic(auto, unfolding(crate::specs::Shape::shape_of, crate::specs::Shape::is_branch_shape))]
+    #[inline(always)]
     pub fn is_branch(&self) -> bool
         ensures { result ≡ is_branch_shape (shape_of self.now) }
     {
@@ -21,6 +22,7 @@ impl Instr {
 
     /// Whether it makes a reference to memory: SA1 to SA7 and RJ.
     #[tactic(auto, unfolding(crate::specs::Shape::shape_of, crate::specs::Shape::has_reference))]
+    #[inline(always)]
     pub fn has_reference(&self) -> bool
         ensures { result ≡ has_reference (shape_of self.now) }
     {

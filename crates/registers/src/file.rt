@@ -16,6 +16,7 @@ pub struct RegisterFile {
 }
 
 /// A word of 18 bits in the low bits of a word of 60.
+#[inline(always)]
 fn widened(word: Word18) -> Word60
     ensures { result ≡ word }
 {
@@ -25,6 +26,7 @@ fn widened(word: Word18) -> Word60
 impl RegisterFile {
     /// What a register holds; A and B registers stand in the low 18 bits.
     #[tactic(auto, unfolding(crate::specs::Registers::get))]
+    #[inline(always)]
     pub fn get(&self, register: Reg) -> Word60
         ensures { result ≡ get self.now register }
     {
@@ -40,6 +42,7 @@ impl RegisterFile {
 
     /// Writes a register: the low 18 bits into A and B registers, and nothing into B0.
     #[tactic(auto, unfolding(crate::specs::Registers::put))]
+    #[inline(always)]
     pub fn set(&mut self, register: Reg, word: Word60)
         ensures { self.new ≡ put self.old register word }
     {

@@ -63,6 +63,7 @@ impl Storage {
     }
 
     /// How many words there are.
+    #[inline(always)]
     pub fn size(&self) -> u32
         ensures value { result ≡ length self.now }
         ensures range { IsMemorySize result }
@@ -71,6 +72,7 @@ impl Storage {
     }
 
     /// The word at an absolute address, which is below the size.
+    #[inline(always)]
     pub fn load(&self, address: u32) -> Word60
         requires { address < length self.now }
         ensures { result ≡ slice_index_or self.now address 0 }
@@ -79,6 +81,7 @@ impl Storage {
     }
 
     /// Changes the word at an absolute address, which is below the size.
+    #[inline(always)]
     pub fn store(&mut self, address: u32, word: Word60)
         requires { address < length self.old }
         ensures { self.new ≡ slice_set self.old address word }

@@ -21,6 +21,7 @@ pub enum Fetched {
 /// Whether an instruction with a unit is one that this machine carries out so far: all but the branches
 /// and those that make a reference to memory.
 #[tactic(auto, unfolding(crate::specs::Step::is_carried_out))]
+#[inline(always)]
 fn carries_out(instr: &Instr) -> bool
     ensures { result ≡ is_carried_out instr.now }
 {
@@ -29,6 +30,7 @@ fn carries_out(instr: &Instr) -> bool
 
 /// What an instruction does that stands at one place and ends at another.
 #[tactic(auto, unfolding(crate::specs::Step::met))]
+#[inline(always)]
 fn met(place: Place, behind: Place, instr: &Instr) -> Fetched
     ensures { result ≡ met place behind instr.now }
 {
@@ -45,7 +47,8 @@ fn met(place: Place, behind: Place, instr: &Instr) -> Fetched
 
 /// What the reading of a word does at a place that holds it.
 #[tactic(auto, unfolding(crate::specs::Step::fetched_by))]
-fn fetched_by(place: Place, word: Word60, reading: Decoded) -> Fetched
+#[inline(always)]
+pub fn fetched_by(place: Place, word: Word60, reading: Decoded) -> Fetched
     ensures { result ≡ fetched_by place.p place.parcel word reading }
 {
     let here = Place {
@@ -62,7 +65,8 @@ fn fetched_by(place: Place, word: Word60, reading: Decoded) -> Fetched
 impl State {
     /// The word that instructions are taken from: the one held, or else the one at P, if that is in range.
     #[tactic(auto, unfolding(crate::specs::Step::word_seen, crate::specs::Step::word_at, crate::specs::State::absolute, crate::specs::State::bounds_of))]
-    fn word_here(&self) -> Option<Word60>
+    #[inline(always)]
+    pub(crate) fn word_here(&self) -> Option<Word60>
         ensures { result ≡ word_seen (bounds_of self.now) self.now.memory self.now.place.p self.now.place.held }
     {
         match self.place.held {
@@ -76,6 +80,7 @@ impl State {
 
     /// What the next instruction does. A fetch out of range halts.
     #[tactic(auto, unfolding(crate::specs::Step::fetch, crate::specs::Step::fetched_from))]
+    #[inline(always)]
     pub fn fetch(&self) -> Fetched
         ensures { result ≡ fetch (bounds_of self.now) self.now.memory self.now.place }
     {

@@ -24,6 +24,7 @@ impl Model for ParcelNumber {
 
 impl ParcelNumber {
     /// The parcel of this number, None from 4 on.
+    #[inline(always)]
     pub fn new(number: u8) -> Option<ParcelNumber>
         ensures { SomeIff result (number < 4) number }
     {
@@ -35,6 +36,7 @@ impl ParcelNumber {
     }
 
     /// The number, 0 to 3.
+    #[inline(always)]
     pub fn get(self) -> u8
         ensures value { result ≡ self }
         ensures range { result < 4 }
@@ -56,6 +58,7 @@ pub struct Place {
 
 impl Place {
     /// The beginning of the word at an address.
+    #[inline(always)]
     pub fn at(p: Word18) -> Place
         ensures { result ≡ record { p = p; parcel = 0; held = None } }
     {
@@ -69,6 +72,7 @@ impl Place {
     /// The place behind an instruction of the word at `p`: its parcel `next`, or from 4 on the beginning of
     /// the next word. After the word at 777777 comes the one at 0.
     #[tactic(auto, unfolding(crate::specs::Place::moved_on))]
+    #[inline(always)]
     pub fn behind(p: Word18, word: Word60, next: u8) -> Place
         ensures { result ≡ moved_on p word next }
     {
@@ -84,6 +88,7 @@ impl Place {
 
     /// The place after a jump to this address, or the same place where there is none.
     #[tactic(auto, unfolding(crate::specs::Place::gone))]
+    #[inline(always)]
     pub fn after_jump(self, to: Option<Word18>) -> Place
         ensures { result ≡ gone self to }
     {

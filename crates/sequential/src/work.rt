@@ -20,7 +20,8 @@ pub struct ProgramReference {
 
 /// An operand, +0 where it is absent.
 #[tactic(auto, unfolding(crate::specs::Work::operand_at))]
-fn operand_at(registers: &RegisterFile, register: Option<Reg>) -> Word60
+#[inline(always)]
+pub fn operand_at(registers: &RegisterFile, register: Option<Reg>) -> Word60
     ensures { result ≡ operand_at registers.now register }
 {
     match register {
@@ -31,6 +32,7 @@ fn operand_at(registers: &RegisterFile, register: Option<Reg>) -> Word60
 
 /// What an instruction of the word at the address `place` computes with.
 #[tactic(auto, unfolding(crate::specs::Work::operands))]
+#[inline(always)]
 pub fn operands(instr: &Instr, place: Word18, registers: &RegisterFile) -> Operands
     ensures { result ≡ operands instr.now place registers.now }
 {
@@ -44,6 +46,7 @@ pub fn operands(instr: &Instr, place: Word18, registers: &RegisterFile) -> Opera
 }
 
 /// An address as a word.
+#[inline(always)]
 fn widened(address: Word18) -> Word60
     ensures { result ≡ address }
 {
@@ -52,6 +55,7 @@ fn widened(address: Word18) -> Word60
 
 /// The number that a value writes into registers; of a reference it is the address.
 #[tactic(auto, unfolding(crate::specs::Work::number_in))]
+#[inline(always)]
 pub fn number(value: &UnitValue) -> Word60
     ensures { result ≡ number_in value.now }
 {
@@ -67,6 +71,7 @@ pub fn number(value: &UnitValue) -> Word60
 
 /// The address that a value refers to.
 #[tactic(auto, unfolding(crate::specs::Work::address_in))]
+#[inline(always)]
 fn address(value: &UnitValue) -> Word18
     ensures { result ≡ address_in value.now }
 {
@@ -82,6 +87,7 @@ fn address(value: &UnitValue) -> Word18
 
 /// The link word of RJ: 0400, the return address and thirty zeros.
 #[tactic(auto, unfolding(crate::specs::Work::link_word))]
+#[inline(always)]
 fn link_word(back: Word18) -> Word60
     ensures { result ≡ link_word back }
 {
@@ -90,6 +96,7 @@ fn link_word(back: Word18) -> Word60
 
 /// The word that a value stores.
 #[tactic(auto, unfolding(crate::specs::Work::word_in))]
+#[inline(always)]
 fn word(value: &UnitValue) -> Word60
     ensures { result ≡ word_in value.now }
 {
@@ -105,6 +112,7 @@ fn word(value: &UnitValue) -> Word60
 
 /// The address that an instruction jumps to, if it does; RJ goes on behind its link word.
 #[tactic(auto, unfolding(crate::specs::Work::jump_for, crate::specs::Work::jump_in))]
+#[inline(always)]
 pub fn jump(instr: &Instr, value: &UnitValue) -> Option<Word18>
     ensures { result ≡ jump_for (shape_of instr.now) value.now }
 {
@@ -124,6 +132,7 @@ pub fn jump(instr: &Instr, value: &UnitValue) -> Option<Word18>
 /// The reference that an instruction makes: SA1 to SA5 load, SA6 and SA7 store, RJ stores its link word
 /// (Control Data 60100000), and all others make none.
 #[tactic(auto, unfolding(crate::specs::Work::reference_for, instruction_table::specs::Shape::shape_of))]
+#[inline(always)]
 pub fn reference(instr: &Instr, value: &UnitValue) -> Option<ProgramReference>
     ensures { result ≡ reference_for (shape_of instr.now) value.now }
 {
@@ -152,6 +161,7 @@ pub fn reference(instr: &Instr, value: &UnitValue) -> Option<ProgramReference>
 impl ProgramReference {
     /// The absolute address in a memory of `size` words, None where it is out of range.
     #[tactic(auto, unfolding(crate::specs::State::absolute))]
+    #[inline(always)]
     pub fn absolute(&self, area: &Area, size: u32) -> Option<u32>
         ensures value { result ≡ absolute (record { area = area.now; size = size }) self.now.address }
         ensures range { IfSome result (λ address. address < size) }
@@ -162,6 +172,7 @@ impl ProgramReference {
 
 /// Whether a reference sets the fault flag: it is out of range, and the exit mode has bit 010000 (octal).
 #[tactic(auto, unfolding(crate::specs::Work::fault_of, crate::specs::State::stops_at_fault))]
+#[inline(always)]
 pub fn faults(area: &Area, size: u32, reference: &Option<ProgramReference>) -> bool
     ensures { result ≡ fault_of (record { area = area.now; size = size }) reference.now }
 {

@@ -10,6 +10,7 @@ use instruction_table::{
 use word60::{Word18, Word60};
 
 /// +0 or -0.
+#[inline(always)]
 fn is_zero(x: Word60) -> bool
     ensures { result ≡ is_zero x }
 {
@@ -17,6 +18,7 @@ fn is_zero(x: Word60) -> bool
 }
 
 /// The upper twelve bits are 3777 or 4000: an exponent that overflowed.
+#[inline(always)]
 fn is_out_of_range(x: Word60) -> bool
     ensures { result ≡ is_out_of_range x }
 {
@@ -25,6 +27,7 @@ fn is_out_of_range(x: Word60) -> bool
 }
 
 /// The upper twelve bits are 1777 or 6000: a result that has no value.
+#[inline(always)]
 fn is_indefinite(x: Word60) -> bool
     ensures { result ≡ is_indefinite x }
 {
@@ -33,6 +36,7 @@ fn is_indefinite(x: Word60) -> bool
 }
 
 /// Bit 59 is 1.
+#[inline(always)]
 fn is_minus(x: Word60) -> bool
     ensures { result ≡ (bit x 59 == 1) }
 {
@@ -40,6 +44,7 @@ fn is_minus(x: Word60) -> bool
 }
 
 /// Whether a branch on an X register is taken.
+#[inline(always)]
 fn x_holds(test: XTest, x: Word60) -> bool
     ensures { result ≡ x_holds test x }
 {
@@ -56,6 +61,7 @@ fn x_holds(test: XTest, x: Word60) -> bool
 }
 
 /// The place of a pattern of 18 bits in the order of two's complement, the least first.
+#[inline(always)]
 fn rank(b: Word18) -> u32
     ensures { result ≡ rank b }
 {
@@ -63,6 +69,7 @@ fn rank(b: Word18) -> u32
 }
 
 /// Whether a branch on two B registers is taken.
+#[inline(always)]
 fn b_holds(test: BTest, a: Word18, b: Word18) -> bool
     ensures { result ≡ b_holds test a b }
 {
@@ -75,6 +82,7 @@ fn b_holds(test: BTest, a: Word18, b: Word18) -> bool
 }
 
 /// A logical operation; the last three complement the second word.
+#[inline(always)]
 fn logic(op: Logic, x: Word60, y: Word60) -> Word60
     ensures { result ≡ logic op x y }
 {
@@ -89,6 +97,7 @@ fn logic(op: Logic, x: Word60, y: Word60) -> Word60
 }
 
 /// Bit 17 is 1.
+#[inline(always)]
 fn is_negative(b: Word18) -> bool
     ensures { result ≡ is_negative b }
 {
@@ -96,6 +105,7 @@ fn is_negative(b: Word18) -> bool
 }
 
 /// The number without its sign: of a negative one the complement.
+#[inline(always)]
 fn magnitude(b: Word18) -> u32
     ensures { result ≡ magnitude b }
 {
@@ -107,6 +117,7 @@ fn magnitude(b: Word18) -> u32
 }
 
 /// Shifted right by a nominal count. More than 63 places leave +0.
+#[inline(always)]
 fn shifted_out(x: Word60, count: u32) -> Word60
     ensures { result ≡ shifted_out x count }
 {
@@ -119,6 +130,7 @@ fn shifted_out(x: Word60, count: u32) -> Word60
 
 /// Shifted by the count in a B register, in the other direction where that is negative. Round the word only the
 /// low six bits of the magnitude count.
+#[inline(always)]
 fn shifted_nominally(direction: Direction, b: Word18, x: Word60) -> Word60
     ensures { result ≡ shifted_nominally direction b x }
 {
@@ -134,6 +146,7 @@ fn shifted_nominally(direction: Direction, b: Word18, x: Word60) -> Word60
 }
 
 /// The 18 bits of two registers that are added or subtracted.
+#[inline(always)]
 fn pair_value(pair: Pair, x: Word60, y: Word60) -> Word18
     ensures { result ≡ pair_value pair x y }
 {
@@ -146,6 +159,7 @@ fn pair_value(pair: Pair, x: Word60, y: Word60) -> Word18
 }
 
 /// The 18 bits that an increment instruction computes.
+#[inline(always)]
 fn addends_value(addends: Addends, x: Word60, y: Word60) -> Word18
     ensures { result ≡ addends_value addends x y }
 {
@@ -156,6 +170,7 @@ fn addends_value(addends: Addends, x: Word60, y: Word60) -> Word18
 }
 
 /// What an increment instruction does with its 18 bits.
+#[inline(always)]
 fn increment_value(target: Target, i: Digit, value: Word18, outgoing: Word60) -> UnitValue
     ensures { result ≡ increment_value target i value outgoing }
 {
@@ -171,6 +186,7 @@ fn increment_value(target: Target, i: Digit, value: Word18, outgoing: Word60) ->
 }
 
 /// The answer of a branch.
+#[inline(always)]
 fn branch_to(taken: bool, to: Word18) -> UnitValue
     ensures { result ≡ branch_to taken to }
 {
@@ -178,6 +194,7 @@ fn branch_to(taken: bool, to: Word18) -> UnitValue
 }
 
 /// The address after another; 0 comes after 777777.
+#[inline(always)]
 fn next_place(place: Word18) -> Word18
     ensures { result ≡ next_place place }
 {
@@ -185,6 +202,7 @@ fn next_place(place: Word18) -> Word18
 }
 
 /// What the unit of an instruction computes from its operands. `PS` and `NO` have no unit, and no value.
+#[inline(always)]
 pub fn value(instr: &Instr, operands: &Operands) -> UnitValue
     requires { IsSome (row instr.now).unit }
     ensures { result ≡ value_of instr.now operands.now }
