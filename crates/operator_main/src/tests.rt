@@ -71,7 +71,11 @@ const TWO_ADDS: &[u8] =
 const TWO_ADDS_DUMP: &[u8] =
     b"P 000001 PARCEL 3 HELD 36312374214600000000\nHALT stop FAULT none\nRA 000100 FL 000020 EM 000000\nA 000000 000000 000000 000000 000000 000000 000000 000000\nB 000000 000000 000000 000000 000000 000000 000000 000000\nX0 00000000000000000000\nX1 00000000000000000005\nX2 00000000000000000003\nX3 00000000000000000010\nX4 77777777777777777775\nX5 00000000000000000000\nX6 00000000000000000000\nX7 00000000000000000000\nM 000100 71100000057120000003\nM 000101 36312374214600000000\nLOG E40 I6\n";
 
-/// The same deck after three instructions.
+/// A deck that shifts X3 to the left and then comes to an opcode that is refused.
+const LEFT_SHIFT: &[u8] =
+    b"core 256\nat 41\nword 00000100000000000000\nword 00000020000000000000\nat 100\nword 20301301234600046000\nstart 40\nend\n";
+
+/// The deck of two adds after three instructions.
 const THREE_DUMP: &[u8] =
     b"P 000001 PARCEL 1 HELD 36312374214600000000\nHALT running FAULT none\nRA 000100 FL 000020 EM 000000\nA 000000 000000 000000 000000 000000 000000 000000 000000\nB 000000 000000 000000 000000 000000 000000 000000 000000\nX0 00000000000000000000\nX1 00000000000000000005\nX2 00000000000000000003\nX3 00000000000000000010\nX4 00000000000000000000\nX5 00000000000000000000\nX6 00000000000000000000\nX7 00000000000000000000\nM 000100 71100000057120000003\nM 000101 36312374214600000000\nLOG E40 I3\n";
 
@@ -342,15 +346,16 @@ fn replays_no_bad_log(rt: HostRuntime) -> Result<(), Fail> {
     )
 }
 
-/// A session on the deck of two adds: its schedule, and what is printed before the dump.
+/// A session of a deck with its schedule, and how what is printed begins and ends.
 fn expect_session(
     rt: &(impl Abort + AllocGlobal),
+    deck: &[u8],
     schedule: &[u8],
     begins: &[u8],
     ends: &[u8],
 ) -> Result<(), Fail> {
     let words = words(rt.alloc(), ["events"].as_slice())?;
-    let input = joined(rt.alloc(), [TWO_ADDS, schedule].as_slice())?;
+    let input = joined(rt.alloc(), [deck, schedule].as_slice())?;
     let mut input = input.as_slice();
     let mut output = Vec::new(rt.alloc());
     let mut faults = Vec::new(rt.alloc());
@@ -372,6 +377,7 @@ fn expect_session(
 fn answers_conflicts(rt: HostRuntime) -> Result<(), Fail> {
     expect_session(
         &rt,
+        TWO_ADDS,
         b"ask 40\nexchange\nissue\nissue\nissue\nissue\nread longadd\ndrain\n",
         b"ok\nok\nok increment1 1\nok increment2 2\nok longadd 3\nE7 unit busy longadd\nE9 operand awaited X1\nP 000001 PARCEL 1 HELD 36312374214600000000\nHALT running FAULT none\n",
         b"LOG E40 I3\n",
@@ -382,6 +388,7 @@ fn answers_conflicts(rt: HostRuntime) -> Result<(), Fail> {
 fn answers_in_mid_word(rt: HostRuntime) -> Result<(), Fail> {
     expect_session(
         &rt,
+        TWO_ADDS,
         b"ask 40\nexchange\nissue\nread increment1\nfinish increment1\nstore increment1\nask 60\nexchange\nissue\nissue\nend\n",
         b"ok\nok\nok increment1 1\nok\nok\nok\nok\nE25 mid word\nok increment1 2\nE5 exchange waiting\nNOT DRAINED\n",
         b"LOG E40 I2\n",
@@ -390,7 +397,56 @@ fn answers_in_mid_word(rt: HostRuntime) -> Result<(), Fail> {
 
 #[test]
 fn answers_an_end(rt: HostRuntime) -> Result<(), Fail> {
-    expect_session(&rt, b"end\n", BOOT_DUMP, b"LOG none\n")
+    expect_session(&rt, TWO_ADDS, b"end\n", BOOT_DUMP, b"LOG none\n")?;
+    expect_session(
+        &rt,
+        LEFT_SHIFT,
+        b"end\n",
+        b"P 000000 PARCEL 0 HELD none\nHALT stop FAULT none\nRA 000000 FL 000000 EM 000000\n",
+        b"X7 00000000000000000000\nLOG none\n",
+    )
+}
+
+#[test]
+fn answers_an_illegal_opcode(rt: HostRuntime) -> Result<(), Fail> {
+    expect_session(
+        &rt,
+        LEFT_SHIFT,
+        b"ask 40\nexchange\nissue\nissue\nissue\ndrain\n",
+        b"ok\nok\nok shift 1\nok\nE1 halted illegal 30\nP 000000 PARCEL 1 HELD 20301301234600046000\nHALT illegal 30 FAULT none\n",
+        b"LOG E40 I2\n",
+    )
+}
+
+#[test]
+fn answers_a_budget(rt: HostRuntime) -> Result<(), Fail> {
+    let schedule = b"ask 40\nexchange\nissue\nissue\n".as_slice();
+    let input = joined(rt.alloc(), [LEFT_SHIFT, schedule].as_slice())?;
+    expect_run(
+        &rt,
+        ["events", "--budget", "1"].as_slice(),
+        input.as_slice(),
+        1,
+        b"ok\nok\nok shift 1\nE3 budget\n",
+        b"cdc6600: E20 line 13: no end\n",
+    )
+}
+
+#[test]
+fn long_schedules(rt: HostRuntime) -> Result<(), Fail> {
+    let mut input = Vec::from_slice(rt.alloc(), LEFT_SHIFT)?;
+    input.extend_from_slice(b"ask 40\n")?;
+    for _ in 0..201 {
+        input.extend_from_slice(b"i")?;
+    }
+    expect_run(
+        &rt,
+        ["events"].as_slice(),
+        input.as_slice(),
+        1,
+        b"ok\n",
+        b"cdc6600: E20 line 10: long\n",
+    )
 }
 
 #[test]
