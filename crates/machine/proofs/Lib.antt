@@ -12,11 +12,13 @@ pub mod Issuing
 pub mod Theorem
 pub mod Headline
 pub mod Pigeons
-pub mod Seating
-pub mod Seated
+pub mod Slotting
+pub mod Slotted
 pub mod Places
 pub mod Steps
 pub mod Making
+pub mod SlotLaws
+pub mod Seats
 pub mod There
 pub mod Runs
 pub mod Draining

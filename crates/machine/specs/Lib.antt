@@ -2,11 +2,12 @@ pub mod Each
 pub mod Member
 pub mod Whole
 pub mod Sound
-pub mod Seats
+pub mod Slots
 pub mod Run
 pub mod Headline
 pub mod Spots
 pub mod Working
+pub mod Tokens
 pub mod Snapped
 pub mod View
 pub mod Changes

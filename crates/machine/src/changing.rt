@@ -1,7 +1,9 @@
 ghost use Rattle.std.specs.Prelude.{◌≡◌, ◌<◌, ◌≤◌, ◌+◌, ◌++◌, ◌∷◌, ◌^◌, suc, ◌||◌, take, drop, length, slice_set, IfSome, Some};
-ghost use Rattle.sequential.specs.Work.{fault_of};
+ghost use Rattle.sequential.specs.Work.{fault_of, operands};
 ghost use Rattle.machine.specs.Changes.{put_all, performed, left_by, place_after, halt_after, newcomer, joined_by, number_after, note_of};
-ghost use Rattle.machine.specs.Whole.{entering, rest_of, enters, kept};
+ghost use Rattle.machine.specs.Whole.{entering, rest_of, enters, kept, in_phase};
+ghost use Rattle.machine.specs.declared.member.Phase.TheVariants.{Before};
+ghost use Rattle.machine.specs.declared.member.Stage.TheVariants.{Read, Finished};
 
 use crate::choosing::unit_for;
 use crate::{Entry, Later, Member, Note, Phase, Stage};
@@ -9,7 +11,8 @@ use arrayvec::ArrayVec;
 use instruction_table::{Halt, Reg, Unit};
 use registers::RegisterFile;
 use relocation::{Access, Area, Storage};
-use sequential::{Fetched, Place, ProgramReference, faults};
+use sequential::{Fetched, Place, ProgramReference, faults, operands};
+use unit_ops::{Operands, UnitValue};
 use word60::{Word18, Word60};
 
 /// What is left of a reference that was relocated.
@@ -73,6 +76,37 @@ pub fn write_registers(registers: &mut RegisterFile, written: &[Reg], number: Wo
 {
     for register in written {
         registers.set(*register, number);
+    }
+}
+
+impl Member {
+    /// What its unit reads, as the registers are.
+    pub(crate) fn operands(&self, registers: &RegisterFile) -> Operands
+        ensures { result ≡ operands self.now.instr self.now.at registers.now }
+    {
+        operands(&self.instr, self.at, registers)
+    }
+
+    /// The member when it has read its operands.
+    #[tactic(auto, unfolding(crate::specs::Whole::in_phase))]
+    pub(crate) fn with_operands(&self, operands: &Operands) -> Member
+        ensures { result ≡ in_phase self.now (Before (Read operands.now)) }
+    {
+        Member {
+            phase: Phase::Before(Stage::Read(*operands)),
+            ..*self
+        }
+    }
+
+    /// The member when it has its value.
+    #[tactic(auto, unfolding(crate::specs::Whole::in_phase))]
+    pub(crate) fn with_value(&self, value: &UnitValue) -> Member
+        ensures { result ≡ in_phase self.now (Before (Finished value.now)) }
+    {
+        Member {
+            phase: Phase::Before(Stage::Finished(*value)),
+            ..*self
+        }
     }
 }
 

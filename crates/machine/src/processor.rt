@@ -1,29 +1,32 @@
-ghost use Rattle.std.specs.Prelude.{◌≡◌, ◌≤◌, ◌<◌, true, false, not, IfSome, None, MatchResult, if◌then◌else◌};
+ghost use Rattle.std.specs.Prelude.{◌≡◌, ◌≤◌, ◌<◌, true, false, not, IfSome, IfOk, IsSome, Some, None, MatchResult, if◌then◌else◌};
 ghost use Rattle.instruction_table.specs.declared.refusal.Refusal.TheVariants.{OutOfMemory};
 ghost use Rattle.machine.specs.declared.event.Event.TheVariants.{Issue, Read, Finish, Store, Accept, Return, BankFree, Ask, Exchange};
 ghost use Rattle.machine.specs.Run.{IsAnswer, answer_of, settled};
-ghost use Rattle.machine.specs.Whole.{boot_whole, is_pending, allowed};
+ghost use Rattle.instruction_table.specs.Table.{row};
+ghost use Rattle.machine.specs.Changes.{refusal_in};
+ghost use Rattle.machine.specs.Tokens.{Seating, new_seats, with_seats_given, IsValueIn, slot, waits_in, reading_in};
+ghost use Rattle.machine.specs.Whole.{boot_whole, is_pending, allowed, after};
 ghost use Rattle.machine.specs.Working.{next_of, work_left};
 
 use crate::changing::{
     fault_after, halt_after, join, newcomer, note_of, number_after, perform, place_after, put_rest,
     replace, rest_of, set_busy, write_registers,
 };
-use crate::choosing::{is_pending, place_for};
+use crate::choosing::{find_stage, is_pending, place_for};
 use crate::judging::{
     judge_accept, judge_ask, judge_exchange, judge_finish, judge_free, judge_issue, judge_read,
     judge_return, judge_store,
 };
 use crate::working::next_work;
-use crate::{Answer, Done, Event, Member, Phase, Snapshot, Stage};
+use crate::{Answer, Done, Event, Member, Phase, Seat, Snapshot, Stage};
 use arrayvec::ArrayVec;
 use hopper::bank_of;
 use instruction_table::{Refusal, Reg, Unit};
 use relocation::Storage;
-use sequential::{Log, State, jump, number, operands, reference};
+use sequential::{Log, State, jump, number, reference};
 use std::alloc::Global;
 use std::marker::Model;
-use unit_ops::value;
+use unit_ops::{Operands, UnitValue, value};
 
 /// The most instructions that a machine may be given to issue.
 pub const MOST_ISSUES: u64 = 10_000_000;
@@ -40,6 +43,7 @@ pub struct Machine {
     asked: u32,
     last: u64,
     boot_memory: Storage,
+    seats_given: bool,
 }
 
 impl Model for Machine {
@@ -49,9 +53,9 @@ impl Model for Machine {
 
     ghost use Rattle.machine.specs.View.{whole_of, IsKept};
 
-    ghost view = { λ m. whole_of m.state m.pending.items m.busy m.request m.log m.budget m.asked m.last m.boot_memory };
+    ghost view = { λ m. whole_of m.state m.pending.items m.busy m.request m.log m.budget m.asked m.last m.boot_memory m.seats_given };
 
-    ghost invariant = { λ m. IsKept (whole_of m.state m.pending.items m.busy m.request m.log m.budget m.asked m.last m.boot_memory) m.log };
+    ghost invariant = { λ m. IsKept (whole_of m.state m.pending.items m.busy m.request m.log m.budget m.asked m.last m.boot_memory m.seats_given) m.log };
 }
 
 impl Machine {
@@ -83,6 +87,7 @@ impl Machine {
             asked: 0,
             last: 0,
             boot_memory,
+            seats_given: false,
         })
     }
 
@@ -116,44 +121,87 @@ impl Machine {
         Ok(Done::Issued(note_of(&member)))
     }
 
-    /// A unit reads its operands, all in this step.
-    pub(crate) fn read(&mut self, unit: Unit) -> Answer
-        ensures answer { result ≡ answer_of self.old (Read unit) }
-        ensures after { self.new ≡ settled self.old (Read unit) result }
+    /// A seat for each unit in use, in the order of their numbers, the first time; then None.
+    pub fn seats(&mut self) -> Option<[Seat; 7]>
+        ensures seats { result ≡ (if self.old.seats_given then None else Some new_seats) }
+        ensures after { self.new ≡ with_seats_given self.old }
+    {
+        if self.seats_given {
+            return None;
+        }
+        self.seats_given = true;
+        Some([
+            Seat::new(Unit::Branch),
+            Seat::new(Unit::Boolean),
+            Seat::new(Unit::Shift),
+            Seat::new(Unit::LongAdd),
+            Seat::new(Unit::Divide),
+            Seat::new(Unit::Increment1),
+            Seat::new(Unit::Increment2),
+        ])
+    }
+
+    /// A unit reads its operands, all in this step. It answers the member that waited, and
+    /// what it has read.
+    pub(crate) fn read_operands(&mut self, unit: Unit) -> Result<(Member, Operands), Refusal>
+        ensures answer { allowed self.old (Read unit) ≡ refusal_in result }
+        ensures after { MatchResult result (λ read. self.new ≡ after self.old (Read unit)) (λ refusal. self.new ≡ self.old) }
+        ensures unit { IfOk result (λ read. IsSome (row read.0.instr).unit) }
+        ensures number { IfOk result (λ read. waits_in read.0.number (slot self.old unit) ≡ true) }
+        ensures read { IfOk result (λ read. (seat : Seating) → reading_in seat (slot self.new unit) ≡ Some (record { seat = seat; number = read.0.number; instr = read.0.instr; operands = read.1 })) }
     {
         let spot = match judge_read(self.pending.as_slice(), unit) {
             Ok(spot) => spot,
             Err(refusal) => return Err(refusal),
         };
-        let operands = operands(&spot.member.instr, spot.member.at, &self.state.registers);
-        let member = Member {
-            phase: Phase::Before(Stage::Read(operands)),
-            ..spot.member
-        };
+        let operands = spot.member.operands(&self.state.registers);
+        let member = spot.member.with_operands(&operands);
         replace(&mut self.pending, spot.index, member);
-        Ok(Done::Made)
+        Ok((spot.member, operands))
+    }
+
+    /// A unit reads its operands.
+    pub(crate) fn read_unit(&mut self, unit: Unit) -> Answer
+        ensures answer { result ≡ answer_of self.old (Read unit) }
+        ensures after { self.new ≡ settled self.old (Read unit) result }
+    {
+        match self.read_operands(unit) {
+            Ok(_) => Ok(Done::Made),
+            Err(refusal) => Err(refusal),
+        }
     }
 
     /// A unit has its value.
-    pub(crate) fn finish(&mut self, unit: Unit) -> Answer
+    pub(crate) fn finish_unit(&mut self, unit: Unit) -> Answer
         ensures answer { result ≡ answer_of self.old (Finish unit) }
         ensures after { self.new ≡ settled self.old (Finish unit) result }
     {
-        let (spot, operands) = match judge_finish(self.pending.as_slice(), unit) {
-            Ok(found) => found,
-            Err(refusal) => return Err(refusal),
-        };
-        let value = value(&spot.member.instr, &operands);
-        let member = Member {
-            phase: Phase::Before(Stage::Finished(value)),
-            ..spot.member
-        };
-        replace(&mut self.pending, spot.index, member);
-        Ok(Done::Made)
+        match judge_finish(self.pending.as_slice(), unit) {
+            Err(refusal) => Err(refusal),
+            Ok((spot, operands)) => {
+                self.put_value(unit, value(&spot.member.instr, &operands));
+                Ok(Done::Made)
+            }
+        }
+    }
+
+    /// A unit has the value of what it has read.
+    pub(crate) fn put_value(&mut self, unit: Unit, value: UnitValue)
+        requires { IsValueIn value (slot self.old unit) }
+        ensures after { self.new ≡ after self.old (Finish unit) }
+        ensures allowed { allowed self.old (Finish unit) ≡ None }
+    {
+        if let Some(spot) = find_stage(self.pending.as_slice(), unit) {
+            replace(
+                &mut self.pending,
+                spot.index,
+                spot.member.with_value(&value),
+            );
+        }
     }
 
     /// A unit stores its result, jumps or makes its reference, and is released.
-    pub(crate) fn store(&mut self, unit: Unit) -> Answer
+    pub(crate) fn store_unit(&mut self, unit: Unit) -> Answer
         ensures answer { result ≡ answer_of self.old (Store unit) }
         ensures after { self.new ≡ settled self.old (Store unit) result }
     {

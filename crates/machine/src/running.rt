@@ -27,9 +27,9 @@ impl Machine {
     {
         match event {
             Event::Issue => self.issue(),
-            Event::Read(unit) => self.read(unit),
-            Event::Finish(unit) => self.finish(unit),
-            Event::Store(unit) => self.store(unit),
+            Event::Read(unit) => self.read_unit(unit),
+            Event::Finish(unit) => self.finish_unit(unit),
+            Event::Store(unit) => self.store_unit(unit),
             Event::Accept(place) => self.accept(place),
             Event::Return(channel) => self.return_load(channel),
             Event::BankFree(bank) => self.bank_free(bank),

@@ -32,4 +32,4 @@ pub returns-clause-after : goal.returns-clause-after
 returns-clause-after c = ok_after (the_view c.self.inside) c.args.self.now _ (Accept c.args.place) Made c.self.view_is (new_whole c)
 
 pub perform-left-requires : goal.perform-left-requires
-perform-left-requires c = entry_within (the_view c.self.inside) c.args.place c.in-Ok.spot (spot_in c.as_slice.ensures.value c.in-Ok.ensures.spot) c.self.invariant.seated
+perform-left-requires c = entry_within (the_view c.self.inside) c.args.place c.in-Ok.spot (spot_in c.as_slice.ensures.value c.in-Ok.ensures.spot) c.self.invariant.slotted
