@@ -19,6 +19,7 @@ pub mod Steps
 pub mod Making
 pub mod SlotLaws
 pub mod Seats
+pub mod Naming
 pub mod There
 pub mod Runs
 pub mod Draining

@@ -1,6 +1,7 @@
-ghost use Rattle.std.specs.Prelude.{◌≡◌, ◌≢◌, IfOk, IfErr, MatchBool, MatchResult, Some, None};
+ghost use Rattle.std.specs.Prelude.{◌≡◌, ◌≢◌, ◌||◌, true, IfOk, IfErr, MatchBool, MatchResult, Some, None};
 ghost use Rattle.machine.specs.declared.event.Event.TheVariants.{Read, Finish, Store};
 ghost use Rattle.instruction_table.specs.declared.refusal.Refusal.TheVariants.{Stranger};
+ghost use Rattle.machine.specs.Refusals.{is_stranger, is_read_refusal, is_store_refusal};
 ghost use Rattle.machine.specs.Tokens.{Seating, slot, waits_in, finished_in, reading_in, read_of, can_claim, refusal_to, refused, one_more, is_waiting, is_finished};
 ghost use Rattle.machine.specs.Whole.{allowed, after, seek, stage_at};
 
@@ -109,6 +110,7 @@ impl Machine {
         ensures loaded { IfOk result (λ loaded. reading_in token.seat (slot self.new token.seat.unit) ≡ Some loaded) }
         ensures kept { IfOk result (λ loaded. loaded.number ≡ token.number) }
         ensures given_back { IfErr result (λ back. back.1 ≡ token) }
+        ensures named { IfErr result (λ back. (is_stranger back.0 || is_read_refusal back.0) ≡ true) }
     {
         let note = token.note();
         if !waits(self.pending(), note) {
@@ -165,6 +167,7 @@ impl Machine {
         ensures after { MatchResult result (λ seat. self.new ≡ after self.old (Store token.seat.unit)) (λ back. self.new ≡ self.old) }
         ensures seat { IfOk result (λ seat. seat ≡ one_more token) }
         ensures given_back { IfErr result (λ back. back.1 ≡ token) }
+        ensures named { IfErr result (λ back. (is_stranger back.0 || is_store_refusal back.0) ≡ true) }
     {
         let note = token.note();
         if !is_finished(self.pending(), note) {
