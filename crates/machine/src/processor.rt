@@ -5,7 +5,7 @@ ghost use Rattle.machine.specs.Run.{IsAnswer, answer_of, settled};
 ghost use Rattle.instruction_table.specs.Table.{row};
 ghost use Rattle.machine.specs.Changes.{refusal_in};
 ghost use Rattle.machine.specs.Tokens.{Seating, new_seats, with_seats_given, IsValueIn, slot, waits_in, reading_in};
-ghost use Rattle.machine.specs.Whole.{boot_whole, is_pending, allowed, after};
+ghost use Rattle.machine.specs.Whole.{boot_whole, is_pending, allowed, after, completed, replayed};
 ghost use Rattle.machine.specs.Working.{next_of, work_left};
 
 use crate::changing::{
@@ -320,6 +320,14 @@ impl Machine {
         ensures limit { work_left self.now.pending ≤ 40 }
     {
         next_work(self.pending.as_slice(), &self.busy)
+    }
+
+    /// At every moment, and not only when the machine is drained, the effects made so far with those still
+    /// to come are the replay of the log. It does nothing; its caller learns this.
+    pub fn keeps_replay(&self)
+        ensures { replayed self.now ≡ Some (completed self.now) }
+    {
+        let _ = &self.log;
     }
 
     /// What was issued and exchanged since boot.

@@ -1,0 +1,173 @@
+ghost use Rattle.std.specs.Prelude.{◌≡◌, ◌||◌, ◌⊎◌, true, false, Some, IfErr, IfOk, MatchResult};
+ghost use Rattle.instruction_table.specs.declared.refusal.Refusal.TheVariants.{Nothing, NotDrained, OutOfMemory, Stranger};
+ghost use Rattle.sequential.specs.Replay.{boot, replay};
+ghost use Rattle.machine.specs.Refusals.{is_stranger, is_issue_refusal, is_read_refusal, is_store_refusal, is_ask_refusal, is_exchange_refusal};
+ghost use Rattle.machine.specs.Tokens.{new_seats, one_more};
+
+use crate::Seen;
+use instruction_table::Refusal;
+use machine::{Computed, Done, Event, Finished, Loaded, Machine, Note, Reserved, Seat, Snapshot};
+use std::sync::{Mutex, Wait};
+
+/// What the lock keeps. Of a `Machine` it is always true that the effects made so far, with those still to
+/// come, are the replay of its log on the memory with which it was booted (`Machine::keeps_replay`); so
+/// this is true whenever the lock is got.
+#[derive(Drop)]
+struct Locked {
+    machine: Machine,
+    /// Whether its users were told to end.
+    is_ended: bool,
+}
+
+/// A machine that several threads drive: each call makes one event while it holds the lock.
+///
+/// No contract here says what the machine was when the lock was got: others may have changed it. What an
+/// event answers and leaves is stated in full on the machine's method of that name; a call's contract
+/// keeps what its caller holds, a token or a snapshot.
+#[derive(Drop)]
+pub struct Shared {
+    locked: Mutex<Locked>,
+}
+
+impl Shared {
+    /// Puts a machine under the lock, and gives its seats out: one for each unit in use, in the order of
+    /// the units' numbers.
+    ///
+    /// # Errors
+    /// `Nothing` where the machine's seats were given out before; the machine is dropped.
+    pub fn open(machine: Machine) -> Result<(Shared, [Seat; 7], Seen), Refusal>
+        ensures { MatchResult result
+            (λ opened. (machine.seats_given ≡ false) × (opened.1 ≡ new_seats))
+            (λ refusal. (machine.seats_given ≡ true) × (refusal ≡ Nothing)) }
+    {
+        let mut machine = machine;
+        let Some(seats) = machine.seats() else {
+            return Err(Refusal::Nothing);
+        };
+        let locked = Mutex::new(Locked {
+            machine,
+            is_ended: false,
+        });
+        Ok((Shared { locked }, seats, Seen::new()))
+    }
+
+    /// Issues the next instruction: the event `Issue`. It answers the reservation of an instruction that
+    /// has a unit.
+    ///
+    /// # Errors
+    /// What an issue may refuse.
+    #[tactic(auto, unfolding(machine::specs::Refusals::may_refuse))]
+    pub fn issue<R: Wait>(&self, rt: &R, _seen: &mut Seen) -> Result<Option<Note>, Refusal>
+        ensures { IfErr result (λ refusal. is_issue_refusal refusal ≡ true) }
+    {
+        match self.locked.lock(rt).machine.apply(Event::Issue) {
+            Ok(Done::Issued(note)) => Ok(note),
+            Ok(Done::Made) => Ok(None),
+            Err(refusal) => Err(refusal),
+        }
+    }
+
+    /// Asks for an exchange with the package at an absolute address: the event `Ask`.
+    ///
+    /// # Errors
+    /// What a request may refuse.
+    #[tactic(auto, unfolding(machine::specs::Refusals::may_refuse))]
+    pub fn ask<R: Wait>(&self, rt: &R, _seen: &mut Seen, at: u32) -> Result<(), Refusal>
+        ensures { IfErr result (λ refusal. is_ask_refusal refusal ≡ true) }
+    {
+        match self.locked.lock(rt).machine.apply(Event::Ask(at)) {
+            Ok(_) => Ok(()),
+            Err(refusal) => Err(refusal),
+        }
+    }
+
+    /// Makes the exchange that was asked for: the event `Exchange`.
+    ///
+    /// # Errors
+    /// What an exchange may refuse.
+    #[tactic(auto, unfolding(machine::specs::Refusals::may_refuse))]
+    pub fn exchange<R: Wait>(&self, rt: &R, _seen: &mut Seen) -> Result<(), Refusal>
+        ensures { IfErr result (λ refusal. is_exchange_refusal refusal ≡ true) }
+    {
+        match self.locked.lock(rt).machine.apply(Event::Exchange) {
+            Ok(_) => Ok(()),
+            Err(refusal) => Err(refusal),
+        }
+    }
+
+    /// Takes on a reservation with the seat of its unit.
+    ///
+    /// # Errors
+    /// `Stranger` with the seat.
+    pub fn claim<R: Wait>(
+        &self,
+        rt: &R,
+        seat: Seat,
+        note: Note,
+    ) -> Result<Reserved, (Refusal, Seat)>
+        ensures claimed { IfOk result (λ token. token ≡ record { seat = seat; number = note.number }) }
+        ensures given_back { IfErr result (λ back. (back.1 ≡ seat) × (back.0 ≡ Stranger)) }
+    {
+        self.locked.lock(rt).machine.claim(seat, note)
+    }
+
+    /// The unit reads its operands: the event `Read` for the token's reservation.
+    ///
+    /// # Errors
+    /// `OperandAwaited` or `Stranger`, with the token.
+    pub fn read<R: Wait>(&self, rt: &R, token: Reserved) -> Result<Loaded, (Refusal, Reserved)>
+        ensures loaded { IfOk result (λ loaded. (loaded.seat ≡ token.seat) × (loaded.number ≡ token.number)) }
+        ensures given_back { IfErr result (λ back. (back.1 ≡ token) × ((is_stranger back.0 || is_read_refusal back.0) ≡ true)) }
+    {
+        self.locked.lock(rt).machine.read(token)
+    }
+
+    /// The unit gets the token's value: the event `Finish` for the token's reservation.
+    ///
+    /// # Errors
+    /// `Stranger` with the token.
+    pub fn finish<R: Wait>(&self, rt: &R, token: Computed) -> Result<Finished, (Refusal, Computed)>
+        ensures finished { IfOk result (λ finished. finished ≡ record { seat = token.seat; number = token.number }) }
+        ensures given_back { IfErr result (λ back. (back.1 ≡ token) × (back.0 ≡ Stranger)) }
+    {
+        self.locked.lock(rt).machine.finish(token)
+    }
+
+    /// The unit stores its result and is released: the event `Store` for the token's reservation.
+    ///
+    /// # Errors
+    /// `ResultHeld`, `HopperFull`, `OutOfTurn` or `Stranger`, with the token.
+    pub fn store<R: Wait>(&self, rt: &R, token: Finished) -> Result<Seat, (Refusal, Finished)>
+        ensures seat { IfOk result (λ seat. seat ≡ one_more token) }
+        ensures given_back { IfErr result (λ back. (back.1 ≡ token) × ((is_stranger back.0 || is_store_refusal back.0) ≡ true)) }
+    {
+        self.locked.lock(rt).machine.store(token)
+    }
+
+    /// The state, the log and the boot memory of the machine, if it is drained. The state is the replay of
+    /// the log on that memory.
+    ///
+    /// # Errors
+    /// `NotDrained` or `OutOfMemory`.
+    pub fn snapshot<R: Wait>(&self, rt: &R, _seen: &mut Seen) -> Result<Snapshot, Refusal>
+        ensures replay { IfOk result (λ snapshot. replay (boot snapshot.boot_memory) snapshot.log ≡ Some snapshot.state) }
+        ensures named { IfErr result (λ refusal. (refusal ≡ NotDrained) ⊎ (refusal ≡ OutOfMemory)) }
+    {
+        self.locked.lock(rt).machine.snapshot()
+    }
+
+    /// Whether no issued instruction has an effect still to come.
+    pub fn drained<R: Wait>(&self, rt: &R) -> bool {
+        self.locked.lock(rt).machine.drained()
+    }
+
+    /// Tells those who use the machine to end.
+    pub fn end<R: Wait>(&self, rt: &R) {
+        self.locked.lock(rt).is_ended = true;
+    }
+
+    /// Whether its users were told to end.
+    pub fn ended<R: Wait>(&self, rt: &R) -> bool {
+        self.locked.lock(rt).is_ended
+    }
+}
