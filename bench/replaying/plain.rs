@@ -1,17 +1,28 @@
-//! A plain interpreter of the same machine, for timing alone: one match on the digits of an opcode, each arm
-//! making its change. It reads a deck of `core`, `at`, `word`, `start` and `end` lines on standard input, makes
-//! the exchange and then issues instructions, several times over from the same memory.
+//! A plain interpreter of the same machine, to be timed and compared with: one match on the opcode, each arm
+//! making its change. Nothing in it is proved, and it carries out the branches and the references to memory too.
 //!
-//! `plain COUNT TIMES` prints P, the next parcel, the halt and the registers behind the last run, and the
-//! seconds that all runs took.
+//! `plain LOG` reads a deck of `core`, `at`, `word`, `start`, `show` and `end` lines on standard input, goes
+//! through the log and prints the dump, as `cdc6600 replay LOG` does. It takes deck and log to be right, and
+//! panics where they aren't.
 
+use std::fmt::Write;
 use std::io::Read;
-use std::time::Instant;
 
 const ONES60: u64 = (1 << 60) - 1;
 const ONES18: u32 = (1 << 18) - 1;
 
-#[derive(Clone, Copy, Debug, PartialEq)]
+/// How many parcels an instruction has by its opcode's two digits; 0 where the opcode is refused.
+const PARCELS: [u32; 64] = [
+    1, 2, 2, 2, 2, 2, 2, 2, // 00 to 07
+    1, 1, 1, 1, 1, 1, 1, 1, // 10 to 17
+    1, 1, 1, 1, 0, 0, 0, 0, // 20 to 27
+    0, 0, 0, 0, 0, 0, 1, 1, // 30 to 37
+    0, 0, 0, 1, 0, 0, 1, 1, // 40 to 47
+    2, 2, 2, 1, 1, 1, 1, 1, // 50 to 57
+    2, 2, 2, 1, 1, 1, 1, 1, // 60 to 67
+    2, 2, 2, 1, 1, 1, 1, 1, // 70 to 77
+];
+
 enum Halt {
     Stop,
     Illegal(u32),
@@ -19,7 +30,6 @@ enum Halt {
     Fetch,
 }
 
-#[derive(Clone)]
 struct State {
     x: [u64; 8],
     a: [u32; 8],
@@ -55,10 +65,6 @@ fn shift_right(x: u64, count: u32) -> u64 {
     if x >> 59 == 0 { x >> by } else { (ONES60 - (ONES60 >> by)) | (x >> by) }
 }
 
-fn mask(count: u32) -> u64 {
-    ONES60 - (ONES60 >> count.min(60))
-}
-
 fn shift_nominal(b: u32, x: u64, left: bool) -> u64 {
     let negative = b >> 17 == 1;
     let magnitude = if negative { ONES18 - b } else { b };
@@ -72,10 +78,37 @@ fn shift_nominal(b: u32, x: u64, left: bool) -> u64 {
 }
 
 fn low18(x: u64) -> u32 {
-    (x & u64::from(ONES18)) as u32
+    x as u32 & ONES18
+}
+
+fn extended(index: u32) -> u64 {
+    let sign = if index >> 17 == 1 { ONES60 - u64::from(ONES18) } else { 0 };
+    sign | u64::from(index)
+}
+
+/// The order of two B registers: -0 comes before +0.
+fn order(b: u32) -> u32 {
+    b ^ 0o400000
 }
 
 impl State {
+    fn boot(memory: Vec<u64>) -> State {
+        State {
+            x: [0; 8],
+            a: [0; 8],
+            b: [0; 8],
+            memory,
+            p: 0,
+            parcel: 0,
+            held: None,
+            ra: 0,
+            fl: 0,
+            mode: 0,
+            halt: Some(Halt::Stop),
+            fault: false,
+        }
+    }
+
     fn absolute(&self, address: u32) -> Option<usize> {
         let at = (self.ra + address) as usize;
         if address < self.fl && at < self.memory.len() { Some(at) } else { None }
@@ -94,44 +127,59 @@ impl State {
         }
     }
 
-    fn jump(&mut self, to: u32) {
-        self.p = to;
-        self.parcel = 0;
-        self.held = None;
+    fn load(&mut self, address: u32) -> u64 {
+        match self.absolute(address) {
+            Some(at) => self.memory[at],
+            None => {
+                self.out_of_range();
+                0
+            }
+        }
     }
 
     fn set_a(&mut self, i: usize, address: u32) {
         self.a[i] = address;
         match i {
             0 => {}
-            1..=5 => match self.absolute(address) {
-                Some(at) => self.x[i] = self.memory[at],
-                None => {
-                    self.out_of_range();
-                    self.x[i] = 0;
-                }
-            },
+            1..=5 => self.x[i] = self.load(address),
             _ => self.store(address, self.x[i]),
+        }
+    }
+
+    fn set_b(&mut self, i: usize, value: u32) {
+        if i != 0 {
+            self.b[i] = value;
+        }
+    }
+
+    fn jump(&mut self, to: u32) {
+        self.p = to;
+        self.parcel = 0;
+        self.held = None;
+    }
+
+    fn jump_if(&mut self, taken: bool, to: u32) {
+        if taken {
+            self.jump(to);
         }
     }
 
     fn x_holds(&self, test: usize, x: u64) -> bool {
         let upper = x >> 48;
-        let out = upper == 0o3777 || upper == 0o4000;
-        let indefinite = upper == 0o1777 || upper == 0o6000;
         match test {
             0 => x == 0 || x == ONES60,
             1 => x != 0 && x != ONES60,
             2 => x >> 59 == 0,
             3 => x >> 59 == 1,
-            4 => !out,
-            5 => out,
-            6 => !indefinite,
-            _ => indefinite,
+            4 => upper != 0o3777 && upper != 0o4000,
+            5 => upper == 0o3777 || upper == 0o4000,
+            6 => upper != 0o1777 && upper != 0o6000,
+            _ => upper == 0o1777 || upper == 0o6000,
         }
     }
 
-    fn increment(&self, m: u32, j: usize, k: usize, address: u32) -> u32 {
+    /// What SA, SB and SX set their register to, by the opcode's second digit.
+    fn index(&self, m: u32, j: usize, k: usize, address: u32) -> u32 {
         match m {
             0 => add18(self.a[j], address),
             1 => add18(self.b[j], address),
@@ -145,9 +193,6 @@ impl State {
     }
 
     fn step(&mut self) {
-        if self.halt.is_some() {
-            return;
-        }
         let word = match self.held {
             Some(word) => word,
             None => match self.absolute(self.p) {
@@ -159,191 +204,168 @@ impl State {
             },
         };
         self.held = Some(word);
-        let parcel = (word >> (15 * (3 - self.parcel))) as u32 & 0x7fff;
-        let (f, m) = (parcel >> 12, parcel >> 9 & 7);
+        let parcel = (word >> (45 - 15 * self.parcel)) as u32 & 0o77777;
+        let op = parcel >> 9;
         let i = (parcel >> 6 & 7) as usize;
         let j = (parcel >> 3 & 7) as usize;
         let k = (parcel & 7) as usize;
-        let legal = match f {
-            0 => m != 1 || i == 0,
-            2 => m < 4,
-            3 => m > 5,
-            4 => m == 3 || m == 6 || m == 7,
-            _ => true,
-        };
-        if !legal {
+        let jk = parcel & 0o77;
+        let parcels = PARCELS[op as usize];
+        if parcels == 0 || (op == 0o01 && i != 0) {
             self.halt = Some(Halt::Illegal(parcel));
             return;
         }
-        let is_long = match f {
-            0 => m != 0,
-            5..=7 => m < 3,
-            _ => false,
-        };
-        if f == 0 && m == 0 {
+        if op == 0 {
             self.halt = Some(Halt::Stop);
             return;
         }
-        if is_long && self.parcel == 3 {
-            self.halt = Some(Halt::Straddle);
-            return;
+        let mut address = 0;
+        if parcels == 2 {
+            if self.parcel == 3 {
+                self.halt = Some(Halt::Straddle);
+                return;
+            }
+            address = (word >> (30 - 15 * self.parcel)) as u32 & ONES18;
         }
-        let address = if is_long {
-            ((parcel & 7) << 15) | ((word >> (15 * (2 - self.parcel))) as u32 & 0x7fff)
-        } else {
-            0
-        };
-        let at = self.p;
-        self.parcel += if is_long { 2 } else { 1 };
-        if self.parcel > 3 {
-            self.jump((self.p + 1) & ONES18);
+        let next = (self.p + 1) & ONES18;
+        self.parcel += parcels;
+        if self.parcel == 4 {
+            self.jump(next);
         }
-        match f {
-            0 => match m {
-                1 => {
-                    self.store(address, (0o0400 << 48) | u64::from((at + 1) & ONES18) << 30);
-                    self.jump((address + 1) & ONES18);
-                }
-                2 => self.jump(add18(self.b[i], address)),
-                3 => {
-                    if self.x_holds(i, self.x[j]) {
-                        self.jump(address);
-                    }
-                }
-                _ => {
-                    let (left, right) = (self.b[i] ^ 0x2_0000, self.b[j] ^ 0x2_0000);
-                    let taken = match m {
-                        4 => left == right,
-                        5 => left != right,
-                        6 => left >= right,
-                        _ => left < right,
-                    };
-                    if taken {
-                        self.jump(address);
-                    }
-                }
-            },
-            1 => {
-                let (left, right) = (self.x[j], self.x[k]);
-                self.x[i] = match m {
-                    0 => left,
-                    1 => left & right,
-                    2 => left | right,
-                    3 => left ^ right,
-                    4 => ONES60 - right,
-                    5 => left & (ONES60 - right),
-                    6 => left | (ONES60 - right),
-                    _ => left ^ (ONES60 - right),
-                };
+        match op {
+            0o01 => {
+                self.store(address, 0o0400 << 48 | u64::from(next) << 30);
+                self.jump((address + 1) & ONES18);
             }
-            2 => {
-                let count = parcel & 0o77;
-                self.x[i] = match m {
-                    0 => rotate_left(self.x[i], count),
-                    1 => shift_right(self.x[i], count),
-                    2 => shift_nominal(self.b[j], self.x[k], true),
-                    _ => shift_nominal(self.b[j], self.x[k], false),
-                };
-            }
-            3 => {
-                let right = if m == 6 { self.x[k] } else { ONES60 - self.x[k] };
-                self.x[i] = add60(self.x[j], right);
-            }
-            4 => match m {
-                3 => self.x[i] = mask(parcel & 0o77),
-                6 => {}
-                _ => self.x[i] = u64::from(self.x[k].count_ones()),
-            },
-            5 => self.set_a(i, self.increment(m, j, k, address)),
-            6 => {
-                let value = self.increment(m, j, k, address);
-                if i != 0 {
-                    self.b[i] = value;
-                }
-            }
-            _ => {
-                let value = self.increment(m, j, k, address);
-                let sign = if value >> 17 == 1 { ONES60 - u64::from(ONES18) } else { 0 };
-                self.x[i] = sign | u64::from(value);
-            }
+            0o02 => self.jump(add18(self.b[i], address)),
+            0o03 => self.jump_if(self.x_holds(i, self.x[j]), address),
+            0o04 => self.jump_if(self.b[i] == self.b[j], address),
+            0o05 => self.jump_if(self.b[i] != self.b[j], address),
+            0o06 => self.jump_if(order(self.b[i]) >= order(self.b[j]), address),
+            0o07 => self.jump_if(order(self.b[i]) < order(self.b[j]), address),
+            0o10 => self.x[i] = self.x[j],
+            0o11 => self.x[i] = self.x[j] & self.x[k],
+            0o12 => self.x[i] = self.x[j] | self.x[k],
+            0o13 => self.x[i] = self.x[j] ^ self.x[k],
+            0o14 => self.x[i] = ONES60 - self.x[k],
+            0o15 => self.x[i] = self.x[j] & (ONES60 - self.x[k]),
+            0o16 => self.x[i] = self.x[j] | (ONES60 - self.x[k]),
+            0o17 => self.x[i] = self.x[j] ^ (ONES60 - self.x[k]),
+            0o20 => self.x[i] = rotate_left(self.x[i], jk),
+            0o21 => self.x[i] = shift_right(self.x[i], jk),
+            0o22 => self.x[i] = shift_nominal(self.b[j], self.x[k], true),
+            0o23 => self.x[i] = shift_nominal(self.b[j], self.x[k], false),
+            0o36 => self.x[i] = add60(self.x[j], self.x[k]),
+            0o37 => self.x[i] = add60(self.x[j], ONES60 - self.x[k]),
+            0o43 => self.x[i] = ONES60 - (ONES60 >> jk.min(60)),
+            0o46 => {}
+            0o47 => self.x[i] = u64::from(self.x[k].count_ones()),
+            0o50..=0o57 => self.set_a(i, self.index(op & 7, j, k, address)),
+            0o60..=0o67 => self.set_b(i, self.index(op & 7, j, k, address)),
+            _ => self.x[i] = extended(self.index(op & 7, j, k, address)),
         }
     }
 
-    fn begin(memory: Vec<u64>, start: usize) -> State {
-        let package = memory[start..start + 16].to_vec();
-        let field = |n: usize| (package[n] >> 36) as u32 & ONES18;
-        let mut state = State {
-            x: [0; 8],
-            a: [0; 8],
-            b: [0; 8],
-            p: field(0),
-            parcel: 0,
-            held: None,
-            ra: field(1),
-            fl: field(2),
-            mode: field(3),
-            halt: None,
-            fault: false,
-            memory,
-        };
+    fn issue_many(&mut self, count: u64) {
+        for _ in 0..count {
+            if self.halt.is_some() {
+                return;
+            }
+            self.step();
+        }
+    }
+
+    /// The registers and the sixteen words at an address change places.
+    fn exchange(&mut self, at: usize) {
+        let status = u32::from(self.halt.is_some()) + 2 * u32::from(self.fault);
+        let upper = [self.p, self.ra, self.fl, self.mode, 0, 0, 0, status];
+        let incoming = self.memory[at..at + 16].to_vec();
         for n in 0..8 {
-            state.x[n] = package[8 + n];
-            state.a[n] = (package[n] >> 18) as u32 & ONES18;
-            state.b[n] = if n == 0 { 0 } else { package[n] as u32 & ONES18 };
+            let (upper, a, b) = (u64::from(upper[n]), u64::from(self.a[n]), u64::from(self.b[n]));
+            self.memory[at + n] = upper << 36 | a << 18 | b;
+            self.memory[at + 8 + n] = self.x[n];
         }
-        state
-    }
-}
-
-#[inline(never)]
-fn issue_many(state: &mut State, count: u64) {
-    for _ in 0..count {
-        if state.halt.is_some() {
-            return;
+        let upper = |n: usize| low18(incoming[n] >> 36);
+        self.jump(upper(0));
+        (self.ra, self.fl, self.mode) = (upper(1), upper(2), upper(3));
+        for n in 0..8 {
+            self.a[n] = low18(incoming[n] >> 18);
+            self.set_b(n, low18(incoming[n]));
+            self.x[n] = incoming[8 + n];
         }
-        state.step();
+        (self.halt, self.fault) = (None, false);
     }
-}
 
-fn deck(text: &str) -> (Vec<u64>, usize) {
-    let (mut memory, mut at, mut start) = (Vec::new(), 0, 0);
-    for line in text.lines() {
-        let fields: Vec<&str> = line.split(' ').collect();
-        let octal = |n: usize| u64::from_str_radix(fields[n], 8).expect("octal digits");
-        match fields[0] {
-            "core" => memory = vec![0; fields[1].parse().expect("decimal digits")],
-            "at" => at = octal(1) as usize,
-            "word" => {
-                memory[at] = octal(1);
-                at += 1;
+    fn replay(&mut self, log: &str) {
+        for entry in log.split(' ').filter(|entry| *entry != "none") {
+            match entry.split_at(1) {
+                ("E", at) => self.exchange(octal(at) as usize),
+                ("I", count) => self.issue_many(count.parse().expect("decimal digits")),
+                _ => panic!("an entry {entry}"),
             }
-            "start" => start = octal(1) as usize,
-            "end" => break,
-            other => panic!("a line of {other}"),
         }
     }
-    (memory, start)
+
+    fn dump(&self, shows: &[(usize, usize)], log: &str) -> String {
+        let held = self.held.map_or(String::from("none"), |word| format!("{word:020o}"));
+        let halt = match self.halt {
+            None => String::from("running"),
+            Some(Halt::Stop) => String::from("stop"),
+            Some(Halt::Illegal(parcel)) if parcel >> 9 == 0o01 => format!("illegal {:03o}", parcel >> 6),
+            Some(Halt::Illegal(parcel)) => format!("illegal {:02o}", parcel >> 9),
+            Some(Halt::Straddle) => String::from("straddle"),
+            Some(Halt::Fetch) => String::from("fetch"),
+        };
+        let fault = if self.fault { "address" } else { "none" };
+        let indexes = |all: &[u32; 8]| all.map(|index| format!(" {index:06o}")).concat();
+        let mut text = format!("P {:06o} PARCEL {} HELD {held}\n", self.p, self.parcel);
+        text += &format!("HALT {halt} FAULT {fault}\n");
+        text += &format!("RA {:06o} FL {:06o} EM {:06o}\n", self.ra, self.fl, self.mode);
+        text += &format!("A{}\nB{}\n", indexes(&self.a), indexes(&self.b));
+        for (n, x) in self.x.iter().enumerate() {
+            text += &format!("X{n} {x:020o}\n");
+        }
+        for at in shows.iter().flat_map(|(first, last)| *first..=*last) {
+            writeln!(text, "M {at:06o} {:020o}", self.memory[at]).expect("a string");
+        }
+        text + &format!("LOG {log}\n")
+    }
+}
+
+fn octal(digits: &str) -> u64 {
+    u64::from_str_radix(digits, 8).expect("octal digits")
+}
+
+/// The memory, and the first and last address of each `show` line.
+fn deck(text: &str) -> (Vec<u64>, Vec<(usize, usize)>) {
+    let (mut memory, mut place, mut shows) = (Vec::new(), 0, Vec::new());
+    for line in text.lines() {
+        let (name, rest) = line.split_once(' ').unwrap_or((line, ""));
+        match name {
+            "core" => memory = vec![0; rest.parse().expect("decimal digits")],
+            "at" => place = octal(rest) as usize,
+            "word" => {
+                memory[place] = octal(rest);
+                place += 1;
+            }
+            "start" => {}
+            "show" => {
+                let (first, last) = rest.split_once(' ').expect("two addresses");
+                shows.push((octal(first) as usize, octal(last) as usize));
+            }
+            "end" => break,
+            _ => panic!("a line {line}"),
+        }
+    }
+    (memory, shows)
 }
 
 fn main() {
-    let mut arguments = std::env::args().skip(1).map(|word| word.parse().expect("a number"));
-    let count: u64 = arguments.next().expect("the count");
-    let times: u64 = arguments.next().expect("how many times");
+    let log = std::env::args().nth(1).expect("a log");
     let mut text = String::new();
     std::io::stdin().read_to_string(&mut text).expect("a deck");
-    let (memory, start) = deck(&text);
-    let mut last = State::begin(memory.clone(), start);
-    let mut seconds = 0.0;
-    for _ in 0..times {
-        let mut state = State::begin(memory.clone(), start);
-        let begun = Instant::now();
-        issue_many(&mut state, count);
-        seconds += begun.elapsed().as_secs_f64();
-        last = state;
-    }
-    println!("P {:06o} PARCEL {} HALT {:?}", last.p, last.parcel, last.halt);
-    for n in 0..8 {
-        println!("{n} {:020o} {:06o} {:06o}", last.x[n], last.a[n], last.b[n]);
-    }
-    println!("{seconds:.3} s");
+    let (memory, shows) = deck(&text);
+    let mut state = State::boot(memory);
+    state.replay(&log);
+    print!("{}", state.dump(&shows, &log));
 }

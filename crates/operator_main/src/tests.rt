@@ -64,6 +64,50 @@ impl Write for Dripping {
     }
 }
 
+/// A first text, then another so many times, and then a last one: a long input that isn't kept anywhere.
+#[derive(Drop)]
+struct MadeUp<'a> {
+    first: &'a [u8],
+    repeated: &'a [u8],
+    times: u64,
+    last: &'a [u8],
+}
+
+impl Read for MadeUp<'_> {
+    fn read(&mut self, buf: &mut [u8]) -> io::Result<usize> {
+        if self.first.is_empty() {
+            if self.times > 0 {
+                self.times -= 1;
+                self.first = self.repeated;
+            } else {
+                self.first = self.last;
+                self.last = b"";
+            }
+        }
+        self.first.read(buf)
+    }
+}
+
+/// Counts the writes and keeps the bytes of the last one.
+#[derive(Drop)]
+struct Counting {
+    writes: u64,
+    last: Vec<u8>,
+}
+
+impl Write for Counting {
+    fn write(&mut self, buf: &[u8]) -> io::Result<usize> {
+        self.writes = self.writes.wrapping_add(1);
+        self.last.clear();
+        self.last.extend_from_slice(buf)?;
+        Ok(buf.len())
+    }
+
+    fn flush(&mut self) -> io::Result<()> {
+        Ok(())
+    }
+}
+
 /// A deck that adds 5 and 3, subtracts them and stops.
 const TWO_ADDS: &[u8] =
     b"core 256\nat 40\nword 00000000000000000000\nword 00000100000000000000\nword 00000020000000000000\nat 100\nword 71100000057120000003\nword 36312374214600000000\nstart 40\nshow 100 101\nend\n";
@@ -474,6 +518,84 @@ fn refused_schedules(rt: HostRuntime) -> Result<(), Fail> {
             answers.as_bytes(),
             told.as_slice(),
         )?;
+    }
+    Ok(())
+}
+
+/// How the program ends on a text that is made up, how often it writes and how the last write ends.
+fn expect_made_up(
+    rt: &(impl Abort + AllocGlobal),
+    text: &str,
+    input: MadeUp<'_>,
+    writes: u64,
+    ends: &str,
+    told: &str,
+) -> Result<(), Fail> {
+    let words = words(rt.alloc(), [text].as_slice())?;
+    let mut input = input;
+    let mut output = Counting {
+        writes: 0,
+        last: Vec::new(rt.alloc()),
+    };
+    let mut faults = Vec::new(rt.alloc());
+    let answer = program(
+        rt.alloc(),
+        words.as_slice(),
+        &mut input,
+        &mut output,
+        &mut faults,
+    );
+    assert_eq!(rt; faults.as_slice(), told.as_bytes());
+    assert_eq!(rt; output.writes, writes);
+    assert!(rt; output.last.as_slice().ends_with(ends.as_bytes()));
+    assert_eq!(rt; answer, if told.is_empty() { 0 } else { 1 });
+    Ok(())
+}
+
+/// What is told where none of 10,000,000 lines is the last, and where the input has one line less.
+const TOO_MANY_LINES: &str = "cdc6600: E20 line 10000001: lines\n";
+
+const ONE_LINE_LESS: &str = "cdc6600: E20 line 10000000: no end\n";
+
+/// A deck whose `end` is line 10,000,000 is taken, but no line of a schedule behind it.
+#[test]
+fn decks_of_most_lines(rt: HostRuntime) -> Result<(), Fail> {
+    for (text, times, last, told) in [
+        ("list", 9_999_997, "end\n", ""),
+        ("list", 9_999_997, "", ONE_LINE_LESS),
+        ("list", 9_999_998, "", TOO_MANY_LINES),
+        ("list", 9_999_998, "end\n", TOO_MANY_LINES),
+        ("events", 9_999_997, "end\n", TOO_MANY_LINES),
+        ("events", 9_999_997, "end\nend\n", TOO_MANY_LINES),
+    ] {
+        let input = MadeUp {
+            first: b"core 32\nstart 0\n",
+            repeated: b"at 0\n",
+            times,
+            last: last.as_bytes(),
+        };
+        expect_made_up(&rt, text, input, 0, "", told)?;
+    }
+    Ok(())
+}
+
+/// The lines of a schedule count with those of its deck, here three. Each has an answer that is written at once.
+#[test]
+fn schedules_of_most_lines(rt: HostRuntime) -> Result<(), Fail> {
+    let halted = "E1 halted stop\n";
+    for (times, last, writes, ends, told) in [
+        (9_999_996, "end\n", 9_999_997, "\nLOG none\n", ""),
+        (9_999_996, "", 9_999_996, halted, ONE_LINE_LESS),
+        (9_999_997, "", 9_999_997, halted, TOO_MANY_LINES),
+        (9_999_997, "end\n", 9_999_997, halted, TOO_MANY_LINES),
+    ] {
+        let input = MadeUp {
+            first: b"core 32\nstart 0\nend\n",
+            repeated: b"issue\n",
+            times,
+            last: last.as_bytes(),
+        };
+        expect_made_up(&rt, "events", input, writes, ends, told)?;
     }
     Ok(())
 }
