@@ -6,6 +6,7 @@ mod arguments;
 mod fault;
 mod program;
 mod running;
+mod seats;
 mod status;
 
 use std::env;
@@ -22,6 +23,7 @@ fn main(rt: HostRuntime) -> ExitCode {
         return ExitCode::from(program::refused(&mut stderr, fault::ProgramFault::OutOfMemory));
     };
     ExitCode::from(program::program(
+        &rt,
         rt.alloc(),
         words.as_slice(),
         &mut rt.stdin(),

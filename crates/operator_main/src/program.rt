@@ -10,6 +10,7 @@ use job_deck::{dump, events, list, read_deck, replay};
 use std::alloc::Global;
 use std::io;
 use std::io::{BufReader, BufWriter, Read, Write};
+use std::sync::Wait;
 
 /// Says on the fault stream why the program ends, and answers its exit status.
 pub fn refused<F: Write>(faults: &mut F, fault: ProgramFault) -> u8 {
@@ -46,7 +47,8 @@ fn unparsed<W: Write, F: Write>(output: &mut W, faults: &mut F, error: Error) ->
 ///
 /// # Errors
 /// Why the dump wasn't printed; a beginning of it may have been.
-fn run_deck<R: Read, W: Write>(
+fn run_deck<T: Wait, R: Read, W: Write>(
+    rt: &T,
     alloc: Global,
     input: &mut R,
     output: &mut W,
@@ -56,7 +58,7 @@ fn run_deck<R: Read, W: Write>(
 {
     let deck = read_deck(alloc, input)?;
     let memory = deck.image.memory().copy()?;
-    let snapshot = run(alloc, memory, deck.start, budget)?;
+    let snapshot = run(rt, alloc, memory, deck.start, budget)?;
     dump(snapshot.state(), snapshot.log(), &deck, output)?;
     Ok(end_status(snapshot.state()))
 }
@@ -79,7 +81,8 @@ fn replay_log<R: Read, W: Write>(
 
 /// Does what is asked, with buffers between, so that neither a byte that is read nor a piece that is
 /// written costs a call of the system.
-fn perform<R: Read, W: Write>(
+fn perform<T: Wait, R: Read, W: Write>(
+    rt: &T,
     alloc: Global,
     request: Request<'_>,
     input: &mut R,
@@ -94,7 +97,7 @@ fn perform<R: Read, W: Write>(
     match request {
         Request::Run(budget) => {
             let budget = budget.min(LARGEST_BUDGET);
-            run_deck(alloc, &mut reader, &mut writer, budget)
+            run_deck(rt, alloc, &mut reader, &mut writer, budget)
         }
         Request::Replay(log) => replay_log(alloc, &mut reader, &mut writer, log),
         Request::Events(budget) => {
@@ -111,7 +114,8 @@ fn perform<R: Read, W: Write>(
 
 /// The whole program, over its arguments without the program's name, its input, output and fault
 /// stream. It answers the exit status, which a failed write to the fault stream doesn't change.
-pub fn program<R: Read, W: Write, F: Write>(
+pub fn program<T: Wait, R: Read, W: Write, F: Write>(
+    rt: &T,
     alloc: Global,
     words: &[String],
     input: &mut R,
@@ -122,7 +126,7 @@ pub fn program<R: Read, W: Write, F: Write>(
         Ok(request) => request,
         Err(error) => return unparsed(output, faults, error),
     };
-    match perform(alloc, request, input, output) {
+    match perform(rt, alloc, request, input, output) {
         Ok(status) => status.code(),
         Err(fault) => refused(faults, fault),
     }

@@ -11,6 +11,7 @@ use std::alloc::{AllocError, Global};
 use std::io;
 use std::io::{ErrorKind, Read, Write};
 use std::process::Abort;
+use std::sync::Wait;
 use std::test::Fail;
 
 /// Bytes in memory that come a few a read; the reads fail from one on.
@@ -153,7 +154,7 @@ fn joined(alloc: Global, texts: &[&[u8]]) -> Result<Vec<u8>, AllocError> {
 }
 
 fn expect_run(
-    rt: &(impl Abort + AllocGlobal),
+    rt: &(impl Abort + AllocGlobal + Wait),
     texts: &[&str],
     input: &[u8],
     status: u8,
@@ -165,6 +166,7 @@ fn expect_run(
     let mut output = Vec::new(rt.alloc());
     let mut faults = Vec::new(rt.alloc());
     let answer = program(
+        rt,
         rt.alloc(),
         words.as_slice(),
         &mut input,
@@ -177,7 +179,11 @@ fn expect_run(
     Ok(())
 }
 
-fn expect_refused(rt: &(impl Abort + AllocGlobal), deck: &[u8], told: &[u8]) -> Result<(), Fail> {
+fn expect_refused(
+    rt: &(impl Abort + AllocGlobal + Wait),
+    deck: &[u8],
+    told: &[u8],
+) -> Result<(), Fail> {
     let told = joined(
         rt.alloc(),
         [b"cdc6600: E20 line ".as_slice(), told, b"\n"].as_slice(),
@@ -187,7 +193,7 @@ fn expect_refused(rt: &(impl Abort + AllocGlobal), deck: &[u8], told: &[u8]) -> 
 
 /// A deck of a first text, a second one so many times, and a last one.
 fn expect_refused_long(
-    rt: &(impl Abort + AllocGlobal),
+    rt: &(impl Abort + AllocGlobal + Wait),
     first: &[u8],
     repeated: (&[u8], u32),
     last: &[u8],
@@ -278,7 +284,7 @@ fn long_decks(rt: HostRuntime) -> Result<(), Fail> {
 
 /// A program of one word at 100, the dump's first lines and its log.
 fn expect_halted(
-    rt: &(impl Abort + AllocGlobal),
+    rt: &(impl Abort + AllocGlobal + Wait),
     word: &[u8],
     begins: &[u8],
     log: &[u8],
@@ -392,7 +398,7 @@ fn replays_no_bad_log(rt: HostRuntime) -> Result<(), Fail> {
 
 /// A session of a deck with its schedule, and how what is printed begins and ends.
 fn expect_session(
-    rt: &(impl Abort + AllocGlobal),
+    rt: &(impl Abort + AllocGlobal + Wait),
     deck: &[u8],
     schedule: &[u8],
     begins: &[u8],
@@ -404,6 +410,7 @@ fn expect_session(
     let mut output = Vec::new(rt.alloc());
     let mut faults = Vec::new(rt.alloc());
     let answer = program(
+        rt,
         rt.alloc(),
         words.as_slice(),
         &mut input,
@@ -524,7 +531,7 @@ fn refused_schedules(rt: HostRuntime) -> Result<(), Fail> {
 
 /// How the program ends on a text that is made up, how often it writes and how the last write ends.
 fn expect_made_up(
-    rt: &(impl Abort + AllocGlobal),
+    rt: &(impl Abort + AllocGlobal + Wait),
     text: &str,
     input: MadeUp<'_>,
     writes: u64,
@@ -539,6 +546,7 @@ fn expect_made_up(
     };
     let mut faults = Vec::new(rt.alloc());
     let answer = program(
+        rt,
         rt.alloc(),
         words.as_slice(),
         &mut input,
@@ -729,6 +737,7 @@ fn usage(rt: HostRuntime) -> Result<(), Fail> {
         let mut output = Vec::new(rt.alloc());
         let mut faults = Vec::new(rt.alloc());
         let answer = program(
+            &rt,
             rt.alloc(),
             words.as_slice(),
             &mut input,
@@ -761,6 +770,7 @@ fn failing_reads(rt: HostRuntime) -> Result<(), Fail> {
         let mut output = Vec::new(rt.alloc());
         let mut faults = Vec::new(rt.alloc());
         let answer = program(
+            &rt,
             rt.alloc(),
             words.as_slice(),
             &mut input,
@@ -793,6 +803,7 @@ fn failing_writes(rt: HostRuntime) -> Result<(), Fail> {
         };
         let mut faults = Vec::new(rt.alloc());
         let answer = program(
+            &rt,
             rt.alloc(),
             words.as_slice(),
             &mut input,
@@ -836,6 +847,7 @@ fn failing_faults(rt: HostRuntime) -> Result<(), Fail> {
             fails_from: 1,
         };
         let answer = program(
+            &rt,
             rt.alloc(),
             words.as_slice(),
             &mut input,
