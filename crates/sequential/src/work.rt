@@ -21,7 +21,7 @@ pub struct ProgramReference {
 /// An operand, +0 where it is absent.
 #[tactic(auto, unfolding(crate::specs::Work::operand_at))]
 #[inline(always)]
-pub fn operand_at(registers: &RegisterFile, register: Option<Reg>) -> Word60
+fn operand_at(registers: &RegisterFile, register: Option<Reg>) -> Word60
     ensures { result ≡ operand_at registers.now register }
 {
     match register {
