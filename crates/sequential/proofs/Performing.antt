@@ -1,9 +1,8 @@
 -- What an instruction does, from its parts.
-use Rattle.std.proofs.Common.{◌≡◌, ℕ, ◌||◌, Bool, true, false, Option, Some, None, refl, sym, ap, ◌∙◌}
+use Rattle.std.proofs.Common.{◌≡◌, ℕ, ◌||◌, Bool, Option, Some, None, refl, sym, ap, ◌∙◌}
 use Rattle.instruction_table.specs.declared.instr.Instr.{Instr}
 use Rattle.instruction_table.specs.declared.instr.Reg.{Reg}
-use Rattle.instruction_table.specs.Shape.{Shape, Puts, shape_of, puts_of, is_branch_shape}
-use Rattle.instruction_table.specs.Table.{row}
+use Rattle.instruction_table.specs.Shape.{Shape, shape_of, puts_of}
 use Rattle.registers.specs.declared.file.RegisterFile.{RegisterFile}
 use Rattle.unit_ops.specs.declared.Operands.{Operands}
 use Rattle.unit_ops.specs.declared.UnitValue.{UnitValue}
@@ -14,7 +13,7 @@ use Rattle.sequential.specs.declared.work.ProgramReference.{ProgramReference}
 use Rattle.sequential.specs.Place.{gone}
 use Rattle.sequential.specs.State.{Bounds, write_all, write, go, mark}
 use Rattle.sequential.specs.Step.{do_instruction}
-use Rattle.sequential.specs.Work.{operand_at, operands, number_in, same_for, jump_for, reference_for, work_of, fault_of, listed, put_any, do_now, refer, do_work}
+use Rattle.sequential.specs.Work.{operands, number_in, same_for, jump_for, reference_for, work_of, fault_of, listed, put_any, do_now, refer, do_work}
 
 -- a state with other registers, place and fault flag
 abbrev pub with_these : State → RegisterFile → Place → Bool → State

@@ -1,5 +1,5 @@
 -- What an instruction does with its value.
-use Rattle.std.specs.Prelude.{ℕ, ◌+◌, ◌*◌, ◌%◌, ◌^◌, Bool, false, ◌&&◌, is_none, if◌then◌else◌, List, [], ◌∷◌, Option, Some, None}
+use Rattle.std.specs.Prelude.{ℕ, ◌+◌, ◌*◌, ◌^◌, Bool, false, ◌&&◌, is_none, if◌then◌else◌, List, [], ◌∷◌, Option, Some, None}
 use Rattle.instruction_table.specs.declared.instr.Instr.{Instr}
 use Rattle.instruction_table.specs.declared.instr.Reg.{Reg}
 use Rattle.instruction_table.specs.declared.instr.Reg.TheVariants.{X}
