@@ -149,6 +149,10 @@ settled (Refused op) place = RefusedOp op
 abbrev pub following_at : ℕ → ℕ → ℕ
 following_at word place = if nat_lt place 3 then parcel_at word (place + 1) else 0
 
+-- the two digits, as one number, that the reading of a place begins with
+abbrev pub digits_at : ℕ → ℕ → ℕ
+digits_at word place = parcel_at word place / 2 ^ 9
+
 -- the one reading of a place: a refused opcode comes before its length
 unfoldable pub reading_at : ℕ → ℕ → Decoded
 reading_at word place = settled (entry_of (parcel_at word place) (following_at word place)) place

@@ -1,6 +1,6 @@
 ghost use Rattle.instruction_table.specs.Table.{parcels_of, IsInstr, StandsAt};
 ghost use Rattle.std.specs.Prelude.{length, ◌≡◌, ◌<◌, ◌+◌, ◌*◌, ◌^◌};
-ghost use Rattle.instruction_table.specs.Decoding.{branches, logicals, shifts, additions, others, increments, rows, x_test_at, refused_01, entry, entry_of, following_at, reading_at, GoesOn};
+ghost use Rattle.instruction_table.specs.Decoding.{branches, logicals, shifts, additions, others, increments, rows, x_test_at, refused_01, entry, entry_of, following_at, digits_at, reading_at, GoesOn};
 
 use crate::{
     Addends, Addition, BTest, Base, Digit, Direction, Instr, Logic, Op, Pair, SixBits, Target,
@@ -232,6 +232,34 @@ fn following(word: Word60, place: u8) -> u16
     }
 }
 
+/// The same as `decode`, with the two digits that the reading begins with. Where these are a constant, the compiler
+/// leaves only what is done with them.
+#[inline(always)]
+pub fn decode_as(word: Word60, place: u8, digits: u16) -> Decoded
+    requires place { place < 4 }
+    requires digits { digits ≡ digits_at word place }
+    ensures value { result ≡ reading_at word place }
+    ensures range { GoesOn place result }
+{
+    let low = parcel_of(word, place) % 0x200;
+    match entry_at(digits * 0x200 + low, following(word, place)) {
+        Entry::Short(instr) => Decoded::Legal(instr, place + 1),
+        Entry::Long(instr) if place < 3 => Decoded::Legal(instr, place + 2),
+        Entry::Long(_) => Decoded::Straddle,
+        Entry::Refused(op) => Decoded::Refused(op),
+    }
+}
+
+/// The two digits that the reading of a word from a place on begins with, as one number from 0 to 63.
+#[inline(always)]
+pub fn first_digits(word: Word60, place: u8) -> u16
+    requires { place < 4 }
+    ensures value { result ≡ digits_at word place }
+    ensures range { result < 64 }
+{
+    parcel_of(word, place) >> 9
+}
+
 /// The reading of a word from a place on, 0 to 3 from the uppermost parcel down.
 ///
 /// Fields that an instruction does not use are ignored, which is this project's choice: i, j and k of `PS` and
@@ -246,10 +274,5 @@ pub fn decode(word: Word60, place: u8) -> Decoded
     ensures encoded { (instr : Instr) → IsInstr instr → StandsAt word place (parcels_of instr)
         → result ≡ Decoded.Legal instr (place + length (parcels_of instr)) }
 {
-    match entry_at(parcel_of(word, place), following(word, place)) {
-        Entry::Short(instr) => Decoded::Legal(instr, place + 1),
-        Entry::Long(instr) if place < 3 => Decoded::Legal(instr, place + 2),
-        Entry::Long(_) => Decoded::Straddle,
-        Entry::Refused(op) => Decoded::Refused(op),
-    }
+    decode_as(word, place, first_digits(word, place))
 }

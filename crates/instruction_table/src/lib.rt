@@ -21,7 +21,7 @@ mod spelling;
 mod tests;
 
 pub use codes::opcode;
-pub use decoding::{Decoded, decode};
+pub use decoding::{Decoded, decode, decode_as, first_digits};
 pub use digit::{Digit, SixBits};
 pub use encoding::encode;
 pub use instr::{

@@ -15,14 +15,6 @@ pub struct RegisterFile {
     pub b: [Word18; 7],
 }
 
-/// A word of 18 bits in the low bits of a word of 60.
-#[inline(always)]
-fn widened(word: Word18) -> Word60
-    ensures { result ≡ word }
-{
-    Word60::from_bits(u64::from(word.get()))
-}
-
 impl RegisterFile {
     /// What a register holds; A and B registers stand in the low 18 bits.
     #[tactic(auto, unfolding(crate::specs::Registers::get))]
@@ -32,10 +24,10 @@ impl RegisterFile {
     {
         match register {
             Reg::X(n) => self.x[usize::from(n.get())],
-            Reg::A(n) => widened(self.a[usize::from(n.get())]),
+            Reg::A(n) => self.a[usize::from(n.get())].widen(),
             Reg::B(n) => match n.get() {
                 0 => Word60::default(),
-                number => widened(self.b[usize::from(number) - 1]),
+                number => self.b[usize::from(number) - 1].widen(),
             },
         }
     }

@@ -3,7 +3,7 @@ use Rattle.std.proofs.Common.{◌≡◌, ◌<◌, ◌≤◌, ◌+◌, ◌-◌, �
 use Rattle.std.specs.Prelude.{replicate, slice_get, slice_set}
 use Rattle.sequential.specs.declared.log.Entry.{Entry}
 use Rattle.sequential.specs.declared.log.Entry.TheVariants.{Issued as Count, Exchange}
-use Rattle.sequential.specs.Log.{steps_of, entries_of, one_before, one_behind, ends_open, issued}
+use Rattle.sequential.specs.Log.{steps_of, entries_of, one_before, more_behind, ends_open, issued}
 use Rattle.sequential.specs.Replay.{LogStep, Issued, Exchanged}
 
 pub steps-append : (es fs : List Entry) → steps_of (es ++ fs) ≡ steps_of es ++ steps_of fs
@@ -47,9 +47,9 @@ pub exchange_added : (es : List Entry) (n : ℕ) → steps_of (es ++ Exchange n 
 unfolding steps_of
 exchange_added es n = steps-append es (Exchange n ∷ [])
 
-pub count_added : (es : List Entry) → steps_of (es ++ Count 1 ∷ []) ≡ steps_of es ++ Issued ∷ []
+pub count_added : (es : List Entry) (n : ℕ) → steps_of (es ++ Count n ∷ []) ≡ steps_of es ++ replicate n Issued
 unfolding steps_of
-count_added es = steps-append es (Count 1 ∷ [])
+count_added es n = steps-append es (Count n ∷ []) ∙ ap (λ l. steps_of es ++ l) (append-nil (replicate n Issued))
 
 -- whether the last entry is a count
 pub open-push : (es : List Entry) (e : Entry) → ends_open (es ++ e ∷ []) ≡ ends_open (e ∷ [])
@@ -74,6 +74,9 @@ pub issued-more : (xs : List LogStep) → issued (xs ++ Issued ∷ []) ≡ issue
 unfolding issued
 issued-more xs = issued-append xs (Issued ∷ [])
 
+pub issued-many : (xs : List LogStep) (n : ℕ) → issued (xs ++ replicate n Issued) ≡ issued xs + n
+issued-many xs n = issued-append xs (replicate n Issued) ∙ ap (λ k. issued xs + k) (issued-replicate n)
+
 -- ---- the last entry ----
 
 ends_at : (es : List Entry) (i : ℕ) (e : Entry) → length es ≡ suc i → slice_get es i ≡ Some e → (before : List Entry) × (es ≡ before ++ e ∷ []) × ((f : Entry) → slice_set es i f ≡ before ++ f ∷ [])
@@ -84,32 +87,31 @@ ends_at (x ∷ es) (suc i) e l h =
     let r = ends_at es i e (omega arith) h in
     (x ∷ r.0, ap (λ k. x ∷ k) r.1, λ f. ap (λ k. x ∷ k) (r.2 f))
 
-replicate-more : (n : ℕ) → replicate n Issued ++ Issued ∷ [] ≡ replicate (suc n) Issued
-replicate-more zero = refl
-replicate-more (suc n) = ap (λ l. Issued ∷ l) (replicate-more n)
+replicate-sum : (k n : ℕ) → replicate (k + n) Issued ≡ replicate k Issued ++ replicate n Issued
+replicate-sum zero n = ap (λ m. replicate m Issued) (let e : 0 + n ≡ n = omega arith in e)
+replicate-sum (suc k) n = ap (λ m. replicate m Issued) (let e : suc k + n ≡ suc (k + n) = omega arith in e) ∙ ap (λ l. Issued ∷ l) (replicate-sum k n)
 
-one_count : (n : ℕ) → steps_of (Count (n + 1) ∷ []) ≡ steps_of (Count n ∷ []) ++ Issued ∷ []
+more_counted : (k n : ℕ) → steps_of (Count (k + n) ∷ []) ≡ steps_of (Count k ∷ []) ++ replicate n Issued
 unfolding steps_of
-one_count n =
-    append-nil (replicate (n + 1) Issued)
-    ∙ ap (λ k. replicate k Issued) (let e : n + 1 ≡ suc n = omega arith in e)
-    ∙ sym (replicate-more n)
-    ∙ ap (λ l. l ++ Issued ∷ []) (sym (append-nil (replicate n Issued)))
+more_counted k n =
+    append-nil (replicate (k + n) Issued)
+    ∙ replicate-sum k n
+    ∙ ap (λ l. l ++ replicate n Issued) (sym (append-nil (replicate k Issued)))
 
--- the last count, one higher
-pub raised_steps : (es : List Entry) (i n : ℕ) → length es ≡ suc i → slice_get es i ≡ Some (Count n) → steps_of (slice_set es i (Count (n + 1))) ≡ steps_of es ++ Issued ∷ []
-raised_steps es i n l h =
-    let r = ends_at es i (Count n) l h in
-    ap steps_of (r.2 (Count (n + 1)))
-    ∙ steps-append r.0 (Count (n + 1) ∷ [])
-    ∙ ap (λ k. steps_of r.0 ++ k) (one_count n)
-    ∙ sym (append_assoc (steps_of r.0) (steps_of (Count n ∷ [])) (Issued ∷ []))
-    ∙ ap (λ k. k ++ Issued ∷ []) (sym (steps-append r.0 (Count n ∷ [])) ∙ ap steps_of (sym r.1))
+-- the last count, so much higher
+pub raised_steps : (es : List Entry) (i k n : ℕ) → length es ≡ suc i → slice_get es i ≡ Some (Count k) → steps_of (slice_set es i (Count (k + n))) ≡ steps_of es ++ replicate n Issued
+raised_steps es i k n l h =
+    let r = ends_at es i (Count k) l h in
+    ap steps_of (r.2 (Count (k + n)))
+    ∙ steps-append r.0 (Count (k + n) ∷ [])
+    ∙ ap (λ t. steps_of r.0 ++ t) (more_counted k n)
+    ∙ sym (append_assoc (steps_of r.0) (steps_of (Count k ∷ [])) (replicate n Issued))
+    ∙ ap (λ t. t ++ replicate n Issued) (sym (steps-append r.0 (Count k ∷ [])) ∙ ap steps_of (sym r.1))
 
-pub raised_open : (es : List Entry) (i n : ℕ) → length es ≡ suc i → slice_get es i ≡ Some (Count n) → ends_open (slice_set es i (Count (n + 1))) ≡ true
-raised_open es i n l h =
-    let r = ends_at es i (Count n) l h in
-    ap ends_open (r.2 (Count (n + 1))) ∙ opened_by_count r.0 (n + 1)
+pub raised_open : (es : List Entry) (i k n : ℕ) → length es ≡ suc i → slice_get es i ≡ Some (Count k) → ends_open (slice_set es i (Count (k + n))) ≡ true
+raised_open es i k n l h =
+    let r = ends_at es i (Count k) l h in
+    ap ends_open (r.2 (Count (k + n))) ∙ opened_by_count r.0 (k + n)
 
 pub open_at_count : (es : List Entry) (i n : ℕ) → length es ≡ suc i → slice_get es i ≡ Some (Count n) → ends_open es ≡ true
 open_at_count es i n l h =
@@ -155,62 +157,55 @@ shortest_exchange [] n = refl
 shortest_exchange (Issued ∷ steps) n = ap one_before (shortest_exchange steps n) ∙ exchange_behind (entries_of steps) n
 shortest_exchange (Exchanged k ∷ steps) n = ap (λ l. Exchange k ∷ l) (shortest_exchange steps n)
 
-behind_exchange : (k : ℕ) (es : List Entry) → Exchange k ∷ one_behind es ≡ one_behind (Exchange k ∷ es)
-unfolding one_behind
-behind_exchange k [] = refl
-behind_exchange k (e ∷ es) = refl
+behind_exchange : (n k : ℕ) (es : List Entry) → Exchange k ∷ more_behind n es ≡ more_behind n (Exchange k ∷ es)
+unfolding more_behind
+behind_exchange n k [] = refl
+behind_exchange n k (e ∷ es) = refl
 
-before_and_behind : (es : List Entry) → one_before (one_behind es) ≡ one_behind (one_before es)
-unfolding one_behind
-before_and_behind [] = refl
-before_and_behind (Count n ∷ []) = refl
-before_and_behind (Exchange n ∷ []) = refl
-before_and_behind (Count n ∷ e ∷ es) = refl
-before_and_behind (Exchange n ∷ e ∷ es) = refl
+before_and_behind : (n : ℕ) (es : List Entry) → one_before (more_behind n es) ≡ more_behind n (one_before es)
+unfolding more_behind
+before_and_behind n [] = ap (λ k. Count k ∷ []) (let e : n + 1 ≡ 1 + n = omega arith in e)
+before_and_behind n (Count k ∷ []) = ap (λ m. Count m ∷ []) (let e : k + n + 1 ≡ k + 1 + n = omega arith in e)
+before_and_behind n (Exchange k ∷ []) = refl
+before_and_behind n (Count k ∷ e ∷ es) = refl
+before_and_behind n (Exchange k ∷ e ∷ es) = refl
 
-pub shortest_issue : (steps : List LogStep) → entries_of (steps ++ Issued ∷ []) ≡ one_behind (entries_of steps)
-unfolding entries_of one_behind
-shortest_issue [] = refl
-shortest_issue (Issued ∷ steps) = ap one_before (shortest_issue steps) ∙ before_and_behind (entries_of steps)
-shortest_issue (Exchanged k ∷ steps) = ap (λ l. Exchange k ∷ l) (shortest_issue steps) ∙ behind_exchange k (entries_of steps)
+entries_of_issues : (n : ℕ) → entries_of (replicate (suc n) Issued) ≡ Count (suc n) ∷ []
+unfolding entries_of
+entries_of_issues zero = refl
+entries_of_issues (suc n) = ap one_before (entries_of_issues n) ∙ ap (λ k. Count k ∷ []) (let e : suc n + 1 ≡ suc (suc n) = omega arith in e)
 
-last_behind : (before : List Entry) (n : ℕ) → one_behind (before ++ Count n ∷ []) ≡ before ++ Count (n + 1) ∷ []
-unfolding one_behind
-last_behind [] n = refl
-last_behind (Count k ∷ []) n = refl
-last_behind (Exchange k ∷ []) n = refl
-last_behind (e ∷ f ∷ es) n = ap (λ l. e ∷ l) (last_behind (f ∷ es) n)
+shortest_issues : (steps : List LogStep) (n : ℕ) → entries_of (steps ++ replicate (suc n) Issued) ≡ more_behind (suc n) (entries_of steps)
+unfolding entries_of more_behind
+shortest_issues [] n = entries_of_issues n
+shortest_issues (Issued ∷ steps) n = ap one_before (shortest_issues steps n) ∙ before_and_behind (suc n) (entries_of steps)
+shortest_issues (Exchanged k ∷ steps) n = ap (λ l. Exchange k ∷ l) (shortest_issues steps n) ∙ behind_exchange (suc n) k (entries_of steps)
 
--- the last count, one higher
-pub raised_behind : (es : List Entry) (i n : ℕ) → length es ≡ suc i → slice_get es i ≡ Some (Count n) → slice_set es i (Count (n + 1)) ≡ one_behind es
-raised_behind es i n l h =
-    let r = ends_at es i (Count n) l h in
-    r.2 (Count (n + 1)) ∙ sym (last_behind r.0 n) ∙ ap one_behind (sym r.1)
+last_behind : (before : List Entry) (k n : ℕ) → more_behind n (before ++ Count k ∷ []) ≡ before ++ Count (k + n) ∷ []
+unfolding more_behind
+last_behind [] k n = refl
+last_behind (Count m ∷ []) k n = refl
+last_behind (Exchange m ∷ []) k n = refl
+last_behind (e ∷ f ∷ es) k n = ap (λ l. e ∷ l) (last_behind (f ∷ es) k n)
+
+-- the last count, so much higher
+pub raised_behind : (es : List Entry) (i k n : ℕ) → length es ≡ suc i → slice_get es i ≡ Some (Count k) → slice_set es i (Count (k + n)) ≡ more_behind n es
+raised_behind es i k n l h =
+    let r = ends_at es i (Count k) l h in
+    r.2 (Count (k + n)) ∙ sym (last_behind r.0 k n) ∙ ap (more_behind n) (sym r.1)
 
 -- a count of its own
-pub added_behind : (es : List Entry) → ends_open es ≡ false → es ++ Count 1 ∷ [] ≡ one_behind es
-unfolding one_behind ends_open
-added_behind [] h = refl
-added_behind (Count k ∷ []) h = cc
-added_behind (Exchange k ∷ []) h = refl
-added_behind (e ∷ f ∷ es) h = ap (λ l. e ∷ l) (added_behind (f ∷ es) h)
+pub added_behind : (es : List Entry) (n : ℕ) → ends_open es ≡ false → es ++ Count n ∷ [] ≡ more_behind n es
+unfolding more_behind ends_open
+added_behind [] n h = refl
+added_behind (Count k ∷ []) n h = cc
+added_behind (Exchange k ∷ []) n h = refl
+added_behind (e ∷ f ∷ es) n h = ap (λ l. e ∷ l) (added_behind (f ∷ es) n h)
 
 -- the entries stay the shortest ones
-pub shortest_after_issue : (es fs : List Entry) → es ≡ entries_of (steps_of es) → fs ≡ one_behind es → steps_of fs ≡ steps_of es ++ Issued ∷ [] → fs ≡ entries_of (steps_of fs)
-shortest_after_issue es fs h p q = p ∙ ap one_behind h ∙ sym (shortest_issue (steps_of es)) ∙ ap entries_of (sym q)
+pub shortest_after_issues : (es fs : List Entry) (n : ℕ) → 0 < n → es ≡ entries_of (steps_of es) → fs ≡ more_behind n es → steps_of fs ≡ steps_of es ++ replicate n Issued → fs ≡ entries_of (steps_of fs)
+shortest_after_issues es fs zero z h p q = absurd (omega (arith, z))
+shortest_after_issues es fs (suc n) z h p q = p ∙ ap (more_behind (suc n)) h ∙ sym (shortest_issues (steps_of es) n) ∙ ap entries_of (sym q)
 
 pub shortest_after_exchange : (es fs : List Entry) (n : ℕ) → es ≡ entries_of (steps_of es) → fs ≡ es ++ Exchange n ∷ [] → fs ≡ entries_of (steps_of fs)
 shortest_after_exchange es fs n h p = p ∙ ap (λ l. l ++ Exchange n ∷ []) h ∙ sym (shortest_exchange (steps_of es) n) ∙ ap entries_of (sym (exchange_added es n)) ∙ ap (λ l. entries_of (steps_of l)) (sym p)
-
--- ---- many instructions ----
-
--- one instruction behind so many
-pub replicate_on : (steps : List LogStep) (n : ℕ) → (steps ++ replicate n Issued) ++ Issued ∷ [] ≡ steps ++ replicate (n + 1) Issued
-replicate_on steps n =
-    append_assoc steps (replicate n Issued) (Issued ∷ [])
-    ∙ ap (λ l. steps ++ l) (replicate-more n ∙ ap (λ k. replicate k Issued) (let e : suc n ≡ n + 1 = omega arith in e))
-
-pub one_more_issued : (now before first : List LogStep) (n : ℕ) → now ≡ before ++ Issued ∷ [] → issued before ≡ issued first + n → issued now ≡ issued first + (n + 1)
-one_more_issued now before first n h e =
-    let more : issued now ≡ issued before + 1 = ap issued h ∙ issued-more before in
-    omega (arith, more, e)

@@ -1,9 +1,8 @@
 -- What an instruction does, from its parts.
-use Rattle.std.proofs.Common.{◌≡◌, ℕ, ◌||◌, Bool, true, false, Option, Some, None, refl, sym, ap, ◌∙◌}
+use Rattle.std.proofs.Common.{◌≡◌, ℕ, ◌||◌, Bool, Option, Some, None, refl, sym, ap, ◌∙◌}
 use Rattle.instruction_table.specs.declared.instr.Instr.{Instr}
 use Rattle.instruction_table.specs.declared.instr.Reg.{Reg}
-use Rattle.instruction_table.specs.Shape.{Shape, Puts, shape_of, puts_of, is_branch_shape}
-use Rattle.instruction_table.specs.Table.{row}
+use Rattle.instruction_table.specs.Shape.{Shape, shape_of, puts_of}
 use Rattle.registers.specs.declared.file.RegisterFile.{RegisterFile}
 use Rattle.unit_ops.specs.declared.Operands.{Operands}
 use Rattle.unit_ops.specs.declared.UnitValue.{UnitValue}
@@ -14,7 +13,7 @@ use Rattle.sequential.specs.declared.work.ProgramReference.{ProgramReference}
 use Rattle.sequential.specs.Place.{gone}
 use Rattle.sequential.specs.State.{Bounds, write_all, write, go, mark}
 use Rattle.sequential.specs.Step.{do_instruction}
-use Rattle.sequential.specs.Work.{operand_at, operands, number_in, same_for, jump_for, reference_for, work_of, fault_of, listed, put_any, do_now, refer, do_work}
+use Rattle.sequential.specs.Work.{operands, number_in, same_for, jump_for, reference_for, work_of, fault_of, listed, put_any, do_now, refer, do_work}
 
 -- a state with other registers, place and fault flag
 abbrev pub with_these : State → RegisterFile → Place → Bool → State
@@ -53,43 +52,3 @@ instruction_done b s t instr at o v r f w n g j p eo ev er ef ew en eg ej ep et 
     ∙ ap (λ x. refer b (with_these s (put_any s.registers w (number_in v)) (gone s.place (jump_for (shape_of instr) v)) (s.fault || fault_of b x)) x) er
     ∙ work_done b s (shape_of instr) v w ew
     ∙ ap (λ x. do_work b s (work_of (shape_of instr) x)) (ev ∙ ap (value_of instr) eo)
-
-unmarked : (s : State) → mark s false ≡ s
-unfolding mark
-unmarked s = ap (λ f. record s { fault = f }) (or_false s.fault)
-  where
-    or_false : (f : Bool) → (f || false) ≡ f
-    or_false true = refl
-    or_false false = refl
-
-put_done : (b : Bounds) (s : State) (v : UnitValue) (w : Option Reg) → record s { registers = put_any s.registers w (number_in v) } ≡ do_work b s (work_of (Puts (listed w)) v)
-unfolding do_work do_now work_of puts_of jump_for is_branch_shape reference_for refer go gone fault_of
-put_done b s v w = sym (one_written s w (number_in v)) ∙ sym (unmarked (write_all s (same_for (number_in v) (listed w))))
-
--- a row that writes one register or none
-pub instruction_put : (b : Bounds) (s t : State) (instr : Instr) (at x y z : ℕ) (v : UnitValue) (w first second : Option Reg) (n : ℕ) (g : RegisterFile)
-    → shape_of instr ≡ Puts (listed w)
-    → (row instr).first ≡ first
-    → (row instr).second ≡ second
-    → (row instr).outgoing ≡ None
-    → x ≡ operand_at s.registers first
-    → y ≡ operand_at s.registers second
-    → z ≡ 0
-    → v ≡ value_of instr (record { first = x; second = y; outgoing = z; place = at })
-    → n ≡ number_in v
-    → g ≡ put_any s.registers w n
-    → t ≡ record s { registers = g }
-    → t ≡ do_instruction b s instr at
-unfolding do_instruction operands operand_at
-instruction_put b s t instr at x y z v w first second n g es ef ec eu ex ey ez ev en eg et =
-    et
-    ∙ ap (λ h. record s { registers = h }) (eg ∙ ap (put_any s.registers w) en)
-    ∙ put_done b s v w
-    ∙ ap (λ h. do_work b s (work_of h v)) (sym es)
-    ∙ ap (λ h. do_work b s (work_of (shape_of instr) h)) (ev ∙ ap (value_of instr) same_operands)
-  where
-    same_operands : record { first = x; second = y; outgoing = z; place = at } ≡ operands instr at s.registers
-    same_operands =
-        ap (λ h. record { first = h; second = y; outgoing = z; place = at }) (ex ∙ ap (operand_at s.registers) (sym ef))
-        ∙ ap (λ h. record { first = operand_at s.registers (row instr).first; second = h; outgoing = z; place = at }) (ey ∙ ap (operand_at s.registers) (sym ec))
-        ∙ ap (λ h. record { first = operand_at s.registers (row instr).first; second = operand_at s.registers (row instr).second; outgoing = h; place = at }) (ez ∙ ap (operand_at s.registers) (sym eu))

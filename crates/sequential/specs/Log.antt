@@ -29,12 +29,12 @@ entries_of [] = []
 entries_of (Issued ∷ steps) = one_before (entries_of steps)
 entries_of (Exchanged n ∷ steps) = Exchange n ∷ entries_of steps
 
--- the entries with one more instruction at the end
-unfoldable pub one_behind : List Entry → List Entry
-one_behind [] = Count 1 ∷ []
-one_behind (Count n ∷ []) = Count (n + 1) ∷ []
-one_behind (Exchange n ∷ []) = Exchange n ∷ Count 1 ∷ []
-one_behind (e ∷ f ∷ es) = e ∷ one_behind (f ∷ es)
+-- the entries with so many more instructions at the end
+unfoldable pub more_behind : ℕ → List Entry → List Entry
+more_behind n [] = Count n ∷ []
+more_behind n (Count k ∷ []) = Count (k + n) ∷ []
+more_behind n (Exchange k ∷ []) = Exchange k ∷ Count n ∷ []
+more_behind n (e ∷ f ∷ es) = e ∷ more_behind n (f ∷ es)
 
 unfoldable pub ends_open : List Entry → Bool
 ends_open [] = false

@@ -1,5 +1,5 @@
 -- What an instruction does with its value.
-use Rattle.std.specs.Prelude.{ℕ, ◌+◌, ◌*◌, ◌%◌, ◌^◌, Bool, false, ◌&&◌, is_none, if◌then◌else◌, List, [], ◌∷◌, Option, Some, None}
+use Rattle.std.specs.Prelude.{ℕ, ◌+◌, ◌*◌, ◌^◌, Bool, false, ◌&&◌, is_none, if◌then◌else◌, List, [], ◌∷◌, Option, Some, None}
 use Rattle.instruction_table.specs.declared.instr.Instr.{Instr}
 use Rattle.instruction_table.specs.declared.instr.Reg.{Reg}
 use Rattle.instruction_table.specs.declared.instr.Reg.TheVariants.{X}
@@ -9,6 +9,7 @@ use Rattle.registers.specs.declared.file.RegisterFile.{RegisterFile}
 use Rattle.registers.specs.Registers.{get, put}
 use Rattle.relocation.specs.declared.area.Access.{Access}
 use Rattle.relocation.specs.declared.area.Access.TheVariants.{Load as LoadInto, Store as StoreWord}
+use Rattle.unit_ops.specs.Values.{destination}
 use Rattle.unit_ops.specs.declared.Operands.{Operands}
 use Rattle.unit_ops.specs.declared.UnitValue.{UnitValue}
 use Rattle.unit_ops.specs.declared.UnitValue.TheVariants.{Word, Index, Load, Store, Jump, Link}
@@ -61,15 +62,6 @@ word_in (Store a w) = w
 word_in (Jump to) = 0
 word_in (Link at back) = link_word back
 
--- where a value jumps; RJ goes on behind its link word
-unfoldable pub jump_in : UnitValue → Option ℕ
-jump_in (Word w) = None
-jump_in (Index n) = None
-jump_in (Load a) = None
-jump_in (Store a w) = None
-jump_in (Jump to) = to
-jump_in (Link at back) = Some ((at + 1) % 2 ^ 18)
-
 -- the registers that are written, the jump and the reference
 pub record Work : Type 0 where
   pub puts : List (Reg × ℕ)
@@ -81,8 +73,9 @@ unfoldable pub same_for : ℕ → List Reg → List (Reg × ℕ)
 same_for v [] = []
 same_for v (r ∷ rs) = (r, v) ∷ same_for v rs
 
+-- where an instruction jumps, if it does; RJ goes on behind its link word
 unfoldable pub jump_for : Shape → UnitValue → Option ℕ
-jump_for shape v = if is_branch_shape shape then jump_in v else None
+jump_for shape v = if is_branch_shape shape then destination v else None
 
 unfoldable pub reference_for : Shape → UnitValue → Option ProgramReference
 reference_for (Puts rs) v = None

@@ -1,6 +1,6 @@
 ghost use Rattle.std.specs.Prelude.{◌≡◌, ◌<◌, ◌≤◌, ◌+◌, ◌++◌, ◌^◌, [], ◌∷◌, true, false, MatchResult, if◌then◌else◌, ◌-◌, length, slice_get, Some, is_some, IfSome, replicate};
 ghost use Rattle.instruction_table.specs.declared.refusal.Refusal.TheVariants.{OutOfMemory};
-ghost use Rattle.sequential.specs.Log.{issued, steps_of, entries_of, one_behind, ends_open};
+ghost use Rattle.sequential.specs.Log.{issued, steps_of, entries_of, more_behind, ends_open};
 ghost use Rattle.sequential.specs.declared.log.Entry.TheVariants.{Issued as Count};
 ghost use Rattle.std.specs.Vec.{vec_len, vec_capacity};
 ghost use Rattle.sequential.specs.Replay.{Issued, Exchanged};
@@ -32,31 +32,31 @@ fn last_count(entries: &[Entry]) -> Option<u64>
 }
 
 /// Raises the count that the last entry is.
-fn raise_last(entries: &mut [Entry], count: u64)
+fn raise_last(entries: &mut [Entry], count: u64, more: u64)
     requires last { slice_get entries.old (length entries.old - 1) ≡ Some (Count count) }
-    requires bound { count + 1 < 2 ^ 64 }
-    ensures steps { steps_of entries.new ≡ steps_of entries.old ++ Issued ∷ [] }
+    requires bound { count + more < 2 ^ 64 }
+    ensures steps { steps_of entries.new ≡ steps_of entries.old ++ replicate more Issued }
     ensures open { ends_open entries.new ≡ true }
     ensures len { length entries.new ≡ length entries.old }
-    ensures entries { entries.new ≡ one_behind entries.old }
+    ensures entries { entries.new ≡ more_behind more entries.old }
 {
     let place = entries.len() - 1;
-    entries[place] = Entry::Issued(count + 1);
+    entries[place] = Entry::Issued(count + more);
 }
 
-/// Adds an instruction: one more to the last count, or else an entry of its own.
-fn add_one(entries: &mut Vec<Entry>)
+/// Adds instructions: so many more to the last count, or else an entry of their own.
+fn add(entries: &mut Vec<Entry>, more: u64)
     requires room { ends_open entries.old.items ≡ false → vec_len entries.old < vec_capacity entries.old }
-    requires count { issued (steps_of entries.old.items) + 1 < 2 ^ 64 }
-    ensures steps { steps_of entries.new.items ≡ steps_of entries.old.items ++ Issued ∷ [] }
+    requires count { issued (steps_of entries.old.items) + more < 2 ^ 64 }
+    ensures steps { steps_of entries.new.items ≡ steps_of entries.old.items ++ replicate more Issued }
     ensures open { ends_open entries.new.items ≡ true }
     ensures len { vec_len entries.new ≡ vec_len entries.old + (if ends_open entries.old.items then 0 else 1) }
     ensures capacity { vec_capacity entries.new ≡ vec_capacity entries.old }
-    ensures entries { entries.new.items ≡ one_behind entries.old.items }
+    ensures entries { entries.new.items ≡ more_behind more entries.old.items }
 {
     match last_count(entries.as_slice()) {
-        Some(count) => raise_last(entries.as_mut_slice(), count),
-        None => entries.push_reserved(Entry::Issued(1)),
+        Some(count) => raise_last(entries.as_mut_slice(), count, more),
+        None => entries.push_reserved(Entry::Issued(more)),
     }
 }
 
@@ -157,17 +157,19 @@ impl Log {
         ensures room { self.new.room + (if self.old.is_open then 0 else 1) ≡ self.old.room }
         ensures is_open { self.new.is_open ≡ true }
     {
-        add_one(&mut self.entries);
+        add(&mut self.entries, 1);
         self.issues += 1;
     }
+
     /// Adds so many instructions.
     pub fn issued_many(&mut self, count: u64)
         requires room { self.old.is_open ≡ false → 0 < self.old.room }
         requires count { issued self.old.steps + count < 2 ^ 64 }
         ensures steps { self.new.steps ≡ self.old.steps ++ replicate count Issued }
     {
-        for _ in 0..count {
-            self.issued();
+        if count > 0 {
+            add(&mut self.entries, count);
+            self.issues += count;
         }
     }
 }

@@ -1,18 +1,14 @@
-ghost use Rattle.std.specs.Prelude.{◌≡◌, ◌<◌, ◌||◌, ◌∷◌, [], Some, None, IfSome, length};
-ghost use Rattle.instruction_table.specs.Shape.{Puts, shape_of, puts_of};
-ghost use Rattle.instruction_table.specs.Table.{row, set_by};
-ghost use Rattle.instruction_table.specs.declared.instr.Reg.TheVariants.{X, B};
-ghost use Rattle.instruction_table.specs.declared.instr.Target.TheVariants.{B as TargetB};
+ghost use Rattle.std.specs.Prelude.{◌≡◌, ◌<◌, ◌||◌, IfSome, length};
+ghost use Rattle.instruction_table.specs.Shape.{shape_of, puts_of};
 ghost use Rattle.unit_ops.specs.Values.{value_of};
-ghost use Rattle.sequential.specs.State.{bounds_of, move_to};
-ghost use Rattle.instruction_table.specs.Decoding.{reading_at};
+ghost use Rattle.sequential.specs.State.{bounds_of};
+ghost use Rattle.instruction_table.specs.Decoding.{digits_at, reading_at};
 ghost use Rattle.sequential.specs.Step.{do_fetched, do_instruction, fetched_by, step};
 ghost use Rattle.sequential.specs.Work.{listed, put_any, fault_of, refer_at, refer};
 
 use crate::fetching::fetched_by;
-use crate::work::operand_at;
 use crate::{Fetched, Place, ProgramReference, State, faults, jump, number, operands, reference};
-use instruction_table::{Decoded, Digit, Halt, Instr, Reg, Target, decode, operand_registers};
+use instruction_table::{Halt, Instr, Reg, Target, decode_as, first_digits};
 use registers::RegisterFile;
 use relocation::{Access, Area};
 use unit_ops::{Operands, UnitValue, value};
@@ -56,33 +52,6 @@ fn written(instr: &Instr) -> Option<Reg>
     }
 }
 
-/// An X register.
-#[inline(always)]
-fn x(n: Digit) -> Option<Reg>
-    ensures { result ≡ Some (X n) }
-{
-    Some(Reg::X(n))
-}
-
-/// A B register.
-#[inline(always)]
-fn b(n: Digit) -> Option<Reg>
-    ensures { result ≡ Some (B n) }
-{
-    Some(Reg::B(n))
-}
-
-/// The B register that is written: B0 never is.
-#[inline(always)]
-fn index(i: Digit) -> Option<Reg>
-    ensures { listed result ≡ set_by TargetB i }
-{
-    match i.get() {
-        0 => None,
-        _ => Some(Reg::B(i)),
-    }
-}
-
 /// Writes a number into a register, if there is one.
 #[inline(always)]
 fn write_any(registers: &mut RegisterFile, register: Option<Reg>, number: Word60)
@@ -99,6 +68,16 @@ fn fault_after(fault: bool, area: &Area, size: u32, reference: &Option<ProgramRe
     ensures { result ≡ (fault || fault_of (record { area = area.now; size = size }) reference.now) }
 {
     fault || faults(area, size, reference)
+}
+
+/// Does what is read in a word, with an arm for each pair of digits that it can begin with.
+macro_rules! take_by_digits {
+    ($state:ident, $word:ident, $digits:expr => $($known:literal)*) => {
+        match $digits {
+            $($known => $state.take_as::<$known>($word),)*
+            _ => unreachable!(),
+        }
+    };
 }
 
 impl State {
@@ -165,96 +144,15 @@ impl State {
         }
     }
 
-    /// Does an instruction that was read in this word.
-    #[tactic(auto, unfolding(crate::specs::Step::fetched_by))]
+    /// Does what is read in this word, where its next parcel begins with these two digits. There is a copy of this
+    /// function for each `DIGITS`, in which the compiler knows the kind of instruction and leaves out what others do.
     #[inline(always)]
-    fn meet(&mut self, word: Word60, instr: Instr, next: u8)
-        ensures { self.new ≡ do_fetched (bounds_of self.old) self.old self.old.place.p (fetched_by self.old.place.p self.old.place.parcel word (Decoded.Legal instr next)) }
+    fn take_as<const DIGITS: u16>(&mut self, word: Word60)
+        requires { DIGITS ≡ digits_at word self.old.place.parcel }
+        ensures { self.new ≡ do_fetched (bounds_of self.old) self.old self.old.place.p (fetched_by self.old.place.p self.old.place.parcel word (reading_at word self.old.place.parcel)) }
     {
-        self.make(fetched_by(self.place, word, Decoded::Legal(instr, next)));
-    }
-
-    /// Does an instruction that writes one register or none and makes no reference, and goes on behind it.
-    #[inline(always)]
-    fn put(
-        &mut self,
-        instr: &Instr,
-        behind: Place,
-        register: Option<Reg>,
-        first: Option<Reg>,
-        second: Option<Reg>,
-    )
-        requires shape { shape_of instr.now ≡ Puts (listed register) }
-        requires first { (row instr.now).first ≡ first }
-        requires second { (row instr.now).second ≡ second }
-        requires outgoing { (row instr.now).outgoing ≡ None }
-        ensures { self.new ≡ do_instruction (bounds_of self.old) (move_to self.old behind) instr.now self.old.place.p }
-    {
-        let operands = Operands {
-            first: operand_at(&self.registers, first),
-            second: operand_at(&self.registers, second),
-            outgoing: Word60::default(),
-            place: self.place.p,
-        };
-        let value = computed(instr, &operands);
-        self.place = behind;
-        write_any(&mut self.registers, register, number(&value));
-    }
-
-    /// The same, for a row that writes Xi.
-    #[inline(always)]
-    fn put_x(
-        &mut self,
-        instr: &Instr,
-        behind: Place,
-        i: Digit,
-        first: Option<Reg>,
-        second: Option<Reg>,
-    )
-        requires shape { shape_of instr.now ≡ Puts (X i ∷ []) }
-        requires first { (row instr.now).first ≡ first }
-        requires second { (row instr.now).second ≡ second }
-        requires outgoing { (row instr.now).outgoing ≡ None }
-        ensures { self.new ≡ do_instruction (bounds_of self.old) (move_to self.old behind) instr.now self.old.place.p }
-    {
-        self.put(instr, behind, Some(Reg::X(i)), first, second);
-    }
-
-    /// The same as `meet`, with a call for each kind of instruction that works on registers alone: the
-    /// compiler knows the kind in each of them and leaves out what other kinds do.
-    #[tactic(auto, unfolding(crate::specs::Step::fetched_by, crate::specs::Step::met, crate::specs::Step::is_carried_out, crate::specs::Step::do_fetched, instruction_table::specs::Shape::shape_of, instruction_table::specs::Shape::is_branch_shape, instruction_table::specs::Shape::has_reference))]
-    #[inline(always)]
-    fn meet_by_kind(&mut self, word: Word60, instr: &Instr, next: u8)
-        ensures { self.new ≡ do_fetched (bounds_of self.old) self.old self.old.place.p (fetched_by self.old.place.p self.old.place.parcel word (Decoded.Legal instr.now next)) }
-    {
-        let behind = Place::behind(self.place.p, word, next);
-        match *instr {
-            Instr::Copy { i, j } => self.put_x(instr, behind, i, x(j), None),
-            Instr::Invert { i, k } => self.put_x(instr, behind, i, x(k), None),
-            Instr::Logical { i, j, k, .. } => self.put_x(instr, behind, i, x(j), x(k)),
-            Instr::ShiftBy { i, .. } => self.put_x(instr, behind, i, x(i), None),
-            Instr::ShiftNominal { i, j, k, .. } => self.put_x(instr, behind, i, b(j), x(k)),
-            Instr::LongAdd { i, j, k, .. } => self.put_x(instr, behind, i, x(j), x(k)),
-            Instr::Mask { i, .. } => self.put_x(instr, behind, i, None, None),
-            Instr::CountOnes { i, k } => self.put_x(instr, behind, i, x(k), None),
-            Instr::Increment {
-                target: Target::X,
-                i,
-                ..
-            } => {
-                let from = operand_registers(instr);
-                self.put_x(instr, behind, i, from.first, from.second);
-            }
-            Instr::Increment {
-                target: Target::B,
-                i,
-                ..
-            } => {
-                let from = operand_registers(instr);
-                self.put(instr, behind, index(i), from.first, from.second);
-            }
-            _ => self.meet(word, *instr, next),
-        }
+        let reading = decode_as(word, self.place.parcel.get(), DIGITS);
+        self.make(fetched_by(self.place, word, reading));
     }
 
     /// Does what is read in this word.
@@ -262,10 +160,16 @@ impl State {
     fn take(&mut self, word: Word60)
         ensures { self.new ≡ do_fetched (bounds_of self.old) self.old self.old.place.p (fetched_by self.old.place.p self.old.place.parcel word (reading_at word self.old.place.parcel)) }
     {
-        match decode(word, self.place.parcel.get()) {
-            Decoded::Legal(instr, next) => self.meet_by_kind(word, &instr, next),
-            Decoded::Refused(op) => self.make(fetched_by(self.place, word, Decoded::Refused(op))),
-            Decoded::Straddle => self.make(fetched_by(self.place, word, Decoded::Straddle)),
+        take_by_digits! {
+            self, word, first_digits(word, self.place.parcel.get()) =>
+            0o00 0o01 0o02 0o03 0o04 0o05 0o06 0o07
+            0o10 0o11 0o12 0o13 0o14 0o15 0o16 0o17
+            0o20 0o21 0o22 0o23 0o24 0o25 0o26 0o27
+            0o30 0o31 0o32 0o33 0o34 0o35 0o36 0o37
+            0o40 0o41 0o42 0o43 0o44 0o45 0o46 0o47
+            0o50 0o51 0o52 0o53 0o54 0o55 0o56 0o57
+            0o60 0o61 0o62 0o63 0o64 0o65 0o66 0o67
+            0o70 0o71 0o72 0o73 0o74 0o75 0o76 0o77
         }
     }
 }

@@ -1,7 +1,7 @@
 ghost use Rattle.std.specs.Prelude.{◌≡◌, ◌<◌, IfSome};
 ghost use Rattle.sequential.specs.State.{absolute};
 ghost use Rattle.instruction_table.specs.Shape.{shape_of};
-ghost use Rattle.sequential.specs.Work.{operand_at, operands, number_in, address_in, link_word, word_in, jump_for, jump_in, reference_for, fault_of};
+ghost use Rattle.sequential.specs.Work.{operand_at, operands, number_in, address_in, link_word, word_in, jump_for, reference_for, fault_of};
 
 use instruction_table::{Instr, Reg, Target, operand_registers};
 use registers::RegisterFile;
@@ -21,7 +21,7 @@ pub struct ProgramReference {
 /// An operand, +0 where it is absent.
 #[tactic(auto, unfolding(crate::specs::Work::operand_at))]
 #[inline(always)]
-pub fn operand_at(registers: &RegisterFile, register: Option<Reg>) -> Word60
+fn operand_at(registers: &RegisterFile, register: Option<Reg>) -> Word60
     ensures { result ≡ operand_at registers.now register }
 {
     match register {
@@ -45,14 +45,6 @@ pub fn operands(instr: &Instr, place: Word18, registers: &RegisterFile) -> Opera
     }
 }
 
-/// An address as a word.
-#[inline(always)]
-fn widened(address: Word18) -> Word60
-    ensures { result ≡ address }
-{
-    Word60::from_bits(u64::from(address.get()))
-}
-
 /// The number that a value writes into registers; of a reference it is the address.
 #[tactic(auto, unfolding(crate::specs::Work::number_in))]
 #[inline(always)]
@@ -61,9 +53,9 @@ pub fn number(value: &UnitValue) -> Word60
 {
     match *value {
         UnitValue::Word(word) => word,
-        UnitValue::Index(index) => widened(index),
-        UnitValue::Load(address) => widened(address),
-        UnitValue::Store(address, _) => widened(address),
+        UnitValue::Index(index) => index.widen(),
+        UnitValue::Load(address) => address.widen(),
+        UnitValue::Store(address, _) => address.widen(),
         UnitValue::Jump(_) => Word60::default(),
         UnitValue::Link { .. } => Word60::default(),
     }
@@ -111,21 +103,15 @@ fn word(value: &UnitValue) -> Word60
 }
 
 /// The address that an instruction jumps to, if it does; RJ goes on behind its link word.
-#[tactic(auto, unfolding(crate::specs::Work::jump_for, crate::specs::Work::jump_in))]
+#[tactic(auto, unfolding(crate::specs::Work::jump_for))]
 #[inline(always)]
 pub fn jump(instr: &Instr, value: &UnitValue) -> Option<Word18>
     ensures { result ≡ jump_for (shape_of instr.now) value.now }
 {
-    if !instr.is_branch() {
-        return None;
-    }
-    match *value {
-        UnitValue::Jump(to) => to,
-        UnitValue::Link { at, .. } => Some(at.next()),
-        UnitValue::Word(_) => None,
-        UnitValue::Index(_) => None,
-        UnitValue::Load(_) => None,
-        UnitValue::Store(_, _) => None,
+    if instr.is_branch() {
+        value.destination()
+    } else {
+        None
     }
 }
 

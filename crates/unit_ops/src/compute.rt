@@ -1,6 +1,6 @@
 ghost use Rattle.std.specs.Prelude.{◌≡◌, ◌+◌, ◌%◌, ◌^◌, ◌==◌, IsSome};
 ghost use Rattle.instruction_table.specs.Table.{row};
-ghost use Rattle.unit_ops.specs.Values.{x_holds, is_zero, is_out_of_range, is_indefinite, b_holds, rank, logic, is_negative, magnitude, shifted_out, shifted_nominally, pair_value, addends_value, increment_value, branch_to, next_place, value_of, destination, branch_of};
+ghost use Rattle.unit_ops.specs.Values.{x_holds, is_zero, is_out_of_range, is_indefinite, b_holds, rank, logic, is_negative, magnitude, shifted_out, shifted_nominally, pair_value, addends_value, increment_value, branch_to, value_of, destination, branch_of};
 ghost use Rattle.word60.specs.Words.{bit};
 
 use crate::{Operands, UnitValue};
@@ -193,14 +193,6 @@ fn branch_to(taken: bool, to: Word18) -> UnitValue
     UnitValue::Jump(if taken { Some(to) } else { None })
 }
 
-/// The address after another; 0 comes after 777777.
-#[inline(always)]
-fn next_place(place: Word18) -> Word18
-    ensures { result ≡ next_place place }
-{
-    Word18::from_bits((place.get() + 1) % 0x4_0000)
-}
-
 /// What the unit of an instruction computes from its operands. `PS` and `NO` have no unit, and no value.
 #[inline(always)]
 pub fn value(instr: &Instr, operands: &Operands) -> UnitValue
@@ -213,7 +205,7 @@ pub fn value(instr: &Instr, operands: &Operands) -> UnitValue
         Instr::Stop | Instr::Pass => unreachable!(),
         Instr::ReturnJump { to } => UnitValue::Link {
             at: to,
-            back: next_place(operands.place),
+            back: operands.place.next(),
         },
         Instr::Jump { to, .. } => UnitValue::Jump(Some(x.low18().add(to))),
         Instr::BranchX { test, to, .. } => branch_to(x_holds(test, x), to),
@@ -252,14 +244,18 @@ pub fn value(instr: &Instr, operands: &Operands) -> UnitValue
     }
 }
 
-/// Where the answer of a unit sends the machine, and None where it stays in order.
-fn destination(value: UnitValue) -> Option<Word18>
-    ensures { result ≡ destination value }
-{
-    match value {
-        UnitValue::Jump(to) => to,
-        UnitValue::Link { at, .. } => Some(next_place(at)),
-        _ => None,
+impl UnitValue {
+    /// Where this answer of a unit sends the machine, and None where it stays in order. After a return jump that is
+    /// the word behind the one that it stores.
+    #[inline(always)]
+    pub fn destination(self) -> Option<Word18>
+        ensures { result ≡ destination self }
+    {
+        match self {
+            UnitValue::Jump(to) => to,
+            UnitValue::Link { at, .. } => Some(at.next()),
+            _ => None,
+        }
     }
 }
 
@@ -272,7 +268,7 @@ pub fn branch_taken(instr: &Instr, operands: &Operands) -> Option<Word18>
         Instr::ReturnJump { .. }
         | Instr::Jump { .. }
         | Instr::BranchX { .. }
-        | Instr::BranchB { .. } => { destination(value(instr, operands)) }
+        | Instr::BranchB { .. } => { value(instr, operands).destination() }
         _ => None,
     }
 }

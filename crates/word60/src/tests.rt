@@ -42,6 +42,7 @@ fn adds_indexes(rt: HostRuntime) -> Result<(), Fail> {
     assert_eq!(rt; minus_one.get(), 0o777776);
     assert_eq!(rt; minus_one.extend(), word(b"77777777777777777776")?);
     assert_eq!(rt; one.extend(), Word60::from_bits(1));
+    assert_eq!(rt; minus_one.widen(), word(b"777776")?);
     assert_eq!(rt; word(b"12345670123456701234")?.low18(), index(0o701234)?);
     assert_eq!(rt; Word18::new(0o1000000), None);
     Ok(())

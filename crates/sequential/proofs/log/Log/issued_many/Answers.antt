@@ -1,32 +1,11 @@
-use Rattle.std.proofs.Common.{◌≡◌, ◌++◌, ◌∷◌, [], arith, sym, ap, ◌∙◌, append-nil}
-use Rattle.std.specs.Prelude.{replicate}
-use Rattle.sequential.specs.Replay.{Issued}
-use Rattle.sequential.proofs.Entries.{replicate_on, one_more_issued}
+use Rattle.std.proofs.Common.{◌+◌, sym, ap, ◌∙◌, arith}
+use Rattle.sequential.specs.Log.{steps_of, issued}
+use Rattle.sequential.proofs.Entries.{issued-many, shortest_after_issues}
 use Rattle.sequential.proofs.log.Log.issued_many.Goals as goal
 
-pub loop-init : goal.loop-init
-loop-init c =
+pub invariant_of-self : goal.invariant_of-self
+invariant_of-self c =
     record {
-      steps = sym (append-nil c.args.self.now.steps);
-      count = omega arith;
-      room = c.requires.room;
+      count = ap (λ n. n + c.args.count) c.self.invariant.count ∙ sym (issued-many (steps_of c.self.inside.entries.items) c.args.count) ∙ ap issued (sym c.add.ensures.steps);
+      shortest = shortest_after_issues c.self.inside.entries.items _ c.args.count (omega (arith, c.if-count-gt0.true)) c.self.invariant.shortest c.add.ensures.entries c.add.ensures.steps;
     }
-
-pub issued-requires-clause-room : goal.issued-requires-clause-room
-issued-requires-clause-room c = c.loop.invariant.room
-
-pub issued-requires-clause-count : goal.issued-requires-clause-count
-issued-requires-clause-count c = omega (arith, c.loop.invariant.count, c.requires.count, c.loop-test.true)
-
-pub loop-preserved : goal.loop-preserved
-loop-preserved c =
-    record {
-      steps = c.issued.ensures.steps ∙ ap (λ l. l ++ Issued ∷ []) c.loop.invariant.steps ∙ replicate_on c.args.self.now.steps c.loop.counter;
-      count = one_more_issued _ c.loop.self.steps _ c.loop.counter c.issued.ensures.steps c.loop.invariant.count;
-      room = λ e. cc;
-    }
-
-pub returns : goal.returns
-returns c =
-    let all : c.loop.counter ≡ c.args.count = omega (arith, c.loop.auto.counter-end, c.loop-test.false) in
-    record { steps = c.loop.invariant.steps ∙ ap (λ n. c.args.self.now.steps ++ replicate n Issued) all }
