@@ -1,7 +1,7 @@
 use crate::{
     Addends, Addition, BTest, Base, Decoded, Digit, Instr, Op, Pair, Reg, SixBits, Target,
-    UnitKind, XTest, decode, encode, opcode, operand_registers, read_bytes, read_text, results,
-    sources, spell, text, unit_kind,
+    UnitKind, XTest, decode, decode_as, encode, first_digits, opcode, operand_registers,
+    read_bytes, read_text, results, sources, spell, text, unit_kind,
 };
 use std::test::Fail;
 use word60::{Word18, Word60};
@@ -65,6 +65,10 @@ fn decodes_and_encodes_one_parcel(rt: HostRuntime) -> Result<(), Fail> {
     assert_eq!(rt; decode(word, 1), Decoded::Legal(difference, 2));
     assert_eq!(rt; decode(word, 2), Decoded::Legal(Instr::Pass, 3));
     assert_eq!(rt; decode(word, 3), Decoded::Legal(Instr::Stop, 4));
+    assert_eq!(rt; first_digits(word, 0), 0o36);
+    assert_eq!(rt; first_digits(word, 1), 0o37);
+    let digits = first_digits(word, 1);
+    assert_eq!(rt; decode_as(word, 1, digits), Decoded::Legal(difference, 2));
     assert_eq!(rt; encode(&sum).as_slice(), [0o36312].as_slice());
     assert_eq!(rt; encode(&difference).as_slice(), [0o37421].as_slice());
     assert_eq!(rt; encode(&Instr::Pass).as_slice(), [0o46000].as_slice());

@@ -195,6 +195,21 @@ fn takes_branches(rt: HostRuntime) -> Result<(), Fail> {
     Ok(())
 }
 
+/// A return jump goes to the word behind the one that it stores; 0 comes after 777777.
+#[test]
+fn goes_where_it_is_sent(rt: HostRuntime) -> Result<(), Fail> {
+    let last = Word18::from_bits(0o777777);
+    let link = UnitValue::Link {
+        at: last,
+        back: Word18::default(),
+    };
+    assert_eq!(rt; link.destination(), Some(Word18::default()));
+    assert_eq!(rt; UnitValue::Jump(Some(last)).destination(), Some(last));
+    assert_eq!(rt; UnitValue::Jump(None).destination(), None);
+    assert_eq!(rt; UnitValue::Index(last).destination(), None);
+    Ok(())
+}
+
 #[test]
 fn takes_branches_on_indexes(rt: HostRuntime) -> Result<(), Fail> {
     // +0 and -0, and then what is no branch.
