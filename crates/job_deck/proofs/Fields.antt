@@ -34,12 +34,12 @@ from_found xs i e =
 pub from_missing : (xs : List ℕ) → position (λ b. eqb b 32) xs ≡ None → from_space xs ≡ []
 from_missing xs e = drop_all (position_or_len (λ b. eqb b 32) xs) xs (none_past (position_or_len (λ b. eqb b 32) xs) (length xs) e)
 
-too_many_onto : (w a b : List ℕ) (x : ℕ) (parts : List (List ℕ)) → said_of (w ∷ a ∷ b ∷ onto_first x parts) ≡ SaysNothing
-too_many_onto w a b x [] = refl
-too_many_onto w a b x (part ∷ parts) = refl
+too_many_onto : (w a b d : List ℕ) (x : ℕ) (parts : List (List ℕ)) → said_of (w ∷ a ∷ b ∷ d ∷ onto_first x parts) ≡ SaysNothing
+too_many_onto w a b d x [] = refl
+too_many_onto w a b d x (part ∷ parts) = refl
 
--- four fields say nothing
-pub too_many : (w a b rest : List ℕ) → said_of (w ∷ a ∷ b ∷ fields_of rest) ≡ SaysNothing
-too_many w a b [] = refl
-too_many w a b (x ∷ xs) =
-    elim (eqb x 32) as (λ v. said_of (w ∷ a ∷ b ∷ cond v ([] ∷ fields_of xs) (onto_first x (fields_of xs))) ≡ SaysNothing) [ true ↦ refl | false ↦ too_many_onto w a b x (fields_of xs) ]
+-- five fields say nothing
+pub too_many : (w a b d rest : List ℕ) → said_of (w ∷ a ∷ b ∷ d ∷ fields_of rest) ≡ SaysNothing
+too_many w a b d [] = refl
+too_many w a b d (x ∷ xs) =
+    elim (eqb x 32) as (λ v. said_of (w ∷ a ∷ b ∷ d ∷ cond v ([] ∷ fields_of xs) (onto_first x (fields_of xs))) ≡ SaysNothing) [ true ↦ refl | false ↦ too_many_onto w a b d x (fields_of xs) ]

@@ -1,5 +1,5 @@
 -- What a deck's lines say, and how a deck is judged, one line after another.
-use Rattle.std.specs.Prelude.{ℕ, ◌+◌, Bool, false, not, List, [], ◌∷◌, ◌++◌, length, Option, Some, None, is_some, nat_lt, nat_le, ◌||◌, if◌then◌else◌, codes}
+use Rattle.std.specs.Prelude.{ℕ, ◌+◌, Bool, false, not, List, [], ◌∷◌, ◌++◌, length, Option, Some, None, is_some, nat_lt, nat_le, ◌&&◌, ◌||◌, if◌then◌else◌, codes}
 use Rattle.std.specs.Str.{bytes_eq}
 use Rattle.job_deck.specs.Image.{Placed, blank, placed_at}
 use Rattle.job_deck.specs.Line.{lines_of}
@@ -17,6 +17,7 @@ pub data Said : Type 0 where
   SaysCode : List ℕ → Said
   SaysStart : List ℕ → Said
   SaysShow : List ℕ → List ℕ → Said
+  SaysAsk : List ℕ → List ℕ → Said
   SaysEnd : Said
   SaysNothing : Said
 
@@ -31,7 +32,9 @@ said_of (word ∷ a ∷ []) =
     else if bytes_eq word (codes "start") then SaysStart a
     else SaysNothing
 said_of (word ∷ a ∷ b ∷ []) = if bytes_eq word (codes "show") then SaysShow a b else SaysNothing
-said_of (word ∷ a ∷ b ∷ c ∷ more) = SaysNothing
+said_of (word ∷ a ∷ b ∷ c ∷ []) =
+    if bytes_eq word (codes "ask") && bytes_eq b (codes "after") then SaysAsk a c else SaysNothing
+said_of (word ∷ a ∷ b ∷ c ∷ d ∷ more) = SaysNothing
 
 -- the first field is this word
 abbrev pub begins_with : List ℕ → List (List ℕ) → Bool
@@ -46,10 +49,12 @@ said_code rest = if nat_lt 1 (length rest) then SaysCode rest else SaysNothing
 abbrev pub said_in : List ℕ → Said
 said_in text = if begins_with (codes "code") (fields_of text) then said_code (from_space text) else said_of (fields_of text)
 
--- a deck: the words of memory, the first package, and what is shown
+-- a deck: the words of memory, the first package, the later ones with how many instructions are issued
+-- before each, and what is shown
 pub record Plan : Type 0 where
   pub image : Placed
   pub start : ℕ
+  pub asks : List (ℕ × ℕ)
   pub shows : List (ℕ × ℕ)
 
 -- a deck whose end hasn't come
@@ -57,6 +62,7 @@ pub record Sketch : Type 0 where
   pub image : Placed
   pub place : ℕ
   pub start : Option ℕ
+  pub asks : List (ℕ × ℕ)
   pub shows : List (ℕ × ℕ)
 
 -- what a line does to a deck: it goes on, it is whole, or the line is at fault
@@ -79,12 +85,12 @@ is_no_size n = nat_lt n 32 || nat_lt 131072 n
 
 -- what a `core` line does as the first line
 abbrev pub judged_core : Said → Judged
-judged_core (SaysCore w) = with_number (number_of 10 6 w) (λ n. refuse_if (is_no_size n) faults.Size (Goes (record { image = blank n; place = 0; start = None; shows = [] })))
+judged_core (SaysCore w) = with_number (number_of 10 6 w) (λ n. refuse_if (is_no_size n) faults.Size (Goes (record { image = blank n; place = 0; start = None; asks = []; shows = [] })))
 judged_core other = Faulty faults.Unknown
 
 abbrev pub ended : Sketch → Option ℕ → Judged
 ended s None = Faulty faults.NoStart
-ended s (Some n) = Ends (record { image = s.image; start = n; shows = s.shows })
+ended s (Some n) = Ends (record { image = s.image; start = n; asks = s.asks; shows = s.shows })
 
 -- how many words memory has
 abbrev pub size : Sketch → ℕ
@@ -111,6 +117,9 @@ judged s (SaysStart a) =
 judged s (SaysShow a b) =
     with_number (number_of 8 6 a) (λ low. with_number (number_of 8 6 b) (λ high.
     refuse_if (nat_le 64 (length s.shows)) faults.Many (refuse_if (nat_le (size s) high || nat_lt high low) faults.Range (Goes (record s { shows = s.shows ++ (low, high) ∷ [] })))))
+judged s (SaysAsk a k) =
+    with_number (number_of 8 6 a) (λ n. with_number (number_of 10 8 k) (λ count.
+    refuse_if (nat_lt 10000000 count) faults.Number (refuse_if (nat_le 64 (length s.asks)) faults.Many (refuse_if (nat_lt (size s) (n + 16)) faults.Package (Goes (record s { asks = s.asks ++ (n, count) ∷ [] }))))))
 judged s SaysEnd = ended s s.start
 judged s SaysNothing = Faulty faults.Unknown
 

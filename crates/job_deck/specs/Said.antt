@@ -1,5 +1,5 @@
 -- What a line of the code says.
-use Rattle.job_deck.specs.Deck.{Said, SaysCore, SaysAt, SaysWord, SaysCode, SaysStart, SaysShow, SaysEnd, SaysNothing}
+use Rattle.job_deck.specs.Deck.{Said, SaysCore, SaysAt, SaysWord, SaysCode, SaysStart, SaysShow, SaysAsk, SaysEnd, SaysNothing}
 use Rattle.job_deck.specs.declared.parsing.Line.{Line}
 use Rattle.job_deck.specs.declared.parsing.Line.TheVariants as lines
 
@@ -10,5 +10,6 @@ said (lines.Word v) = SaysWord v.now
 said (lines.Code texts) = SaysCode texts.now
 said (lines.Start n) = SaysStart n.now
 said (lines.Show a b) = SaysShow a.now b.now
+said (lines.Ask a k) = SaysAsk a.now k.now
 said lines.End = SaysEnd
 said lines.Unknown = SaysNothing

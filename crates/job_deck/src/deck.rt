@@ -9,11 +9,22 @@ pub struct Show {
     pub last: Word18,
 }
 
-/// A deck: the words of memory, the absolute address of the first exchange package, and what is shown.
+/// A request for a later exchange.
+#[derive(Clone, Copy, Debug, Drop, PartialEq, Eq)]
+pub struct Ask {
+    /// The absolute address of the package.
+    pub at: u32,
+    /// How many instructions are issued before it.
+    pub after: u32,
+}
+
+/// A deck: the words of memory, the absolute address of the first exchange package, the later requests, and
+/// what is shown.
 #[derive(Drop)]
 pub struct Deck {
     pub image: Image,
     pub start: u32,
+    pub asks: Vec<Ask>,
     pub shows: Vec<Show>,
 }
 
@@ -24,6 +35,7 @@ pub struct Draft {
     /// Where the next word goes.
     pub place: u32,
     pub start: Option<u32>,
+    pub asks: Vec<Ask>,
     pub shows: Vec<Show>,
 }
 

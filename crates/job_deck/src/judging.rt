@@ -1,11 +1,11 @@
 ghost use Rattle.std.specs.Prelude.{◌≡◌, ◌≤◌, ℕ, List, [], length, vec_len};
-ghost use Rattle.job_deck.specs.Deck.{judged, judged_core, judged_first, judged_line, SaysCore, SaysAt, SaysWord, SaysCode, SaysStart, SaysShow, SaysEnd};
+ghost use Rattle.job_deck.specs.Deck.{judged, judged_core, judged_first, judged_line, SaysCore, SaysAt, SaysWord, SaysCode, SaysStart, SaysShow, SaysAsk, SaysEnd};
 ghost use Rattle.job_deck.specs.Said.{said};
 ghost use Rattle.job_deck.specs.Views.{sketch, Answers};
 
 use crate::Image;
 use crate::coding::{parcels_in, word_of};
-use crate::deck::{Deck, Draft, LineError, Show, Step};
+use crate::deck::{Ask, Deck, Draft, LineError, Show, Step};
 use crate::digits::number;
 use crate::parsing::{Line, first_field, parse_line};
 use instruction_table::DeckFault;
@@ -15,6 +15,12 @@ use word60::{Word18, Word60};
 
 /// How many `show` lines a deck has at most.
 const SHOWS: usize = 64;
+
+/// How many `ask` lines a deck has at most.
+const ASKS: usize = 64;
+
+/// After how many instructions a request is made at most.
+const MOST_ISSUES: u64 = 10_000_000;
 
 /// How many parcels a word has.
 const PARCELS: usize = 4;
@@ -43,6 +49,7 @@ fn core_line(alloc: Global, line: Line<'_>) -> Result<Step, LineError>
         image,
         place: 0,
         start: None,
+        asks: Vec::new(alloc),
         shows: Vec::new(alloc),
     }))
 }
@@ -151,6 +158,36 @@ fn show_line(mut draft: Draft, first: &[u8], last: &[u8]) -> Result<Step, LineEr
     }
 }
 
+/// An `ask` line.
+fn ask_line(mut draft: Draft, address: &[u8], count: &[u8]) -> Result<Step, LineError>
+    ensures { Answers result (judged (sketch draft) (SaysAsk address.now count.now)) }
+{
+    let Some(address) = number(8, 6, address) else {
+        return Err(LineError::Faulty(DeckFault::Number));
+    };
+    let Some(count) = number(10, 8, count) else {
+        return Err(LineError::Faulty(DeckFault::Number));
+    };
+    if count > MOST_ISSUES {
+        return Err(LineError::Faulty(DeckFault::Number));
+    }
+    if draft.asks.len() >= ASKS {
+        return Err(LineError::Faulty(DeckFault::Many));
+    }
+    let at = address as u32;
+    if draft.image.size() < at + PACKAGE {
+        return Err(LineError::Faulty(DeckFault::Package));
+    }
+    let ask = Ask {
+        at,
+        after: count as u32,
+    };
+    match draft.asks.push(ask) {
+        Ok(()) => Ok(Step::Goes(draft)),
+        Err(_) => Err(LineError::OutOfMemory),
+    }
+}
+
 /// An `end` line.
 fn end_line(draft: Draft) -> Result<Step, LineError>
     ensures { Answers result (judged (sketch draft) SaysEnd) }
@@ -159,6 +196,7 @@ fn end_line(draft: Draft) -> Result<Step, LineError>
         image,
         place: _,
         start,
+        asks,
         shows,
     } = draft;
     match start {
@@ -166,6 +204,7 @@ fn end_line(draft: Draft) -> Result<Step, LineError>
         Some(start) => Ok(Step::Ends(Deck {
             image,
             start,
+            asks,
             shows,
         })),
     }
@@ -183,6 +222,7 @@ pub fn judge(draft: Draft, text: &[u8]) -> Result<Step, LineError>
         Line::Code(texts) => code_line(draft, texts),
         Line::Start(address) => start_line(draft, address),
         Line::Show(first, last) => show_line(draft, first, last),
+        Line::Ask(address, count) => ask_line(draft, address, count),
         Line::End => end_line(draft),
         Line::Unknown => Err(LineError::Faulty(DeckFault::Unknown)),
     }

@@ -32,7 +32,7 @@ mod spelling;
 #[cfg(test)]
 mod tests;
 
-pub use deck::{Deck, DeckError, Show};
+pub use deck::{Ask, Deck, DeckError, Show};
 pub use dumping::{dump, dump_to};
 pub use image::Image;
 pub use input::{Input, ReadFailed, Watched};

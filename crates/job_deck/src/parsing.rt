@@ -14,6 +14,8 @@ pub enum Line<'a> {
     Code(&'a [u8]),
     Start(&'a [u8]),
     Show(&'a [u8], &'a [u8]),
+    /// The package, and how many instructions are issued before.
+    Ask(&'a [u8], &'a [u8]),
     End,
     Unknown,
 }
@@ -53,8 +55,23 @@ fn code_line(text: &[u8]) -> Line<'_>
     }
 }
 
-/// What a line says that begins with another word.
+/// What a line of four fields or more says.
 #[tactic(auto, using(crate::proofs::Fields::too_many))]
+fn line_of_four<'a>(word: &[u8], first: &'a [u8], second: &[u8], rest: &'a [u8]) -> Line<'a>
+    ensures { said result ≡ said_of (word.now ∷ first.now ∷ second.now ∷ fields_of rest.now) }
+{
+    let (third, rest) = first_field(rest);
+    let Some(_) = rest else {
+        return if word == b"ask".as_slice() && second == b"after".as_slice() {
+            Line::Ask(first, third)
+        } else {
+            Line::Unknown
+        };
+    };
+    Line::Unknown
+}
+
+/// What a line says that begins with another word.
 fn line_of_fields<'a>(word: &[u8], rest: Option<&'a [u8]>) -> Line<'a>
     ensures { said result ≡ said_of (word.now ∷ other_parts 32 rest.entry) }
 {
@@ -80,14 +97,14 @@ fn line_of_fields<'a>(word: &[u8], rest: Option<&'a [u8]>) -> Line<'a>
         };
     };
     let (second, rest) = first_field(rest);
-    let Some(_) = rest else {
+    let Some(rest) = rest else {
         return if word == b"show".as_slice() {
             Line::Show(first, second)
         } else {
             Line::Unknown
         };
     };
-    Line::Unknown
+    line_of_four(word, first, second, rest)
 }
 
 /// What a line says.

@@ -1,7 +1,7 @@
 ghost use Rattle.std.specs.Prelude.{◌≡◌, ◌||◌, ◌⊎◌, true, false, Some, IfErr, IfOk, MatchResult};
 ghost use Rattle.instruction_table.specs.declared.refusal.Refusal.TheVariants.{Nothing, NotDrained, OutOfMemory, Stranger};
 ghost use Rattle.sequential.specs.Replay.{boot, replay};
-ghost use Rattle.machine.specs.Refusals.{is_stranger, is_issue_refusal, is_read_refusal, is_store_refusal, is_ask_refusal, is_exchange_refusal};
+ghost use Rattle.machine.specs.Refusals.{is_stranger, is_nothing, is_issue_refusal, is_read_refusal, is_store_refusal, is_accept_refusal, is_return_refusal, is_ask_refusal, is_exchange_refusal};
 ghost use Rattle.machine.specs.Tokens.{new_seats, one_more};
 
 use crate::Seen;
@@ -142,6 +142,48 @@ impl Shared {
         ensures given_back { IfErr result (λ back. (back.1 ≡ token) × ((is_stranger back.0 || is_store_refusal back.0) ≡ true)) }
     {
         self.locked.lock(rt).machine.store(token)
+    }
+
+    /// Memory takes the reference in a place of the hopper, 0 to 3: the event `Accept`.
+    ///
+    /// # Errors
+    /// `BankBusy` or `OlderInBank`, or `Nothing` where the place is empty.
+    #[tactic(auto, unfolding(machine::specs::Refusals::may_refuse))]
+    pub fn accept<R: Wait>(&self, rt: &R, place: u8) -> Result<(), Refusal>
+        ensures { IfErr result (λ refusal. (is_nothing refusal || is_accept_refusal refusal) ≡ true) }
+    {
+        match self.locked.lock(rt).machine.apply(Event::Accept(place)) {
+            Ok(_) => Ok(()),
+            Err(refusal) => Err(refusal),
+        }
+    }
+
+    /// The load in a channel, 1 to 5, writes its register: the event `Return`.
+    ///
+    /// # Errors
+    /// `ResultHeld`, or `Nothing` where the channel is empty.
+    #[tactic(auto, unfolding(machine::specs::Refusals::may_refuse))]
+    pub fn return_load<R: Wait>(&self, rt: &R, channel: u8) -> Result<(), Refusal>
+        ensures { IfErr result (λ refusal. (is_nothing refusal || is_return_refusal refusal) ≡ true) }
+    {
+        match self.locked.lock(rt).machine.apply(Event::Return(channel)) {
+            Ok(_) => Ok(()),
+            Err(refusal) => Err(refusal),
+        }
+    }
+
+    /// A bank, 0 to 31, is no longer busy: the event `BankFree`.
+    ///
+    /// # Errors
+    /// `Nothing` where the bank isn't busy.
+    #[tactic(auto, unfolding(machine::specs::Refusals::may_refuse))]
+    pub fn bank_free<R: Wait>(&self, rt: &R, bank: u8) -> Result<(), Refusal>
+        ensures { IfErr result (λ refusal. is_nothing refusal ≡ true) }
+    {
+        match self.locked.lock(rt).machine.apply(Event::BankFree(bank)) {
+            Ok(_) => Ok(()),
+            Err(refusal) => Err(refusal),
+        }
     }
 
     /// The state, the log and the boot memory of the machine, if it is drained. The state is the replay of

@@ -5,6 +5,8 @@
 mod arguments;
 mod fault;
 mod program;
+mod references;
+mod requests;
 mod running;
 mod seats;
 mod status;

@@ -58,7 +58,10 @@ fn run_deck<T: Wait, R: Read, W: Write>(
 {
     let deck = read_deck(alloc, input)?;
     let memory = deck.image.memory().copy()?;
-    let snapshot = run(rt, alloc, memory, deck.start, budget)?;
+    let Ok(asks) = deck.asks.clone() else {
+        return Err(ProgramFault::OutOfMemory);
+    };
+    let snapshot = run(rt, alloc, memory, deck.start, asks, budget)?;
     dump(snapshot.state(), snapshot.log(), &deck, output)?;
     Ok(end_status(snapshot.state()))
 }

@@ -1,5 +1,5 @@
 -- The step of the machine that does one instruction at a time.
-use Rattle.std.specs.Prelude.{ℕ, Bool, ◌&&◌, not, if◌then◌else◌, List, Option, Some, None, slice_index_or}
+use Rattle.std.specs.Prelude.{ℕ, List, Option, Some, None, slice_index_or}
 use Rattle.instruction_table.specs.declared.instr.Instr.{Instr}
 use Rattle.instruction_table.specs.declared.instr.Instr.TheVariants.{Stop, Pass}
 use Rattle.instruction_table.specs.declared.decoding.Decoded.{Decoded}
@@ -7,8 +7,7 @@ use Rattle.instruction_table.specs.declared.decoding.Decoded.TheVariants.{Legal,
 use Rattle.instruction_table.specs.declared.refusal.Halt.{Halt}
 use Rattle.instruction_table.specs.declared.refusal.Halt.TheVariants.{Stop as StopHalt, Illegal, Straddle as StraddleHalt, FetchRange}
 use Rattle.instruction_table.specs.Decoding.{reading_at}
-use Rattle.instruction_table.specs.Opcode.{op_of}
-use Rattle.instruction_table.specs.Shape.{shape_of, is_branch_shape, has_reference}
+use Rattle.instruction_table.specs.Shape.{shape_of}
 use Rattle.unit_ops.specs.Values.{value_of}
 use Rattle.sequential.specs.declared.fetching.Fetched.{Fetched}
 use Rattle.sequential.specs.declared.fetching.Fetched.TheVariants.{Halting, Passing, Taking}
@@ -18,21 +17,15 @@ use Rattle.sequential.specs.Place.{beginning, moved_on}
 use Rattle.sequential.specs.State.{Bounds, bounds_of, absolute, move_to, halt_by}
 use Rattle.sequential.specs.Work.{operands, work_of, do_work}
 
--- of the rows with a unit this machine carries out all so far but the branches and those that make a
--- reference to memory. These halt as an illegal opcode does
-unfoldable pub is_carried_out : Instr → Bool
-is_carried_out instr = not (is_branch_shape (shape_of instr)) && not (has_reference (shape_of instr))
-
 -- the place of an instruction itself, with its word held
 abbrev pub here : ℕ → ℕ → ℕ → Place
 here p parcel word = record { p = p; parcel = parcel; held = Some word }
 
--- a stop halts, and a pass does nothing
+-- a stop halts, a pass does nothing, and every other instruction goes to a unit
 unfoldable pub met : Place → Place → Instr → Fetched
 met place behind Stop = Halting StopHalt place
 met place behind Pass = Passing behind
-met place behind instr =
-    if is_carried_out instr then Taking instr behind else Halting (Illegal (op_of instr)) place
+met place behind instr = Taking instr behind
 
 -- what is read halts the machine where it stands, or moves it on
 unfoldable pub fetched_by : ℕ → ℕ → ℕ → Decoded → Fetched

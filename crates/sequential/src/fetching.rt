@@ -1,9 +1,9 @@
 ghost use Rattle.std.specs.Prelude.{◌≡◌, ◌<◌, length};
 ghost use Rattle.sequential.specs.State.{bounds_of};
-ghost use Rattle.sequential.specs.Step.{is_carried_out, met, here, fetched_by, word_seen, word_at, fetch};
+ghost use Rattle.sequential.specs.Step.{met, here, fetched_by, word_seen, word_at, fetch};
 
 use crate::{Place, State};
-use instruction_table::{Decoded, Halt, Instr, decode, opcode};
+use instruction_table::{Decoded, Halt, Instr, decode};
 use relocation::relocate;
 use word60::Word60;
 
@@ -18,16 +18,6 @@ pub enum Fetched {
     Taking(Instr, Place),
 }
 
-/// Whether an instruction with a unit is one that this machine carries out so far: all but the branches
-/// and those that make a reference to memory.
-#[tactic(auto, unfolding(crate::specs::Step::is_carried_out))]
-#[inline(always)]
-fn carries_out(instr: &Instr) -> bool
-    ensures { result ≡ is_carried_out instr.now }
-{
-    !instr.is_branch() && !instr.has_reference()
-}
-
 /// What an instruction does that stands at one place and ends at another.
 #[tactic(auto, unfolding(crate::specs::Step::met))]
 #[inline(always)]
@@ -37,11 +27,7 @@ fn met(place: Place, behind: Place, instr: &Instr) -> Fetched
     match *instr {
         Instr::Stop => Fetched::Halting(Halt::Stop, place),
         Instr::Pass => Fetched::Passing(behind),
-        _ => if carries_out(instr) {
-            Fetched::Taking(*instr, behind)
-        } else {
-            Fetched::Halting(Halt::Illegal(opcode(instr)), place)
-        },
+        _ => Fetched::Taking(*instr, behind),
     }
 }
 

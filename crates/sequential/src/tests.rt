@@ -3,7 +3,8 @@ use crate::{
     operands, reference, replay, step,
 };
 use instruction_table::{
-    Addends, Addition, Base, Digit, Direction, Halt, Instr, Op, Pair, Refusal, Reg, SixBits, Target,
+    Addends, Addition, BTest, Base, Digit, Direction, Halt, Instr, Op, Pair, Refusal, Reg, SixBits,
+    Target, XTest,
 };
 use registers::RegisterFile;
 use relocation::{Access, Area, Storage};
@@ -100,34 +101,47 @@ fn fetches_from_a_held_word(rt: HostRuntime) -> Result<(), Fail> {
     Ok(())
 }
 
-/// Branches, and what makes a reference to memory, halt with their codes.
+/// Branches, and what makes a reference to memory, go to their units.
 #[test]
-fn halts_at_branches_and_references(rt: HostRuntime) -> Result<(), Fail> {
+fn takes_branches_and_references(rt: HostRuntime) -> Result<(), Fail> {
     let mut state = State::boot(Storage::new(rt.alloc(), 32)?);
     let (zero, one) = (Digit::low(0), Digit::low(1));
-    for (octal, code) in [
+    let to = Word18::from_bits(8);
+    for (octal, instr, next) in [
         // RJ 10
-        (b"01000000104600046000", Op::Extended(zero, one, zero)),
+        (b"01000000104600046000", return_jump(), 2),
         // JP B1+10
-        (b"02100000104600046000", Op::Plain(zero, Digit::low(2))),
+        (b"02100000104600046000", Instr::Jump { i: one, to }, 2),
         // ZR X1,10
         (
             b"03010000104600046000",
-            Op::Extended(zero, Digit::low(3), zero),
+            Instr::BranchX {
+                test: XTest::Zero,
+                j: one,
+                to,
+            },
+            2,
         ),
-        // EQ B0,B0,0
-        (b"04000000004600046000", Op::Plain(zero, Digit::low(4))),
-        // SA1 B0+0
-        (b"51100000004600046000", Op::Plain(Digit::low(5), one)),
-        // SA7 X1+B1
+        // EQ B0,B1,10
         (
-            b"53711460004600046000",
-            Op::Plain(Digit::low(5), Digit::low(3)),
+            b"04010000104600046000",
+            Instr::BranchB {
+                test: BTest::Equal,
+                i: zero,
+                j: one,
+                to,
+            },
+            2,
         ),
+        // SA1 X1+B1
+        (b"53111460004600046000", set_a(1), 1),
+        // SA7 X1+B1
+        (b"53711460004600046000", set_a(7), 1),
     ] {
-        state.place = place(5, 0, Some(word(octal)?))?;
-        let fetched = state.fetch();
-        assert_eq!(rt; fetched, Fetched::Halting(Halt::Illegal(code), state.place));
+        let held = word(octal)?;
+        state.place = place(5, 0, Some(held))?;
+        let behind = place(5, next, Some(held))?;
+        assert_eq!(rt; state.fetch(), Fetched::Taking(instr, behind));
     }
     Ok(())
 }

@@ -1,0 +1,38 @@
+use instruction_table::Refusal;
+use machine_lock::Shared;
+use std::sync::Wait;
+
+/// Hands a reference in the first place of the hopper to memory, and frees its bank for it where that is
+/// busy. It does nothing where no reference waits.
+///
+/// # Errors
+/// What was refused.
+fn accept_first<T: Wait>(rt: &T, shared: &Shared) -> Result<(), Refusal> {
+    match shared.accept(rt, 0) {
+        Ok(()) | Err(Refusal::Nothing) => Ok(()),
+        Err(Refusal::BankBusy(bank)) => {
+            shared.bank_free(rt, bank)?;
+            shared.accept(rt, 0)
+        }
+        Err(refusal) => Err(refusal),
+    }
+}
+
+/// Takes the only reference that waits through memory, if there is one: it is accepted, and where it is a
+/// load its word is returned.
+///
+/// # Errors
+/// What was refused.
+pub fn settle<T: Wait>(rt: &T, shared: &Shared) -> Result<(), Refusal> {
+    if shared.drained(rt) {
+        return Ok(());
+    }
+    accept_first(rt, shared)?;
+    for channel in 1..6u8 {
+        match shared.return_load(rt, channel) {
+            Ok(()) | Err(Refusal::Nothing) => {}
+            Err(refusal) => return Err(refusal),
+        }
+    }
+    Ok(())
+}
