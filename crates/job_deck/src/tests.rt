@@ -121,7 +121,7 @@ fn expect_coded(rt: &(impl Abort + AllocGlobal), texts: &str, word: u64) -> Resu
     )?;
     let mut input = deck.as_slice();
     let found = match read_deck(rt.alloc(), &mut input) {
-        Ok(deck) => deck.image.memory().words(2, 1)[0].get(),
+        Ok(deck) => deck.image.memory().load(2).get(),
         Err(_) => 0,
     };
     assert_eq!(rt; found, word);

@@ -260,7 +260,7 @@ fn exchanges(rt: HostRuntime) -> Result<(), Fail> {
     let halted = word(b"00000001000000000000")?;
     let left = [zero, zero, zero, zero, zero, zero, zero, halted, zero, zero];
     assert!(rt; state.memory.size() == 256);
-    assert_eq!(rt; state.memory.words(0o40, 10), left.as_slice());
+    assert_eq!(rt; state.memory.words::<10>(0o40), left);
 
     let copy = state.copy()?;
     assert_eq!(rt; copy.place, state.place);
@@ -268,7 +268,7 @@ fn exchanges(rt: HostRuntime) -> Result<(), Fail> {
     assert_eq!(rt; copy.area, state.area);
     assert_eq!(rt; copy.registers, state.registers);
     assert!(rt; copy.memory.size() == 256);
-    assert_eq!(rt; copy.memory.words(0o40, 10), left.as_slice());
+    assert_eq!(rt; copy.memory.words::<10>(0o40), left);
     Ok(())
 }
 
