@@ -7,6 +7,7 @@
 #![tactic(auto)]
 
 mod answering;
+mod buffered;
 mod coding;
 mod deck;
 mod digits;
@@ -32,6 +33,7 @@ mod spelling;
 #[cfg(test)]
 mod tests;
 
+pub use buffered::WatchedBuffer;
 pub use deck::{Ask, Deck, DeckError, Show};
 pub use dumping::{dump, dump_to};
 pub use image::Image;

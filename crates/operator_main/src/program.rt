@@ -6,7 +6,9 @@ use super::running::run;
 use super::status::{Status, end_status};
 use clap::Error;
 use clap::error::ErrorKind;
-use job_deck::{dump, events, list, read_deck, replay};
+use job_deck::{
+    Input, Output, Tracked, WatchedBuffer, dump_to, events_to, list_to, read_deck_from, replay_to,
+};
 use std::alloc::Global;
 use std::io;
 use std::io::{BufReader, BufWriter, Read, Write};
@@ -47,22 +49,22 @@ fn unparsed<W: Write, F: Write>(output: &mut W, faults: &mut F, error: Error) ->
 ///
 /// # Errors
 /// Why the dump wasn't printed; a beginning of it may have been.
-fn run_deck<T: Wait, R: Read, W: Write>(
+fn run_deck<T: Wait, I: Input, O: Output>(
     rt: &T,
     alloc: Global,
-    input: &mut R,
-    output: &mut W,
+    input: &mut I,
+    output: &mut O,
     budget: u64,
 ) -> Result<Status, ProgramFault>
     requires { budget ≤ 10000000 }
 {
-    let deck = read_deck(alloc, input)?;
+    let (deck, _) = read_deck_from(alloc, input)?;
     let memory = deck.image.memory().copy()?;
     let Ok(asks) = deck.asks.clone() else {
         return Err(ProgramFault::OutOfMemory);
     };
     let snapshot = run(rt, alloc, memory, deck.start, asks, budget)?;
-    dump(snapshot.state(), snapshot.log(), &deck, output)?;
+    dump_to(output, snapshot.state(), snapshot.log(), &deck)?;
     Ok(end_status(snapshot.state()))
 }
 
@@ -70,13 +72,13 @@ fn run_deck<T: Wait, R: Read, W: Write>(
 ///
 /// # Errors
 /// Why the dump wasn't printed; a beginning of it may have been.
-fn replay_log<R: Read, W: Write>(
+fn replay_log<I: Input, O: Output>(
     alloc: Global,
-    input: &mut R,
-    output: &mut W,
+    input: &mut I,
+    output: &mut O,
     log: &str,
 ) -> Result<Status, ProgramFault> {
-    match replay(alloc, input, output, log)? {
+    match replay_to(alloc, input, output, log)? {
         Some(state) => Ok(end_status(&state)),
         None => Err(ProgramFault::BadLog),
     }
@@ -97,19 +99,21 @@ fn perform<T: Wait, R: Read, W: Write>(
     let Ok(mut writer) = BufWriter::new(alloc, output) else {
         return Err(ProgramFault::OutOfMemory);
     };
+    let mut input = WatchedBuffer::new(&mut reader);
+    let mut output = Tracked::new(&mut writer);
     match request {
         Request::Run(budget) => {
             let budget = budget.min(LARGEST_BUDGET);
-            run_deck(rt, alloc, &mut reader, &mut writer, budget)
+            run_deck(rt, alloc, &mut input, &mut output, budget)
         }
-        Request::Replay(log) => replay_log(alloc, &mut reader, &mut writer, log),
+        Request::Replay(log) => replay_log(alloc, &mut input, &mut output, log),
         Request::Events(budget) => {
             let budget = budget.min(LARGEST_BUDGET);
-            events(alloc, &mut reader, &mut writer, budget)?;
+            events_to(alloc, &mut input, &mut output, budget)?;
             Ok(Status::Stopped)
         }
         Request::List => {
-            list(alloc, &mut reader, &mut writer)?;
+            list_to(alloc, &mut input, &mut output)?;
             Ok(Status::Stopped)
         }
     }

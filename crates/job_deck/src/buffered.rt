@@ -1,0 +1,47 @@
+ghost use Rattle.std.specs.Prelude.{◌≡◌, false};
+
+use crate::input::{Input, ReadFailed};
+use std::io::BufRead;
+
+/// Any buffered reader, watched for failures. A byte is taken out of its buffer, which costs much less than a
+/// read of one byte.
+#[derive(Drop)]
+pub struct WatchedBuffer<'a, R> {
+    reader: &'a mut R,
+    failed: bool,
+}
+
+impl<'a, R: BufRead> WatchedBuffer<'a, R> {
+    pub fn new(reader: &'a mut R) -> WatchedBuffer<'a, R>
+        ensures reader { result.reader ≡ reader.entry }
+        ensures fresh { result.failed ≡ false }
+    {
+        WatchedBuffer {
+            reader,
+            failed: false,
+        }
+    }
+}
+
+impl<'a, R: BufRead> Input for WatchedBuffer<'a, R> {
+    ghost remaining = { λ w. R.remaining w.reader.now };
+
+    ghost has_failed = { λ w. w.failed };
+
+    ghost lender = { λ w. w.reader.ghost_name };
+
+    fn next_byte(&mut self) -> Result<Option<u8>, ReadFailed> {
+        let byte = match self.reader.fill_buf() {
+            Ok(bytes) => match bytes.first() {
+                Some(byte) => *byte,
+                None => return Ok(None),
+            },
+            Err(_) => {
+                self.failed = true;
+                return Err(ReadFailed);
+            }
+        };
+        self.reader.consume(1);
+        Ok(Some(byte))
+    }
+}
