@@ -220,12 +220,7 @@ fn faulty_asks(rt: HostRuntime) -> Result<(), Fail> {
         ("ask 361 after 1", DeckFault::Package),
         ("ask 777777 after 1", DeckFault::Package),
     ] {
-        expect_refused(
-            &rt,
-            ["core 256\n", line, "\nend\n"].as_slice(),
-            2,
-            fault,
-        )?;
+        expect_refused(&rt, ["core 256\n", line, "\nend\n"].as_slice(), 2, fault)?;
     }
     Ok(())
 }
@@ -255,13 +250,15 @@ fn many_asks(rt: HostRuntime) -> Result<(), Fail> {
 #[test]
 fn asks(rt: HostRuntime) -> Result<(), Fail> {
     let mut input =
-        b"core 256\nask 000360 after 10000000\nstart 0\nask 40 after 00000003\nask 20 after 3\nend\n"
-            .as_slice();
+        b"core 256\nask 000360 after 10000000\nstart 0\nask 40 after 00000003\nask 20 after 3\nend\n".as_slice();
     let Ok(deck) = read_deck(rt.alloc(), &mut input) else {
         return Err(Fail::from(AllocError));
     };
     let wanted = [
-        Ask { at: 0o360, after: 10_000_000 },
+        Ask {
+            at: 0o360,
+            after: 10_000_000,
+        },
         Ask { at: 0o40, after: 3 },
         Ask { at: 0o20, after: 3 },
     ];
