@@ -57,11 +57,7 @@ fn run_deck<T: Wait, R: Read, W: Write>(
     requires { budget ≤ 10000000 }
 {
     let deck = read_deck(alloc, input)?;
-    let memory = deck.image.memory().copy()?;
-    let Ok(asks) = deck.asks.clone() else {
-        return Err(ProgramFault::OutOfMemory);
-    };
-    let snapshot = run(rt, alloc, memory, deck.start, asks, budget)?;
+    let snapshot = run(rt, alloc, &deck, budget)?;
     dump(snapshot.state(), snapshot.log(), &deck, output)?;
     Ok(end_status(snapshot.state()))
 }
