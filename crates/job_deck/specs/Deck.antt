@@ -49,8 +49,8 @@ said_code rest = if nat_lt 1 (length rest) then SaysCode rest else SaysNothing
 abbrev pub said_in : List ℕ → Said
 said_in text = if begins_with (codes "code") (fields_of text) then said_code (from_space text) else said_of (fields_of text)
 
--- a deck: the words of memory, the first package, the later ones with how many instructions are issued
--- before each, and what is shown
+-- a deck: the words of memory, the package of the first exchange, those of the later ones, each with how many
+-- instructions are issued before it is asked for, and what is shown
 pub record Plan : Type 0 where
   pub image : Placed
   pub start : ℕ

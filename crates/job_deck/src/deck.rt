@@ -9,17 +9,17 @@ pub struct Show {
     pub last: Word18,
 }
 
-/// A request for a later exchange.
+/// A request for an exchange while the deck's program runs.
 #[derive(Clone, Copy, Debug, Drop, PartialEq, Eq)]
 pub struct Ask {
     /// The absolute address of the package.
     pub at: u32,
-    /// How many instructions are issued before it.
+    /// How many instructions are issued before the exchange is asked for.
     pub after: u32,
 }
 
-/// A deck: the words of memory, the absolute address of the first exchange package, the later requests, and
-/// what is shown.
+/// A deck: the words of memory, the absolute address of the first exchange package, the requests for later
+/// exchanges, and what is shown.
 #[derive(Drop)]
 pub struct Deck {
     pub image: Image,

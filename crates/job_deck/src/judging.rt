@@ -19,7 +19,7 @@ const SHOWS: usize = 64;
 /// How many `ask` lines a deck has at most.
 const ASKS: usize = 64;
 
-/// After how many instructions a request is made at most.
+/// How many instructions an `ask` line waits for at most.
 const MOST_ISSUES: u64 = 10_000_000;
 
 /// How many parcels a word has.

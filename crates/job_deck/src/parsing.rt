@@ -14,7 +14,7 @@ pub enum Line<'a> {
     Code(&'a [u8]),
     Start(&'a [u8]),
     Show(&'a [u8], &'a [u8]),
-    /// The package, and how many instructions are issued before.
+    /// The address of the package, and how many instructions are issued before it is asked for.
     Ask(&'a [u8], &'a [u8]),
     End,
     Unknown,

@@ -1,6 +1,6 @@
 ghost use Rattle.std.specs.Prelude.{Some, vec_items};
 
-use crate::{Deck, dump, list, read_deck, read_log};
+use crate::{Ask, Deck, dump, list, read_deck, read_log};
 use instruction_table::{DeckFault, Refusal};
 use relocation::Storage;
 use sequential::{Log, State};
@@ -196,6 +196,74 @@ fn faulty_codes(rt: HostRuntime) -> Result<(), Fail> {
 fn codes_past_memory(rt: HostRuntime) -> Result<(), Fail> {
     let deck = "core 32\nat 37\ncode NO\ncode SX1\n";
     expect_refused(&rt, [deck].as_slice(), 4, DeckFault::Range)
+}
+
+#[test]
+fn faulty_asks(rt: HostRuntime) -> Result<(), Fail> {
+    for (line, fault) in [
+        ("ask", DeckFault::Unknown),
+        ("ask 40", DeckFault::Unknown),
+        ("ask 40 free", DeckFault::Unknown),
+        ("ask 40 after", DeckFault::Unknown),
+        ("ask 40 before 3", DeckFault::Unknown),
+        ("ask 40 after 3 4", DeckFault::Unknown),
+        ("ask 8 before 3", DeckFault::Unknown),
+        ("ask  40 after 3", DeckFault::Unknown),
+        ("ask 40 after ", DeckFault::Number),
+        ("ask  after 3", DeckFault::Number),
+        ("ask 8 after 3", DeckFault::Number),
+        ("ask 0000040 after 3", DeckFault::Number),
+        ("ask 40 after 3x", DeckFault::Number),
+        ("ask 40 after 000000003", DeckFault::Number),
+        ("ask 40 after 10000001", DeckFault::Number),
+        ("ask 361 after 10000001", DeckFault::Number),
+        ("ask 361 after 1", DeckFault::Package),
+        ("ask 777777 after 1", DeckFault::Package),
+    ] {
+        expect_refused(&rt, ["core 256\n", line, "\nend\n"].as_slice(), 2, fault)?;
+    }
+    Ok(())
+}
+
+/// A deck of 64 requests, and the line that follows them.
+#[test]
+fn many_asks(rt: HostRuntime) -> Result<(), Fail> {
+    let mut asks = Vec::from_slice(rt.alloc(), ["core 256\n"].as_slice())?;
+    for _ in 0..64u32 {
+        asks.push("ask 40 after 3\n")?;
+    }
+    for (line, fault) in [
+        ("end\n", DeckFault::NoStart),
+        ("ask 40 after 3\n", DeckFault::Many),
+        ("ask 361 after 3\n", DeckFault::Many),
+        ("ask 361 after 10000001\n", DeckFault::Number),
+        ("ask 40 free\n", DeckFault::Unknown),
+    ] {
+        asks.push(line)?;
+        expect_refused(&rt, asks.as_slice(), 66, fault)?;
+        let _ = asks.pop();
+    }
+    Ok(())
+}
+
+/// Requests stand in the deck's order, with the largest address, count and number of digits too.
+#[test]
+fn asks(rt: HostRuntime) -> Result<(), Fail> {
+    let mut input =
+        b"core 256\nask 000360 after 10000000\nstart 0\nask 40 after 00000003\nask 20 after 3\nend\n".as_slice();
+    let Ok(deck) = read_deck(rt.alloc(), &mut input) else {
+        return Err(Fail::from(AllocError));
+    };
+    let wanted = [
+        Ask {
+            at: 0o360,
+            after: 10_000_000,
+        },
+        Ask { at: 0o40, after: 3 },
+        Ask { at: 0o20, after: 3 },
+    ];
+    assert_eq!(rt; deck.asks.as_slice(), wanted.as_slice());
+    Ok(())
 }
 
 #[test]

@@ -35,4 +35,14 @@ fn main(rt: HostRuntime) -> ExitCode {
 }
 
 #[cfg(test)]
+mod branch_tests;
+#[cfg(test)]
+mod device_tests;
+#[cfg(test)]
+mod reference_tests;
+#[cfg(test)]
+mod refusal_tests;
+#[cfg(test)]
+mod request_tests;
+#[cfg(test)]
 mod tests;

@@ -59,11 +59,7 @@ fn run_deck<T: Wait, I: Input, O: Output>(
     requires { budget ≤ 10000000 }
 {
     let (deck, _) = read_deck_from(alloc, input)?;
-    let memory = deck.image.memory().copy()?;
-    let Ok(asks) = deck.asks.clone() else {
-        return Err(ProgramFault::OutOfMemory);
-    };
-    let snapshot = run(rt, alloc, memory, deck.start, asks, budget)?;
+    let snapshot = run(rt, alloc, &deck, budget)?;
     dump_to(output, snapshot.state(), snapshot.log(), &deck)?;
     Ok(end_status(snapshot.state()))
 }

@@ -2,8 +2,8 @@ use instruction_table::Refusal;
 use machine_lock::Shared;
 use std::sync::Wait;
 
-/// Hands a reference in the first place of the hopper to memory, and frees its bank for it where that is
-/// busy. It does nothing where no reference waits.
+/// Hands the reference in the first place of the hopper to memory, and frees its bank before where an earlier
+/// reference left it busy. It does nothing where no reference waits.
 ///
 /// # Errors
 /// What was refused.
@@ -18,8 +18,8 @@ fn accept_first<T: Wait>(rt: &T, shared: &Shared) -> Result<(), Refusal> {
     }
 }
 
-/// Takes the only reference that waits through memory, if there is one: it is accepted, and where it is a
-/// load its word is returned.
+/// Takes the only reference that waits through memory, if one does: it is accepted, and the word of a load is
+/// returned to its register. Without another reference it stands in the first place of the hopper.
 ///
 /// # Errors
 /// What was refused.
@@ -28,6 +28,7 @@ pub fn settle<T: Wait>(rt: &T, shared: &Shared) -> Result<(), Refusal> {
         return Ok(());
     }
     accept_first(rt, shared)?;
+    // A load waits in the channel of its X register, X1 to X5.
     for channel in 1..6u8 {
         match shared.return_load(rt, channel) {
             Ok(()) | Err(Refusal::Nothing) => {}

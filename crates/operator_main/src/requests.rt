@@ -1,119 +1,101 @@
-use instruction_table::Refusal;
-use job_deck::Ask;
-use machine_lock::{Seen, Shared};
-use std::sync::Wait;
+//! Which request for an exchange a run makes next, and so when a run ends.
+//!
+//! A request of a deck names a number of instructions. It is due once so many were issued, and it is made before
+//! the next one is issued. While another request waits for its exchange none is due: the next one is made as
+//! soon as that exchange was made. Of several that are due the one after the fewest instructions comes first, and
+//! of those after equally many the one that stands first in the deck. The request for the deck's first
+//! package comes before all of them.
+//!
+//! A run ends where the machine is drained and either it is halted, faulted or out of budget, no request waits
+//! and none is due; or it is out of budget in the middle of a word, where the exchange that waits can't be made.
+//! A request after more instructions than are issued by then isn't made.
 
-/// A deck's requests for later exchanges that are still to be made, while a run goes on.
+ghost use Rattle.std.specs.Prelude.{◌≡◌, ◌<◌, ◌+◌, ◌^◌, ◌++◌, ◌∷◌, ◌||◌, true, false, None, is_some, option_to_list, IfOk};
+ghost use Rattle.operator_main.specs.Requests.{IsInOrder, KeepsTies, IsDue};
+
+use job_deck::Ask;
+use std::alloc::{AllocError, Global};
+use std::collections::VecDeque;
+
+/// The requests that a run has still to make, and how far the run has come.
 #[derive(Drop)]
 pub struct Requests {
-    left: Vec<Ask>,
+    /// In the order in which they are made.
+    left: VecDeque<Ask>,
     /// How many instructions were issued.
     issued: u64,
     /// Whether a request waits for its exchange.
-    waits: bool,
-}
-
-/// The request that comes first: the one with the fewest instructions before it, of these the first one.
-fn first(asks: &[Ask]) -> Option<usize> {
-    let mut found: Option<(usize, u32)> = None;
-    for index in 0..asks.len() {
-        let after = asks[index].after;
-        match found {
-            Some((_, least)) if least <= after => {}
-            _ => found = Some((index, after)),
-        }
-    }
-    match found {
-        Some((index, _)) => Some(index),
-        None => None,
-    }
+    is_waiting: bool,
+    ghost in_order: { IsInOrder left.items },
 }
 
 impl Requests {
-    /// The requests of a deck, before any instruction.
-    pub fn of(asks: Vec<Ask>) -> Requests {
-        Requests {
-            left: asks,
+    /// The requests of a run before its first instruction: that for the first package, which comes after no
+    /// instruction and before all others, and those of the deck.
+    ///
+    /// # Errors
+    /// No memory was to be had.
+    pub fn new(alloc: Global, start: u32, asks: &[Ask]) -> Result<Requests, AllocError>
+        ensures left { IfOk result (λ requests. KeepsTies (record { at = start; after = 0 } ∷ asks.now) requests.left.items) }
+        ensures issued { IfOk result (λ requests. requests.issued ≡ 0) }
+        ensures is_waiting { IfOk result (λ requests. requests.is_waiting ≡ false) }
+    {
+        let first = Ask {
+            at: start,
+            after: 0,
+        };
+        let mut all = Vec::from_slice(alloc, &[first])?;
+        all.extend_from_slice(asks)?;
+        all.sort_by_key(|ask| ask.after)?;
+        Ok(Requests {
+            left: VecDeque::from_vec(all),
             issued: 0,
-            waits: false,
-        }
+            is_waiting: false,
+        })
     }
 
-    /// An instruction was issued.
-    pub fn issued(&mut self) {
-        self.issued = self.issued.saturating_add(1);
+    /// Takes the request that is due, if one is; it waits for its exchange from then on.
+    pub fn take_due(&mut self) -> Option<Ask>
+        ensures due { self.old.is_waiting ≡ false → IsDue self.old.left.items self.old.issued result }
+        ensures none { self.old.is_waiting ≡ true → result ≡ None }
+        ensures left { self.old.left.items ≡ option_to_list result ++ self.new.left.items }
+        ensures is_waiting { self.new.is_waiting ≡ (self.old.is_waiting || is_some result) }
+        ensures issued { self.new.issued ≡ self.old.issued }
+    {
+        if self.is_waiting {
+            return None;
+        }
+        let next = self.left.front()?;
+        let after = u64::from(next.after);
+        if after > self.issued {
+            return None;
+        }
+        self.is_waiting = true;
+        self.left.pop_front()
     }
 
     /// Whether a request waits for its exchange.
-    pub fn waits(&self) -> bool {
-        self.waits
+    pub fn is_waiting(&self) -> bool
+        ensures { result ≡ self.now.is_waiting }
+    {
+        self.is_waiting
     }
 
-    /// Asks for an exchange with the package at an address.
-    ///
-    /// # Errors
-    /// What is refused.
-    pub fn ask<T: Wait>(
-        &mut self,
-        rt: &T,
-        shared: &Shared,
-        seen: &mut Seen,
-        at: u32,
-    ) -> Result<(), Refusal> {
-        shared.ask(rt, seen, at)?;
-        self.waits = true;
-        Ok(())
+    /// The exchange of the request that waits was made.
+    pub fn exchanged(&mut self)
+        ensures left { self.new.left.items ≡ self.old.left.items }
+        ensures is_waiting { self.new.is_waiting ≡ false }
+        ensures issued { self.new.issued ≡ self.old.issued }
+    {
+        self.is_waiting = false;
     }
 
-    /// The package of the request that is due, if none waits.
-    fn due(&mut self) -> Option<u32> {
-        if self.waits {
-            return None;
-        }
-        let index = first(self.left.as_slice())?;
-        if index >= self.left.len() || u64::from(self.left[index].after) > self.issued {
-            return None;
-        }
-        let ask = self.left.remove(index);
-        Some(ask.at)
-    }
-
-    /// Asks for what is due.
-    ///
-    /// # Errors
-    /// What is refused.
-    pub fn ask_due<T: Wait>(
-        &mut self,
-        rt: &T,
-        shared: &Shared,
-        seen: &mut Seen,
-    ) -> Result<(), Refusal> {
-        match self.due() {
-            Some(at) => self.ask(rt, shared, seen, at),
-            None => Ok(()),
-        }
-    }
-
-    /// Makes the exchange that waits, and answers whether it was made. In the middle of a word it isn't.
-    ///
-    /// # Errors
-    /// What else is refused.
-    pub fn exchange<T: Wait>(
-        &mut self,
-        rt: &T,
-        shared: &Shared,
-        seen: &mut Seen,
-    ) -> Result<bool, Refusal> {
-        if !self.waits {
-            return Ok(false);
-        }
-        match shared.exchange(rt, seen) {
-            Ok(()) => {
-                self.waits = false;
-                Ok(true)
-            }
-            Err(Refusal::MidWord) => Ok(false),
-            Err(refusal) => Err(refusal),
-        }
+    /// An instruction was issued.
+    pub fn issued(&mut self)
+        ensures left { self.new.left.items ≡ self.old.left.items }
+        ensures is_waiting { self.new.is_waiting ≡ self.old.is_waiting }
+        ensures issued { self.old.issued + 1 < 2 ^ 64 → self.new.issued ≡ self.old.issued + 1 }
+    {
+        self.issued = self.issued.saturating_add(1);
     }
 }

@@ -5,10 +5,9 @@ use super::references::settle;
 use super::requests::Requests;
 use super::seats::Seats;
 use instruction_table::Refusal;
-use job_deck::Ask;
+use job_deck::Deck;
 use machine::{Machine, Note, Snapshot};
 use machine_lock::{Seen, Shared};
-use relocation::Storage;
 use std::alloc::Global;
 use std::sync::Wait;
 
@@ -23,103 +22,135 @@ fn ends_run(refusal: &Refusal) -> bool
     )
 }
 
-/// Takes a reservation to its end: through its unit, and what it refers to through memory.
-///
-/// # Errors
-/// What was refused.
-fn work<T: Wait>(rt: &T, shared: &Shared, seats: &mut Seats, note: Note) -> Result<(), Refusal> {
-    seats.serve(rt, shared, note)?;
-    settle(rt, shared)
+/// How a run goes on after a step.
+#[derive(Clone, Copy, Drop)]
+enum Course {
+    GoesOn,
+    Ends,
 }
 
-/// Issues the next instruction and takes its reservation to its end. It answers whether the run is at its
-/// end: the machine is halted, faulted or out of budget.
-///
-/// # Errors
-/// What else is refused.
-fn issue<T: Wait>(
-    rt: &T,
-    shared: &Shared,
-    seen: &mut Seen,
-    seats: &mut Seats,
-    requests: &mut Requests,
-) -> Result<bool, Refusal> {
-    match shared.issue(rt, seen) {
-        Ok(note) => {
-            requests.issued();
-            if let Some(note) = note {
-                work(rt, shared, seats, note)?;
+/// A run under way: the machine under its lock, the seats of its units, and the requests for exchanges.
+struct Operation {
+    shared: Shared,
+    seen: Seen,
+    seats: Seats,
+    requests: Requests,
+}
+
+impl Operation {
+    /// Asks for the exchange that is due, if one is.
+    ///
+    /// # Errors
+    /// What was refused.
+    fn ask_due<T: Wait>(&mut self, rt: &T) -> Result<(), Refusal> {
+        match self.requests.take_due() {
+            Some(ask) => self.shared.ask(rt, &mut self.seen, ask.at),
+            None => Ok(()),
+        }
+    }
+
+    /// Makes the exchange that waits, if one does, and answers whether it was made. It isn't while the machine
+    /// runs in the middle of a word.
+    ///
+    /// # Errors
+    /// What else was refused.
+    fn exchange_waiting<T: Wait>(&mut self, rt: &T) -> Result<bool, Refusal> {
+        if !self.requests.is_waiting() {
+            return Ok(false);
+        }
+        match self.shared.exchange(rt, &mut self.seen) {
+            Ok(()) => {
+                self.requests.exchanged();
+                Ok(true)
             }
-            Ok(false)
-        }
-        Err(refusal) if ends_run(&refusal) => Ok(true),
-        Err(refusal) => Err(refusal),
-    }
-}
-
-/// Asks for what is due, and makes the exchange that waits or else issues an instruction. It answers whether
-/// the run is at its end.
-///
-/// # Errors
-/// What is refused.
-fn go_on<T: Wait>(
-    rt: &T,
-    shared: &Shared,
-    seen: &mut Seen,
-    seats: &mut Seats,
-    requests: &mut Requests,
-) -> Result<bool, Refusal> {
-    requests.ask_due(rt, shared, seen)?;
-    if requests.exchange(rt, shared, seen)? {
-        return Ok(false);
-    }
-    issue(rt, shared, seen, seats, requests)
-}
-
-/// Asks for the exchange with the package at `start`, and goes on until the machine is halted, faulted or out
-/// of budget and no exchange can be made.
-///
-/// # Errors
-/// What the machine refuses before its run is at its end.
-fn run_to_end<T: Wait>(
-    rt: &T,
-    shared: &Shared,
-    seen: &mut Seen,
-    seats: &mut Seats,
-    requests: &mut Requests,
-    start: u32,
-) -> Result<(), Refusal> {
-    requests.ask(rt, shared, seen, start)?;
-    for _ in rt.forever() {
-        if go_on(rt, shared, seen, seats, requests)? {
-            return Ok(());
+            Err(Refusal::MidWord) => Ok(false),
+            Err(refusal) => Err(refusal),
         }
     }
-    Ok(())
+
+    /// Takes a reservation to its end: through its unit, and its reference through memory.
+    ///
+    /// # Errors
+    /// What was refused.
+    fn work<T: Wait>(&mut self, rt: &T, note: Note) -> Result<(), Refusal> {
+        self.seats.serve(rt, &self.shared, note)?;
+        settle(rt, &self.shared)
+    }
+
+    /// Issues the next instruction and takes its reservation to its end. The run ends where the machine is
+    /// halted, faulted or out of budget.
+    ///
+    /// # Errors
+    /// What else was refused.
+    fn issue<T: Wait>(&mut self, rt: &T) -> Result<Course, Refusal> {
+        match self.shared.issue(rt, &mut self.seen) {
+            Ok(note) => {
+                self.requests.issued();
+                if let Some(note) = note {
+                    self.work(rt, note)?;
+                }
+                Ok(Course::GoesOn)
+            }
+            Err(refusal) if ends_run(&refusal) => Ok(Course::Ends),
+            Err(refusal) => Err(refusal),
+        }
+    }
+
+    /// Asks for the exchange that is due, and then makes the one that waits or issues an instruction. The
+    /// machine is drained before and after.
+    ///
+    /// # Errors
+    /// What was refused.
+    fn step<T: Wait>(&mut self, rt: &T) -> Result<Course, Refusal> {
+        self.ask_due(rt)?;
+        if self.exchange_waiting(rt)? {
+            return Ok(Course::GoesOn);
+        }
+        self.issue(rt)
+    }
+
+    /// Goes on to the run's end.
+    ///
+    /// # Errors
+    /// What was refused before.
+    fn finish<T: Wait>(&mut self, rt: &T) -> Result<(), Refusal> {
+        for _ in rt.forever() {
+            if let Course::Ends = self.step(rt)? {
+                return Ok(());
+            }
+        }
+        Ok(())
+    }
 }
 
-/// Boots a machine with this memory, puts it under its lock, exchanges to the package at `start` and runs
-/// to the end, with the requests for later exchanges.
+/// Boots a machine with a deck's memory, puts it under its lock and runs it to the end, with the deck's
+/// requests for exchanges.
 ///
 /// # Errors
-/// `OutOfMemory`, and what the machine refuses.
-pub fn run<T: Wait>(
-    rt: &T,
-    alloc: Global,
-    memory: Storage,
-    start: u32,
-    asks: Vec<Ask>,
-    budget: u64,
-) -> Result<Snapshot, Refusal>
+/// `OutOfMemory`, and what the machine refuses before its run is at its end.
+pub fn run<T: Wait>(rt: &T, alloc: Global, deck: &Deck, budget: u64) -> Result<Snapshot, Refusal>
     requires { budget ≤ 10000000 }
 {
-    let machine = Machine::boot(alloc, memory, budget)?;
-    let (shared, seats, mut seen) = Shared::open(machine)?;
-    let mut seats = Seats::of(seats);
-    let mut requests = Requests::of(asks);
-    let ended = run_to_end(rt, &shared, &mut seen, &mut seats, &mut requests, start);
+    let Ok(requests) = Requests::new(alloc, deck.start, deck.asks.as_slice()) else {
+        return Err(Refusal::OutOfMemory);
+    };
+    let machine = Machine::boot(alloc, deck.image.memory().copy()?, budget)?;
+    let (shared, seats, seen) = Shared::open(machine)?;
+    let mut operation = Operation {
+        shared,
+        seen,
+        seats: Seats::of(seats),
+        requests,
+    };
+    let finished = operation.finish(rt);
+    let Operation {
+        shared,
+        mut seen,
+        seats,
+        requests: _,
+    } = operation;
     seats.leave();
     shared.end(rt);
-    ended?;
+    finished?;
     shared.snapshot(rt, &mut seen)
 }

@@ -1,5 +1,3 @@
-ghost use Rattle.std.specs.Prelude.{Some, vec_items};
-
 use super::fault::ProgramFault;
 use super::program::program;
 use super::status::end_status;
@@ -8,135 +6,11 @@ use registers::RegisterFile;
 use relocation::{Area, Storage};
 use sequential::{Place, State};
 use std::alloc::{AllocError, Global};
-use std::io;
-use std::io::{ErrorKind, Read, Write};
 use std::process::Abort;
 use std::sync::Wait;
 use std::test::Fail;
 
-/// Bytes in memory that come a few a read; the reads fail from one on.
-#[derive(Drop)]
-struct Failing<'a> {
-    bytes: &'a [u8],
-    turn: u64,
-    fails_from: u64,
-}
-
-impl Read for Failing<'_> {
-    ghost remaining = { λ f. Some f.bytes.now };
-
-    fn read(&mut self, buf: &mut [u8]) -> io::Result<usize> {
-        self.turn = self.turn.wrapping_add(1);
-        if self.turn >= self.fails_from {
-            return Err(io::Error::from(ErrorKind::Other));
-        }
-        let few = buf.len().min(7);
-        self.bytes.read(&mut buf[..few])
-    }
-}
-
-/// Takes one byte a call; the calls fail from one on.
-#[derive(Drop)]
-struct Dripping {
-    bytes: Vec<u8>,
-    turn: u64,
-    fails_from: u64,
-}
-
-impl Write for Dripping {
-    ghost contents = { λ d. Some d.bytes.items };
-
-    fn write(&mut self, buf: &[u8]) -> io::Result<usize> {
-        self.turn = self.turn.wrapping_add(1);
-        if self.turn >= self.fails_from {
-            return Err(io::Error::from(ErrorKind::Other));
-        }
-        match buf.first() {
-            None => Ok(0),
-            Some(byte) => {
-                self.bytes.push(*byte)?;
-                Ok(1)
-            }
-        }
-    }
-
-    fn flush(&mut self) -> io::Result<()> {
-        Ok(())
-    }
-}
-
-/// A first text, then another so many times, and then a last one: a long input that isn't kept anywhere.
-#[derive(Drop)]
-struct MadeUp<'a> {
-    first: &'a [u8],
-    repeated: &'a [u8],
-    times: u64,
-    last: &'a [u8],
-}
-
-impl Read for MadeUp<'_> {
-    fn read(&mut self, buf: &mut [u8]) -> io::Result<usize> {
-        if self.first.is_empty() {
-            if self.times > 0 {
-                self.times -= 1;
-                self.first = self.repeated;
-            } else {
-                self.first = self.last;
-                self.last = b"";
-            }
-        }
-        self.first.read(buf)
-    }
-}
-
-/// Counts the writes and keeps the bytes of the last one.
-#[derive(Drop)]
-struct Counting {
-    writes: u64,
-    last: Vec<u8>,
-}
-
-impl Write for Counting {
-    fn write(&mut self, buf: &[u8]) -> io::Result<usize> {
-        self.writes = self.writes.wrapping_add(1);
-        self.last.clear();
-        self.last.extend_from_slice(buf)?;
-        Ok(buf.len())
-    }
-
-    fn flush(&mut self) -> io::Result<()> {
-        Ok(())
-    }
-}
-
-/// A deck that adds 5 and 3, subtracts them and stops.
-const TWO_ADDS: &[u8] =
-    b"core 256\nat 40\nword 00000000000000000000\nword 00000100000000000000\nword 00000020000000000000\nat 100\nword 71100000057120000003\nword 36312374214600000000\nstart 40\nshow 100 101\nend\n";
-
-const TWO_ADDS_DUMP: &[u8] =
-    b"P 000001 PARCEL 3 HELD 36312374214600000000\nHALT stop FAULT none\nRA 000100 FL 000020 EM 000000\nA 000000 000000 000000 000000 000000 000000 000000 000000\nB 000000 000000 000000 000000 000000 000000 000000 000000\nX0 00000000000000000000\nX1 00000000000000000005\nX2 00000000000000000003\nX3 00000000000000000010\nX4 77777777777777777775\nX5 00000000000000000000\nX6 00000000000000000000\nX7 00000000000000000000\nM 000100 71100000057120000003\nM 000101 36312374214600000000\nLOG E40 I6\n";
-
-/// A deck that shifts X3 to the left and then comes to an opcode that is refused.
-const LEFT_SHIFT: &[u8] =
-    b"core 256\nat 41\nword 00000100000000000000\nword 00000020000000000000\nat 100\nword 20301301234600046000\nstart 40\nend\n";
-
-/// The deck of two adds after three instructions.
-const THREE_DUMP: &[u8] =
-    b"P 000001 PARCEL 1 HELD 36312374214600000000\nHALT running FAULT none\nRA 000100 FL 000020 EM 000000\nA 000000 000000 000000 000000 000000 000000 000000 000000\nB 000000 000000 000000 000000 000000 000000 000000 000000\nX0 00000000000000000000\nX1 00000000000000000005\nX2 00000000000000000003\nX3 00000000000000000010\nX4 00000000000000000000\nX5 00000000000000000000\nX6 00000000000000000000\nX7 00000000000000000000\nM 000100 71100000057120000003\nM 000101 36312374214600000000\nLOG E40 I3\n";
-
-/// The same deck after four instructions.
-const FOUR_DUMP: &[u8] =
-    b"P 000001 PARCEL 2 HELD 36312374214600000000\nHALT running FAULT none\nRA 000100 FL 000020 EM 000000\nA 000000 000000 000000 000000 000000 000000 000000 000000\nB 000000 000000 000000 000000 000000 000000 000000 000000\nX0 00000000000000000000\nX1 00000000000000000005\nX2 00000000000000000003\nX3 00000000000000000010\nX4 77777777777777777775\nX5 00000000000000000000\nX6 00000000000000000000\nX7 00000000000000000000\nM 000100 71100000057120000003\nM 000101 36312374214600000000\nLOG E40 I4\n";
-
-/// The same deck before any exchange.
-const BOOT_DUMP: &[u8] =
-    b"P 000000 PARCEL 0 HELD none\nHALT stop FAULT none\nRA 000000 FL 000000 EM 000000\nA 000000 000000 000000 000000 000000 000000 000000 000000\nB 000000 000000 000000 000000 000000 000000 000000 000000\nX0 00000000000000000000\nX1 00000000000000000000\nX2 00000000000000000000\nX3 00000000000000000000\nX4 00000000000000000000\nX5 00000000000000000000\nX6 00000000000000000000\nX7 00000000000000000000\nM 000100 71100000057120000003\nM 000101 36312374214600000000\nLOG none\n";
-
-/// The lines from RA to X7 of a program at 100 with 20 words whose registers are all +0.
-const ZEROS: &[u8] =
-    b"RA 000100 FL 000020 EM 000000\nA 000000 000000 000000 000000 000000 000000 000000 000000\nB 000000 000000 000000 000000 000000 000000 000000 000000\nX0 00000000000000000000\nX1 00000000000000000000\nX2 00000000000000000000\nX3 00000000000000000000\nX4 00000000000000000000\nX5 00000000000000000000\nX6 00000000000000000000\nX7 00000000000000000000\n";
-
-fn words(alloc: Global, texts: &[&str]) -> Result<Vec<String>, AllocError> {
+pub fn words(alloc: Global, texts: &[&str]) -> Result<Vec<String>, AllocError> {
     let mut all = Vec::new(alloc);
     for text in texts {
         all.push(String::from_str(alloc, text)?)?;
@@ -145,7 +19,7 @@ fn words(alloc: Global, texts: &[&str]) -> Result<Vec<String>, AllocError> {
 }
 
 /// Texts one after another.
-fn joined(alloc: Global, texts: &[&[u8]]) -> Result<Vec<u8>, AllocError> {
+pub fn joined(alloc: Global, texts: &[&[u8]]) -> Result<Vec<u8>, AllocError> {
     let mut all = Vec::new(alloc);
     for text in texts {
         all.extend_from_slice(text)?;
@@ -153,7 +27,7 @@ fn joined(alloc: Global, texts: &[&[u8]]) -> Result<Vec<u8>, AllocError> {
     Ok(all)
 }
 
-fn expect_run(
+pub fn expect_run(
     rt: &(impl Abort + AllocGlobal + Wait),
     texts: &[&str],
     input: &[u8],
@@ -179,107 +53,180 @@ fn expect_run(
     Ok(())
 }
 
-fn expect_refused(
-    rt: &(impl Abort + AllocGlobal + Wait),
-    deck: &[u8],
-    told: &[u8],
-) -> Result<(), Fail> {
-    let told = joined(
-        rt.alloc(),
-        [b"cdc6600: E20 line ".as_slice(), told, b"\n"].as_slice(),
-    )?;
-    expect_run(rt, ["run"].as_slice(), deck, 1, b"", told.as_slice())
+/// A deck that adds 5 and 3, subtracts them and stops.
+pub const TWO_ADDS: &[u8] =
+    b"core 256\nat 40\nword 00000000000000000000\nword 00000100000000000000\nword 00000020000000000000\nat 100\nword 71100000057120000003\nword 36312374214600000000\nstart 40\nshow 100 101\nend\n";
+
+pub const TWO_ADDS_DUMP: &[u8] =
+    b"P 000001 PARCEL 3 HELD 36312374214600000000\nHALT stop FAULT none\nRA 000100 FL 000020 EM 000000\nA 000000 000000 000000 000000 000000 000000 000000 000000\nB 000000 000000 000000 000000 000000 000000 000000 000000\nX0 00000000000000000000\nX1 00000000000000000005\nX2 00000000000000000003\nX3 00000000000000000010\nX4 77777777777777777775\nX5 00000000000000000000\nX6 00000000000000000000\nX7 00000000000000000000\nM 000100 71100000057120000003\nM 000101 36312374214600000000\nLOG E40 I6\n";
+
+/// A deck that shifts X3 to the left and then comes to an opcode that is refused.
+pub const LEFT_SHIFT: &[u8] =
+    b"core 256\nat 41\nword 00000100000000000000\nword 00000020000000000000\nat 100\nword 20301301234600046000\nstart 40\nend\n";
+
+/// What a dump has that isn't the same in each: the lines before the registers, the registers that aren't +0
+/// with their digits from the first that isn't 0 on, the words that are shown, and the log.
+#[derive(Clone, Copy)]
+pub struct Dump<'a> {
+    pub begins: &'a str,
+    pub registers: &'a [(&'a str, &'a str)],
+    pub shows: &'a str,
+    pub log: &'a str,
 }
 
-/// A deck of a first text, a second one so many times, and a last one.
-fn expect_refused_long(
-    rt: &(impl Abort + AllocGlobal + Wait),
-    first: &[u8],
-    repeated: (&[u8], u32),
-    last: &[u8],
-    told: &[u8],
-) -> Result<(), Fail> {
-    let mut deck = Vec::from_slice(rt.alloc(), first)?;
-    let (text, count) = repeated;
-    for _ in 0..count {
-        deck.extend_from_slice(text)?;
+/// Digits with zeros before them.
+fn put_octal(text: &mut Vec<u8>, digits: &str, width: usize) -> Result<(), AllocError> {
+    for _ in digits.len()..width {
+        text.push(b'0')?;
     }
-    deck.extend_from_slice(last)?;
-    expect_refused(rt, deck.as_slice(), told)
+    text.extend_from_slice(digits.as_bytes())
 }
+
+/// A register's digits.
+fn put_register(
+    text: &mut Vec<u8>,
+    dump: Dump<'_>,
+    register: &str,
+    width: usize,
+) -> Result<(), AllocError> {
+    for (named, digits) in dump.registers {
+        if *named == register {
+            return put_octal(text, digits, width);
+        }
+    }
+    put_octal(text, "", width)
+}
+
+/// The line of the A or B registers.
+fn put_indexes(
+    text: &mut Vec<u8>,
+    dump: Dump<'_>,
+    letter: &str,
+    registers: [&str; 8],
+) -> Result<(), AllocError> {
+    text.extend_from_slice(letter.as_bytes())?;
+    for register in registers {
+        text.push(b' ')?;
+        put_register(text, dump, register, 6)?;
+    }
+    text.extend_from_slice(b"\n")
+}
+
+/// The text of a dump.
+pub fn dump_text(alloc: Global, dump: Dump<'_>) -> Result<Vec<u8>, AllocError> {
+    let mut text = Vec::from_slice(alloc, dump.begins.as_bytes())?;
+    let a = ["A0", "A1", "A2", "A3", "A4", "A5", "A6", "A7"];
+    put_indexes(&mut text, dump, "A", a)?;
+    let b = ["B0", "B1", "B2", "B3", "B4", "B5", "B6", "B7"];
+    put_indexes(&mut text, dump, "B", b)?;
+    for register in ["X0", "X1", "X2", "X3", "X4", "X5", "X6", "X7"] {
+        text.extend_from_slice(register.as_bytes())?;
+        text.push(b' ')?;
+        put_register(&mut text, dump, register, 20)?;
+        text.push(b'\n')?;
+    }
+    for part in [dump.shows, "LOG ", dump.log, "\n"] {
+        text.extend_from_slice(part.as_bytes())?;
+    }
+    Ok(text)
+}
+
+/// A deck whose package at 40 has the reference address 100 and the field length 20, with further lines, which
+/// may place its words again.
+pub fn deck(alloc: Global, lines: &[&str]) -> Result<Vec<u8>, AllocError> {
+    let mut deck = Vec::from_slice(
+        alloc,
+        b"core 256\nat 41\nword 00000100000000000000\nword 00000020000000000000\n",
+    )?;
+    for line in lines {
+        deck.extend_from_slice(line.as_bytes())?;
+    }
+    deck.extend_from_slice(b"start 40\nend\n")?;
+    Ok(deck)
+}
+
+/// The replay of the dump's log on a deck ends so and prints this dump.
+pub fn expect_replayed(
+    rt: &(impl Abort + AllocGlobal + Wait),
+    deck: &[u8],
+    status: u8,
+    dump: Dump<'_>,
+) -> Result<(), Fail> {
+    let printed = dump_text(rt.alloc(), dump)?;
+    let texts = ["replay", dump.log];
+    expect_run(rt, texts.as_slice(), deck, status, printed.as_slice(), b"")
+}
+
+/// The run of a deck ends so and prints this dump, and so does the replay of its log.
+pub fn expect_ran(
+    rt: &(impl Abort + AllocGlobal + Wait),
+    deck: &[u8],
+    status: u8,
+    dump: Dump<'_>,
+) -> Result<(), Fail> {
+    let printed = dump_text(rt.alloc(), dump)?;
+    expect_run(
+        rt,
+        ["run"].as_slice(),
+        deck,
+        status,
+        printed.as_slice(),
+        b"",
+    )?;
+    expect_replayed(rt, deck, status, dump)
+}
+
+/// A machine with this deck, exchanged to the package at 40, gives these answers to these events, and this dump
+/// at the last line.
+pub fn expect_answers(
+    rt: &(impl Abort + AllocGlobal + Wait),
+    deck: &[u8],
+    answers: &[(&str, &str)],
+    last: &str,
+    dump: Dump<'_>,
+) -> Result<(), Fail> {
+    let mut input = joined(rt.alloc(), [deck, b"ask 40\nexchange\n"].as_slice())?;
+    let mut printed = joined(rt.alloc(), [b"ok\nok\n".as_slice()].as_slice())?;
+    for (event, answer) in answers {
+        for part in [*event, "\n"] {
+            input.extend_from_slice(part.as_bytes())?;
+        }
+        for part in [*answer, "\n"] {
+            printed.extend_from_slice(part.as_bytes())?;
+        }
+    }
+    input.extend_from_slice(last.as_bytes())?;
+    printed.extend_from_slice(dump_text(rt.alloc(), dump)?.as_slice())?;
+    let texts = ["events"];
+    expect_run(
+        rt,
+        texts.as_slice(),
+        input.as_slice(),
+        0,
+        printed.as_slice(),
+        b"",
+    )
+}
+
+/// The deck of two adds after three instructions.
+const THREE_DUMP: &[u8] =
+    b"P 000001 PARCEL 1 HELD 36312374214600000000\nHALT running FAULT none\nRA 000100 FL 000020 EM 000000\nA 000000 000000 000000 000000 000000 000000 000000 000000\nB 000000 000000 000000 000000 000000 000000 000000 000000\nX0 00000000000000000000\nX1 00000000000000000005\nX2 00000000000000000003\nX3 00000000000000000010\nX4 00000000000000000000\nX5 00000000000000000000\nX6 00000000000000000000\nX7 00000000000000000000\nM 000100 71100000057120000003\nM 000101 36312374214600000000\nLOG E40 I3\n";
+
+/// The same deck after four instructions.
+const FOUR_DUMP: &[u8] =
+    b"P 000001 PARCEL 2 HELD 36312374214600000000\nHALT running FAULT none\nRA 000100 FL 000020 EM 000000\nA 000000 000000 000000 000000 000000 000000 000000 000000\nB 000000 000000 000000 000000 000000 000000 000000 000000\nX0 00000000000000000000\nX1 00000000000000000005\nX2 00000000000000000003\nX3 00000000000000000010\nX4 77777777777777777775\nX5 00000000000000000000\nX6 00000000000000000000\nX7 00000000000000000000\nM 000100 71100000057120000003\nM 000101 36312374214600000000\nLOG E40 I4\n";
+
+/// The same deck before any exchange.
+const BOOT_DUMP: &[u8] =
+    b"P 000000 PARCEL 0 HELD none\nHALT stop FAULT none\nRA 000000 FL 000000 EM 000000\nA 000000 000000 000000 000000 000000 000000 000000 000000\nB 000000 000000 000000 000000 000000 000000 000000 000000\nX0 00000000000000000000\nX1 00000000000000000000\nX2 00000000000000000000\nX3 00000000000000000000\nX4 00000000000000000000\nX5 00000000000000000000\nX6 00000000000000000000\nX7 00000000000000000000\nM 000100 71100000057120000003\nM 000101 36312374214600000000\nLOG none\n";
+
+/// The lines from RA to X7 of a program at 100 with 20 words whose registers are all +0.
+const ZEROS: &[u8] =
+    b"RA 000100 FL 000020 EM 000000\nA 000000 000000 000000 000000 000000 000000 000000 000000\nB 000000 000000 000000 000000 000000 000000 000000 000000\nX0 00000000000000000000\nX1 00000000000000000000\nX2 00000000000000000000\nX3 00000000000000000000\nX4 00000000000000000000\nX5 00000000000000000000\nX6 00000000000000000000\nX7 00000000000000000000\n";
 
 #[test]
 fn two_adds(rt: HostRuntime) -> Result<(), Fail> {
     expect_run(&rt, ["run"].as_slice(), TWO_ADDS, 0, TWO_ADDS_DUMP, b"")
-}
-
-#[test]
-fn refused_decks(rt: HostRuntime) -> Result<(), Fail> {
-    for (lines, told) in [
-        ("", "1: no end"),
-        ("core 256\nat 40\n", "3: no end"),
-        ("core 256\nat 40", "3: no end"),
-        ("\n", "1: first"),
-        ("at 40\n", "1: first"),
-        ("cores 256\n", "1: first"),
-        (" core 256\n", "1: first"),
-        ("core\n", "1: unknown"),
-        ("core 256 \n", "1: unknown"),
-        ("core  256\n", "1: unknown"),
-        ("core \n", "1: number"),
-        ("core 256\r\n", "1: number"),
-        ("core 0x20\n", "1: number"),
-        ("core 0000256\n", "1: number"),
-        ("core 31\n", "1: size"),
-        ("core 131073\n", "1: size"),
-        ("core 256\n\n", "2: unknown"),
-        ("core 256\nword  5\n", "2: unknown"),
-        ("core 256\nshow 1\n", "2: unknown"),
-        ("core 256\nshow 1 2 3\n", "2: unknown"),
-        ("core 256\ncode\n", "2: unknown"),
-        ("core 256\ncode \n", "2: unknown"),
-        ("core 256\ncodes NO\n", "2: unknown"),
-        ("core 256\ncode SX1 B0+05\n", "2: instruction"),
-        ("core 256\ncode NO;NO\n", "2: instruction"),
-        ("core 256\ncode NO; NO; NO; SX1 B0+5\n", "2: full"),
-        ("core 256\nat 377\ncode NO\ncode sx1\n", "4: range"),
-        ("core 256\nask 40 free\n", "2: unknown"),
-        ("core 256\nEND\n", "2: unknown"),
-        ("core 256\nend \n", "2: unknown"),
-        ("core 256\nat 8\n", "2: number"),
-        ("core 256\nat 1234567\n", "2: number"),
-        ("core 256\nword 123456701234567012345\n", "2: number"),
-        ("core 256\nstart 9\n", "2: number"),
-        ("core 256\nshow 0 9\n", "2: number"),
-        ("core 256\nshow 9 400\n", "2: number"),
-        ("core 256\ncore 31\n", "2: size"),
-        ("core 256\ncore 256\n", "2: repeated"),
-        ("core 256\nstart 40\nstart 361\n", "3: repeated"),
-        ("core 256\nat 400\n", "2: range"),
-        ("core 256\nat 377\nword 1\nword 1\n", "4: range"),
-        ("core 256\nshow 0 400\n", "2: range"),
-        ("core 256\nshow 2 1\n", "2: range"),
-        ("core 256\nstart 361\n", "2: package"),
-        ("core 256\nend\n", "2: no start"),
-    ] {
-        expect_refused(&rt, lines.as_bytes(), told.as_bytes())?;
-    }
-    Ok(())
-}
-
-#[test]
-fn long_decks(rt: HostRuntime) -> Result<(), Fail> {
-    let core = b"core 256\n".as_slice();
-    let bytes = (b"w".as_slice(), 200);
-    expect_refused_long(&rt, core, bytes, b"\n", b"2: unknown")?;
-    expect_refused_long(&rt, core, bytes, b"w\n", b"2: long")?;
-    expect_refused_long(&rt, core, bytes, b"w", b"2: long")?;
-    expect_refused_long(&rt, b"", bytes, b"w\n", b"1: long")?;
-    let shows = (b"show 0 0\n".as_slice(), 64);
-    expect_refused_long(&rt, core, shows, b"", b"66: no end")?;
-    expect_refused_long(&rt, core, shows, b"show 0 0\n", b"66: many")?;
-    expect_refused_long(&rt, core, shows, b"show 0 400\n", b"66: many")?;
-    expect_refused_long(&rt, core, shows, b"show 0 9\n", b"66: number")
 }
 
 /// A program of one word at 100, the dump's first lines and its log.
@@ -484,131 +431,6 @@ fn answers_a_budget(rt: HostRuntime) -> Result<(), Fail> {
 }
 
 #[test]
-fn long_schedules(rt: HostRuntime) -> Result<(), Fail> {
-    let mut input = Vec::from_slice(rt.alloc(), LEFT_SHIFT)?;
-    input.extend_from_slice(b"ask 40\n")?;
-    for _ in 0..201 {
-        input.extend_from_slice(b"i")?;
-    }
-    expect_run(
-        &rt,
-        ["events"].as_slice(),
-        input.as_slice(),
-        1,
-        b"ok\n",
-        b"cdc6600: E20 line 10: long\n",
-    )
-}
-
-#[test]
-fn refused_schedules(rt: HostRuntime) -> Result<(), Fail> {
-    for (schedule, answers, told) in [
-        ("", "", "12: no end"),
-        ("ask 40\n", "ok\n", "13: no end"),
-        ("ask 40\n\n", "ok\n", "13: unknown"),
-        ("ask 8\n", "", "12: number"),
-        ("read core\n", "", "12: unknown"),
-        ("return 123\n", "", "12: number"),
-        ("issue now\n", "", "12: unknown"),
-    ] {
-        let schedule = schedule.as_bytes();
-        let input = joined(rt.alloc(), [TWO_ADDS, schedule].as_slice())?;
-        let told = joined(
-            rt.alloc(),
-            [b"cdc6600: E20 line ".as_slice(), told.as_bytes(), b"\n"].as_slice(),
-        )?;
-        expect_run(
-            &rt,
-            ["events"].as_slice(),
-            input.as_slice(),
-            1,
-            answers.as_bytes(),
-            told.as_slice(),
-        )?;
-    }
-    Ok(())
-}
-
-/// How the program ends on a text that is made up, how often it writes and how the last write ends.
-fn expect_made_up(
-    rt: &(impl Abort + AllocGlobal + Wait),
-    text: &str,
-    input: MadeUp<'_>,
-    writes: u64,
-    ends: &str,
-    told: &str,
-) -> Result<(), Fail> {
-    let words = words(rt.alloc(), [text].as_slice())?;
-    let mut input = input;
-    let mut output = Counting {
-        writes: 0,
-        last: Vec::new(rt.alloc()),
-    };
-    let mut faults = Vec::new(rt.alloc());
-    let answer = program(
-        rt,
-        rt.alloc(),
-        words.as_slice(),
-        &mut input,
-        &mut output,
-        &mut faults,
-    );
-    assert_eq!(rt; faults.as_slice(), told.as_bytes());
-    assert_eq!(rt; output.writes, writes);
-    assert!(rt; output.last.as_slice().ends_with(ends.as_bytes()));
-    assert_eq!(rt; answer, if told.is_empty() { 0 } else { 1 });
-    Ok(())
-}
-
-/// What is told where none of 10,000,000 lines is the last, and where the input has one line less.
-const TOO_MANY_LINES: &str = "cdc6600: E20 line 10000001: lines\n";
-
-const ONE_LINE_LESS: &str = "cdc6600: E20 line 10000000: no end\n";
-
-/// A deck whose `end` is line 10,000,000 is taken, but no line of a schedule behind it.
-#[test]
-fn decks_of_most_lines(rt: HostRuntime) -> Result<(), Fail> {
-    for (text, times, last, told) in [
-        ("list", 9_999_997, "end\n", ""),
-        ("list", 9_999_997, "", ONE_LINE_LESS),
-        ("list", 9_999_998, "", TOO_MANY_LINES),
-        ("list", 9_999_998, "end\n", TOO_MANY_LINES),
-        ("events", 9_999_997, "end\n", TOO_MANY_LINES),
-        ("events", 9_999_997, "end\nend\n", TOO_MANY_LINES),
-    ] {
-        let input = MadeUp {
-            first: b"core 32\nstart 0\n",
-            repeated: b"at 0\n",
-            times,
-            last: last.as_bytes(),
-        };
-        expect_made_up(&rt, text, input, 0, "", told)?;
-    }
-    Ok(())
-}
-
-/// The lines of a schedule count with those of its deck, here three. Each has an answer that is written at once.
-#[test]
-fn schedules_of_most_lines(rt: HostRuntime) -> Result<(), Fail> {
-    let halted = "E1 halted stop\n";
-    for (times, last, writes, ends, told) in [
-        (9_999_996, "end\n", 9_999_997, "\nLOG none\n", ""),
-        (9_999_996, "", 9_999_996, halted, ONE_LINE_LESS),
-        (9_999_997, "", 9_999_997, halted, TOO_MANY_LINES),
-        (9_999_997, "end\n", 9_999_997, halted, TOO_MANY_LINES),
-    ] {
-        let input = MadeUp {
-            first: b"core 32\nstart 0\nend\n",
-            repeated: b"issue\n",
-            times,
-            last: last.as_bytes(),
-        };
-        expect_made_up(&rt, "events", input, writes, ends, told)?;
-    }
-    Ok(())
-}
-
-#[test]
 fn fetches_out_of_range(rt: HostRuntime) -> Result<(), Fail> {
     expect_run(
         &rt,
@@ -753,108 +575,6 @@ fn usage(rt: HostRuntime) -> Result<(), Fail> {
         assert!(rt; told.starts_with(begins.as_bytes()));
         assert!(rt; untold.is_empty());
         assert_eq!(rt; input.len(), 8);
-    }
-    Ok(())
-}
-
-#[test]
-fn failing_reads(rt: HostRuntime) -> Result<(), Fail> {
-    let words = words(rt.alloc(), ["run"].as_slice())?;
-    let reads = TWO_ADDS.len().div_ceil(7) as u64;
-    for fails_from in 1..reads + 2 {
-        let mut input = Failing {
-            bytes: TWO_ADDS,
-            turn: 0,
-            fails_from,
-        };
-        let mut output = Vec::new(rt.alloc());
-        let mut faults = Vec::new(rt.alloc());
-        let answer = program(
-            &rt,
-            rt.alloc(),
-            words.as_slice(),
-            &mut input,
-            &mut output,
-            &mut faults,
-        );
-        if fails_from <= reads {
-            assert_eq!(rt; faults.as_slice(), b"cdc6600: E22 read failed\n".as_slice());
-            assert!(rt; output.is_empty());
-            assert_eq!(rt; answer, 7);
-        } else {
-            assert!(rt; faults.is_empty());
-            assert_eq!(rt; output.as_slice(), TWO_ADDS_DUMP);
-            assert_eq!(rt; answer, 0);
-        }
-    }
-    Ok(())
-}
-
-#[test]
-fn failing_writes(rt: HostRuntime) -> Result<(), Fail> {
-    let words = words(rt.alloc(), ["run"].as_slice())?;
-    let writes = TWO_ADDS_DUMP.len() as u64;
-    for fails_from in [1, 2, 44, 45, writes - 1, writes, writes + 1] {
-        let mut input = TWO_ADDS;
-        let mut output = Dripping {
-            bytes: Vec::new(rt.alloc()),
-            turn: 0,
-            fails_from,
-        };
-        let mut faults = Vec::new(rt.alloc());
-        let answer = program(
-            &rt,
-            rt.alloc(),
-            words.as_slice(),
-            &mut input,
-            &mut output,
-            &mut faults,
-        );
-        assert_eq!(rt; output.bytes.len() as u64, fails_from - 1);
-        assert!(rt; TWO_ADDS_DUMP.starts_with(output.bytes.as_slice()));
-        if fails_from <= writes {
-            assert_eq!(rt;
-                faults.as_slice(),
-                b"cdc6600: E23 write failed\n".as_slice()
-            );
-            assert_eq!(rt; answer, 7);
-        } else {
-            assert!(rt; faults.is_empty());
-            assert_eq!(rt; answer, 0);
-        }
-    }
-    Ok(())
-}
-
-/// A fault stream that takes nothing changes no status, and help that can't be written is a fault.
-#[test]
-fn failing_faults(rt: HostRuntime) -> Result<(), Fail> {
-    for (text, input, status) in [
-        ("run", b"core 31\n".as_slice(), 1),
-        ("walk", b"".as_slice(), 2),
-        ("--help", b"".as_slice(), 7),
-    ] {
-        let words = words(rt.alloc(), [text].as_slice())?;
-        let mut input = input;
-        let mut output = Dripping {
-            bytes: Vec::new(rt.alloc()),
-            turn: 0,
-            fails_from: 1,
-        };
-        let mut faults = Dripping {
-            bytes: Vec::new(rt.alloc()),
-            turn: 0,
-            fails_from: 1,
-        };
-        let answer = program(
-            &rt,
-            rt.alloc(),
-            words.as_slice(),
-            &mut input,
-            &mut output,
-            &mut faults,
-        );
-        assert_eq!(rt; answer, status);
     }
     Ok(())
 }

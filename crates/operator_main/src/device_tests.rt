@@ -1,0 +1,160 @@
+ghost use Rattle.std.specs.Prelude.{Some, vec_items};
+
+use super::program::program;
+use super::tests::{TWO_ADDS, TWO_ADDS_DUMP, words};
+use std::io;
+use std::io::{ErrorKind, Read, Write};
+use std::test::Fail;
+
+/// Bytes in memory that come a few a read; the reads fail from one on.
+#[derive(Drop)]
+struct Failing<'a> {
+    bytes: &'a [u8],
+    turn: u64,
+    fails_from: u64,
+}
+
+impl Read for Failing<'_> {
+    ghost remaining = { λ f. Some f.bytes.now };
+
+    fn read(&mut self, buf: &mut [u8]) -> io::Result<usize> {
+        self.turn = self.turn.wrapping_add(1);
+        if self.turn >= self.fails_from {
+            return Err(io::Error::from(ErrorKind::Other));
+        }
+        let few = buf.len().min(7);
+        self.bytes.read(&mut buf[..few])
+    }
+}
+
+/// Takes one byte a call; the calls fail from one on.
+#[derive(Drop)]
+struct Dripping {
+    bytes: Vec<u8>,
+    turn: u64,
+    fails_from: u64,
+}
+
+impl Write for Dripping {
+    ghost contents = { λ d. Some d.bytes.items };
+
+    fn write(&mut self, buf: &[u8]) -> io::Result<usize> {
+        self.turn = self.turn.wrapping_add(1);
+        if self.turn >= self.fails_from {
+            return Err(io::Error::from(ErrorKind::Other));
+        }
+        match buf.first() {
+            None => Ok(0),
+            Some(byte) => {
+                self.bytes.push(*byte)?;
+                Ok(1)
+            }
+        }
+    }
+
+    fn flush(&mut self) -> io::Result<()> {
+        Ok(())
+    }
+}
+
+#[test]
+fn failing_reads(rt: HostRuntime) -> Result<(), Fail> {
+    let words = words(rt.alloc(), ["run"].as_slice())?;
+    let reads = TWO_ADDS.len().div_ceil(7) as u64;
+    for fails_from in 1..reads + 2 {
+        let mut input = Failing {
+            bytes: TWO_ADDS,
+            turn: 0,
+            fails_from,
+        };
+        let mut output = Vec::new(rt.alloc());
+        let mut faults = Vec::new(rt.alloc());
+        let answer = program(
+            &rt,
+            rt.alloc(),
+            words.as_slice(),
+            &mut input,
+            &mut output,
+            &mut faults,
+        );
+        if fails_from <= reads {
+            assert_eq!(rt; faults.as_slice(), b"cdc6600: E22 read failed\n".as_slice());
+            assert!(rt; output.is_empty());
+            assert_eq!(rt; answer, 7);
+        } else {
+            assert!(rt; faults.is_empty());
+            assert_eq!(rt; output.as_slice(), TWO_ADDS_DUMP);
+            assert_eq!(rt; answer, 0);
+        }
+    }
+    Ok(())
+}
+
+#[test]
+fn failing_writes(rt: HostRuntime) -> Result<(), Fail> {
+    let words = words(rt.alloc(), ["run"].as_slice())?;
+    let writes = TWO_ADDS_DUMP.len() as u64;
+    for fails_from in [1, 2, 44, 45, writes - 1, writes, writes + 1] {
+        let mut input = TWO_ADDS;
+        let mut output = Dripping {
+            bytes: Vec::new(rt.alloc()),
+            turn: 0,
+            fails_from,
+        };
+        let mut faults = Vec::new(rt.alloc());
+        let answer = program(
+            &rt,
+            rt.alloc(),
+            words.as_slice(),
+            &mut input,
+            &mut output,
+            &mut faults,
+        );
+        assert_eq!(rt; output.bytes.len() as u64, fails_from - 1);
+        assert!(rt; TWO_ADDS_DUMP.starts_with(output.bytes.as_slice()));
+        if fails_from <= writes {
+            assert_eq!(rt;
+                faults.as_slice(),
+                b"cdc6600: E23 write failed\n".as_slice()
+            );
+            assert_eq!(rt; answer, 7);
+        } else {
+            assert!(rt; faults.is_empty());
+            assert_eq!(rt; answer, 0);
+        }
+    }
+    Ok(())
+}
+
+/// A fault stream that takes nothing changes no status, and help that can't be written is a fault.
+#[test]
+fn failing_faults(rt: HostRuntime) -> Result<(), Fail> {
+    for (text, input, status) in [
+        ("run", b"core 31\n".as_slice(), 1),
+        ("walk", b"".as_slice(), 2),
+        ("--help", b"".as_slice(), 7),
+    ] {
+        let words = words(rt.alloc(), [text].as_slice())?;
+        let mut input = input;
+        let mut output = Dripping {
+            bytes: Vec::new(rt.alloc()),
+            turn: 0,
+            fails_from: 1,
+        };
+        let mut faults = Dripping {
+            bytes: Vec::new(rt.alloc()),
+            turn: 0,
+            fails_from: 1,
+        };
+        let answer = program(
+            &rt,
+            rt.alloc(),
+            words.as_slice(),
+            &mut input,
+            &mut output,
+            &mut faults,
+        );
+        assert_eq!(rt; answer, status);
+    }
+    Ok(())
+}
