@@ -1,5 +1,5 @@
-use crate::events;
 use crate::tests::{Dripping, Failing, joined};
+use crate::{events, replay};
 use instruction_table::{DeckFault, Refusal};
 use std::alloc::AllocGlobal;
 use std::process::Abort;
@@ -48,6 +48,19 @@ fn drains_two_sums(rt: HostRuntime) -> Result<(), Fail> {
         ]
         .as_slice(),
     )
+}
+
+/// The same three instructions, gone through one at a time.
+#[test]
+fn replays_two_sums(rt: HostRuntime) -> Result<(), Fail> {
+    let mut input = DECK.as_bytes();
+    let mut output = Vec::new(rt.alloc());
+    let replayed = replay(rt.alloc(), &mut input, &mut output, "E40 I3");
+    assert!(rt; matches!(replayed, Ok(Some(_))));
+    let place = "P 000001 PARCEL 1 HELD 36312374214600000000\nHALT running FAULT none\n";
+    let wanted = joined(rt.alloc(), [place, EXCHANGED, "LOG E40 I3\n"].as_slice())?;
+    assert_eq!(rt; output.as_slice(), wanted.as_slice());
+    Ok(())
 }
 
 #[test]

@@ -1,6 +1,6 @@
 ghost use Rattle.std.specs.Prelude.{Some, vec_items};
 
-use crate::{Ask, Deck, dump, list, read_deck, read_log};
+use crate::{Ask, Deck, WatchedBuffer, dump, list, read_deck, read_deck_from, read_log};
 use instruction_table::{DeckFault, Refusal};
 use relocation::Storage;
 use sequential::{Log, State};
@@ -276,6 +276,12 @@ fn reads_no_further(rt: HostRuntime) -> Result<(), Fail> {
             Ok(Deck { start: 32, .. })
         )
     );
+    assert_eq!(rt; input, b"rest\n".as_slice());
+
+    let mut input = text.as_slice();
+    let mut buffer = WatchedBuffer::new(&mut input);
+    let read = read_deck_from(rt.alloc(), &mut buffer);
+    assert!(rt; matches!(read, Ok((Deck { start: 32, .. }, 9))));
     assert_eq!(rt; input, b"rest\n".as_slice());
     Ok(())
 }
