@@ -9,4 +9,10 @@ pub use seen::Seen;
 pub use shared::Shared;
 
 #[cfg(test)]
+mod crew;
+#[cfg(test)]
+mod fixtures;
+#[cfg(test)]
+mod schedule_tests;
+#[cfg(test)]
 mod tests;

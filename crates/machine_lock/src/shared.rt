@@ -1,7 +1,7 @@
 ghost use Rattle.std.specs.Prelude.{◌≡◌, ◌||◌, ◌⊎◌, true, false, Some, IfErr, IfOk, MatchResult};
 ghost use Rattle.instruction_table.specs.declared.refusal.Refusal.TheVariants.{Nothing, NotDrained, OutOfMemory, Stranger};
 ghost use Rattle.sequential.specs.Replay.{boot, replay};
-ghost use Rattle.machine.specs.Refusals.{is_stranger, is_nothing, is_issue_refusal, is_read_refusal, is_store_refusal, is_accept_refusal, is_return_refusal, is_ask_refusal, is_exchange_refusal};
+ghost use Rattle.machine.specs.Refusals.{may_refuse, is_stranger, is_nothing, is_issue_refusal, is_read_refusal, is_store_refusal, is_accept_refusal, is_return_refusal, is_ask_refusal, is_exchange_refusal};
 ghost use Rattle.machine.specs.Tokens.{new_seats, one_more};
 
 use crate::Seen;
@@ -67,6 +67,16 @@ impl Shared {
         }
     }
 
+    /// Makes an event of which no more is told than whether it was made.
+    fn make<R: Wait>(&self, rt: &R, event: Event) -> Result<(), Refusal>
+        ensures { IfErr result (λ refusal. may_refuse event refusal ≡ true) }
+    {
+        match self.locked.lock(rt).machine.apply(event) {
+            Ok(_) => Ok(()),
+            Err(refusal) => Err(refusal),
+        }
+    }
+
     /// Asks for an exchange with the package at an absolute address: the event `Ask`.
     ///
     /// # Errors
@@ -75,10 +85,7 @@ impl Shared {
     pub fn ask<R: Wait>(&self, rt: &R, _seen: &mut Seen, at: u32) -> Result<(), Refusal>
         ensures { IfErr result (λ refusal. is_ask_refusal refusal ≡ true) }
     {
-        match self.locked.lock(rt).machine.apply(Event::Ask(at)) {
-            Ok(_) => Ok(()),
-            Err(refusal) => Err(refusal),
-        }
+        self.make(rt, Event::Ask(at))
     }
 
     /// Makes the exchange that was asked for: the event `Exchange`.
@@ -89,10 +96,7 @@ impl Shared {
     pub fn exchange<R: Wait>(&self, rt: &R, _seen: &mut Seen) -> Result<(), Refusal>
         ensures { IfErr result (λ refusal. is_exchange_refusal refusal ≡ true) }
     {
-        match self.locked.lock(rt).machine.apply(Event::Exchange) {
-            Ok(_) => Ok(()),
-            Err(refusal) => Err(refusal),
-        }
+        self.make(rt, Event::Exchange)
     }
 
     /// Takes on a reservation with the seat of its unit.
@@ -152,10 +156,7 @@ impl Shared {
     pub fn accept<R: Wait>(&self, rt: &R, place: u8) -> Result<(), Refusal>
         ensures { IfErr result (λ refusal. (is_nothing refusal || is_accept_refusal refusal) ≡ true) }
     {
-        match self.locked.lock(rt).machine.apply(Event::Accept(place)) {
-            Ok(_) => Ok(()),
-            Err(refusal) => Err(refusal),
-        }
+        self.make(rt, Event::Accept(place))
     }
 
     /// The load in a channel, 1 to 5, writes its register: the event `Return`.
@@ -166,10 +167,7 @@ impl Shared {
     pub fn return_load<R: Wait>(&self, rt: &R, channel: u8) -> Result<(), Refusal>
         ensures { IfErr result (λ refusal. (is_nothing refusal || is_return_refusal refusal) ≡ true) }
     {
-        match self.locked.lock(rt).machine.apply(Event::Return(channel)) {
-            Ok(_) => Ok(()),
-            Err(refusal) => Err(refusal),
-        }
+        self.make(rt, Event::Return(channel))
     }
 
     /// A bank, 0 to 31, is no longer busy: the event `BankFree`.
@@ -180,10 +178,7 @@ impl Shared {
     pub fn bank_free<R: Wait>(&self, rt: &R, bank: u8) -> Result<(), Refusal>
         ensures { IfErr result (λ refusal. is_nothing refusal ≡ true) }
     {
-        match self.locked.lock(rt).machine.apply(Event::BankFree(bank)) {
-            Ok(_) => Ok(()),
-            Err(refusal) => Err(refusal),
-        }
+        self.make(rt, Event::BankFree(bank))
     }
 
     /// The state, the log and the boot memory of the machine, if it is drained. The state is the replay of

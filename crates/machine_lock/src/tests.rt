@@ -1,55 +1,14 @@
+use crate::fixtures::{FIRST, SECOND, booted, leave, note, word, x};
 use crate::{Seen, Shared};
-use instruction_table::{Digit, Halt, Refusal, Reg, Unit};
+use instruction_table::{Refusal, Unit};
 use machine::{Computed, Finished, Loaded, Machine, Note, Reserved, Seat};
-use relocation::Storage;
 use sequential::Entry;
-use std::alloc::Global;
 use std::sync::Wait;
 use std::test::Fail;
 use std::thread::{Threads, join};
-use word60::Word60;
-
-/// SX1 B0+5 and SX2 B0+3, then IX3 X1+X2, IX4 X2-X1, NO and PS.
-const FIRST: &str = "71100000057120000003";
-
-const SECOND: &str = "36312374214600000000";
 
 /// SX1 B0+5, with stops behind it.
 const FIVE: &str = "71100000050000000000";
-
-/// CX1 X2, then SX2 B0+5, and NO.
-const COUNT_AND_FIVE: &str = "47102712000000546000";
-
-/// A word of twenty octal digits or fewer, and +0 for any other text.
-fn word(octal: &str) -> Word60 {
-    Word60::from_octal(octal.as_bytes()).unwrap_or_default()
-}
-
-fn place(memory: &mut Storage, address: u32, octal: &str) {
-    if address < memory.size() {
-        memory.store(address, word(octal));
-    }
-}
-
-/// A machine with 256 words of memory: a package at 40 that has RA 100 and FL 20 and sets X2, and two words
-/// at 100 (octal).
-fn booted(alloc: Global, first: &str, second: &str, x2: &str) -> Result<Machine, Refusal> {
-    let mut memory = Storage::new(alloc, 256)?;
-    place(&mut memory, 0o41, "00000100000000000000");
-    place(&mut memory, 0o42, "00000020000000000000");
-    place(&mut memory, 0o52, x2);
-    place(&mut memory, 0o100, first);
-    place(&mut memory, 0o101, second);
-    Machine::boot(alloc, memory, 1_000_000)
-}
-
-fn x(number: u16) -> Reg {
-    Reg::X(Digit::low(number))
-}
-
-fn note(unit: Unit, number: u64) -> Note {
-    Note { unit, number }
-}
 
 /// What an issue answers for an instruction that has a unit.
 fn issued(unit: Unit, number: u64) -> Result<Option<Note>, Refusal> {
@@ -62,8 +21,8 @@ fn start<R: Wait>(rt: &R, shared: &Shared, seen: &mut Seen) -> Result<(), Refusa
     shared.exchange(rt, seen)
 }
 
-/// The seats of Divide, Long Add, Increment1 and Increment2; the others are left.
-fn of_four(seats: [Seat; 7]) -> [Seat; 4] {
+/// The seats of Increment1 and Increment2; the others are left.
+fn of_increments(seats: [Seat; 7]) -> (Seat, Seat) {
     let [
         branch,
         boolean,
@@ -76,24 +35,9 @@ fn of_four(seats: [Seat; 7]) -> [Seat; 4] {
     branch.leave();
     boolean.leave();
     shift.leave();
-    [divide, long_add, increment1, increment2]
-}
-
-/// How many reservations were stored with each of the seats, which are left.
-fn leave_four(seats: [Seat; 4]) -> [u64; 4] {
-    let [divide, long_add, increment1, increment2] = seats;
-    [
-        divide.leave(),
-        long_add.leave(),
-        increment1.leave(),
-        increment2.leave(),
-    ]
-}
-
-/// The unit of a seat and what was stored with it; the seat is left.
-fn leave(seat: Seat) -> (Unit, u64) {
-    let unit = seat.unit();
-    (unit, seat.leave())
+    long_add.leave();
+    divide.leave();
+    (increment1, increment2)
 }
 
 fn leave_all(seats: [Seat; 7]) -> [(Unit, u64); 7] {
@@ -171,24 +115,23 @@ fn serve<R: Wait>(rt: &R, shared: &Shared, seat: Seat, note: Note) -> (Seat, boo
     }
 }
 
-/// Whether a snapshot shows these words in two X registers, and in the log the exchange with so many
+/// Whether a snapshot shows these words in X1 and X2, and in the log the exchange with so many
 /// instructions behind it.
 fn shows<R: Wait>(
     rt: &R,
     shared: &Shared,
     seen: &mut Seen,
-    first: (Reg, &str),
-    second: (Reg, &str),
+    x1: &str,
+    x2: &str,
     issues: u64,
 ) -> bool {
     let Ok(snapshot) = shared.snapshot(rt, seen) else {
         return false;
     };
-    let state = snapshot.state();
-    state.registers.get(first.0) == word(first.1)
-        && state.registers.get(second.0) == word(second.1)
+    let registers = &snapshot.state().registers;
+    registers.get(x(1)) == word(x1)
+        && registers.get(x(2)) == word(x2)
         && snapshot.log().entries() == [Entry::Exchange(0o40), Entry::Issued(issues)].as_slice()
-        && snapshot.boot_memory().size() == 256
 }
 
 /// The units and counts of the seats that are given with a machine, or why it is refused.
@@ -218,8 +161,8 @@ fn gives_seats(machine: &mut Machine) -> bool {
 /// A fresh machine is opened with a seat for each unit; one whose seats were given out is refused.
 #[test]
 fn opening(rt: HostRuntime) -> Result<(), Fail> {
-    let fresh = booted(rt.alloc(), FIRST, SECOND, "0").ok().ok_or("boot")?;
-    let mut given = booted(rt.alloc(), FIRST, SECOND, "0").ok().ok_or("boot")?;
+    let fresh = booted(rt.alloc(), &[])?;
+    let mut given = booted(rt.alloc(), &[])?;
     let units = [
         (Unit::Branch, 0),
         (Unit::Boolean, 0),
@@ -232,120 +175,6 @@ fn opening(rt: HostRuntime) -> Result<(), Fail> {
     assert!(rt; opened(fresh) == Ok(units));
     assert!(rt; gives_seats(&mut given));
     assert!(rt; opened(given) == Err(Refusal::Nothing));
-    Ok(())
-}
-
-/// Claims a reservation whose operands are still to come: its token, given back by the read, and what the
-/// read refused. The seat where that isn't so.
-fn claim_early<R: Wait>(
-    rt: &R,
-    shared: &Shared,
-    seat: Seat,
-    note: Note,
-) -> Result<(Reserved, Refusal), Seat> {
-    let reserved = claim(rt, shared, seat, note)?;
-    match shared.read(rt, reserved) {
-        Err((refusal, reserved)) => Ok((reserved, refusal)),
-        Ok(loaded) => Err(loaded.abandon()),
-    }
-}
-
-/// Claims the sum, takes both its operands' reservations to their end, and then the sum with the token
-/// that the read gave back. It answers what the read refused, None where anything else was refused.
-fn first_sum<R: Wait>(rt: &R, shared: &Shared, seats: [Seat; 4]) -> ([Seat; 4], Option<Refusal>) {
-    let [divide, long_add, increment1, increment2] = seats;
-    let (reserved, refusal) = match claim_early(rt, shared, long_add, note(Unit::LongAdd, 3)) {
-        Err(seat) => return ([divide, seat, increment1, increment2], None),
-        Ok(early) => early,
-    };
-    let (increment1, is_five) = serve(rt, shared, increment1, note(Unit::Increment1, 1));
-    let (increment2, is_three) = serve(rt, shared, increment2, note(Unit::Increment2, 2));
-    let (long_add, is_eight) = carry_out(rt, shared, reserved);
-    let awaited = if is_five && is_three && is_eight {
-        Some(refusal)
-    } else {
-        None
-    };
-    ([divide, long_add, increment1, increment2], awaited)
-}
-
-/// Serves a reservation of Long Add with its seat.
-fn second_sum<R: Wait>(rt: &R, shared: &Shared, seats: [Seat; 4]) -> ([Seat; 4], bool) {
-    let [divide, long_add, increment1, increment2] = seats;
-    let (long_add, is_served) = serve(rt, shared, long_add, note(Unit::LongAdd, 4));
-    ([divide, long_add, increment1, increment2], is_served)
-}
-
-/// 5 and 3 are added in X3; 3 less 5 in X4 is -2 in ones' complement. NO and PS have no unit.
-#[test]
-fn two_sums(rt: HostRuntime) -> Result<(), Fail> {
-    let machine = booted(rt.alloc(), FIRST, SECOND, "0").ok().ok_or("boot")?;
-    let (shared, seats, mut seen) = Shared::open(machine).ok().ok_or("open")?;
-    let seats = of_four(seats);
-    let started = start(&rt, &shared, &mut seen);
-    let issues = [
-        shared.issue(&rt, &mut seen),
-        shared.issue(&rt, &mut seen),
-        shared.issue(&rt, &mut seen),
-        shared.issue(&rt, &mut seen),
-    ];
-    let early = shared.snapshot(&rt, &mut seen).err();
-    let was_drained = shared.drained(&rt);
-    let (seats, awaited) = first_sum(&rt, &shared, seats);
-    let is_drained = shared.drained(&rt);
-    let is_added = shows(&rt, &shared, &mut seen, (x(3), "10"), (x(4), "0"), 3);
-    let fourth = shared.issue(&rt, &mut seen);
-    let (seats, is_subtracted) = second_sum(&rt, &shared, seats);
-    let rest = [
-        shared.issue(&rt, &mut seen),
-        shared.issue(&rt, &mut seen),
-        shared.issue(&rt, &mut seen),
-    ];
-    let stored = leave_four(seats);
-    assert!(rt; started == Ok(()));
-    assert!(rt; issues[0] == issued(Unit::Increment1, 1));
-    assert!(rt; issues[1] == issued(Unit::Increment2, 2));
-    assert!(rt; issues[2] == issued(Unit::LongAdd, 3));
-    assert!(rt; issues[3] == Err(Refusal::UnitBusy(Unit::LongAdd)));
-    assert!(rt; early == Some(Refusal::NotDrained) && !was_drained);
-    assert!(rt; awaited == Some(Refusal::OperandAwaited(x(1))));
-    assert!(rt; is_drained && is_added);
-    assert!(rt; fourth == issued(Unit::LongAdd, 4) && is_subtracted);
-    assert!(rt; rest == [Ok(None), Ok(None), Err(Refusal::Halted(Halt::Stop))]);
-    assert!(rt; stored == [0, 2, 1, 1]);
-    let difference = (x(4), "77777777777777777775");
-    assert!(rt; shows(&rt, &shared, &mut seen, (x(3), "10"), difference, 6));
-    Ok(())
-}
-
-/// Requests and exchanges that are refused: where none was asked for, where one is asked for already,
-/// where the package doesn't lie in memory, while an instruction is pending, and in the middle of a word.
-#[test]
-fn refused_exchanges(rt: HostRuntime) -> Result<(), Fail> {
-    let machine = booted(rt.alloc(), FIRST, SECOND, "0").ok().ok_or("boot")?;
-    let (shared, seats, mut seen) = Shared::open(machine).ok().ok_or("open")?;
-    let [divide, long_add, increment1, increment2] = of_four(seats);
-    let unasked = shared.exchange(&rt, &mut seen);
-    let outside = shared.ask(&rt, &mut seen, 0o361);
-    let started = start(&rt, &shared, &mut seen);
-    let first = shared.issue(&rt, &mut seen);
-    let asked = shared.ask(&rt, &mut seen, 0o60);
-    let again = shared.ask(&rt, &mut seen, 0o40);
-    let early = shared.exchange(&rt, &mut seen);
-    let (increment1, is_served) = serve(&rt, &shared, increment1, note(Unit::Increment1, 1));
-    let in_word = shared.exchange(&rt, &mut seen);
-    let second = shared.issue(&rt, &mut seen);
-    let waiting = shared.issue(&rt, &mut seen);
-    let stored = leave_four([divide, long_add, increment1, increment2]);
-    assert!(rt; unasked == Err(Refusal::Nothing));
-    assert!(rt; outside == Err(Refusal::PackageRange));
-    assert!(rt; started == Ok(()) && first == issued(Unit::Increment1, 1));
-    assert!(rt; asked == Ok(()) && again == Err(Refusal::ExchangeBusy));
-    assert!(rt; early == Err(Refusal::NotDrained));
-    assert!(rt; is_served && in_word == Err(Refusal::MidWord));
-    assert!(rt; second == issued(Unit::Increment1, 2));
-    assert!(rt; waiting == Err(Refusal::ExchangeWaiting));
-    assert!(rt; stored == [0, 0, 1, 0]);
     Ok(())
 }
 
@@ -420,105 +249,35 @@ fn serve_beside<R: Wait>(
     }
 }
 
-/// What the claim of a number that was never given is refused with, and whether the reservation is then
-/// taken to its end with the seat that it gave back.
-fn five_beside<R: Wait>(
-    rt: &R,
-    own: &Shared,
-    other: &Shared,
-    seats: [Seat; 4],
-) -> ([Seat; 4], Option<Refusal>, bool) {
-    let [divide, long_add, increment1, increment2] = seats;
-    let (back, refusal) = refused_claim(rt, own, increment1, note(Unit::Increment1, 2));
-    let (seat, is_stored) = serve_beside(rt, own, other, back, note(Unit::Increment1, 1));
-    ([divide, long_add, seat, increment2], refusal, is_stored)
-}
-
 /// A claim of a number that was never given is a stranger's, and so are tokens in a machine that has
 /// issued nothing. With what is given back the reservation is taken to its end.
 #[test]
 fn strangers(rt: HostRuntime) -> Result<(), Fail> {
-    let machine = booted(rt.alloc(), FIVE, "0", "0").ok().ok_or("boot")?;
-    let idle = booted(rt.alloc(), FIVE, "0", "0").ok().ok_or("boot")?;
-    let other = unserved(idle).ok().ok_or("open")?;
-    let (own, seats, mut seen) = Shared::open(machine).ok().ok_or("open")?;
-    let seats = of_four(seats);
+    let machine = booted(rt.alloc(), &[(0o100, FIVE)])?;
+    let idle = booted(rt.alloc(), &[(0o100, FIVE)])?;
+    let other = unserved(idle)?;
+    let (own, seats, mut seen) = Shared::open(machine)?;
+    let (increment1, increment2) = of_increments(seats);
+    increment2.leave();
     let started = start(&rt, &own, &mut seen);
     let first = own.issue(&rt, &mut seen);
-    let (seats, refusal, is_stored) = five_beside(&rt, &own, &other, seats);
-    let stored = leave_four(seats);
+    let never = note(Unit::Increment1, 2);
+    let (seat, refusal) = refused_claim(&rt, &own, increment1, never);
+    let given = note(Unit::Increment1, 1);
+    let (seat, is_stored) = serve_beside(&rt, &own, &other, seat, given);
+    let stored = seat.leave();
     assert!(rt; started == Ok(()) && first == issued(Unit::Increment1, 1));
     assert!(rt; refusal == Some(Refusal::Stranger));
-    assert!(rt; is_stored && stored == [0, 0, 1, 0]);
-    assert!(rt; shows(&rt, &own, &mut seen, (x(1), "5"), (x(2), "0"), 1));
-    Ok(())
-}
-
-/// Takes a reservation to a store that is refused: its token, given back by the store, and the refusal. The
-/// seat where that isn't so.
-fn store_early<R: Wait>(
-    rt: &R,
-    shared: &Shared,
-    seat: Seat,
-    note: Note,
-) -> Result<(Finished, Refusal), Seat> {
-    let reserved = claim(rt, shared, seat, note)?;
-    let finished = work(rt, shared, reserved)?;
-    match shared.store(rt, finished) {
-        Err((refusal, finished)) => Ok((finished, refusal)),
-        Ok(seat) => Err(seat),
-    }
-}
-
-/// Takes the second reservation as far as it comes, then the first to its end, and stores the second
-/// with the token that its store gave back. It answers what that store refused, None where anything else
-/// was refused.
-fn count_and_five<R: Wait>(
-    rt: &R,
-    shared: &Shared,
-    seats: [Seat; 4],
-) -> ([Seat; 4], Option<Refusal>) {
-    let [divide, long_add, increment1, increment2] = seats;
-    let (finished, refusal) = match store_early(rt, shared, increment1, note(Unit::Increment1, 2)) {
-        Err(seat) => return ([divide, long_add, seat, increment2], None),
-        Ok(early) => early,
-    };
-    let (divide, is_counted) = serve(rt, shared, divide, note(Unit::Divide, 1));
-    let (increment1, is_stored) = store(rt, shared, finished);
-    let held = if is_counted && is_stored {
-        Some(refusal)
-    } else {
-        None
-    };
-    ([divide, long_add, increment1, increment2], held)
-}
-
-/// CX1 X2 counts the ones of 17 (octal). SX2 B0+5 is held back while X2 has still to be read.
-#[test]
-fn held_result(rt: HostRuntime) -> Result<(), Fail> {
-    let machine = booted(rt.alloc(), COUNT_AND_FIVE, "0", "17")
-        .ok()
-        .ok_or("boot")?;
-    let (shared, seats, mut seen) = Shared::open(machine).ok().ok_or("open")?;
-    let seats = of_four(seats);
-    let started = start(&rt, &shared, &mut seen);
-    let first = shared.issue(&rt, &mut seen);
-    let second = shared.issue(&rt, &mut seen);
-    let (seats, held) = count_and_five(&rt, &shared, seats);
-    let stored = leave_four(seats);
-    assert!(rt; started == Ok(()));
-    assert!(rt; first == issued(Unit::Divide, 1) && second == issued(Unit::Increment1, 2));
-    assert!(rt; held == Some(Refusal::ResultHeld(x(2))));
-    assert!(rt; stored == [1, 0, 1, 0]);
-    assert!(rt; shows(&rt, &shared, &mut seen, (x(1), "4"), (x(2), "5"), 2));
+    assert!(rt; is_stored && stored == 1);
+    assert!(rt; shows(&rt, &own, &mut seen, "5", "0", 1));
     Ok(())
 }
 
 /// Its users are told to end by `end`, and not before.
 #[test]
 fn ending(rt: HostRuntime) -> Result<(), Fail> {
-    let machine = booted(rt.alloc(), FIRST, SECOND, "0").ok().ok_or("boot")?;
-    let shared = unserved(machine).ok().ok_or("open")?;
+    let machine = booted(rt.alloc(), &[])?;
+    let shared = unserved(machine)?;
     assert!(rt; !shared.ended(&rt));
     shared.end(&rt);
     assert!(rt; shared.ended(&rt));
@@ -580,11 +339,9 @@ fn serve_both<R: Threads + Wait + Sync>(
 /// Two threads, each with the seat of a unit, serve a reservation at the same time.
 #[test]
 fn two_threads(rt: HostRuntime) -> Result<(), Fail> {
-    let machine = booted(rt.alloc(), FIRST, SECOND, "0").ok().ok_or("boot")?;
-    let (shared, seats, mut seen) = Shared::open(machine).ok().ok_or("open")?;
-    let [divide, long_add, increment1, increment2] = of_four(seats);
-    divide.leave();
-    long_add.leave();
+    let machine = booted(rt.alloc(), &[(0o100, FIRST), (0o101, SECOND)])?;
+    let (shared, seats, mut seen) = Shared::open(machine)?;
+    let (increment1, increment2) = of_increments(seats);
     let started = start(&rt, &shared, &mut seen);
     let first = shared.issue(&rt, &mut seen);
     let second = shared.issue(&rt, &mut seen);
@@ -594,6 +351,6 @@ fn two_threads(rt: HostRuntime) -> Result<(), Fail> {
     assert!(rt; first == issued(Unit::Increment1, 1) && second == issued(Unit::Increment2, 2));
     assert!(rt; stored == Some((1, 1)));
     assert!(rt; shared.drained(&rt));
-    assert!(rt; shows(&rt, &shared, &mut seen, (x(1), "5"), (x(2), "3"), 2));
+    assert!(rt; shows(&rt, &shared, &mut seen, "5", "3", 2));
     Ok(())
 }

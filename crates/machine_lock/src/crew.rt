@@ -1,0 +1,345 @@
+//! For the tests: a machine under its lock with all its seats, whose events are made by the calls of `Shared`.
+
+use crate::fixtures::{Words, booted, is_same, leave, memory_left, memory_of, word};
+use crate::{Seen, Shared};
+use instruction_table::{Digit, Halt, Refusal, Reg, Unit};
+use machine::{Answer, Computed, Done, Event, Finished, Machine, Note, Reserved, Seat, Snapshot};
+use sequential::Entry;
+use std::alloc::Global;
+use std::mem;
+use std::sync::Wait;
+use word60::Word60;
+
+/// What is held for a unit: its seat, or the token of the reservation that was taken on with it.
+enum Held {
+    Idle(Seat),
+    Reserved(Reserved),
+    Computed(Computed),
+    Finished(Finished),
+    /// Nothing, while a call has it.
+    Lent,
+}
+
+/// What is held, with the answer of a call.
+type Step = (Held, Answer);
+
+pub(crate) const MADE: Answer = Ok(Done::Made);
+
+impl Held {
+    /// The seat is left; None where there is none or a reservation isn't stored.
+    fn leave(self) -> Option<(Unit, u64)> {
+        match self {
+            Held::Idle(seat) => Some(leave(seat)),
+            Held::Reserved(token) => abandoned(token.abandon()),
+            Held::Computed(token) => abandoned(token.abandon()),
+            Held::Finished(token) => abandoned(token.abandon()),
+            Held::Lent => None,
+        }
+    }
+
+    fn claim<R: Wait>(self, rt: &R, shared: &Shared, note: Note) -> Step {
+        match self {
+            Held::Idle(seat) => match shared.claim(rt, seat, note) {
+                Ok(token) => (Held::Reserved(token), Ok(Done::Issued(Some(note)))),
+                Err((refusal, seat)) => (Held::Idle(seat), Err(refusal)),
+            },
+            held => (held, Err(Refusal::Stranger)),
+        }
+    }
+
+    /// Reads, and computes at once.
+    fn read<R: Wait>(self, rt: &R, shared: &Shared) -> Step {
+        match self {
+            Held::Reserved(token) => match shared.read(rt, token) {
+                Ok(token) => (Held::Computed(token.compute()), MADE),
+                Err((refusal, token)) => (Held::Reserved(token), Err(refusal)),
+            },
+            held => (held, Err(Refusal::Nothing)),
+        }
+    }
+
+    fn finish<R: Wait>(self, rt: &R, shared: &Shared) -> Step {
+        match self {
+            Held::Computed(token) => match shared.finish(rt, token) {
+                Ok(token) => (Held::Finished(token), MADE),
+                Err((refusal, token)) => (Held::Computed(token), Err(refusal)),
+            },
+            held => (held, Err(Refusal::Nothing)),
+        }
+    }
+
+    fn store<R: Wait>(self, rt: &R, shared: &Shared) -> Step {
+        match self {
+            Held::Finished(token) => match shared.store(rt, token) {
+                Ok(seat) => (Held::Idle(seat), MADE),
+                Err((refusal, token)) => (Held::Finished(token), Err(refusal)),
+            },
+            held => (held, Err(Refusal::Nothing)),
+        }
+    }
+}
+
+fn abandoned(seat: Seat) -> Option<(Unit, u64)> {
+    seat.leave();
+    None
+}
+
+/// A machine under its lock, what its user has seen, and what is held for each of its units in use.
+struct Crew {
+    shared: Shared,
+    seen: Seen,
+    held: [Held; 7],
+}
+
+fn place_of(unit: Unit) -> Option<usize> {
+    match unit {
+        Unit::Branch => Some(0),
+        Unit::Boolean => Some(1),
+        Unit::Shift => Some(2),
+        Unit::LongAdd => Some(3),
+        Unit::Divide => Some(4),
+        Unit::Increment1 => Some(5),
+        Unit::Increment2 => Some(6),
+        Unit::Add | Unit::Multiply1 | Unit::Multiply2 => None,
+    }
+}
+
+/// The answer of a call that gives nothing.
+fn made(called: Result<(), Refusal>) -> Answer {
+    match called {
+        Ok(()) => MADE,
+        Err(refusal) => Err(refusal),
+    }
+}
+
+impl Crew {
+    fn open(machine: Machine) -> Result<Crew, Refusal> {
+        let (shared, seats, seen) = Shared::open(machine)?;
+        let [
+            branch,
+            boolean,
+            shift,
+            long_add,
+            divide,
+            increment1,
+            increment2,
+        ] = seats;
+        let held = [
+            Held::Idle(branch),
+            Held::Idle(boolean),
+            Held::Idle(shift),
+            Held::Idle(long_add),
+            Held::Idle(divide),
+            Held::Idle(increment1),
+            Held::Idle(increment2),
+        ];
+        Ok(Crew { shared, seen, held })
+    }
+
+    /// Lends what is held for a unit to a call.
+    fn lend(&mut self, unit: Unit) -> Held {
+        match place_of(unit) {
+            Some(place) => mem::replace(&mut self.held[place], Held::Lent),
+            None => Held::Lent,
+        }
+    }
+
+    /// Takes back what the call left, and answers what it answered.
+    fn take_back(&mut self, unit: Unit, step: Step) -> Answer {
+        let (held, answer) = step;
+        let left = match place_of(unit) {
+            Some(place) => mem::replace(&mut self.held[place], held),
+            None => held,
+        };
+        left.leave();
+        answer
+    }
+
+    /// Issues, and claims a reservation at once with the seat of its unit.
+    fn issue<R: Wait>(&mut self, rt: &R) -> Answer {
+        match self.shared.issue(rt, &mut self.seen) {
+            Ok(Some(note)) => {
+                let step = self.lend(note.unit).claim(rt, &self.shared, note);
+                self.take_back(note.unit, step)
+            }
+            Ok(None) => Ok(Done::Issued(None)),
+            Err(refusal) => Err(refusal),
+        }
+    }
+
+    /// Makes the event of a unit with the token that is held for it.
+    fn work<R: Wait>(&mut self, rt: &R, unit: Unit, event: Event) -> Answer {
+        let held = self.lend(unit);
+        let step = match event {
+            Event::Read(_) => held.read(rt, &self.shared),
+            Event::Finish(_) => held.finish(rt, &self.shared),
+            _ => held.store(rt, &self.shared),
+        };
+        self.take_back(unit, step)
+    }
+
+    /// Makes the event by the call of its name.
+    fn call<R: Wait>(&mut self, rt: &R, event: Event) -> Answer {
+        match event {
+            Event::Issue => self.issue(rt),
+            Event::Read(unit) => self.work(rt, unit, event),
+            Event::Finish(unit) => self.work(rt, unit, event),
+            Event::Store(unit) => self.work(rt, unit, event),
+            Event::Accept(place) => made(self.shared.accept(rt, place)),
+            Event::Return(channel) => made(self.shared.return_load(rt, channel)),
+            Event::BankFree(bank) => made(self.shared.bank_free(rt, bank)),
+            Event::Ask(at) => made(self.shared.ask(rt, &mut self.seen, at)),
+            Event::Exchange => made(self.shared.exchange(rt, &mut self.seen)),
+        }
+    }
+
+    /// Leaves the seats: how many reservations were stored with each, in the order of the units' numbers.
+    fn leave(self) -> [Option<(Unit, u64)>; 7] {
+        let Crew {
+            shared: _,
+            seen: _,
+            held,
+        } = self;
+        let [
+            branch,
+            boolean,
+            shift,
+            long_add,
+            divide,
+            increment1,
+            increment2,
+        ] = held;
+        [
+            branch.leave(),
+            boolean.leave(),
+            shift.leave(),
+            long_add.leave(),
+            divide.leave(),
+            increment1.leave(),
+            increment2.leave(),
+        ]
+    }
+}
+
+/// A schedule from boot on, and what it leaves.
+#[derive(Clone, Copy, Drop)]
+pub(crate) struct Schedule<'a> {
+    /// The words with which the machine is booted, over a package at 40 with RA 100 and FL 20.
+    pub(crate) words: Words<'a>,
+    pub(crate) steps: &'a [(Event, Answer)],
+    /// Behind how many of the events the machine is drained.
+    pub(crate) drained: usize,
+    /// How many reservations are stored with the seats, in the order of the units' numbers.
+    pub(crate) stored: [u64; 7],
+    /// P and the next parcel.
+    pub(crate) place: (u32, u8),
+    pub(crate) halt: Option<Halt>,
+    /// The registers that aren't +0, but for B registers.
+    pub(crate) registers: &'a [(Reg, &'a str)],
+    /// The words that aren't +0, but for the status of the booted machine at 47.
+    pub(crate) memory: Words<'a>,
+    pub(crate) log: &'a [Entry],
+}
+
+/// Makes the events one after another. It answers how many got their answer, and behind how many the
+/// machine was drained.
+fn make_all<R: Wait>(rt: &R, crew: &mut Crew, steps: &[(Event, Answer)]) -> (usize, usize) {
+    let mut met = 0usize;
+    let mut drained = 0usize;
+    for (event, answer) in steps {
+        if crew.call(rt, *event) == *answer {
+            met = met.saturating_add(1);
+        }
+        if crew.shared.drained(rt) {
+            drained = drained.saturating_add(1);
+        }
+    }
+    (met, drained)
+}
+
+impl Schedule<'_> {
+    /// Whether the snapshot shows what is wanted, but for the memories.
+    fn is_shown(&self, snapshot: &Snapshot) -> bool {
+        let state = snapshot.state();
+        let (p, parcel) = self.place;
+        state.place.p.get() == p
+            && state.place.parcel.get() == parcel
+            && state.halt == self.halt
+            && !state.fault
+            && has_registers(snapshot, self.registers)
+            && snapshot.log().entries() == self.log
+    }
+
+    /// Whether the snapshot has the memory that is wanted.
+    fn is_memory_left(&self, alloc: Global, snapshot: &Snapshot) -> Result<bool, Refusal> {
+        let wanted = memory_left(alloc, self.memory)?;
+        Ok(is_same(&snapshot.state().memory, &wanted))
+    }
+
+    /// Whether the snapshot's boot memory is that which was booted.
+    fn is_memory_booted(&self, alloc: Global, snapshot: &Snapshot) -> Result<bool, Refusal> {
+        let wanted = memory_of(alloc, self.words)?;
+        Ok(is_same(snapshot.boot_memory(), &wanted))
+    }
+
+    /// Whether the snapshot is what is wanted.
+    fn is_left(&self, alloc: Global, taken: Result<Snapshot, Refusal>) -> Result<bool, Refusal> {
+        let snapshot = taken?;
+        let is_left = self.is_memory_left(alloc, &snapshot)?;
+        let is_booted = self.is_memory_booted(alloc, &snapshot)?;
+        Ok(self.is_shown(&snapshot) && is_left && is_booted)
+    }
+
+    /// Whether the events get their answers by the calls of `Shared`, and leave what is wanted.
+    pub(crate) fn holds<R: Wait>(&self, rt: &R, alloc: Global) -> Result<bool, Refusal> {
+        let machine = booted(alloc, self.words)?;
+        let mut crew = Crew::open(machine)?;
+        let (met, drained) = make_all(rt, &mut crew, self.steps);
+        let taken = crew.shared.snapshot(rt, &mut crew.seen);
+        let stored = crew.leave();
+        let is_left = self.is_left(alloc, taken)?;
+        Ok(
+            met == self.steps.len()
+                && drained == self.drained
+                && stored == stored_by_unit(self.stored)
+                && is_left,
+        )
+    }
+}
+
+/// Whether the snapshot's A and X registers are +0 but for these.
+fn has_registers(snapshot: &Snapshot, registers: &[(Reg, &str)]) -> bool {
+    let file = &snapshot.state().registers;
+    for number in 0..8u16 {
+        let a = Reg::A(Digit::low(number));
+        let x = Reg::X(Digit::low(number));
+        if file.get(a) != wanted_in(a, registers) || file.get(x) != wanted_in(x, registers) {
+            return false;
+        }
+    }
+    true
+}
+
+/// The word that is wanted in a register.
+fn wanted_in(register: Reg, registers: &[(Reg, &str)]) -> Word60 {
+    for (named, octal) in registers {
+        if *named == register {
+            return word(octal);
+        }
+    }
+    Word60::default()
+}
+
+/// What the seats are to tell: each its unit, and how many reservations were stored with it.
+fn stored_by_unit(stored: [u64; 7]) -> [Option<(Unit, u64)>; 7] {
+    let [branch, boolean, shift, long_add, divide, first, second] = stored;
+    [
+        Some((Unit::Branch, branch)),
+        Some((Unit::Boolean, boolean)),
+        Some((Unit::Shift, shift)),
+        Some((Unit::LongAdd, long_add)),
+        Some((Unit::Divide, divide)),
+        Some((Unit::Increment1, first)),
+        Some((Unit::Increment2, second)),
+    ]
+}
