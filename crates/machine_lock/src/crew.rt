@@ -1,5 +1,7 @@
 //! For the tests: a machine under its lock with all its seats, whose events are made by the calls of `Shared`.
 
+ghost use Rattle.std.specs.Prelude.{◌<◌, IfSome};
+
 use crate::fixtures::{Words, booted, is_same, leave, memory_left, memory_of, word};
 use crate::{Seen, Shared};
 use instruction_table::{Digit, Halt, Refusal, Reg, Unit};
@@ -91,7 +93,10 @@ struct Crew {
     held: [Held; 7],
 }
 
-fn place_of(unit: Unit) -> Option<usize> {
+/// Where what is held for a unit in use stands.
+fn place_of(unit: Unit) -> Option<usize>
+    ensures { IfSome result (λ place. place < 7) }
+{
     match unit {
         Unit::Branch => Some(0),
         Unit::Boolean => Some(1),
