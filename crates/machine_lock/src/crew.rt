@@ -4,13 +4,12 @@ ghost use Rattle.std.specs.Prelude.{◌<◌, IfSome};
 
 use crate::fixtures::{Words, booted, is_same, leave, memory_left, memory_of, word};
 use crate::{Seen, Shared};
-use instruction_table::{Digit, Halt, Refusal, Reg, Unit};
+use instruction_table::{Halt, Refusal, Reg, Unit};
 use machine::{Answer, Computed, Done, Event, Finished, Machine, Note, Reserved, Seat, Snapshot};
 use sequential::Entry;
 use std::alloc::Global;
 use std::mem;
 use std::sync::Wait;
-use word60::Word60;
 
 /// What is held for a unit: its seat, or the token of the reservation that was taken on with it.
 enum Held {
@@ -239,7 +238,7 @@ pub(crate) struct Schedule<'a> {
     /// P and the next parcel.
     pub(crate) place: (u32, u8),
     pub(crate) halt: Option<Halt>,
-    /// The registers that aren't +0, but for B registers.
+    /// What some registers hold.
     pub(crate) registers: &'a [(Reg, &'a str)],
     /// The words that aren't +0, but for the status of the booted machine at 47.
     pub(crate) memory: Words<'a>,
@@ -312,27 +311,14 @@ impl Schedule<'_> {
     }
 }
 
-/// Whether the snapshot's A and X registers are +0 but for these.
+/// Whether the snapshot shows these words in registers.
 fn has_registers(snapshot: &Snapshot, registers: &[(Reg, &str)]) -> bool {
-    let file = &snapshot.state().registers;
-    for number in 0..8u16 {
-        let a = Reg::A(Digit::low(number));
-        let x = Reg::X(Digit::low(number));
-        if file.get(a) != wanted_in(a, registers) || file.get(x) != wanted_in(x, registers) {
+    for (register, octal) in registers {
+        if snapshot.state().registers.get(*register) != word(octal) {
             return false;
         }
     }
     true
-}
-
-/// The word that is wanted in a register.
-fn wanted_in(register: Reg, registers: &[(Reg, &str)]) -> Word60 {
-    for (named, octal) in registers {
-        if *named == register {
-            return word(octal);
-        }
-    }
-    Word60::default()
 }
 
 /// What the seats are to tell: each its unit, and how many reservations were stored with it.

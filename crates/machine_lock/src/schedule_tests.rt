@@ -264,7 +264,13 @@ fn exchange_asked_in_mid_word(rt: HostRuntime) -> Result<(), Fail> {
         stored: [0, 1, 0, 0, 0, 1, 1],
         place: (1, 0),
         halt: Some(Halt::Stop),
-        registers: &[],
+        registers: &[
+            (a(1), "0"),
+            (a(2), "0"),
+            (x(1), "0"),
+            (x(2), "0"),
+            (x(3), "0"),
+        ],
         // The product in X3, at 73, is that of the old X1.
         memory: &[
             (0o60, "00000001000000000000"),
