@@ -4,3 +4,6 @@ pub mod OctalLaws
 pub mod ReadingLaws
 pub mod FieldLaws
 pub mod TextLaws
+pub mod Lists
+pub mod Sorted
+pub mod Seats

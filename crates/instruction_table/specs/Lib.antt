@@ -7,3 +7,6 @@ pub mod Shape
 pub mod RegisterLists
 pub mod Candidate
 pub mod Spelling
+pub mod Each
+pub mod Order
+pub mod Finding

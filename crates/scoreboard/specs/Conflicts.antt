@@ -1,6 +1,6 @@
 -- The three orders of conflict, and the turn of references, over a list of issued instructions in issue
 -- order. What stands in the list may be more than a row: `row_of` gives the row of each.
-use Rattle.std.specs.Prelude.{ℕ, Bool, is_none, if◌then◌else◌, List, [], ◌∷◌, Option, Some, None, find, unwrap_or}
+use Rattle.std.specs.Prelude.{Bool, is_none, if◌then◌else◌, List, [], ◌∷◌, Option, Some, None, find, unwrap_or}
 use Rattle.std.specs.List.{list_any}
 use Rattle.instruction_table.specs.declared.instr.Reg.{Reg}
 use Rattle.instruction_table.specs.declared.instr.Reg.TheVariants.{B}

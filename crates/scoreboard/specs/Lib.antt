@@ -1,3 +1,9 @@
+-- The definitions.
 pub mod Units
 pub mod Rows
 pub mod Conflicts
+pub mod Writers
+pub mod Issued
+pub mod Answers
+pub mod View
+pub mod Fields

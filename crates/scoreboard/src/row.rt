@@ -1,4 +1,4 @@
-ghost use Rattle.std.specs.Prelude.{◌≡◌, [], ◌∷◌};
+ghost use Rattle.std.specs.Prelude.{◌≡◌};
 ghost use Rattle.scoreboard.specs.Rows.{returning_to, to_come, reads, comes, reads_it, holds, is_branch, has_turn, has_store_turn, is_reserved};
 ghost use Rattle.instruction_table.specs.Table.{reg_eq};
 ghost use Rattle.instruction_table.specs.RegisterLists.{is_in};

@@ -1,0 +1,8 @@
+-- The lemmas, lowest first.
+pub mod Small
+pub mod Writing
+pub mod Seating
+pub mod Standing
+pub mod Right
+pub mod Changing
+pub mod Reserving

@@ -1,0 +1,341 @@
+-- What always holds of a board still holds behind each change.
+use Rattle.std.proofs.Common.{◌≡◌, ◌≢◌, ◌<◌, ◌≤◌, ◌+◌, ℕ, suc, Bool, true, false, cond, List, [], ◌∷◌, ◌++◌, Option, Some, None, refl, sym, ap, ◌∙◌, subst, eqb, ltb, map, get_or, set, length, arith}
+use Rattle.std.specs.Prelude.{◌&&◌, ◌||◌, IfSome}
+use Rattle.std.proofs.lemmas.Bool.{eq-eqb, eqb-true, eqb-false}
+use Rattle.std.proofs.lemmas.List.{get_or-set_same, get_or-set_other}
+use Rattle.instruction_table.specs.declared.instr.Reg.{Reg}
+use Rattle.instruction_table.specs.declared.instr.Reg.TheVariants.{X, A, B}
+use Rattle.instruction_table.specs.declared.instr.Unit.{Unit as FunctionalUnit}
+use Rattle.instruction_table.specs.RegisterLists.{is_in}
+use Rattle.instruction_table.specs.Shape.{Shape, Puts, Loads, Stores, Jumps, Links, shape_of, puts_of, loads_of, results}
+use Rattle.instruction_table.specs.Table.{sources_of, reg_eq}
+use Rattle.scoreboard.specs.declared.row.Progress.TheVariants.{Reserved, Left}
+use Rattle.scoreboard.specs.Rows.{comes, to_come, to_come_in, returning_to}
+use Rattle.scoreboard.specs.Units.{unit_number, same_unit}
+use Rattle.scoreboard.specs.declared.issued.Issued.{Issued}
+use Rattle.scoreboard.specs.declared.writer.Writer.{Writer}
+use Rattle.scoreboard.specs.declared.writer.Writer.TheVariants.{OfUnit, OfChannel}
+use Rattle.scoreboard.specs.declared.writers.Writers.{Writers}
+use Rattle.scoreboard.specs.Answers.{in_progress}
+use Rattle.instruction_table.specs.Each.{Each, Pairs}
+use Rattle.scoreboard.specs.Fields.{channels_with}
+use Rattle.scoreboard.specs.Issued.{number_of, channel_of, written_by_channel, written_in, written_by, or_else, if_earlier, writer_of, writer_before}
+use Rattle.instruction_table.specs.Order.{somes}
+use Rattle.scoreboard.specs.View.{seated, seat_in, seat_of, IsSeated, IsOther, AreProducers, IsRight}
+use Rattle.scoreboard.specs.Writers.{IsRegister, writer_at, forget}
+use Rattle.instruction_table.proofs.Lists.{each_map}
+use Rattle.instruction_table.proofs.Seats.{within}
+use Rattle.scoreboard.proofs.Writing.{all_earlier, producers_forget, get-map, unit_kept, channel_kept, left_written, returned_written}
+use Rattle.scoreboard.proofs.Seating.{set_front, set_back, set_again, length_set, seated_others, seated_here, seated_empty, seated_fill, sits_reserved, sits_returning, others_of, pairs_taken, pairs_put, each_taken, each_here, each_put, writer_put, writer_gone, writer_same}
+use Rattle.scoreboard.proofs.Standing.{unit_seat, channel_seat}
+
+-- ---- from the seats as one list ----
+
+pub right_again : (units channels l : List (Option Issued)) (producers : List (List (Option Writer))) (ws : Writers) (last : ℕ) → l ≡ units ++ channels → length units ≡ 10 → length channels ≡ 8 → length producers ≡ 10 → (length ws.x ≡ 8) × (length ws.a ≡ 8) × (length ws.b ≡ 8)
+    → IsSeated 0 l → Pairs IsOther (somes l) → Each (λ x. x.number ≤ last) (somes l) → ((r : Reg) → IsRegister r → writer_at ws r ≡ writer_before (suc last) (somes l) r)
+    → ((j : ℕ) (z : Issued) → get_or units j None ≡ Some z → AreProducers (writer_before z.number (somes l)) (sources_of z.row.instr) (get_or producers j [])) → IsRight units channels producers ws last
+unfolding seated
+right_again units channels l producers ws last e lu lc lp lw s a n w p = record {
+  all_units = lu;
+  all_channels = lc;
+  all_producers = lp;
+  all_writers = lw;
+  sits = subst (IsSeated 0) e s;
+  apart = subst (λ m. Pairs IsOther (somes m)) e a;
+  counted = subst (λ m. Each (λ x. x.number ≤ last) (somes m)) e n;
+  written = λ r v. w r v ∙ all_earlier last r (somes l) n ∙ ap (λ m. writer_of (somes m) r) e;
+  produced = λ j z h. subst (λ m. AreProducers (writer_before z.number (somes m)) (sources_of z.row.instr) (get_or producers j [])) e (p j z h);
+}
+
+-- the register's field, by number
+written_now : (units channels : List (Option Issued)) (producers : List (List (Option Writer))) (ws : Writers) (last : ℕ) → IsRight units channels producers ws last → (r : Reg) → IsRegister r → writer_at ws r ≡ writer_before (suc last) (somes (units ++ channels)) r
+unfolding seated
+written_now units channels producers ws last right r v = right.written r v ∙ sym (all_earlier last r (somes (units ++ channels)) right.counted)
+
+producers_same : (f g : Reg → Option Writer) → ((r : Reg) → g r ≡ f r) → (rs : List Reg) (ps : List (Option Writer)) → AreProducers f rs ps → AreProducers g rs ps
+producers_same f g h [] ps k = tt
+producers_same f g h (r ∷ rs) [] k = absurd k
+producers_same f g h (r ∷ rs) (p ∷ ps) k = (k.0 ∙ sym (h r), producers_same f g h rs ps k.1)
+
+-- it has no more to write than before
+other_less : (x y z : Issued) → number_of y ≡ number_of x → ((r : Reg) → comes r y.row ≡ true → comes r x.row ≡ true) → IsOther x z → IsOther y z
+other_less x y z e h k = record { number = λ q. k.number (sym e ∙ q); results = λ r. by_tests (comes r y.row) (comes r x.row) (comes r z.row) (h r) (k.results r) }
+  where
+    by_tests : (a b c : Bool) → (a ≡ true → b ≡ true) → (b && c) ≡ false → (a && c) ≡ false
+    by_tests false b c i j = refl
+    by_tests true true c i j = j
+    by_tests true false c i j = let q = i refl in cc
+
+-- ---- operands are read ----
+
+pub marked_written : (r : Reg) (x : Issued) (b : Bool) → x.row.progress ≡ Reserved b → written_by r x ≡ written_by r (in_progress x (Reserved true))
+unfolding written_by written_in in_progress
+marked_written r x b e = ap (λ p. written_in r x.row.unit (shape_of x.row.instr) p) e
+
+pub marked_comes : (r : Reg) (x : Issued) (b : Bool) → x.row.progress ≡ Reserved b → comes r (in_progress x (Reserved true)).row ≡ comes r x.row
+unfolding comes to_come to_come_in in_progress
+marked_comes r x b e = sym (ap (λ p. is_in (to_come_in (shape_of x.row.instr) p) r) e)
+
+marked_seat : (x : Issued) (b : Bool) → x.row.progress ≡ Reserved b → seat_of (in_progress x (Reserved true)) ≡ seat_of x
+unfolding seat_of seat_in in_progress
+marked_seat x b e = sym (ap (seat_in x.row.unit) e)
+
+marked_other : (x z : Issued) (b : Bool) → x.row.progress ≡ Reserved b → IsOther x z → IsOther (in_progress x (Reserved true)) z
+unfolding number_of in_progress
+marked_other x z b e k = other_less x (in_progress x (Reserved true)) z refl (λ r q. sym (marked_comes r x b e) ∙ q) k
+
+pub marked_right : (units channels : List (Option Issued)) (producers : List (List (Option Writer))) (ws : Writers) (last : ℕ) (u : FunctionalUnit) (i : ℕ) (x : Issued) → IsRight units channels producers ws last → i ≡ unit_number u → get_or units i None ≡ Some x → IsRight (set units i (Some (in_progress x (Reserved true)))) channels producers ws last
+unfolding seated number_of in_progress
+marked_right units channels producers ws last u i x right e h =
+    right_again (set units i (Some y)) channels (set os i (Some y)) producers ws last (set_front units channels i (Some y) (within units i x h)) (length_set units i (Some y) ∙ right.all_units) right.all_channels right.all_producers right.all_writers
+    (seated_fill os 0 i y (marked_seat x reserved.0 reserved.1 ∙ seated_here os 0 i x here right.sits) right.sits)
+    (subst (λ m. Pairs IsOther (somes m)) again (pairs_put (set os i None) i y empty room others (pairs_taken os i x here right.apart)))
+    (subst (λ m. Each (λ z. z.number ≤ last) (somes m)) again (each_put (λ z. z.number ≤ last) (set os i None) i y empty room (each_here (λ z. z.number ≤ last) os i x here right.counted) (each_taken (λ z. z.number ≤ last) os i x here right.counted)))
+    (λ r v. written_now units channels producers ws last right r v ∙ sym (same (suc last) r))
+    (λ j z k. by_place j z k (eqb j i) refl)
+  where
+    os : List (Option Issued)
+    os = units ++ channels
+
+    y : Issued
+    y = in_progress x (Reserved true)
+
+    here : get_or os i None ≡ Some x
+    here = unit_seat units channels u i (Some x) right.all_units e h
+
+    reserved : (b : Bool) × (x.row.progress ≡ Reserved b) × (same_unit x.row.unit u ≡ true)
+    reserved = sits_reserved u x (seated_here os 0 i x here right.sits ∙ omega (arith, e))
+
+    again : set (set os i None) i (Some y) ≡ set os i (Some y)
+    again = set_again os i None (Some y)
+
+    empty : get_or (set os i None) i None ≡ None
+    empty = get_or-set_same os i None None (within os i x here)
+
+    room : i < length (set os i None)
+    room = let b = within os i x here in let q = length_set os i None in omega (arith, b, q)
+
+    others : Each (IsOther y) (somes (set os i None))
+    others = each_map (IsOther x) (IsOther y) (λ z k. marked_other x z reserved.0 reserved.1 k) (somes (set os i None)) (others_of os i x here right.apart)
+
+    same : (n : ℕ) (r : Reg) → writer_before n (somes (set os i (Some y))) r ≡ writer_before n (somes os) r
+    same n r = writer_same n r os i x y here refl (marked_written r x reserved.0 reserved.1)
+
+    by_place : (j : ℕ) (z : Issued) → get_or (set units i (Some y)) j None ≡ Some z → (b : Bool) → eqb j i ≡ b → AreProducers (writer_before z.number (somes (set os i (Some y)))) (sources_of z.row.instr) (get_or producers j [])
+    by_place j z k true b =
+        let q : j ≡ i = eqb-true j i b in
+        let t : Some y ≡ Some z = sym (get_or-set_same units i (Some y) None (within units i x h)) ∙ ap (λ m. get_or (set units i (Some y)) m None) (sym q) ∙ k in
+        let yz : y ≡ z = cc in
+        subst (λ (v : Issued). AreProducers (writer_before v.number (somes (set os i (Some y)))) (sources_of v.row.instr) (get_or producers j [])) yz
+        (subst (λ m. AreProducers (writer_before x.number (somes (set os i (Some y)))) (sources_of x.row.instr) (get_or producers m [])) (sym q)
+        (producers_same (writer_before x.number (somes os)) (writer_before x.number (somes (set os i (Some y)))) (same x.number) (sources_of x.row.instr) (get_or producers i []) (right.produced i x h)))
+    by_place j z k false b =
+        producers_same (writer_before z.number (somes os)) (writer_before z.number (somes (set os i (Some y)))) (same z.number) (sources_of z.row.instr) (get_or producers j [])
+        (right.produced j z (sym (get_or-set_other units i j (Some y) None (eqb-false j i b)) ∙ k))
+
+-- ---- somebody has written ----
+
+pub writers_forget : (w : Writer) (ws : Writers) (r : Reg) → writer_at (record { x = map (forget w) ws.x; a = map (forget w) ws.a; b = map (forget w) ws.b }) r ≡ forget w (writer_at ws r)
+unfolding writer_at forget
+writers_forget w ws (X n) = get-map (forget w) ws.x n None None refl
+writers_forget w ws (A n) = get-map (forget w) ws.a n None None refl
+writers_forget w ws (B n) = get-map (forget w) ws.b n None None refl
+
+length_mapped : {X Y : Type 0} (f : X → Y) (xs : List X) → length (map f xs) ≡ length xs
+length_mapped f [] = refl
+length_mapped f (x ∷ xs) = ap suc (length_mapped f xs)
+
+pub length_joined : {K : Type 0} (xs ys : List K) → length (xs ++ ys) ≡ length xs + length ys
+length_joined [] ys = omega arith
+length_joined (x ∷ xs) ys = let e = length_joined xs ys in omega (arith, e)
+
+pub forgetting : (w : Writer) (units channels units' channels' l : List (Option Issued)) (producers : List (List (Option Writer))) (ws : Writers) (last : ℕ) → IsRight units channels producers ws last → l ≡ units' ++ channels' → length units' ≡ 10 → length channels' ≡ 8
+    → IsSeated 0 l → Pairs IsOther (somes l) → Each (λ x. x.number ≤ last) (somes l) → ((n : ℕ) (r : Reg) → writer_before n (somes l) r ≡ forget w (writer_before n (somes (units ++ channels)) r))
+    → ((j : ℕ) (z : Issued) → get_or units' j None ≡ Some z → get_or units j None ≡ Some z)
+    → IsRight units' channels' (map (map (forget w)) producers) (record { x = map (forget w) ws.x; a = map (forget w) ws.a; b = map (forget w) ws.b }) last
+unfolding seated
+forgetting w units channels units' channels' l producers ws last right e lu lc s a n k t =
+    right_again units' channels' l (map (map (forget w)) producers) _ last e lu lc (length_mapped (map (forget w)) producers ∙ right.all_producers) (length_mapped (forget w) ws.x ∙ right.all_writers.0, length_mapped (forget w) ws.a ∙ right.all_writers.1, length_mapped (forget w) ws.b ∙ right.all_writers.2) s a n
+    (λ r v. writers_forget w ws r ∙ ap (forget w) (written_now units channels producers ws last right r v) ∙ sym (k (suc last) r))
+    (λ j z h. subst (λ ps. AreProducers (writer_before z.number (somes l)) (sources_of z.row.instr) ps) (sym (get-map (map (forget w)) producers j [] [] refl))
+    (producers_forget w (writer_before z.number (somes (units ++ channels))) (writer_before z.number (somes l)) (k z.number) (sources_of z.row.instr) (get_or producers j []) (right.produced j z (t j z h))))
+
+-- what was in a seat that was not emptied
+not_emptied : (units : List (Option Issued)) (i : ℕ) (j : ℕ) (z : Issued) → i < length units → get_or (set units i None) j None ≡ Some z → get_or units j None ≡ Some z
+not_emptied units i j z l h = by_place (eqb j i) refl
+  where
+    by_place : (b : Bool) → eqb j i ≡ b → get_or units j None ≡ Some z
+    by_place true e =
+        let q : None ≡ Some z = sym (get_or-set_same units i None None l) ∙ ap (λ m. get_or (set units i None) m None) (sym (eqb-true j i e)) ∙ h in
+        cc
+    by_place false e = sym (get_or-set_other units i j None None (eqb-false j i e)) ∙ h
+
+earlier_gone : (w : Writer) (n : ℕ) (r : Reg) (x : Issued) → None ≡ forget w (written_by r x) → None ≡ forget w (if_earlier n (written_by r) x)
+unfolding if_earlier forget
+earlier_gone w n r x h = by_test (ltb x.number n)
+  where
+    by_test : (b : Bool) → None ≡ forget w (cond b (written_by r x) None)
+    by_test true = h
+    by_test false = refl
+
+earlier_left : (w : Writer) (n : ℕ) (r : Reg) (x y : Issued) → y.number ≡ x.number → written_by r y ≡ forget w (written_by r x) → if_earlier n (written_by r) y ≡ forget w (if_earlier n (written_by r) x)
+unfolding if_earlier forget
+earlier_left w n r x y e h = ap (λ m. cond (ltb m n) (written_by r y) None) e ∙ by_test (ltb x.number n)
+  where
+    by_test : (b : Bool) → cond b (written_by r y) None ≡ forget w (cond b (written_by r x) None)
+    by_test true = h
+    by_test false = refl
+
+-- the writer of each register, when one is taken out that has written
+gone_written : (w : Writer) (os : List (Option Issued)) (i : ℕ) (x : Issued) → get_or os i None ≡ Some x → Pairs IsOther (somes os) → ((s : Reg) → None ≡ forget w (written_by s x)) → ((s : Reg) → Each (λ y. forget w (written_by s y) ≡ written_by s y) (somes (set os i None))) → (n : ℕ) (r : Reg) → writer_before n (somes (set os i None)) r ≡ forget w (writer_before n (somes os) r)
+unfolding or_else
+gone_written w os i x h p g k n r =
+    ap (λ o. or_else o (writer_before n (somes (set os i None)) r)) (earlier_gone w n r x (g r))
+    ∙ writer_gone w n r os i x h p k
+
+-- ---- a load has returned ----
+
+comes_returning : (n : ℕ) (x : Issued) → x.row.progress ≡ Left (Some n) → comes (X n) x.row ≡ true
+unfolding comes to_come to_come_in returning_to is_in
+comes_returning n x e = ap (λ p. is_in (to_come_in (shape_of x.row.instr) p) (X n)) e ∙ ap (λ b. b || false) (eq-eqb n n refl)
+
+others_not_loading : (n : ℕ) (x : Issued) (ys : List Issued) → comes (X n) x.row ≡ true → Each (IsOther x) ys → (r : Reg) → Each (λ y. forget (OfChannel n) (written_by r y) ≡ written_by r y) ys
+others_not_loading n x ys h k r = each_map (IsOther x) (λ y. forget (OfChannel n) (written_by r y) ≡ written_by r y) (λ y q. channel_kept n r y (sym (ap (λ b. b && comes (X n) y.row) h) ∙ q.results (X n))) ys k
+
+pub returned_right : (units channels : List (Option Issued)) (producers : List (List (Option Writer))) (ws : Writers) (last n : ℕ) (x : Issued) → IsRight units channels producers ws last → n < 8 → get_or channels n None ≡ Some x
+    → IsRight units (set channels n None) (map (map (forget (OfChannel n))) producers) (record { x = map (forget (OfChannel n)) ws.x; a = map (forget (OfChannel n)) ws.a; b = map (forget (OfChannel n)) ws.b }) last
+unfolding seated
+returned_right units channels producers ws last n x right below_8 h =
+    forgetting (OfChannel n) units channels units (set channels n None) (set os (10 + n) None) producers ws last right (set_back units channels n (10 + n) None (omega (arith, right.all_units))) right.all_units (length_set channels n None ∙ right.all_channels)
+    (seated_empty os 0 (10 + n) right.sits) (pairs_taken os (10 + n) x here right.apart) (each_taken (λ z. z.number ≤ last) os (10 + n) x here right.counted)
+    (gone_written (OfChannel n) os (10 + n) x here right.apart (λ r. returned_written n r x returning) (others_not_loading n x (somes (set os (10 + n) None)) (comes_returning n x returning) (others_of os (10 + n) x here right.apart)))
+    (λ j z k. k)
+  where
+    os : List (Option Issued)
+    os = units ++ channels
+
+    here : get_or os (10 + n) None ≡ Some x
+    here = channel_seat units channels n (Some x) right.all_units h
+
+    returning : x.row.progress ≡ Left (Some n)
+    returning = sits_returning n x below_8 (seated_here os 0 (10 + n) x here right.sits ∙ omega arith)
+
+-- ---- a unit is released ----
+
+others_elsewhere : (u : FunctionalUnit) (os : List (Option Issued)) (i : ℕ) → i ≡ unit_number u → IsSeated 0 os → (r : Reg) → Each (λ y. forget (OfUnit u) (written_by r y) ≡ written_by r y) (somes (set os i None))
+others_elsewhere u os i e s r = each_map (λ y. seat_of y ≢ i) (λ y. forget (OfUnit u) (written_by r y) ≡ written_by r y) (λ y k. unit_kept u r y (λ q. k (q ∙ sym e))) (somes (set os i None)) (seated_others os 0 i i (omega arith) s)
+
+comes_loading_in : (n : ℕ) (s : Shape) (b : Bool) → channel_of s ≡ Some n → is_in (to_come_in s (Reserved b)) (X n) ≡ true
+unfolding channel_of to_come_in results puts_of loads_of is_in
+comes_loading_in n (Puts rs) b h = cc
+comes_loading_in n (Loads m) b h = let e : m ≡ n = cc in ap (λ t. t || false) (eq-eqb n m (sym e))
+comes_loading_in n (Stores m) b h = cc
+comes_loading_in n Jumps b h = cc
+comes_loading_in n Links b h = cc
+
+-- a load in its unit has its register still to come
+pub comes_loading : (n : ℕ) (x : Issued) (b : Bool) → x.row.progress ≡ Reserved b → channel_of (shape_of x.row.instr) ≡ Some n → comes (X n) x.row ≡ true
+unfolding comes to_come
+comes_loading n x b e h = ap (λ p. is_in (to_come_in (shape_of x.row.instr) p) (X n)) e ∙ comes_loading_in n (shape_of x.row.instr) b h
+
+reg_eq_same : (r s : Reg) → reg_eq r s ≡ true → r ≡ s
+reg_eq_same (X m) (X n) h = ap X (eqb-true m n h)
+reg_eq_same (A m) (A n) h = ap A (eqb-true m n h)
+reg_eq_same (B m) (B n) h = ap B (eqb-true m n h)
+reg_eq_same (X m) (A n) h = cc
+reg_eq_same (X m) (B n) h = cc
+reg_eq_same (A m) (X n) h = cc
+reg_eq_same (A m) (B n) h = cc
+reg_eq_same (B m) (X n) h = cc
+reg_eq_same (B m) (A n) h = cc
+
+-- and nothing else once it has left
+left_comes : (n : ℕ) (x : Issued) (b : Bool) → x.row.progress ≡ Reserved b → channel_of (shape_of x.row.instr) ≡ Some n → (r : Reg) → comes r (in_progress x (Left (Some n))).row ≡ true → comes r x.row ≡ true
+unfolding comes to_come to_come_in returning_to is_in in_progress
+left_comes n x b e h r k = ap (λ s. comes s x.row) (reg_eq_same r (X n) (or_left (reg_eq r (X n)) k)) ∙ comes_loading n x b e h
+  where
+    or_left : (t : Bool) → (t || false) ≡ true → t ≡ true
+    or_left true q = refl
+    or_left false q = q
+
+left_other : (n : ℕ) (x z : Issued) (b : Bool) → x.row.progress ≡ Reserved b → channel_of (shape_of x.row.instr) ≡ Some n → IsOther x z → IsOther (in_progress x (Left (Some n))) z
+unfolding number_of in_progress
+left_other n x z b e h k = other_less x (in_progress x (Left (Some n))) z refl (left_comes n x b e h) k
+
+left_writes : (u : FunctionalUnit) (n : ℕ) (r : Reg) (x : Issued) (b : Bool) → x.row.progress ≡ Reserved b → same_unit x.row.unit u ≡ true → channel_of (shape_of x.row.instr) ≡ Some n → written_by r (in_progress x (Left (Some n))) ≡ forget (OfUnit u) (written_by r x)
+unfolding written_by written_in in_progress
+left_writes u n r x b e h k = ap (written_by_channel r) (sym k) ∙ left_written u r x b e h
+
+left_nothing : (u : FunctionalUnit) (r : Reg) (x : Issued) (b : Bool) → x.row.progress ≡ Reserved b → same_unit x.row.unit u ≡ true → channel_of (shape_of x.row.instr) ≡ None → None ≡ forget (OfUnit u) (written_by r x)
+unfolding written_by_channel
+left_nothing u r x b e h k = ap (written_by_channel r) (sym k) ∙ left_written u r x b e h
+
+left_seat : (n : ℕ) (x : Issued) → seat_of (in_progress x (Left (Some n))) ≡ 10 + n
+unfolding seat_of seat_in in_progress
+left_seat n x = refl
+
+-- the channel of a load that is in its unit is empty
+pub channel_empty : (os : List (Option Issued)) (i n : ℕ) (x : Issued) (b : Bool) → n < 8 → get_or os i None ≡ Some x → IsSeated 0 os → Pairs IsOther (somes os) → x.row.progress ≡ Reserved b → channel_of (shape_of x.row.instr) ≡ Some n → get_or (set os i None) (10 + n) None ≡ None
+channel_empty os i n x b l h s p e k = by_seat (get_or (set os i None) (10 + n) None) refl
+  where
+    by_seat : (o : Option Issued) → get_or (set os i None) (10 + n) None ≡ o → o ≡ None
+    by_seat None q = refl
+    by_seat (Some z) q =
+        let t : z.row.progress ≡ Left (Some n) = sits_returning n z l (seated_here (set os i None) 0 (10 + n) z q (seated_empty os 0 i s) ∙ omega arith) in
+        let o : IsOther x z = each_here (IsOther x) (set os i None) (10 + n) z q (others_of os i x h p) in
+        let f : (comes (X n) x.row && comes (X n) z.row) ≡ false = o.results (X n) in
+        let g : (comes (X n) x.row && comes (X n) z.row) ≡ true = ap (λ v. v && comes (X n) z.row) (comes_loading n x b e k) ∙ comes_returning n z t in
+        absurd (both (comes (X n) x.row && comes (X n) z.row) f g)
+      where
+        both : (v : Bool) → v ≡ false → v ≡ true → ⊥
+        both true f g = cc
+        both false f g = cc
+
+pub released_right : (units channels : List (Option Issued)) (producers : List (List (Option Writer))) (ws : Writers) (last : ℕ) (u : FunctionalUnit) (i : ℕ) (x : Issued) → IsRight units channels producers ws last → i ≡ unit_number u → get_or units i None ≡ Some x → IfSome (channel_of (shape_of x.row.instr)) (λ n. n < 8)
+    → IsRight (set units i None) (channels_with channels x (channel_of (shape_of x.row.instr))) (map (map (forget (OfUnit u))) producers) (record { x = map (forget (OfUnit u)) ws.x; a = map (forget (OfUnit u)) ws.a; b = map (forget (OfUnit u)) ws.b }) last
+unfolding seated channels_with number_of in_progress
+released_right units channels producers ws last u i x right e h below_8 = by_channel (channel_of (shape_of x.row.instr)) refl below_8
+  where
+    os : List (Option Issued)
+    os = units ++ channels
+
+    here : get_or os i None ≡ Some x
+    here = unit_seat units channels u i (Some x) right.all_units e h
+
+    reserved : (b : Bool) × (x.row.progress ≡ Reserved b) × (same_unit x.row.unit u ≡ true)
+    reserved = sits_reserved u x (seated_here os 0 i x here right.sits ∙ omega (arith, e))
+
+    front : set os i None ≡ set units i None ++ channels
+    front = set_front units channels i None (within units i x h)
+
+    fewer : length (set units i None) ≡ 10
+    fewer = length_set units i None ∙ right.all_units
+
+    by_channel : (o : Option ℕ) → channel_of (shape_of x.row.instr) ≡ o → IfSome o (λ n. n < 8) → IsRight (set units i None) (channels_with channels x o) (map (map (forget (OfUnit u))) producers) (record { x = map (forget (OfUnit u)) ws.x; a = map (forget (OfUnit u)) ws.a; b = map (forget (OfUnit u)) ws.b }) last
+    by_channel None k l =
+        forgetting (OfUnit u) units channels (set units i None) channels (set os i None) producers ws last right front fewer right.all_channels
+        (seated_empty os 0 i right.sits) (pairs_taken os i x here right.apart) (each_taken (λ z. z.number ≤ last) os i x here right.counted)
+        (gone_written (OfUnit u) os i x here right.apart (λ r. left_nothing u r x reserved.0 reserved.1 reserved.2 k) (others_elsewhere u os i e right.sits))
+        (λ j z q. not_emptied units i j z (within units i x h) q)
+    by_channel (Some n) k l =
+        forgetting (OfUnit u) units channels (set units i None) (set channels n (Some y)) (set (set os i None) (10 + n) (Some y)) producers ws last right
+        (ap (λ m. set m (10 + n) (Some y)) front ∙ set_back (set units i None) channels n (10 + n) (Some y) (omega (arith, fewer))) fewer (length_set channels n (Some y) ∙ right.all_channels)
+        (seated_fill (set os i None) 0 (10 + n) y (left_seat n x ∙ omega arith) (seated_empty os 0 i right.sits))
+        (pairs_put (set os i None) (10 + n) y empty room others (pairs_taken os i x here right.apart))
+        (each_put (λ z. z.number ≤ last) (set os i None) (10 + n) y empty room (each_here (λ z. z.number ≤ last) os i x here right.counted) (each_taken (λ z. z.number ≤ last) os i x here right.counted))
+        (λ m r. writer_put m r (set os i None) (10 + n) y empty room others
+        ∙ ap (λ o. or_else o (writer_before m (somes (set os i None)) r)) (earlier_left (OfUnit u) m r x y refl (left_writes u n r x reserved.0 reserved.1 reserved.2 k))
+        ∙ writer_gone (OfUnit u) m r os i x here right.apart (others_elsewhere u os i e right.sits))
+        (λ j z q. not_emptied units i j z (within units i x h) q)
+      where
+        y : Issued
+        y = in_progress x (Left (Some n))
+
+        empty : get_or (set os i None) (10 + n) None ≡ None
+        empty = channel_empty os i n x reserved.0 l here right.sits right.apart reserved.1 k
+
+        room : 10 + n < length (set os i None)
+        room = let q = ap length front ∙ length_joined (set units i None) channels in omega (arith, q, fewer, right.all_channels, l)
+
+        others : Each (IsOther y) (somes (set os i None))
+        others = each_map (IsOther x) (IsOther y) (λ z q. left_other n x z reserved.0 reserved.1 k q) (somes (set os i None)) (others_of os i x here right.apart)

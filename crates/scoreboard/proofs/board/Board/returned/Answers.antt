@@ -1,0 +1,35 @@
+-- A return: the invariant and the list behind it, and that an empty channel changes nothing.
+use Rattle.std.proofs.Common.{ap, sym, ◌∙◌, subst, map, None, get_or, set, arith}
+use Rattle.scoreboard.specs.declared.writer.Writer.TheVariants.{OfChannel}
+use Rattle.scoreboard.specs.Answers.{Standing, change, returns_by, with_issued, gone}
+use Rattle.scoreboard.specs.View.{standing_of, IsRight}
+use Rattle.scoreboard.specs.Writers.{forget}
+use Rattle.scoreboard.proofs.Standing.{seat_any}
+use Rattle.scoreboard.proofs.Right.{returned_right}
+use Rattle.scoreboard.proofs.Changing.{nobody_returned, returned_view}
+use Rattle.scoreboard.proofs.board.Board.returned.Goals as goal
+
+pub returns-in_default : goal.returns-in_default
+returns-in_default c =
+    sym c.self.view_is
+    ∙ nobody_returned gone c.self.inside.units c.self.inside.channels c.self.inside.producers c.self.inside.writers c.self.inside.last c.args.channel c.self.invariant
+    (ap (λ k. get_or c.self.inside.channels k None) (sym c.from-index.ensures)
+    ∙ seat_any c.self.inside.channels c.from-index.result c.index-self-index.result (omega (arith, c.requires, c.from-index.ensures, c.self.invariant.all_channels)) ∙ c.in_default.is)
+    ∙ ap (λ (s : Standing). with_issued s (change (returns_by c.args.channel) gone s.issued)) c.self.view_is
+
+pub invariant_of-self : goal.invariant_of-self
+invariant_of-self c =
+    subst (λ i. IsRight c.self.inside.units (set c.self.inside.channels i None) c.forget_in_each.new.expected c.forget.new.self c.self.inside.last) (sym c.from-index.ensures)
+    (subst (λ ps. IsRight c.self.inside.units (set c.self.inside.channels c.args.channel None) ps c.forget.new.self c.self.inside.last) (sym (c.forget_in_each.ensures ∙ ap (λ d. map (map (forget (OfChannel d))) c.self.inside.producers) c.digit.ensures))
+    (subst (λ ws. IsRight c.self.inside.units (set c.self.inside.channels c.args.channel None) (map (map (forget (OfChannel c.args.channel))) c.self.inside.producers) ws c.self.inside.last) (sym (c.forget.ensures ∙ ap (λ d. record { x = map (forget (OfChannel d)) c.self.inside.writers.x; a = map (forget (OfChannel d)) c.self.inside.writers.a; b = map (forget (OfChannel d)) c.self.inside.writers.b }) c.digit.ensures))
+    (returned_right c.self.inside.units c.self.inside.channels c.self.inside.producers c.self.inside.writers c.self.inside.last c.args.channel c.in-Some.field-0 c.self.invariant c.requires
+    (ap (λ k. get_or c.self.inside.channels k None) (sym c.from-index.ensures)
+    ∙ seat_any c.self.inside.channels c.from-index.result c.index-self-index.result (omega (arith, c.requires, c.from-index.ensures, c.self.invariant.all_channels)) ∙ c.in-Some.is))))
+
+pub returns : goal.returns
+returns c =
+    ap (λ i. standing_of c.self.inside.units (set c.self.inside.channels i None) c.self.inside.last) c.from-index.ensures
+    ∙ returned_view c.self.inside.units c.self.inside.channels c.self.inside.producers c.self.inside.writers c.self.inside.last c.args.channel c.in-Some.field-0 c.self.invariant c.requires
+    (ap (λ k. get_or c.self.inside.channels k None) (sym c.from-index.ensures)
+    ∙ seat_any c.self.inside.channels c.from-index.result c.index-self-index.result (omega (arith, c.requires, c.from-index.ensures, c.self.invariant.all_channels)) ∙ c.in-Some.is)
+    ∙ ap (λ (s : Standing). with_issued s (change (returns_by c.args.channel) gone s.issued)) c.self.view_is

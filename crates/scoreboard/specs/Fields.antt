@@ -1,0 +1,51 @@
+-- What the seats of a board are asked.
+use Rattle.std.specs.Prelude.{ℕ, Bool, false, ◌&&◌, nat_lt, List, Option, Some, None, is_some, slice_index_or, slice_set}
+use Rattle.instruction_table.specs.declared.instr.Reg.TheVariants.{X}
+use Rattle.instruction_table.specs.declared.instr.UnitKind.{UnitKind}
+use Rattle.scoreboard.specs.declared.row.Progress.TheVariants.{Left}
+use Rattle.scoreboard.specs.declared.row.Row.{Row}
+use Rattle.scoreboard.specs.Conflicts.{first_free}
+use Rattle.scoreboard.specs.Units.{units_of}
+use Rattle.scoreboard.specs.declared.writer.Writer.TheVariants.{OfUnit, OfChannel}
+use Rattle.scoreboard.specs.declared.writers.Writers.{Writers}
+use Rattle.scoreboard.specs.Answers.{in_progress}
+use Rattle.scoreboard.specs.Writers.{set_each, set_writer}
+use Rattle.instruction_table.specs.declared.instr.Reg.{Reg}
+use Rattle.instruction_table.specs.declared.instr.Unit.{Unit as FunctionalUnit}
+use Rattle.scoreboard.specs.Rows.{reads_it, has_turn}
+use Rattle.scoreboard.specs.Units.{unit_number}
+use Rattle.scoreboard.specs.declared.issued.Issued.{Issued}
+
+-- its instruction passes the test
+unfoldable pub seat_is : (Row → Bool) → Option Issued → Bool
+seat_is test None = false
+seat_is test (Some x) = test x.row
+
+-- its instruction has a lower number and has still to read the register
+unfoldable pub seat_reads : ℕ → Reg → Option Issued → Bool
+seat_reads n r None = false
+seat_reads n r (Some x) = nat_lt x.number n && reads_it r x.row
+
+-- its instruction has a lower number and a reference that has not come to its store event
+unfoldable pub seat_has_turn : ℕ → Option Issued → Bool
+seat_has_turn n None = false
+seat_has_turn n (Some x) = nat_lt x.number n && has_turn x.row
+
+-- the seat of the unit is taken
+abbrev pub is_taken : List (Option Issued) → FunctionalUnit → Bool
+is_taken units unit = is_some (slice_index_or units (unit_number unit) None)
+
+-- the first unit of a kind that is not taken
+unfoldable pub free_for : (FunctionalUnit → Bool) → Option UnitKind → Option FunctionalUnit
+free_for taken None = None
+free_for taken (Some kind) = first_free taken (units_of kind)
+
+-- a load in its channel
+unfoldable pub channels_with : List (Option Issued) → Issued → Option ℕ → List (Option Issued)
+channels_with channels x None = channels
+channels_with channels x (Some n) = slice_set channels n (Some (in_progress x (Left (Some n))))
+
+-- one more writer of these registers, and the channel of its load
+unfoldable pub writers_with : Writers → FunctionalUnit → List Reg → Option ℕ → Writers
+writers_with ws unit rs None = set_each ws rs (Some (OfUnit unit))
+writers_with ws unit rs (Some n) = set_each (set_writer ws (X n) (Some (OfChannel n))) rs (Some (OfUnit unit))

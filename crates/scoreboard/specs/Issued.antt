@@ -1,0 +1,60 @@
+-- An issued instruction with its number, and the writer of a register among such.
+use Rattle.std.specs.Prelude.{ℕ, nat_lt, if◌then◌else◌, List, [], ◌∷◌, Option, Some, None}
+use Rattle.instruction_table.specs.declared.instr.Reg.{Reg}
+use Rattle.instruction_table.specs.declared.instr.Reg.TheVariants.{X}
+use Rattle.instruction_table.specs.declared.instr.Unit.{Unit as FunctionalUnit}
+use Rattle.instruction_table.specs.RegisterLists.{is_in}
+use Rattle.instruction_table.specs.Shape.{Shape, Puts, Loads, Stores, Jumps, Links, shape_of, puts_of}
+use Rattle.instruction_table.specs.Table.{reg_eq}
+use Rattle.scoreboard.specs.declared.row.Progress.{Progress}
+use Rattle.scoreboard.specs.declared.row.Progress.TheVariants.{Reserved, Left}
+use Rattle.scoreboard.specs.declared.row.Row.{Row}
+use Rattle.scoreboard.specs.declared.writer.Writer.{Writer}
+use Rattle.scoreboard.specs.declared.writer.Writer.TheVariants.{OfUnit, OfChannel}
+use Rattle.scoreboard.specs.declared.issued.Issued.{Issued}
+
+unfoldable pub row_of : Issued → Row
+row_of x = x.row
+
+unfoldable pub number_of : Issued → ℕ
+number_of x = x.number
+
+-- the channel of a load
+unfoldable pub channel_of : Shape → Option ℕ
+channel_of (Puts rs) = None
+channel_of (Loads n) = Some n
+channel_of (Stores n) = None
+channel_of Jumps = None
+channel_of Links = None
+
+unfoldable pub written_by_channel : Reg → Option ℕ → Option Writer
+written_by_channel r None = None
+written_by_channel r (Some n) = if reg_eq r (X n) then Some (OfChannel n) else None
+
+unfoldable pub written_in : Reg → FunctionalUnit → Shape → Progress → Option Writer
+written_in r unit shape (Reserved has_read) = if is_in (puts_of shape) r then Some (OfUnit unit) else written_by_channel r (channel_of shape)
+written_in r unit shape (Left returning) = written_by_channel r returning
+
+-- who writes the register for it: its unit at the store event, or the channel of its load
+unfoldable pub written_by : Reg → Issued → Option Writer
+written_by r x = written_in r x.row.unit (shape_of x.row.instr) x.row.progress
+
+unfoldable pub or_else : {W : Type 0} → Option W → Option W → Option W
+or_else None o = o
+or_else (Some w) o = Some w
+
+-- the first answer
+unfoldable pub first_some : {M W : Type 0} → (M → Option W) → List M → Option W
+first_some f [] = None
+first_some f (x ∷ xs) = or_else (f x) (first_some f xs)
+
+-- the writer of a register among them
+unfoldable pub writer_of : List Issued → Reg → Option Writer
+writer_of xs r = first_some (written_by r) xs
+
+unfoldable pub if_earlier : {W : Type 0} → ℕ → (Issued → Option W) → Issued → Option W
+if_earlier n f x = if nat_lt x.number n then f x else None
+
+-- the writer of a register among those with a lower number
+unfoldable pub writer_before : ℕ → List Issued → Reg → Option Writer
+writer_before n xs r = first_some (if_earlier n (written_by r)) xs

@@ -1,0 +1,45 @@
+-- Who will write a register.
+use Rattle.std.specs.Prelude.{◌<◌, Bool, false, ◌==◌, if◌then◌else◌, List, [], ◌∷◌, Option, Some, None, slice_index_or, slice_set}
+use Rattle.instruction_table.specs.declared.instr.Reg.{Reg}
+use Rattle.instruction_table.specs.declared.instr.Reg.TheVariants.{X, A, B}
+use Rattle.scoreboard.specs.Units.{same_unit}
+use Rattle.scoreboard.specs.declared.writer.Writer.{Writer}
+use Rattle.scoreboard.specs.declared.writer.Writer.TheVariants.{OfUnit, OfChannel}
+use Rattle.scoreboard.specs.declared.writers.Writers.{Writers}
+
+unfoldable pub same_writer : Writer → Writer → Bool
+same_writer (OfUnit u) (OfUnit v) = same_unit u v
+same_writer (OfUnit u) (OfChannel n) = false
+same_writer (OfChannel n) (OfUnit v) = false
+same_writer (OfChannel m) (OfChannel n) = m == n
+
+-- none, where it is that writer
+unfoldable pub forget : Writer → Option Writer → Option Writer
+forget w None = None
+forget w (Some v) = if same_writer v w then None else Some v
+
+-- the register is one of the eight of its kind
+abbrev pub IsRegister : Reg → Type 0
+IsRegister (X n) = n < 8
+IsRegister (A n) = n < 8
+IsRegister (B n) = n < 8
+
+unfoldable pub writer_at : Writers → Reg → Option Writer
+writer_at ws (X n) = slice_index_or ws.x n None
+writer_at ws (A n) = slice_index_or ws.a n None
+writer_at ws (B n) = slice_index_or ws.b n None
+
+unfoldable pub set_writer : Writers → Reg → Option Writer → Writers
+set_writer ws (X n) o = record ws { x = slice_set ws.x n o }
+set_writer ws (A n) o = record ws { a = slice_set ws.a n o }
+set_writer ws (B n) o = record ws { b = slice_set ws.b n o }
+
+-- the writer of a register, if there is a register
+unfoldable pub writer_if : (Reg → Option Writer) → Option Reg → Option Writer
+writer_if f None = None
+writer_if f (Some r) = f r
+
+-- one writer set for each of the registers
+abbrev pub set_each : Writers → List Reg → Option Writer → Writers
+set_each ws [] o = ws
+set_each ws (r ∷ rs) o = set_each (set_writer ws r o) rs o

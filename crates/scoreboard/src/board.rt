@@ -1,0 +1,266 @@
+//! The board: reservations, conflicts between them, and their way through the fields.
+
+ghost use Rattle.std.specs.Prelude.{◌≡◌, ◌<◌, ◌+◌, ◌^◌, [], IsSome};
+ghost use Rattle.std.specs.List.{list_any};
+ghost use Rattle.instruction_table.specs.Table.{row};
+ghost use Rattle.scoreboard.specs.Rows.{is_branch, has_store_turn};
+ghost use Rattle.scoreboard.specs.Units.{unit_number};
+ghost use Rattle.scoreboard.specs.Answers.{seek, change, holds_unit, returns_by, read_answer, store_answer, return_answer, turn_answer, unit_for, reserve_answer, reserved, read, left, gone, with_issued};
+
+use crate::fields::{
+    any_branch, any_store, any_turn, expect, first_produced, first_to_be_read, first_unit,
+    free_unit_for, is_to_be_read, put_left,
+};
+use crate::writer::forget_in_each;
+use crate::{Issued, Progress, Writer, Writers, unit_number};
+use instruction_table::{Digit, Instr, Refusal, Reg, Unit, results, sources};
+use std::marker::Model;
+
+/// Which instructions hold a unit or have a load still to return, and who will write which register (Thornton,
+/// scoreboard). All of it is kept by unit, by register and by load channel; docs/scoreboard.md has the fields.
+///
+/// In contracts a board is the list of these instructions in issue order, with the number of the last
+/// reservation. A call about a unit that nobody holds, or a channel that is empty, finds no conflict and changes
+/// nothing.
+#[derive(Drop)]
+pub struct Board {
+    /// By the number of the unit: the instruction that holds it.
+    units: [Option<Issued>; 10],
+    /// By the number of the unit: who is still to write each of its instruction's up to three sources, of those
+    /// that were issued before it. What stands here for a free unit says nothing.
+    producers: [[Option<Writer>; 3]; 10],
+    /// By the number of the X register: the load that has left its unit and has still to return.
+    channels: [Option<Issued>; 8],
+    /// By register: who is to write it.
+    writers: Writers,
+    /// The number of the last reservation, 0 before the first.
+    last: u64,
+}
+
+impl Model for Board {
+    ghost use Rattle.scoreboard.specs.Answers.{Standing};
+
+    ghost Value = { Standing };
+
+    ghost use Rattle.scoreboard.specs.View.{standing_of, IsRight};
+
+    ghost view = { λ b. standing_of b.units b.channels b.last };
+
+    ghost invariant = { λ b. IsRight b.units b.channels b.producers b.writers b.last };
+}
+
+/// The number of the unit, as an index.
+fn index_of(unit: Unit) -> usize
+    ensures value { result ≡ unit_number unit }
+    ensures range { result < 10 }
+{
+    usize::from(unit_number(unit))
+}
+
+/// The number of the channel, as a digit.
+fn digit(channel: u8) -> Digit
+    requires { channel < 8 }
+    ensures { result ≡ channel }
+{
+    Digit::low(u16::from(channel))
+}
+
+impl Board {
+    /// A board on which nothing was reserved yet. The first reservation has the number 1.
+    pub fn new() -> Board
+        ensures { result ≡ record { issued = []; last = 0 } }
+    {
+        Board {
+            units: [None; 10],
+            producers: [
+                [None; 3], [None; 3], [None; 3], [None; 3], [None; 3], [None; 3], [None; 3],
+                [None; 3], [None; 3], [None; 3],
+            ],
+            channels: [None; 8],
+            writers: Writers::new(),
+            last: 0,
+        }
+    }
+
+    /// The number of the last reservation, 0 before the first. Numbers are never given twice.
+    pub fn last(&self) -> u64
+        ensures { result ≡ self.now.last }
+    {
+        self.last
+    }
+
+    /// First order: reserves the lower-numbered free unit of the instruction's kind, and answers it with the
+    /// number of the reservation, which is one more than the last. A refusal changes nothing (Control Data
+    /// 60100000, unit and register conflicts; that the lower-numbered unit is taken is this project's choice).
+    ///
+    /// # Errors
+    /// `UnitBusy` where no unit of the kind is free, with the lower-numbered one; else `ResultReserved` with the
+    /// first of its result registers, A before X, that somebody is to write.
+    pub fn try_reserve(&mut self, instr: &Instr) -> Result<(Unit, u64), Refusal>
+        requires unit { IsSome (row instr.now).unit }
+        requires number { self.old.last + 1 < 2 ^ 64 }
+        ensures answer { result ≡ reserve_answer self.old instr.now (unit_for self.old.issued (row instr.now).unit) }
+        ensures after { self.new ≡ reserved self.old instr.now result }
+    {
+        let Some(unit) = free_unit_for(&self.units, instr) else {
+            return Err(Refusal::UnitBusy(first_unit(instr)));
+        };
+        let results = results(instr);
+        let taken = self.writers.of(results.as_slice());
+        if let Some(register) = first_produced(results.as_slice(), &taken) {
+            return Err(Refusal::ResultReserved(register));
+        }
+        let index = index_of(unit);
+        let sources = sources(instr);
+        let number = self.last + 1;
+        self.producers[index] = self.writers.of(sources.as_slice());
+        self.units[index] = Some(Issued::new(instr, unit, number));
+        expect(&mut self.writers, instr, unit);
+        self.last = number;
+        Ok((unit, number))
+    }
+
+    /// Second order: whether the instruction in the unit may read its operands, all at one stroke (which is this
+    /// project's choice). It waits for earlier instructions alone, not for itself or a later one.
+    ///
+    /// # Errors
+    /// `OperandAwaited` with the first of its sources, in the instruction table's order, that is a result still
+    /// to come of an earlier instruction.
+    pub fn may_read(&self, unit: Unit) -> Result<(), Refusal>
+        ensures { result ≡ read_answer (seek (holds_unit unit) self.now.issued) }
+    {
+        let index = index_of(unit);
+        let seat = self.units[index];
+        let Some(issued) = seat else {
+            return Ok(());
+        };
+        let sources = sources(&issued.row.instr);
+        let producers = &self.producers[..];
+        match first_produced(sources.as_slice(), &producers[index]) {
+            Some(register) => Err(Refusal::OperandAwaited(register)),
+            None => Ok(()),
+        }
+    }
+
+    /// Third order: whether the instruction in the unit may come to its store event and write its result. A
+    /// load's X register is none of what is asked of here, for its return writes it.
+    ///
+    /// # Errors
+    /// `ResultHeld` with the first of these registers that an earlier instruction has still to read.
+    pub fn may_store(&self, unit: Unit) -> Result<(), Refusal>
+        ensures { result ≡ store_answer (seek (holds_unit unit) self.now.issued) }
+    {
+        let index = index_of(unit);
+        let seat = self.units[index];
+        let Some(issued) = seat else {
+            return Ok(());
+        };
+        let written = issued.row.instr.puts();
+        match first_to_be_read(&self.units, issued.number, written.as_slice()) {
+            Some(register) => Err(Refusal::ResultHeld(register)),
+            None => Ok(()),
+        }
+    }
+
+    /// Third order for the load in a channel: whether it may return and write the X register of the channel's
+    /// number, 0 to 7 (loads use 1 to 5).
+    ///
+    /// # Errors
+    /// `ResultHeld` with that register, where an earlier instruction has still to read it.
+    pub fn may_return(&self, channel: u8) -> Result<(), Refusal>
+        requires { channel < 8 }
+        ensures { result ≡ return_answer channel (seek (returns_by channel) self.now.issued) }
+    {
+        let seat = self.channels[usize::from(channel)];
+        let Some(issued) = seat else {
+            return Ok(());
+        };
+        let register = Reg::X(digit(channel));
+        if is_to_be_read(&self.units, issued.number, &register) {
+            Err(Refusal::ResultHeld(register))
+        } else {
+            Ok(())
+        }
+    }
+
+    /// The turn of references: whether the instruction in the unit makes none, or all earlier ones have come to
+    /// their store events. SA1 to SA7 and RJ make references. That they keep this turn is this project's choice.
+    ///
+    /// # Errors
+    /// `OutOfTurn`.
+    pub fn in_turn(&self, unit: Unit) -> Result<(), Refusal>
+        ensures { result ≡ turn_answer (seek (holds_unit unit) self.now.issued) }
+    {
+        let index = index_of(unit);
+        let seat = self.units[index];
+        let Some(issued) = seat else {
+            return Ok(());
+        };
+        if issued.row.instr.has_reference() && any_turn(&self.units, issued.number) {
+            Err(Refusal::OutOfTurn)
+        } else {
+            Ok(())
+        }
+    }
+
+    /// Whether a branch was issued that hasn't come to its store event. While Branch is held, nothing is to be
+    /// issued; that is this project's choice and the caller's to keep.
+    pub fn is_branch_held(&self) -> bool
+        ensures { result ≡ list_any (λ x. is_branch x.row) self.now.issued }
+    {
+        any_branch(&self.units)
+    }
+
+    /// Whether an SA6 or SA7 was issued that hasn't come to its store event. A return jump isn't counted: it
+    /// holds Branch.
+    pub fn has_store_to_come(&self) -> bool
+        ensures { result ≡ list_any (λ x. has_store_turn x.row) self.now.issued }
+    {
+        any_store(&self.units)
+    }
+
+    /// The instruction in the unit has read its operands. That it may is the caller's to ask first.
+    pub fn mark_read(&mut self, unit: Unit)
+        ensures { self.new ≡ with_issued self.old (change (holds_unit unit) read self.old.issued) }
+    {
+        let index = index_of(unit);
+        let seat = self.units[index];
+        if let Some(issued) = seat {
+            self.units[index] = Some(issued.in_progress(Progress::Reserved { has_read: true }));
+        }
+    }
+
+    /// The instruction in the unit has come to its store event. The unit is free, and nobody waits for it any
+    /// longer; a load goes to the channel of its X register. That it may is the caller's to ask first.
+    pub fn release(&mut self, unit: Unit)
+        ensures { self.new ≡ with_issued self.old (change (holds_unit unit) left self.old.issued) }
+    {
+        let index = index_of(unit);
+        let seat = self.units[index];
+        let Some(issued) = seat else {
+            return;
+        };
+        let writer = Writer::OfUnit(unit);
+        self.units[index] = None;
+        put_left(&mut self.channels, &issued);
+        self.writers.forget(&writer);
+        forget_in_each(&mut self.producers, &writer);
+    }
+
+    /// The load in the channel has returned, and nobody waits for it any longer. Channels are numbered from 0 to
+    /// 7, as X registers are. That it may is the caller's to ask first.
+    pub fn returned(&mut self, channel: u8)
+        requires { channel < 8 }
+        ensures { self.new ≡ with_issued self.old (change (returns_by channel) gone self.old.issued) }
+    {
+        let index = usize::from(channel);
+        let seat = self.channels[index];
+        let Some(_) = seat else {
+            return;
+        };
+        let writer = Writer::OfChannel(digit(channel));
+        self.channels[index] = None;
+        self.writers.forget(&writer);
+        forget_in_each(&mut self.producers, &writer);
+    }
+}

@@ -1,0 +1,217 @@
+//! What the fields of a board are asked, and how an issue and a store event change them. A seat is the field of
+//! one unit.
+
+ghost use Rattle.std.specs.Prelude.{IfSome, ◌≡◌, ◌≤◌, ◌<◌, ◌∷◌, [], length, find};
+ghost use Rattle.std.specs.List.{list_any};
+ghost use Rattle.instruction_table.specs.Table.{row};
+ghost use Rattle.scoreboard.specs.Conflicts.{first_free};
+ghost use Rattle.scoreboard.specs.Units.{units_of};
+ghost use Rattle.scoreboard.specs.Answers.{first_unit};
+ghost use Rattle.scoreboard.specs.Rows.{is_branch, has_store_turn};
+ghost use Rattle.scoreboard.specs.Fields.{is_taken, seat_is, seat_reads, seat_has_turn, free_for, channels_with, writers_with};
+ghost use Rattle.instruction_table.specs.Shape.{shape_of, puts_of};
+ghost use Rattle.instruction_table.specs.Each.{Each};
+ghost use Rattle.scoreboard.specs.Issued.{channel_of};
+ghost use Rattle.scoreboard.specs.Writers.{IsRegister};
+ghost use Rattle.scoreboard.specs.View.{first_produced};
+
+use crate::issued::channel;
+use crate::{Issued, Progress, Writer, Writers, unit_number};
+use instruction_table::{Instr, Reg, Unit, UnitKind, unit_kind};
+
+/// The first of the registers that somebody is to write; the producers are in the registers' order.
+pub(crate) fn first_produced(registers: &[Reg], producers: &[Option<Writer>]) -> Option<Reg>
+    requires { length registers.now ≤ length producers.now }
+    ensures { result ≡ first_produced registers.now producers.now }
+{
+    for index in 0..registers.len() {
+        if producers[index].is_some() {
+            return Some(registers[index]);
+        }
+    }
+    None
+}
+
+/// Whether the seat's instruction has a lower number and has still to read the register.
+#[tactic(auto, unfolding(crate::specs::Fields::seat_reads))]
+fn seat_reads(seat: &Option<Issued>, number: u64, register: &Reg) -> bool
+    ensures { result ≡ seat_reads number register.now seat.now }
+{
+    match seat {
+        None => false,
+        Some(issued) => issued.number < number && issued.row.has_to_read(register),
+    }
+}
+
+/// Whether an instruction of a lower number has still to read the register.
+pub(crate) fn is_to_be_read(seats: &[Option<Issued>], number: u64, register: &Reg) -> bool
+    ensures { result ≡ list_any (seat_reads number register.now) seats.now }
+{
+    seats.iter().any(|seat| seat_reads(seat, number, register))
+}
+
+/// The first of the registers that an instruction of a lower number has still to read.
+pub(crate) fn first_to_be_read(
+    seats: &[Option<Issued>],
+    number: u64,
+    registers: &[Reg],
+) -> Option<Reg>
+    ensures { result ≡ find (λ r. list_any (seat_reads number r) seats.now) registers.now }
+{
+    for register in registers {
+        if is_to_be_read(seats, number, register) {
+            return Some(*register);
+        }
+    }
+    None
+}
+
+/// Whether the seat's instruction has a lower number and a reference that hasn't come to its store event.
+#[tactic(auto, unfolding(crate::specs::Fields::seat_has_turn))]
+fn seat_has_turn(seat: &Option<Issued>, number: u64) -> bool
+    ensures { result ≡ seat_has_turn number seat.now }
+{
+    match seat {
+        None => false,
+        Some(issued) => issued.number < number && issued.row.has_turn(),
+    }
+}
+
+/// Whether an instruction of a lower number has a reference that hasn't come to its store event.
+pub(crate) fn any_turn(seats: &[Option<Issued>], number: u64) -> bool
+    ensures { result ≡ list_any (seat_has_turn number) seats.now }
+{
+    seats.iter().any(|seat| seat_has_turn(seat, number))
+}
+
+/// Whether the seat's instruction is a branch that holds its unit.
+#[tactic(auto, unfolding(crate::specs::Fields::seat_is))]
+fn seat_is_branch(seat: &Option<Issued>) -> bool
+    ensures { result ≡ seat_is is_branch seat.now }
+{
+    match seat {
+        None => false,
+        Some(issued) => issued.row.is_branch(),
+    }
+}
+
+/// Whether an instruction is a branch that holds its unit.
+pub(crate) fn any_branch(seats: &[Option<Issued>]) -> bool
+    ensures { result ≡ list_any (seat_is is_branch) seats.now }
+{
+    seats.iter().any(|seat| seat_is_branch(seat))
+}
+
+/// Whether the seat's instruction is an SA6 or SA7 that hasn't come to its store event.
+#[tactic(auto, unfolding(crate::specs::Fields::seat_is))]
+fn seat_has_store(seat: &Option<Issued>) -> bool
+    ensures { result ≡ seat_is has_store_turn seat.now }
+{
+    match seat {
+        None => false,
+        Some(issued) => issued.row.has_store_turn(),
+    }
+}
+
+/// Whether an instruction is an SA6 or SA7 that hasn't come to its store event.
+pub(crate) fn any_store(seats: &[Option<Issued>]) -> bool
+    ensures { result ≡ list_any (seat_is has_store_turn) seats.now }
+{
+    seats.iter().any(|seat| seat_has_store(seat))
+}
+
+/// Whether the seat of the unit is taken.
+fn is_taken(units: &[Option<Issued>], unit: Unit) -> bool
+    requires { length units.now ≡ 10 }
+    ensures { result ≡ is_taken units.now unit }
+{
+    units[usize::from(unit_number(unit))].is_some()
+}
+
+/// The unit, if its seat is free.
+#[tactic(auto, unfolding(crate::specs::Conflicts::first_free))]
+fn if_free(units: &[Option<Issued>], unit: Unit) -> Option<Unit>
+    requires { length units.now ≡ 10 }
+    ensures { result ≡ first_free (is_taken units.now) (unit ∷ []) }
+{
+    if is_taken(units, unit) {
+        None
+    } else {
+        Some(unit)
+    }
+}
+
+/// The lower-numbered free unit of a kind.
+#[tactic(auto, unfolding(crate::specs::Conflicts::first_free, crate::specs::Units::units_of))]
+fn free_unit(units: &[Option<Issued>], kind: UnitKind) -> Option<Unit>
+    requires { length units.now ≡ 10 }
+    ensures { result ≡ first_free (is_taken units.now) (units_of kind) }
+{
+    match kind {
+        UnitKind::Branch => if_free(units, Unit::Branch),
+        UnitKind::Boolean => if_free(units, Unit::Boolean),
+        UnitKind::Shift => if_free(units, Unit::Shift),
+        UnitKind::LongAdd => if_free(units, Unit::LongAdd),
+        UnitKind::Divide => if_free(units, Unit::Divide),
+        UnitKind::Increment => if is_taken(units, Unit::Increment1) {
+            if_free(units, Unit::Increment2)
+        } else {
+            Some(Unit::Increment1)
+        },
+    }
+}
+
+/// The lower-numbered unit of an instruction's kind, Branch where it takes no unit.
+#[tactic(auto, unfolding(crate::specs::Answers::first_unit, crate::specs::Answers::head_unit, crate::specs::Units::units_of))]
+pub(crate) fn first_unit(instr: &Instr) -> Unit
+    ensures { result ≡ first_unit (row instr.now).unit }
+{
+    match unit_kind(instr) {
+        None => Unit::Branch,
+        Some(UnitKind::Branch) => Unit::Branch,
+        Some(UnitKind::Boolean) => Unit::Boolean,
+        Some(UnitKind::Shift) => Unit::Shift,
+        Some(UnitKind::LongAdd) => Unit::LongAdd,
+        Some(UnitKind::Divide) => Unit::Divide,
+        Some(UnitKind::Increment) => Unit::Increment1,
+    }
+}
+
+/// The unit that an instruction takes, None where none of its kind is free.
+#[tactic(auto, unfolding(crate::specs::Fields::free_for))]
+pub(crate) fn free_unit_for(units: &[Option<Issued>], instr: &Instr) -> Option<Unit>
+    requires { length units.now ≡ 10 }
+    ensures { result ≡ free_for (is_taken units.now) (row instr.now).unit }
+{
+    match unit_kind(instr) {
+        Some(kind) => free_unit(units, kind),
+        None => None,
+    }
+}
+
+/// An instruction that leaves its unit: its load, if it is one, goes to its channel.
+#[tactic(auto, unfolding(crate::specs::Fields::channels_with))]
+pub(crate) fn put_left(channels: &mut [Option<Issued>], issued: &Issued)
+    requires { length channels.old ≡ 8 }
+    ensures value { channels.new ≡ channels_with channels.old issued.now (channel_of (shape_of issued.now.row.instr)) }
+    ensures channel { IfSome (channel_of (shape_of issued.now.row.instr)) (λ n. n < 8) }
+{
+    if let Some(n) = channel(&issued.row.instr) {
+        let returning = Progress::Left { returning: Some(n) };
+        channels[usize::from(n.get())] = Some(issued.in_progress(returning));
+    }
+}
+
+/// A new instruction is to write its results: its unit at the store event, the channel the X register of a load.
+#[tactic(auto, unfolding(crate::specs::Fields::writers_with))]
+pub(crate) fn expect(writers: &mut Writers, instr: &Instr, unit: Unit)
+    ensures value { writers.new ≡ writers_with writers.old unit (puts_of (shape_of instr.now)) (channel_of (shape_of instr.now)) }
+    ensures registers { Each IsRegister (puts_of (shape_of instr.now)) }
+    ensures channel { IfSome (channel_of (shape_of instr.now)) (λ n. n < 8) }
+{
+    if let Some(n) = channel(instr) {
+        writers.set(Reg::X(n), Some(Writer::OfChannel(n)));
+    }
+    let written = instr.puts();
+    writers.set_each(written.as_slice(), &Writer::OfUnit(unit));
+}

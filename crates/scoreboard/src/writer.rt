@@ -1,0 +1,64 @@
+ghost use Rattle.std.specs.Prelude.{◌≡◌, map};
+ghost use Rattle.scoreboard.specs.Writers.{same_writer, forget};
+
+use crate::is_same_unit;
+use instruction_table::{Digit, Unit};
+
+/// Who is to write a register (Thornton's result designators; that a load channel is one is this project's choice).
+#[derive(Clone, Copy, Debug, Drop, PartialEq, Eq)]
+pub enum Writer {
+    /// A unit, at its store event.
+    OfUnit(Unit),
+    /// The load channel of this number, when its load returns.
+    OfChannel(Digit),
+}
+
+/// Whether two writers are one.
+#[tactic(auto, unfolding(crate::specs::Writers::same_writer))]
+fn is_same(writer: &Writer, other: &Writer) -> bool
+    ensures { result ≡ same_writer writer.now other.now }
+{
+    match *writer {
+        Writer::OfUnit(unit) => match *other {
+            Writer::OfUnit(other) => is_same_unit(unit, other),
+            Writer::OfChannel(_) => false,
+        },
+        Writer::OfChannel(channel) => match *other {
+            Writer::OfUnit(_) => false,
+            Writer::OfChannel(other) => channel.get() == other.get(),
+        },
+    }
+}
+
+/// The writer that is still expected when this one has written.
+#[tactic(auto, unfolding(crate::specs::Writers::forget))]
+fn forgotten(writer: &Writer, expected: &Option<Writer>) -> Option<Writer>
+    ensures { result ≡ forget writer.now expected.now }
+{
+    match expected {
+        None => None,
+        Some(other) => if is_same(other, writer) {
+            None
+        } else {
+            Some(*other)
+        },
+    }
+}
+
+/// None of these expects the writer any longer, for it has written.
+pub(crate) fn forget_in(expected: &mut [Option<Writer>], writer: &Writer)
+    ensures { expected.new ≡ map (forget writer.now) expected.old }
+{
+    for index in 0..expected.len() {
+        expected[index] = forgotten(writer, &expected[index]);
+    }
+}
+
+/// The same for the producers of each unit.
+pub(crate) fn forget_in_each(expected: &mut [[Option<Writer>; 3]], writer: &Writer)
+    ensures { expected.new ≡ map (map (forget writer.now)) expected.old }
+{
+    for index in 0..expected.len() {
+        forget_in(&mut expected[index], writer);
+    }
+}
