@@ -1,1 +1,3 @@
 pub mod Hopper
+pub mod Queue
+pub mod View

@@ -1,0 +1,253 @@
+-- What a hopper answers and what it becomes, from its places.
+use Rattle.std.proofs.Common.{◌≡◌, ◌≢◌, ◌<◌, ℕ, Bool, true, false, not, cond, List, [], ◌∷◌, ◌++◌, Option, Some, None, refl, sym, ap, ◌∙◌, subst, get_or, set, length, map, arith}
+use Rattle.std.specs.Prelude.{is_some, is_none, Result, Ok, Err}
+use Rattle.std.specs.List.{list_any}
+use Rattle.std.proofs.lemmas.List.{length-map, length-set, map-append}
+use Rattle.instruction_table.specs.declared.refusal.Refusal.{Refusal}
+use Rattle.instruction_table.specs.declared.refusal.Refusal.TheVariants.{BankBusy, OlderInBank}
+use Rattle.instruction_table.specs.Each.{Each, Pairs}
+use Rattle.instruction_table.specs.Finding.{Found, seek, put_back}
+use Rattle.instruction_table.specs.Order.{sort_by, somes}
+use Rattle.instruction_table.proofs.Lists.{each_left, each_map}
+use Rattle.instruction_table.proofs.Sorted.{below, above, below-above, any_sort, any_earlier, any_somes, sort_each, sort_increasing, IsIncreasing}
+use Rattle.instruction_table.proofs.Seats.{others_differ, own_taken, own_put, taken_with, taken_without, sort_new}
+use Rattle.hopper.specs.declared.entered.Entered.{Entered}
+use Rattle.hopper.specs.declared.reference.Reference.{Reference}
+use Rattle.hopper.specs.declared.waiting.Waiting.{Waiting}
+use Rattle.hopper.specs.Hopper.{bank_of, free_place}
+use Rattle.hopper.specs.Queue.{stands_at, reference_at, is_taken, place_for, waits_for_bank, accept_answer, accepted, stores_here}
+use Rattle.hopper.specs.View.{entered_in, before, queue_of, IsRight, holds, is_older, holds_older, holds_store, lower, lowered, acceptance}
+use Rattle.hopper.proofs.Standing.{placed_others, placed_nowhere, placed_here, placed_emptied, placed_filled, seek_none, seek_here, elsewhere, stands_here, any_map, somebody, first_same, first_free, each_put, length_put, each_taken, each_at, length_taken}
+use Rattle.hopper.proofs.Lowering.{sort_lowered, entered_lowered, apart_lowered, counted_lowered, somes_lowered, placed_lowered}
+
+-- those that wait, in order
+abbrev pub entered_of : List (Option Waiting) → List Entered
+entered_of os = map entered_in (sort_by before (somes os))
+
+any_entered : (f : Entered → Bool) (os : List (Option Waiting))
+    → list_any (λ w. f w.entered) (somes os) ≡ list_any f (entered_of os)
+any_entered f os = sym
+    (any_map f entered_in (sort_by before (somes os)) ∙ any_sort before (λ w. f w.entered) (somes os))
+
+-- ---- stores ----
+
+pub store_is : (os : List (Option Waiting)) (address : ℕ)
+    → list_any (holds_store address) os ≡ list_any (stores_here address) (entered_of os)
+unfolding holds_store
+store_is os address = any_somes (λ w. stores_here address w.entered) (holds_store address) refl (λ w. refl) os
+    ∙ any_entered (stores_here address) os
+
+-- ---- places ----
+
+taken_is : (os : List (Option Waiting)) (busy : List Bool) → IsRight os busy → (p : ℕ)
+    → holds os p ≡ is_taken (entered_of os) p
+unfolding is_taken
+taken_is os busy r p = sym (somebody os 0 p p (omega arith) r.placed) ∙ any_entered (stands_at p) os
+
+pub place_is : (os : List (Option Waiting)) (busy : List Bool) → IsRight os busy
+    → free_place (holds os) ≡ place_for (entered_of os)
+unfolding free_place place_for
+place_is os busy r = first_same (holds os) (is_taken (entered_of os)) (taken_is os busy r) (0 ∷ 1 ∷ 2 ∷ 3 ∷ [])
+
+pub place_below : (os : List (Option Waiting)) (p : ℕ) → free_place (holds os) ≡ Some p → p < 4
+unfolding free_place
+place_below os p h = (first_free (holds os) (λ q. q < 4) (0 ∷ 1 ∷ 2 ∷ 3 ∷ []) p
+    (omega arith, (omega arith, (omega arith, (omega arith, tt)))) h).0
+
+place_empty : (os : List (Option Waiting)) (p : ℕ) → free_place (holds os) ≡ Some p → get_or os p None ≡ None
+unfolding free_place
+place_empty os p h =
+    nothing (get_or os p None)
+    (first_free (holds os) (λ q. q < 4) (0 ∷ 1 ∷ 2 ∷ 3 ∷ []) p
+    (omega arith, (omega arith, (omega arith, (omega arith, tt)))) h).1
+  where
+    nothing : (o : Option Waiting) → is_some o ≡ false → o ≡ None
+    nothing None e = refl
+    nothing (Some w) e = cc
+
+pub is_none_from : (o : Option ℕ) (b : Bool) → is_some o ≡ not b → b ≡ is_none o
+is_none_from None true e = refl
+is_none_from None false e = cc
+is_none_from (Some p) true e = cc
+is_none_from (Some p) false e = refl
+
+-- ---- one enters ----
+
+abbrev pub entering : ℕ → Reference → ℕ → Waiting
+entering p reference number = record { entered = record { place = p; reference = reference }; before = number }
+
+pub entered_view : (os : List (Option Waiting)) (busy : List Bool) (p number : ℕ) (reference : Reference)
+    → IsRight os busy → free_place (holds os) ≡ Some p → number ≡ length (somes os)
+    → queue_of (set os p (Some (entering p reference number))) busy
+    ≡ record { entered = entered_of os ++ record { place = p; reference = reference } ∷ []; busy = busy }
+entered_view os busy p number reference r h e =
+    ap (λ ws. record { entered = map entered_in ws; busy = busy })
+    (sort_new before os p (entering p reference number) (place_empty os p h)
+    (let l = place_below os p h in omega (arith, l, r.all_places))
+    (each_map (λ w. before w < length (somes os)) (λ w. before w < number) (λ w k. omega (arith, k, e))
+    (somes os) r.counted))
+    ∙ ap (λ es. record { entered = es; busy = busy })
+    (map-append entered_in (sort_by before (somes os)) (entering p reference number ∷ []))
+
+pub entered_right : (os : List (Option Waiting)) (busy : List Bool) (p number : ℕ) (reference : Reference)
+    → IsRight os busy → free_place (holds os) ≡ Some p → number ≡ length (somes os)
+    → IsRight (set os p (Some (entering p reference number))) busy
+entered_right os busy p number reference r h e =
+    let w = entering p reference number in
+    let l : p < length os = (let k = place_below os p h in omega (arith, k, r.all_places)) in
+    let n = place_empty os p h in
+    let c = length_put os p w n l in
+    record {
+      all_places = length-set os p (Some w) ∙ r.all_places;
+      all_banks = r.all_banks;
+      placed = placed_filled os 0 p w (omega arith) r.placed;
+      apart = own_put before os p w n l
+          (each_map (λ v. before v < length (somes os)) (λ v. before v ≢ number) (λ v k d. omega (arith, k, d, e))
+          (somes os) r.counted) r.apart;
+      counted = each_put (λ v. before v < length (somes (set os p (Some w)))) os p w n l (omega (arith, c, e))
+          (each_map (λ v. before v < length (somes os)) (λ v. before v < length (somes (set os p (Some w))))
+          (λ v k. omega (arith, k, c)) (somes os) r.counted);
+    }
+
+-- ---- one leaves ----
+
+-- the one in a place, among those that wait in order
+unfoldable pub found_at : List (Option Waiting) → ℕ → Waiting → Found Entered Reference
+found_at os p w =
+    record {
+      earlier = map entered_in (below before (before w) (sort_by before (somes (set os p None))));
+      member = w.entered;
+      what = w.entered.reference;
+      later = map entered_in (above before (before w) (sort_by before (somes (set os p None))));
+    }
+
+pub nothing_found : (os : List (Option Waiting)) (busy : List Bool) (p : ℕ) → IsRight os busy → get_or os p None ≡ None
+    → seek (reference_at p) (entered_of os) ≡ None
+nothing_found os busy p r h =
+    seek_none (reference_at p) (entered_of os)
+    (elsewhere p (sort_by before (somes os))
+    (sort_each before (λ w. w.entered.place ≢ p) (somes os) (placed_nowhere os p h r.placed)))
+
+-- the others stand elsewhere, and so do those before it in order
+earlier_elsewhere : (os : List (Option Waiting)) (busy : List Bool) (p : ℕ) (w : Waiting) → IsRight os busy
+    → Each (λ e. reference_at p e ≡ None)
+    (map entered_in (below before (before w) (sort_by before (somes (set os p None)))))
+earlier_elsewhere os busy p w r =
+    elsewhere p (below before (before w) (sort_by before (somes (set os p None))))
+    (each_left (λ v. v.entered.place ≢ p) (below before (before w) (sort_by before (somes (set os p None))))
+    (above before (before w) (sort_by before (somes (set os p None))))
+    (subst (Each (λ v. v.entered.place ≢ p)) (below-above before (before w) (sort_by before (somes (set os p None))))
+    (sort_each before (λ v. v.entered.place ≢ p) (somes (set os p None))
+    (placed_others os 0 p p (omega arith) r.placed))))
+
+pub one_found : (os : List (Option Waiting)) (busy : List Bool) (p : ℕ) (w : Waiting) → IsRight os busy
+    → get_or os p None ≡ Some w → seek (reference_at p) (entered_of os) ≡ Some (found_at os p w)
+unfolding found_at
+one_found os busy p w r h =
+    ap (λ ws. seek (reference_at p) (map entered_in ws)) (taken_with before os p w h r.apart)
+    ∙ ap (seek (reference_at p))
+    (map-append entered_in (below before (before w) (sort_by before (somes (set os p None))))
+    (w ∷ above before (before w) (sort_by before (somes (set os p None)))))
+    ∙ seek_here (reference_at p) (found_at os p w).earlier w.entered w.entered.reference (found_at os p w).later
+    (earlier_elsewhere os busy p w r)
+    (stands_here p w (placed_here os 0 p w h r.placed ∙ omega arith))
+
+older_is : (os : List (Option Waiting)) (busy : List Bool) (p bank : ℕ) (w : Waiting) → IsRight os busy
+    → get_or os p None ≡ Some w
+    → list_any (waits_for_bank bank) (found_at os p w).earlier ≡ list_any (holds_older w.before bank) os
+unfolding found_at holds_older
+older_is os busy p bank w r h =
+    let ws = sort_by before (somes (set os p None)) in
+    any_map (waits_for_bank bank) entered_in (below before (before w) ws)
+    ∙ sym (any_earlier before (λ v. waits_for_bank bank v.entered) (below before (before w) ws) w
+    (above before (before w) ws)
+    (subst (IsIncreasing before) (taken_with before os p w h r.apart) (sort_increasing before (somes os) r.apart)))
+    ∙ ap (list_any (is_older w.before bank)) (sym (taken_with before os p w h r.apart))
+    ∙ any_sort before (is_older w.before bank) (somes os)
+    ∙ sym (any_somes (is_older w.before bank) (holds_older w.before bank) refl (λ v. refl) os)
+
+unfoldable pub reference_of : Result Waiting Refusal → Result Reference Refusal
+reference_of (Ok w) = Ok w.entered.reference
+reference_of (Err refusal) = Err refusal
+
+pub acceptance_is : (os : List (Option Waiting)) (busy : List Bool) (p : ℕ) → IsRight os busy
+    → reference_of (acceptance os busy (get_or os p None)) ≡ accept_answer busy (seek (reference_at p) (entered_of os))
+unfolding reference_of acceptance accept_answer found_at
+acceptance_is os busy p r = by_place (get_or os p None) refl
+  where
+    bank_tests : (b c : Bool) (w : Waiting)
+        → reference_of (cond b (Err (BankBusy (bank_of w.entered.reference.address))) (cond c (Err OlderInBank) (Ok w)))
+        ≡ cond b (Err (BankBusy (bank_of w.entered.reference.address)))
+        (cond c (Err OlderInBank) (Ok w.entered.reference))
+    bank_tests true c w = refl
+    bank_tests false true w = refl
+    bank_tests false false w = refl
+
+    by_place : (o : Option Waiting) → get_or os p None ≡ o
+        → reference_of (acceptance os busy o) ≡ accept_answer busy (seek (reference_at p) (entered_of os))
+    by_place None e = ap (accept_answer busy) (sym (nothing_found os busy p r e))
+    by_place (Some w) e =
+        bank_tests (get_or busy (bank_of w.entered.reference.address) false)
+        (list_any (holds_older w.before (bank_of w.entered.reference.address)) os) w
+        ∙ ap (λ c. cond (get_or busy (bank_of w.entered.reference.address) false)
+        (Err (BankBusy (bank_of w.entered.reference.address))) (cond c (Err OlderInBank) (Ok w.entered.reference)))
+        (sym (older_is os busy p (bank_of w.entered.reference.address) w r e))
+        ∙ ap (accept_answer busy) (sym (one_found os busy p w r e))
+
+acceptance_ok : (os : List (Option Waiting)) (busy : List Bool) (o : Option Waiting) (w : Waiting)
+    → acceptance os busy o ≡ Ok w → o ≡ Some w
+unfolding acceptance
+acceptance_ok os busy None w h = cc
+acceptance_ok os busy (Some v) w h =
+    by_tests (get_or busy (bank_of v.entered.reference.address) false)
+    (list_any (holds_older v.before (bank_of v.entered.reference.address)) os) h
+  where
+    by_tests : (b c : Bool)
+        → cond b (Err (BankBusy (bank_of v.entered.reference.address))) (cond c (Err OlderInBank) (Ok v)) ≡ Ok w
+        → Some v ≡ Some w
+    by_tests true c e = cc
+    by_tests false true e = cc
+    by_tests false false e = let d : v ≡ w = cc in ap Some d
+
+-- what may leave is what stands in the place
+pub leaves : (os : List (Option Waiting)) (busy : List Bool) (p : ℕ) (w : Waiting) (answer : Result Waiting Refusal)
+    → answer ≡ acceptance os busy (get_or os p None) → answer ≡ Ok w → get_or os p None ≡ Some w
+leaves os busy p w answer h e = acceptance_ok os busy (get_or os p None) w (sym h ∙ e)
+
+pub accepted_view : (os : List (Option Waiting)) (busy : List Bool) (p : ℕ) (w : Waiting) → IsRight os busy
+    → get_or os p None ≡ Some w
+    → queue_of (map (lowered w.before) (set os p None)) (set busy (bank_of w.entered.reference.address) true)
+    ≡ accepted (queue_of os busy) (seek (reference_at p) (entered_of os))
+unfolding found_at accepted put_back
+accepted_view os busy p w r h =
+    let ws = sort_by before (somes (set os p None)) in
+    ap (λ es. record { entered = es; busy = set busy (bank_of w.entered.reference.address) true })
+    (ap (λ vs. map entered_in (sort_by before vs)) (somes_lowered w.before (set os p None))
+    ∙ ap (map entered_in) (sort_lowered w.before (somes (set os p None)) (others_differ before os p w h r.apart))
+    ∙ entered_lowered w.before ws
+    ∙ ap (map entered_in) (taken_without before (before w) os p)
+    ∙ map-append entered_in (below before (before w) ws) (above before (before w) ws))
+    ∙ ap (accepted (queue_of os busy)) (sym (one_found os busy p w r h))
+
+pub accepted_right : (os : List (Option Waiting)) (busy : List Bool) (p bank : ℕ) (w : Waiting) → IsRight os busy
+    → get_or os p None ≡ Some w → IsRight (map (lowered w.before) (set os p None)) (set busy bank true)
+accepted_right os busy p bank w r h =
+    let n = w.before in
+    let others = somes (set os p None) in
+    let differ = others_differ before os p w h r.apart in
+    let s = somes_lowered n (set os p None) in
+    let c = length_taken os p w h in
+    let l : n < length (somes os) = each_at (λ v. before v < length (somes os)) os p w h r.counted in
+    record {
+      all_places = length-map (set os p None) (lowered n) ∙ length-set os p None ∙ r.all_places;
+      all_banks = length-set busy bank true ∙ r.all_banks;
+      placed = placed_lowered n 0 (set os p None) (placed_emptied os 0 p r.placed);
+      apart = subst (Pairs (λ u v. before u ≢ before v)) (sym s)
+          (apart_lowered n others differ (own_taken before os p w h r.apart));
+      counted =
+          subst (λ vs. Each (λ v. before v < length vs) vs) (sym s)
+          (subst (λ k. Each (λ v. before v < k) (map (lower n) others)) (sym (length-map others (lower n)))
+          (counted_lowered n (length others) others (subst (λ k. n < k) c l) differ
+          (subst (λ k. Each (λ v. before v < k) others) c
+          (each_taken (λ v. before v < length (somes os)) os p r.counted))));
+    }

@@ -1,0 +1,3 @@
+pub mod Standing
+pub mod Lowering
+pub mod Laws

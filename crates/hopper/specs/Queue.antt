@@ -1,0 +1,62 @@
+-- What a hopper answers, and what it is behind a change: of those that wait, in the order in which they entered.
+use Rattle.std.specs.Prelude.{ℕ, Bool, true, false, ◌==◌, if◌then◌else◌, List, [], Option, Some, None, Result, Ok, Err, slice_index_or, slice_set}
+use Rattle.std.specs.List.{list_any}
+use Rattle.instruction_table.specs.declared.refusal.Refusal.{Refusal}
+use Rattle.instruction_table.specs.declared.refusal.Refusal.TheVariants.{HopperFull, BankBusy, OlderInBank, Nothing}
+use Rattle.instruction_table.specs.Finding.{Found, put_back}
+use Rattle.hopper.specs.declared.entered.Entered.{Entered}
+use Rattle.hopper.specs.declared.reference.Reference.{Reference}
+use Rattle.hopper.specs.Hopper.{bank_of, stores_to, free_place}
+
+-- what a hopper stands for
+pub record Queue : Type 0 where
+  -- the references that wait, in the order in which they entered
+  pub entered : List Entered
+  -- by bank
+  pub busy : List Bool
+
+-- ---- places ----
+
+unfoldable pub stands_at : ℕ → Entered → Bool
+stands_at p e = e.place == p
+
+-- the reference, if it stands in the place
+unfoldable pub reference_at : ℕ → Entered → Option Reference
+reference_at p e = if e.place == p then Some e.reference else None
+
+unfoldable pub is_taken : List Entered → ℕ → Bool
+is_taken es p = list_any (stands_at p) es
+
+-- the lowest-numbered free one of the four places
+unfoldable pub place_for : List Entered → Option ℕ
+place_for es = free_place (is_taken es)
+
+unfoldable pub enter_answer : Option ℕ → Result ℕ Refusal
+enter_answer None = Err HopperFull
+enter_answer (Some p) = Ok p
+
+-- ---- banks ----
+
+unfoldable pub waits_for_bank : ℕ → Entered → Bool
+waits_for_bank bank e = bank_of e.reference.address == bank
+
+-- Nothing stands in the place, its bank is busy, or an older one waits for that bank.
+unfoldable pub accept_answer : List Bool → Option (Found Entered Reference) → Result Reference Refusal
+accept_answer busy None = Err Nothing
+accept_answer busy (Some f) =
+    if slice_index_or busy (bank_of f.what.address) false then Err (BankBusy (bank_of f.what.address))
+    else (if list_any (waits_for_bank (bank_of f.what.address)) f.earlier then Err OlderInBank else Ok f.what)
+
+-- the reference has left, and its bank is busy
+unfoldable pub accepted : Queue → Option (Found Entered Reference) → Queue
+accepted q None = q
+accepted q (Some f) = record { entered = put_back f []; busy = slice_set q.busy (bank_of f.what.address) true }
+
+unfoldable pub free_answer : List Bool → ℕ → Result (Unit {0}) Refusal
+free_answer busy bank = if slice_index_or busy bank false then Ok tt else Err Nothing
+
+-- ---- stores ----
+
+-- it stores to an absolute address
+unfoldable pub stores_here : ℕ → Entered → Bool
+stores_here address e = stores_to address e.reference.address e.reference.access

@@ -1,0 +1,131 @@
+ghost use Rattle.std.specs.Prelude.{◌≡◌, ◌∷◌, ◌++◌, [], false, replicate, is_none, slice_index_or, slice_set, MatchResult};
+ghost use Rattle.std.specs.List.{list_any};
+ghost use Rattle.instruction_table.specs.Finding.{seek};
+ghost use Rattle.hopper.specs.Queue.{reference_at, place_for, enter_answer, accept_answer, accepted, free_answer, stores_here};
+
+use crate::places::{acceptance, all_lowered, any_store, free_place, how_many, is_busy};
+use crate::waiting::Waiting;
+use crate::{Entered, Reference, bank_of};
+use instruction_table::Refusal;
+use std::marker::Model;
+
+/// The four places in which references wait for their bank, and which of the 32 banks are busy (Thornton, stunt
+/// box; Control Data 60100000, central memory). It takes no memory, and each call is defined for every number.
+#[derive(Drop)]
+pub struct Hopper {
+    /// By the number of the place.
+    places: [Option<Waiting>; 4],
+    /// By the number of the bank.
+    busy: [bool; 32],
+}
+
+impl Model for Hopper {
+    ghost use Rattle.hopper.specs.Queue.{Queue};
+
+    ghost Value = { Queue };
+
+    ghost use Rattle.hopper.specs.View.{queue_of, IsRight};
+
+    ghost view = { λ h. queue_of h.places h.busy };
+
+    ghost invariant = { λ h. IsRight h.places h.busy };
+}
+
+impl Hopper {
+    /// A hopper in which nothing waits, with no bank busy.
+    pub fn new() -> Hopper
+        ensures { result ≡ record { entered = []; busy = replicate 32 false } }
+    {
+        Hopper {
+            places: [None; 4],
+            busy: [false; 32],
+        }
+    }
+
+    /// Whether all four places are taken.
+    pub fn is_full(&self) -> bool
+        ensures { result ≡ is_none (place_for self.now.entered) }
+    {
+        free_place(&self.places).is_none()
+    }
+
+    /// A reference enters, behind those that wait. It takes the lowest-numbered free place (this project's choice)
+    /// and answers its number, 0 to 3.
+    ///
+    /// # Errors
+    /// `HopperFull` where all four places are taken; then nothing changes.
+    pub fn enter(&mut self, reference: Reference) -> Result<u8, Refusal>
+        ensures answer { result ≡ enter_answer (place_for self.old.entered) }
+        ensures after { MatchResult result
+            (λ place. self.new ≡ record self.old {
+              entered = self.old.entered ++ record { place = place; reference = reference } ∷ [];
+            })
+            (λ refusal. self.new ≡ self.old) }
+    {
+        let Some(place) = free_place(&self.places) else {
+            return Err(Refusal::HopperFull);
+        };
+        let before = how_many(&self.places);
+        let entered = Entered { place, reference };
+        self.places[usize::from(place)] = Some(Waiting { entered, before });
+        Ok(place)
+    }
+
+    /// The memory takes the reference in a place, whose bank is busy from then on. It answers the reference; those
+    /// that entered behind it keep their order.
+    ///
+    /// # Errors
+    /// In this order, and then nothing changes: `Nothing` where nothing stands in the place or there is no such
+    /// place; `BankBusy` where the bank of the address is busy; `OlderInBank` where one that entered earlier waits
+    /// for that bank.
+    pub fn accept(&mut self, place: u8) -> Result<Reference, Refusal>
+        ensures answer { result ≡ accept_answer self.old.busy (seek (reference_at place) self.old.entered) }
+        ensures after { MatchResult result
+            (λ reference. self.new ≡ accepted self.old (seek (reference_at place) self.old.entered))
+            (λ refusal. self.new ≡ self.old) }
+    {
+        match acceptance(&self.places, &self.busy, place) {
+            Err(refusal) => Err(refusal),
+            Ok(waiting) => {
+                let reference = waiting.entered.reference;
+                let bank = bank_of(reference.address);
+                self.places[usize::from(place)] = None;
+                self.places = all_lowered(&self.places, waiting.before);
+                self.busy[usize::from(bank)] = true;
+                Ok(reference)
+            }
+        }
+    }
+
+    /// The bank has done its cycle and is free.
+    ///
+    /// # Errors
+    /// `Nothing` where the bank isn't busy or there is no such bank; then nothing changes.
+    pub fn bank_free(&mut self, bank: u8) -> Result<(), Refusal>
+        ensures answer { result ≡ free_answer self.old.busy bank }
+        ensures after { MatchResult result
+            (λ freed. self.new ≡ record self.old { busy = slice_set self.old.busy bank false })
+            (λ refusal. self.new ≡ self.old) }
+    {
+        if is_busy(&self.busy, bank) {
+            self.busy[usize::from(bank)] = false;
+            Ok(())
+        } else {
+            Err(Refusal::Nothing)
+        }
+    }
+
+    /// Whether a store to an absolute address waits.
+    pub fn store_for(&self, address: u32) -> bool
+        ensures { result ≡ list_any (stores_here address) self.now.entered }
+    {
+        any_store(&self.places, address)
+    }
+
+    /// Whether the bank of a number is busy; one above 31 isn't.
+    pub fn is_bank_busy(&self, bank: u8) -> bool
+        ensures { result ≡ slice_index_or self.now.busy bank false }
+    {
+        is_busy(&self.busy, bank)
+    }
+}
