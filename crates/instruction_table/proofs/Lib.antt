@@ -1,9 +1,12 @@
 pub mod DecodingLaws
+pub mod Refusals
 pub mod RoundTrip
+pub mod ByTable
 pub mod OctalLaws
 pub mod ReadingLaws
 pub mod FieldLaws
 pub mod TextLaws
 pub mod Lists
 pub mod Sorted
+pub mod Finding
 pub mod Seats

@@ -1,8 +1,15 @@
--- Members kept in seats (units, hopper places and channels as one list), seen in order: one taken out, one put in.
-use Rattle.std.proofs.Common.{◌≡◌, ◌≢◌, ℕ, zero, suc, ◌<◌, List, [], ◌∷◌, ◌++◌, Option, Some, None, sym, ap, ◌∙◌, subst, length, set, get_or, arith}
+-- What is kept in seats (units, hopper places and channels as one list): each sits in its own; seen in order, one is
+-- taken out, one put in, one found.
+use Rattle.std.proofs.Common.{◌≡◌, ◌≢◌, ℕ, zero, suc, ◌<◌, ◌≤◌, ◌+◌, eqb, false, List, [], ◌∷◌, ◌++◌, Option, Some, None, refl, sym, ap, ◌∙◌, subst, length, set, get_or, arith}
+use Rattle.std.specs.Prelude.{◌||◌, is_some}
+use Rattle.std.specs.List.{list_any}
+use Rattle.std.proofs.lemmas.Bool.{eq-eqb, ne_eqb}
+use Rattle.std.proofs.lemmas.List.{set-get_or}
 use Rattle.instruction_table.specs.Each.{Each, Pairs}
-use Rattle.instruction_table.specs.Order.{insert_by, sort_by, somes}
-use Rattle.instruction_table.proofs.Lists.{each_left, each_right, each_append, each_map, pairs_before, pairs_right, pairs_without}
+use Rattle.instruction_table.specs.Finding.{seek}
+use Rattle.instruction_table.specs.Order.{insert_by, sort_by, somes, IsSeated}
+use Rattle.instruction_table.proofs.Finding.{seek_around, seek_nobody}
+use Rattle.instruction_table.proofs.Lists.{any_of_each, each_left, each_right, each_append, each_map, pairs_before, pairs_right, pairs_without}
 use Rattle.instruction_table.proofs.Sorted.{below, above, insert_splits, insert_last, below-above, sort_around, sort_each, before_place, behind_place, somes-at, somes-set_some, somes-set_none, somes-empty}
 
 pub within : {K : Type 0} (os : List (Option K)) (i : ℕ) (x : K) → get_or os i None ≡ Some x → i < length os
@@ -75,3 +82,137 @@ pub sort_new : {K : Type 0} (key : K → ℕ) (os : List (Option K)) (i : ℕ) (
 sort_new key os i m h l d =
     sort_put key os i m h l (each_map (λ x. key x < key m) (λ x. key x ≢ key m) (λ x k. omega arith) (somes os) d)
     ∙ insert_last key m (sort_by key (somes os)) (sort_each key (λ x. key x < key m) (somes os) d)
+
+-- ---- each in its own seat ----
+
+seated_from : {K : Type 0} (seat_of : K → ℕ) (os : List (Option K)) (k v : ℕ) → v < k → IsSeated seat_of k os → Each (λ y. seat_of y ≢ v) (somes os)
+unfolding somes
+seated_from seat_of [] k v h s = tt
+seated_from seat_of (None ∷ os) k v h s = seated_from seat_of os (suc k) v (omega arith) s
+seated_from seat_of (Some x ∷ os) k v h s = (λ e. let q : seat_of x ≡ k = s.0 in omega (arith, e, q, h), seated_from seat_of os (suc k) v (omega arith) s.1)
+
+-- no other sits there
+pub seated_others : {K : Type 0} (seat_of : K → ℕ) (os : List (Option K)) (k i v : ℕ) → v ≡ k + i → IsSeated seat_of k os → Each (λ y. seat_of y ≢ v) (somes (set os i None))
+unfolding somes
+seated_others seat_of [] k i v e s = tt
+seated_others seat_of (None ∷ os) k zero v e s = seated_from seat_of os (suc k) v (omega (arith, e)) s
+seated_others seat_of (Some x ∷ os) k zero v e s = seated_from seat_of os (suc k) v (omega (arith, e)) s.1
+seated_others seat_of (None ∷ os) k (suc i) v e s = seated_others seat_of os (suc k) i v (omega (arith, e)) s
+seated_others seat_of (Some x ∷ os) k (suc i) v e s = (λ q. let p : seat_of x ≡ k = s.0 in omega (arith, e, q, p), seated_others seat_of os (suc k) i v (omega (arith, e)) s.1)
+
+-- and nobody at all where it is empty
+pub seated_nobody : {K : Type 0} (seat_of : K → ℕ) (os : List (Option K)) (i : ℕ) → get_or os i None ≡ None → IsSeated seat_of 0 os → Each (λ y. seat_of y ≢ i) (somes os)
+seated_nobody seat_of os i h s = subst (λ l. Each (λ y. seat_of y ≢ i) (somes l)) (ap (set os i) (sym h) ∙ set-get_or os i None) (seated_others seat_of os 0 i i (omega arith) s)
+
+pub seated_here : {K : Type 0} (seat_of : K → ℕ) (os : List (Option K)) (k i : ℕ) (x : K) → get_or os i None ≡ Some x → IsSeated seat_of k os → seat_of x ≡ k + i
+seated_here seat_of [] k i x h s = cc
+seated_here seat_of (None ∷ os) k zero x h s = cc
+seated_here seat_of (Some y ∷ os) k zero x h s = let e : y ≡ x = cc in let q : seat_of y ≡ k = s.0 in ap seat_of (sym e) ∙ q ∙ omega arith
+seated_here seat_of (None ∷ os) k (suc i) x h s = seated_here seat_of os (suc k) i x h s ∙ omega arith
+seated_here seat_of (Some y ∷ os) k (suc i) x h s = seated_here seat_of os (suc k) i x h s.1 ∙ omega arith
+
+pub seated_empty : {K : Type 0} (seat_of : K → ℕ) (os : List (Option K)) (k i : ℕ) → IsSeated seat_of k os → IsSeated seat_of k (set os i None)
+seated_empty seat_of [] k i s = tt
+seated_empty seat_of (None ∷ os) k zero s = s
+seated_empty seat_of (Some x ∷ os) k zero s = s.1
+seated_empty seat_of (None ∷ os) k (suc i) s = seated_empty seat_of os (suc k) i s
+seated_empty seat_of (Some x ∷ os) k (suc i) s = (s.0, seated_empty seat_of os (suc k) i s.1)
+
+pub seated_fill : {K : Type 0} (seat_of : K → ℕ) (os : List (Option K)) (k i : ℕ) (y : K) → seat_of y ≡ k + i → IsSeated seat_of k os → IsSeated seat_of k (set os i (Some y))
+seated_fill seat_of [] k i y e s = tt
+seated_fill seat_of (None ∷ os) k zero y e s = (e ∙ omega arith, s)
+seated_fill seat_of (Some x ∷ os) k zero y e s = (e ∙ omega arith, s.1)
+seated_fill seat_of (None ∷ os) k (suc i) y e s = seated_fill seat_of os (suc k) i y (e ∙ omega arith) s
+seated_fill seat_of (Some x ∷ os) k (suc i) y e s = (s.0, seated_fill seat_of os (suc k) i y (e ∙ omega arith) s.1)
+
+-- a seat in which none of them sits is empty
+pub seat_empty : {K : Type 0} (seat_of : K → ℕ) (os : List (Option K)) (k i v : ℕ) → v ≡ k + i → IsSeated seat_of k os → Each (λ y. seat_of y ≢ v) (somes os) → get_or os i None ≡ None
+unfolding somes
+seat_empty seat_of [] k i v e s h = refl
+seat_empty seat_of (None ∷ os) k zero v e s h = refl
+seat_empty seat_of (Some x ∷ os) k zero v e s h = absurd (h.0 (let q : seat_of x ≡ k = s.0 in q ∙ omega (arith, e)))
+seat_empty seat_of (None ∷ os) k (suc i) v e s h = seat_empty seat_of os (suc k) i v (omega (arith, e)) s h
+seat_empty seat_of (Some x ∷ os) k (suc i) v e s h = seat_empty seat_of os (suc k) i v (omega (arith, e)) s.1 h.1
+
+-- each seat has a number below how many there are
+pub seats_below : {K : Type 0} (seat_of : K → ℕ) (os : List (Option K)) (k n : ℕ) → k + length os ≤ n → IsSeated seat_of k os → Each (λ y. seat_of y < n) (somes os)
+unfolding somes
+seats_below seat_of [] k n h s = tt
+seats_below seat_of (None ∷ os) k n h s = seats_below seat_of os (suc k) n (omega (arith, h)) s
+seats_below seat_of (Some x ∷ os) k n h s = (let q : seat_of x ≡ k = s.0 in omega (arith, h, q), seats_below seat_of os (suc k) n (omega (arith, h)) s.1)
+
+nobody_seated : {K : Type 0} (seat_of : K → ℕ) (os : List (Option K)) (k v : ℕ) → v < k → IsSeated seat_of k os → list_any (λ x. eqb (seat_of x) v) (somes os) ≡ false
+nobody_seated seat_of os k v h s = any_of_each (λ x. eqb (seat_of x) v) (λ x. seat_of x ≢ v) (λ x. ne_eqb (seat_of x) v) (somes os) (seated_from seat_of os k v h s)
+
+-- whether a seat is taken
+pub seat_taken : {K : Type 0} (seat_of : K → ℕ) (os : List (Option K)) (k i v : ℕ) → v ≡ k + i → IsSeated seat_of k os → list_any (λ x. eqb (seat_of x) v) (somes os) ≡ is_some (get_or os i None)
+unfolding somes
+seat_taken seat_of [] k i v e s = refl
+seat_taken seat_of (None ∷ os) k zero v e s = nobody_seated seat_of os (suc k) v (omega (arith, e)) s
+seat_taken seat_of (Some x ∷ os) k zero v e s = let q : seat_of x ≡ k = s.0 in ap (λ b. b || list_any (λ y. eqb (seat_of y) v) (somes os)) (eq-eqb (seat_of x) v (omega (arith, e, q)))
+seat_taken seat_of (None ∷ os) k (suc i) v e s = seat_taken seat_of os (suc k) i v (omega (arith, e)) s
+seat_taken seat_of (Some x ∷ os) k (suc i) v e s =
+    let q : seat_of x ≡ k = s.0 in
+    ap (λ b. b || list_any (λ y. eqb (seat_of y) v) (somes os)) (ne_eqb (seat_of x) v (λ d. omega (arith, d, e, q)))
+    ∙ seat_taken seat_of os (suc k) i v (omega (arith, e)) s.1
+
+-- ---- the one in a seat, in order ----
+
+-- those before it, and those behind
+abbrev pub before_seat : {K : Type 0} → (K → ℕ) → List (Option K) → ℕ → K → List K
+before_seat key os i x = below key (key x) (sort_by key (somes (set os i None)))
+
+abbrev pub after_seat : {K : Type 0} → (K → ℕ) → List (Option K) → ℕ → K → List K
+after_seat key os i x = above key (key x) (sort_by key (somes (set os i None)))
+
+pub each_before : {K : Type 0} (key : K → ℕ) (P : K → Type 0) (os : List (Option K)) (i : ℕ) (x : K) → Each P (somes (set os i None)) → Each P (before_seat key os i x)
+each_before key P os i x h = each_left P (before_seat key os i x) (after_seat key os i x) (subst (Each P) (below-above key (key x) (sort_by key (somes (set os i None)))) (sort_each key P (somes (set os i None)) h))
+
+pub found_there : {K W : Type 0} (key : K → ℕ) (f : K → Option W) (os : List (Option K)) (i : ℕ) (m : K) (what : W) → get_or os i None ≡ Some m → HasOwnKeys key (somes os) → f m ≡ Some what → Each (λ y. f y ≡ None) (somes (set os i None)) → seek f (sort_by key (somes os)) ≡ Some (record { earlier = before_seat key os i m; member = m; what = what; later = after_seat key os i m })
+found_there key f os i m what h own e s =
+    ap (seek f) (taken_with key os i m h own) ∙ seek_around f (before_seat key os i m) m what (after_seat key os i m) (each_before key (λ y. f y ≡ None) os i m s) e
+
+pub found_nobody : {K W : Type 0} (key : K → ℕ) (f : K → Option W) (os : List (Option K)) → Each (λ y. f y ≡ None) (somes os) → seek f (sort_by key (somes os)) ≡ None
+found_nobody key f os s = seek_nobody f (sort_by key (somes os)) (sort_each key (λ y. f y ≡ None) (somes os) s)
+
+-- ---- each, and how many, when a seat is filled or emptied ----
+
+pub each_put : {K : Type 0} (P : K → Type 0) (os : List (Option K)) (i : ℕ) (y : K) → get_or os i None ≡ None → i < length os → P y → Each P (somes os) → Each P (somes (set os i (Some y)))
+unfolding somes
+each_put P [] i y h l p k = absurd (omega arith)
+each_put P (None ∷ os) zero y h l p k = (p, k)
+each_put P (Some x ∷ os) zero y h l p k = cc
+each_put P (None ∷ os) (suc i) y h l p k = each_put P os i y h (omega arith) p k
+each_put P (Some x ∷ os) (suc i) y h l p k = (k.0, each_put P os i y h (omega arith) p k.1)
+
+pub length_put : {K : Type 0} (os : List (Option K)) (i : ℕ) (y : K) → get_or os i None ≡ None → i < length os → length (somes (set os i (Some y))) ≡ suc (length (somes os))
+unfolding somes
+length_put [] i y h l = absurd (omega arith)
+length_put (None ∷ os) zero y h l = refl
+length_put (Some x ∷ os) zero y h l = cc
+length_put (None ∷ os) (suc i) y h l = length_put os i y h (omega arith)
+length_put (Some x ∷ os) (suc i) y h l = ap suc (length_put os i y h (omega arith))
+
+pub each_taken : {K : Type 0} (P : K → Type 0) (os : List (Option K)) (i : ℕ) → Each P (somes os) → Each P (somes (set os i None))
+unfolding somes
+each_taken P [] i k = tt
+each_taken P (None ∷ os) zero k = k
+each_taken P (Some x ∷ os) zero k = k.1
+each_taken P (None ∷ os) (suc i) k = each_taken P os i k
+each_taken P (Some x ∷ os) (suc i) k = (k.0, each_taken P os i k.1)
+
+pub each_at : {K : Type 0} (P : K → Type 0) (os : List (Option K)) (i : ℕ) (y : K) → get_or os i None ≡ Some y → Each P (somes os) → P y
+unfolding somes
+each_at P [] i y h k = cc
+each_at P (None ∷ os) zero y h k = cc
+each_at P (Some x ∷ os) zero y h k = let e : x ≡ y = cc in subst P e k.0
+each_at P (None ∷ os) (suc i) y h k = each_at P os i y h k
+each_at P (Some x ∷ os) (suc i) y h k = each_at P os i y h k.1
+
+pub length_taken : {K : Type 0} (os : List (Option K)) (i : ℕ) (y : K) → get_or os i None ≡ Some y → length (somes os) ≡ suc (length (somes (set os i None)))
+unfolding somes
+length_taken [] i y h = cc
+length_taken (None ∷ os) zero y h = cc
+length_taken (Some x ∷ os) zero y h = refl
+length_taken (None ∷ os) (suc i) y h = length_taken os i y h
+length_taken (Some x ∷ os) (suc i) y h = ap suc (length_taken os i y h)

@@ -121,6 +121,21 @@ unfolding sort_by
 sort_each key P [] h = tt
 sort_each key P (x ∷ xs) h = insert_each key P x (sort_by key xs) h.0 (sort_each key P xs h.1)
 
+-- and what holds of each in order holds of each
+each_inserted : {K : Type 0} (key : K → ℕ) (P : K → Type 0) (x : K) (ys : List K) → Each P (insert_by key x ys) → P x × Each P ys
+unfolding insert_by
+each_inserted key P x [] h = (h.0, tt)
+each_inserted key P x (y ∷ ys) h = by_test (each_inserted key P x ys) (ltb (key x) (key y)) h
+  where
+    by_test : (Each P (insert_by key x ys) → P x × Each P ys) → (b : Bool) → Each P (cond b (x ∷ y ∷ ys) (y ∷ insert_by key x ys)) → P x × Each P (y ∷ ys)
+    by_test rest true k = (k.0, k.1)
+    by_test rest false k = let r = rest k.1 in (r.0, (k.0, r.1))
+
+pub each_sorted : {K : Type 0} (key : K → ℕ) (P : K → Type 0) (xs : List K) → Each P (sort_by key xs) → Each P xs
+unfolding sort_by
+each_sorted key P [] h = tt
+each_sorted key P (x ∷ xs) h = let r = each_inserted key P x (sort_by key xs) h in (r.0, each_sorted key P xs r.1)
+
 insert_increasing : {K : Type 0} (key : K → ℕ) (x : K) (ys : List K) → Each (λ y. key x ≢ key y) ys → IsIncreasing key ys → IsIncreasing key (insert_by key x ys)
 unfolding insert_by
 insert_increasing key x [] ne h = (tt, tt)

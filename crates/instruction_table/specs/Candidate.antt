@@ -1,5 +1,7 @@
--- The only instruction whose text a text can be: digits from the places where its first two letters say that they stand. This says nothing of what texts
--- mean, since a candidate counts only where its spelling is the text (`instr_of` of Spelling.antt).
+-- The only instruction whose text a text can be: digits from the places where its first two letters say that they
+-- stand. This says nothing of what texts mean, since a candidate counts only where its spelling is the text
+-- (`instr_of` of Spelling.antt).
+-- Source: ours.
 use Rattle.std.specs.Prelude.{ℕ, ◌+◌, ◌-◌, ◌*◌, ◌%◌, ◌^◌, ◌==◌, if◌then◌else◌, List, [], ◌∷◌, slice_index, drop}
 use Rattle.instruction_table.specs.declared.instr.XTest.TheVariants.{Zero, NonZero, Positive, Negative, InRange, OutOfRange, Definite, Indefinite}
 use Rattle.instruction_table.specs.declared.instr.XTest.{XTest}
@@ -18,33 +20,38 @@ use Rattle.instruction_table.specs.declared.instr.Addends.TheVariants.{Address, 
 use Rattle.instruction_table.specs.declared.instr.Instr.{Instr}
 use Rattle.instruction_table.specs.declared.instr.Instr.TheVariants.{Stop, Pass, ReturnJump, Jump, BranchX, BranchB, Copy, Invert, Logical, ShiftBy, ShiftNominal, LongAdd, Mask, CountOnes, Increment}
 
--- the octal digit at a place
+-- the octal digit at a place of a text
 abbrev pub digit_of : List ℕ → ℕ → ℕ
 digit_of t n = (slice_index t n - 48) % 8
 
--- the digits of t after those of n
+-- the number that has these further octal digits after those of n, in 18 bits
 abbrev pub number_after : ℕ → List ℕ → ℕ
 number_after n [] = n
 number_after n (c ∷ cs) = number_after ((n * 8 + (c - 48) % 8) % 2 ^ 18) cs
 
--- the number from a place on
+-- the number of 18 bits that the octal digits from a place on give
 unfoldable pub number_of : List ℕ → ℕ → ℕ
 number_of t n = number_after 0 (drop n t)
 
+-- the jump of `JP Bi+K`
 abbrev pub jump_in : List ℕ → Instr
 jump_in t = Jump (digit_of t 4) (number_of t 6)
 
+-- the branch of `ZR Xj,K` and the others that test an X register
 abbrev pub branch_x_in : List ℕ → XTest → Instr
 branch_x_in t test = BranchX test (digit_of t 4) (number_of t 6)
 
+-- the branch of `EQ Bi,Bj,K` and the others that compare two B registers
 abbrev pub branch_b_in : List ℕ → BTest → Instr
 branch_b_in t test = BranchB test (digit_of t 4) (digit_of t 7) (number_of t 9)
 
+-- the shift of `LXi jk` and `AXi jk`, or, where a B register follows, of `LXi Bj,Xk` and `AXi Bj,Xk`
 abbrev pub shift_in : List ℕ → Direction → Instr
 shift_in t direction =
     if slice_index t 4 == 66 then ShiftNominal direction (digit_of t 2) (digit_of t 5) (digit_of t 8)
     else ShiftBy direction (digit_of t 2) (number_of t 4 % 64)
 
+-- the Boolean instruction of `BXi`, by whether -Xk comes first, and the sign between two registers
 abbrev pub boolean_in : List ℕ → Instr
 boolean_in t =
     if slice_index t 4 == 88 then
@@ -58,14 +65,17 @@ boolean_in t =
     else (if slice_index t 7 == 45 then Logical XorNot (digit_of t 2) (digit_of t 9) (digit_of t 6)
     else Invert (digit_of t 2) (digit_of t 6))))
 
+-- the mask of `MXi jk`
 abbrev pub mask_in : List ℕ → Instr
 mask_in t = Mask (digit_of t 2) (number_of t 4 % 64)
 
+-- the long addition of `IXi Xj+Xk` or `IXi Xj-Xk`
 abbrev pub addition_in : List ℕ → Instr
 addition_in t =
     if slice_index t 6 == 43 then LongAdd Sum (digit_of t 2) (digit_of t 5) (digit_of t 8)
     else LongAdd Difference (digit_of t 2) (digit_of t 5) (digit_of t 8)
 
+-- what follows `SAi`, `SBi` or `SXi`: two registers, or a register and K
 abbrev pub addends_in : List ℕ → Addends
 addends_in t =
     if slice_index t 7 == 66 then
@@ -81,33 +91,38 @@ addends_in t =
     else (if slice_index t 4 == 66 then Address BaseB (digit_of t 5) (number_of t 7)
     else Address BaseX (digit_of t 5) (number_of t 7)))
 
+-- the increment instruction of `SAi`, `SBi` or `SXi`
 abbrev pub increment_in : List ℕ → Target → Instr
 increment_in t target = Increment target (digit_of t 2) (addends_in t)
 
--- by the second letter, where the first is I, L, N, P or S
+-- by the second letter, where the first is I: `ID`, `IR`, or else `IXi`
 abbrev pub after_i : List ℕ → Instr
 after_i t =
     if slice_index t 1 == 68 then branch_x_in t Indefinite
     else (if slice_index t 1 == 82 then branch_x_in t InRange else addition_in t)
 
+-- by the second letter, where the first is L: `LT`, or else `LXi`
 abbrev pub after_l : List ℕ → Instr
 after_l t = if slice_index t 1 == 84 then branch_b_in t Less else shift_in t Left
 
+-- by the second letter, where the first is N: `NE`, `NG`, `NO`, or else `NZ`
 abbrev pub after_n : List ℕ → Instr
 after_n t =
     if slice_index t 1 == 69 then branch_b_in t NotEqual
     else (if slice_index t 1 == 71 then branch_x_in t Negative
     else (if slice_index t 1 == 79 then Pass else branch_x_in t NonZero))
 
+-- by the second letter, where the first is P: `PL`, or else `PS`
 abbrev pub after_p : List ℕ → Instr
 after_p t = if slice_index t 1 == 76 then branch_x_in t Positive else Stop
 
+-- by the second letter, where the first is S: `SAi`, `SBi`, or else `SXi`
 abbrev pub after_s : List ℕ → Instr
 after_s t =
     if slice_index t 1 == 65 then increment_in t TargetA
     else (if slice_index t 1 == 66 then increment_in t TargetB else increment_in t TargetX)
 
--- by the first letter
+-- the candidate of a text, by its first letter
 unfoldable pub candidate_in : List ℕ → Instr
 candidate_in t =
     if slice_index t 0 == 65 then shift_in t Right

@@ -1,4 +1,6 @@
 -- From a parcel to its reading. A row for each of the 64 opcodes, in order; 01 and 03 go on by the digit i.
+-- Source: 60100000, the descriptions of the instructions; ours: that a refused opcode is refused before its length is
+-- looked at, and that an instruction across the end of its word halts the machine.
 use Rattle.std.specs.Prelude.{ℕ, ◌+◌, ◌*◌, ◌/◌, ◌%◌, ◌^◌, ◌<◌, ◌≤◌, ⊤, nat_lt, if◌then◌else◌, List, [], ◌∷◌, get_or}
 use Rattle.parcel.specs.Parcels.{parcel_at}
 use Rattle.instruction_table.specs.declared.instr.Instr.TheVariants.{Stop, Pass, ReturnJump, Jump, BranchX, BranchB, Copy, Invert, Logical, ShiftBy, ShiftNominal, LongAdd, Mask, CountOnes, Increment}
@@ -19,21 +21,22 @@ use Rattle.instruction_table.specs.declared.decoding.Decoded.TheVariants.{Legal,
 use Rattle.instruction_table.specs.declared.decoding.Entry.{Entry}
 use Rattle.instruction_table.specs.declared.decoding.Entry.TheVariants.{Short, Long, Refused}
 
--- 030 to 037
+-- what 030 to 037 ask of Xj, in the order of the digit i
 abbrev pub x_tests : List XTest
 x_tests = Zero ∷ NonZero ∷ Positive ∷ Negative ∷ InRange ∷ OutOfRange ∷ Definite ∷ Indefinite ∷ []
 
+-- what 03 asks of Xj, by the digit i
 abbrev pub x_test_at : ℕ → XTest
 x_test_at i = get_or x_tests i Zero
 
--- the entry of a row
+-- one of eight readings, by the octal digit m, or i after 01
 abbrev pub entry : List Entry → ℕ → Entry
 entry row m = get_or row m (Short Pass)
 
--- 010 to 017
-abbrev pub refused_01 : ℕ → ℕ → Entry
-refused_01 i K = entry
-    (Long (ReturnJump K)
+-- the readings of 010 to 017, by the digit i: a return jump, and seven refused opcodes
+abbrev pub rows_01 : ℕ → List Entry
+rows_01 K =
+    Long (ReturnJump K)
     ∷ Refused (Extended 0 1 1)
     ∷ Refused (Extended 0 1 2)
     ∷ Refused (Extended 0 1 3)
@@ -41,9 +44,13 @@ refused_01 i K = entry
     ∷ Refused (Extended 0 1 5)
     ∷ Refused (Extended 0 1 6)
     ∷ Refused (Extended 0 1 7)
-    ∷ []) i
+    ∷ []
 
--- 00 to 07
+-- the reading of 01 by the digit i: 010 is a return jump, and 011 to 017 are refused
+abbrev pub refused_01 : ℕ → ℕ → Entry
+refused_01 i K = entry (rows_01 K) i
+
+-- the readings of 00 to 07, by the digit m: a stop and the branches, of which 01 and 03 go on by the digit i
 abbrev pub branches : ℕ → ℕ → ℕ → List Entry
 branches i j K =
     Short Stop
@@ -56,7 +63,7 @@ branches i j K =
     ∷ Long (BranchB Less i j K)
     ∷ []
 
--- 10 to 17
+-- the readings of 10 to 17, by the digit m
 abbrev pub logicals : ℕ → ℕ → ℕ → List Entry
 logicals i j k =
     Short (Copy i j)
@@ -69,7 +76,7 @@ logicals i j k =
     ∷ Short (Logical XorNot i j k)
     ∷ []
 
--- 20 to 27
+-- the readings of 20 to 27, by the digit m; 24 to 27 are refused
 abbrev pub shifts : ℕ → ℕ → ℕ → List Entry
 shifts i j k =
     Short (ShiftBy Left i (8 * j + k))
@@ -82,7 +89,7 @@ shifts i j k =
     ∷ Refused (Plain 2 7)
     ∷ []
 
--- 30 to 37
+-- the readings of 30 to 37, by the digit m; 30 to 35 are refused
 abbrev pub additions : ℕ → ℕ → ℕ → List Entry
 additions i j k =
     Refused (Plain 3 0)
@@ -95,7 +102,7 @@ additions i j k =
     ∷ Short (LongAdd Difference i j k)
     ∷ []
 
--- 40 to 47
+-- the readings of 40 to 47, by the digit m; 40 to 42, 44 and 45 are refused
 abbrev pub others : ℕ → ℕ → ℕ → List Entry
 others i j k =
     Refused (Plain 4 0)
@@ -108,7 +115,7 @@ others i j k =
     ∷ Short (CountOnes i k)
     ∷ []
 
--- 50 to 57 for A, 60 to 67 for B and 70 to 77 for X
+-- the readings of 50 to 57 for A, 60 to 67 for B and 70 to 77 for X, by the digit m
 abbrev pub increments : Target → ℕ → ℕ → ℕ → ℕ → List Entry
 increments target i j k K =
     Long (Increment target i (Address A j K))
@@ -121,7 +128,7 @@ increments target i j k K =
     ∷ Short (Increment target i (Registers BMinusB j k))
     ∷ []
 
--- the rows of the first digit f
+-- the eight readings of the first digit f
 abbrev pub rows : ℕ → ℕ → ℕ → ℕ → ℕ → List Entry
 rows f i j k K = get_or
     (branches i j K
@@ -134,12 +141,12 @@ rows f i j k K = get_or
     ∷ increments TargetX i j k K
     ∷ []) f []
 
--- the reading of a parcel that is followed by another
+-- the reading of a parcel that is followed by another, which has the low 15 bits of K
 unfoldable pub entry_of : ℕ → ℕ → Entry
 entry_of parcel following =
     entry (rows (parcel / 2 ^ 12) (parcel / 2 ^ 6 % 8) (parcel / 2 ^ 3 % 8) (parcel % 8) (parcel % 8 * 2 ^ 15 + following)) (parcel / 2 ^ 9 % 8)
 
--- an entry at a place of a word
+-- a reading at a place of a word: an instruction and the place after it, a refused opcode, or a straddle
 abbrev pub settled : Entry → ℕ → Decoded
 settled (Short instr) place = Legal instr (place + 1)
 settled (Long instr) place = if nat_lt place 3 then Legal instr (place + 2) else Straddle
@@ -149,7 +156,7 @@ settled (Refused op) place = RefusedOp op
 abbrev pub following_at : ℕ → ℕ → ℕ
 following_at word place = if nat_lt place 3 then parcel_at word (place + 1) else 0
 
--- the two digits, as one number, that the reading of a place begins with
+-- the two digits of the opcode, as one number, that the reading of a place begins with
 abbrev pub digits_at : ℕ → ℕ → ℕ
 digits_at word place = parcel_at word place / 2 ^ 9
 
@@ -157,7 +164,7 @@ digits_at word place = parcel_at word place / 2 ^ 9
 unfoldable pub reading_at : ℕ → ℕ → Decoded
 reading_at word place = settled (entry_of (parcel_at word place) (following_at word place)) place
 
--- the place after an instruction lies behind it, in the word or at its end
+-- the place after an instruction comes after its own, in the word or at its end
 abbrev pub GoesOn : ℕ → Decoded → Type 0
 GoesOn place (Legal instr next) = (place < next) × (next ≤ 4)
 GoesOn place (RefusedOp op) = ⊤

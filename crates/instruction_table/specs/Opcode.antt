@@ -1,11 +1,12 @@
--- The code of an instruction, which its first parcel begins with.
+-- The opcode of an instruction, which its first parcel begins with.
+-- Source: 60100000, the descriptions of the instructions; that a refused opcode is named by these digits is ours.
 use Rattle.std.specs.Prelude.{ℕ, ◌/◌, ◌%◌, ◌^◌, ◌||◌, ◌==◌, if◌then◌else◌, List, [], ◌∷◌}
 use Rattle.instruction_table.specs.declared.instr.Op.{Op}
 use Rattle.instruction_table.specs.declared.instr.Op.TheVariants.{Plain, Extended}
 use Rattle.instruction_table.specs.declared.instr.Instr.{Instr}
 use Rattle.instruction_table.specs.Table.{parcels_of}
 
--- the digits f and m of a parcel, and after 01 and 03 the digit i
+-- the opcode of a parcel: its digits f and m, and after 01 and 03 the digit i
 abbrev pub op_at : ℕ → Op
 op_at parcel =
     if (parcel / 2 ^ 9 == 1) || (parcel / 2 ^ 9 == 3)
@@ -17,6 +18,6 @@ abbrev pub first_parcel : List ℕ → ℕ
 first_parcel [] = 0
 first_parcel (p ∷ ps) = p
 
--- the code of an instruction
+-- the opcode of an instruction
 unfoldable pub op_of : Instr → Op
 op_of instr = op_at (first_parcel (parcels_of instr))

@@ -1,4 +1,5 @@
 -- Registers among others.
+-- Source: ours.
 use Rattle.std.specs.Prelude.{Bool, List}
 use Rattle.std.specs.List.{list_any}
 use Rattle.instruction_table.specs.declared.instr.Reg.{Reg}

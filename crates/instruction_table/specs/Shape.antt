@@ -1,32 +1,33 @@
--- What a row does with its value, whatever its code.
-use Rattle.std.specs.Prelude.{ℕ, Bool, true, false, nat_le, ◌==◌, if◌then◌else◌, List, [], ◌∷◌, ◌++◌}
+-- What a row does with its value, whatever its opcode.
+-- Source: ours.
+use Rattle.std.specs.Prelude.{ℕ, Bool, true, false, List, [], ◌∷◌, ◌++◌}
 use Rattle.instruction_table.specs.declared.instr.Reg.{Reg}
 use Rattle.instruction_table.specs.declared.instr.Reg.TheVariants.{X, A}
 use Rattle.instruction_table.specs.declared.instr.Target.TheVariants.{A as TargetA}
 use Rattle.instruction_table.specs.declared.instr.Instr.{Instr}
 use Rattle.instruction_table.specs.declared.instr.Instr.TheVariants.{ReturnJump, Jump, BranchX, BranchB, Increment}
-use Rattle.instruction_table.specs.Table.{row}
+use Rattle.instruction_table.specs.Table.{row, by_reference}
 
+-- what a row does with its value: it writes registers, loads, stores, jumps or links
 pub data Shape : Type 0 where
-  -- writes its results (none for SB0), and makes no reference
+  -- writes its results (none for SB0, a pass and a stop), and makes no reference
   Puts : (registers : List Reg) → Shape
   -- SA1 to SA5: writes An and loads Xn
   Loads : (n : ℕ) → Shape
   -- SA6 and SA7: writes An and stores Xn
   Stores : (n : ℕ) → Shape
-  -- a branch
+  -- 02 to 07: jumps, or goes on where the branch isn't taken
   Jumps : Shape
   -- RJ: stores its link word and jumps
   Links : Shape
 
--- what an instruction does, by its target and register number alone
+-- what an instruction does with its value; of SA0 to SA7 by the register number alone
 unfoldable pub shape_of : Instr → Shape
 shape_of (ReturnJump K) = Links
 shape_of (Jump i K) = Jumps
 shape_of (BranchX test j K) = Jumps
 shape_of (BranchB test i j K) = Jumps
-shape_of (Increment TargetA i addends) =
-    if i == 0 then Puts (A 0 ∷ []) else (if nat_le i 5 then Loads i else Stores i)
+shape_of (Increment TargetA i addends) = by_reference i (Puts (A 0 ∷ [])) (Loads i) (Stores i)
 shape_of instr = Puts (row instr).results
 
 -- the registers that are written at the store event
@@ -45,7 +46,8 @@ loads_of (Stores n) = []
 loads_of Jumps = []
 loads_of Links = []
 
--- the result registers
+-- the result registers: those written at the store event, and then the one that is loaded; E8 result reserved names the
+-- first of them that is a result still to come
 unfoldable pub results : Shape → List Reg
 results shape = puts_of shape ++ loads_of shape
 

@@ -1,4 +1,5 @@
 -- The one text of an instruction, and the instruction of a text.
+-- Source: 60100000, the descriptions of the instructions; that each has one text is ours.
 use Rattle.std.specs.Prelude.{ℕ, if◌then◌else◌, List, take, drop, Option, Some, None}
 use Rattle.std.specs.Str.{bytes_eq}
 use Rattle.instruction_table.specs.Candidate.{candidate_in}
@@ -9,11 +10,12 @@ use Rattle.instruction_table.specs.declared.instr.Addends.{Addends}
 use Rattle.instruction_table.specs.declared.instr.Instr.{Instr}
 use Rattle.instruction_table.specs.declared.instr.Instr.TheVariants.{Logical, Increment}
 
--- what the table says
+-- the text of an instruction, as the table has it
 abbrev pub spelling : Instr → List ℕ
 spelling instr = (row instr).text
 
--- The instruction whose spelling a text is. The candidate is only how it is found: what counts is that its spelling is the text.
+-- The instruction whose spelling a text is, none for any other text. The candidate is only how it is found: what counts
+-- is that its spelling is the text.
 unfoldable pub instr_of : List ℕ → Option Instr
 instr_of t = if bytes_eq (spelling (candidate_in t)) t then Some (candidate_in t) else None
 

@@ -1,5 +1,6 @@
 ghost use Rattle.instruction_table.specs.Table.{parcels_of, IsInstr, StandsAt};
-ghost use Rattle.std.specs.Prelude.{length, ◌≡◌, ◌<◌, ◌+◌, ◌*◌, ◌^◌};
+ghost use Rattle.std.specs.Prelude.{ℕ, length, ◌≡◌, ◌<◌, ◌≤◌, ◌+◌, ◌*◌, ◌^◌};
+ghost use Rattle.instruction_table.specs.Pattern.{IsByTable, IsReadAs, parcels_from};
 ghost use Rattle.instruction_table.specs.Decoding.{branches, logicals, shifts, additions, others, increments, rows, x_test_at, refused_01, entry, entry_of, following_at, digits_at, reading_at, GoesOn};
 
 use crate::{
@@ -273,6 +274,13 @@ pub fn decode(word: Word60, place: u8) -> Decoded
     // Where the parcels of an instruction stand, that instruction is read.
     ensures encoded { (instr : Instr) → IsInstr instr → StandsAt word place (parcels_of instr)
         → result ≡ Decoded.Legal instr (place + length (parcels_of instr)) }
+
+    // The same, whatever stands in the fields that the instruction doesn't use.
+    ensures pattern { (instr : Instr) (n : ℕ) → place + n ≤ 4 → IsReadAs instr (parcels_from word place n)
+        → result ≡ Decoded.Legal instr (place + n) }
+
+    // What is read, and what is refused, is so by the instruction table.
+    ensures table { IsByTable word place result }
 {
     decode_as(word, place, first_digits(word, place))
 }

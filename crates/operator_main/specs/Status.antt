@@ -1,4 +1,5 @@
--- How a machine stands that has come to its end.
+-- How the program ends: its exit status, and why it ends without its whole output.
+-- Source: ours.
 use Rattle.std.specs.Prelude.{ℕ, Bool, true, false, Option, Some, None}
 use Rattle.instruction_table.specs.declared.refusal.Halt.{Halt}
 use Rattle.instruction_table.specs.declared.refusal.Halt.TheVariants.{Stop, Illegal, Straddle, FetchRange}
@@ -9,7 +10,7 @@ use Rattle.operator_main.specs.declared.fault.ProgramFault.TheVariants as faults
 use Rattle.operator_main.specs.declared.status.Status.{Status}
 use Rattle.operator_main.specs.declared.status.Status.TheVariants.{Stopped, Refused, Usage, Halted, AddressFault, Running, OutOfMemory, Device}
 
--- a fault wins over a halt
+-- how a machine stands at its end: a fault wins over a halt, and without either it still runs
 abbrev pub status_of : Bool → Option Halt → Status
 status_of true halt = AddressFault
 status_of false None = Running
@@ -29,7 +30,7 @@ code_of Running = 5
 code_of OutOfMemory = 6
 code_of Device = 7
 
--- why the program ends where this is refused; the other refusals never come
+-- why the program ends where this is refused: `E20`, `E19`, `E21`, `E22` or `E23`; the other refusals never come
 abbrev pub fault_of : Refusal → ProgramFault
 fault_of (refusals.Deck line fault) = faults.Deck line fault
 fault_of refusals.PackageRange = faults.PackageRange
@@ -38,7 +39,7 @@ fault_of refusals.Read = faults.Read
 fault_of refusals.Write = faults.Write
 fault_of other = faults.Stuck
 
--- how the program ends where it has no output
+-- how the program ends where it prints a fault line
 abbrev pub fault_status : ProgramFault → Status
 fault_status (faults.Deck line fault) = Refused
 fault_status faults.PackageRange = Usage
@@ -48,7 +49,7 @@ fault_status faults.Read = Device
 fault_status faults.Write = Device
 fault_status faults.Stuck = Running
 
--- the refusals of an issue that a drain doesn't help against
+-- the refusals of an issue that end a run, since a drain doesn't help against them: `E1`, `E2` and `E3`
 abbrev pub is_end : Refusal → Bool
 is_end (refusals.Halted halt) = true
 is_end refusals.Faulted = true

@@ -1,1 +1,3 @@
+-- The definitions of the registers.
+-- Source: 60100000, operating registers.
 pub mod Registers

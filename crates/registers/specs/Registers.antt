@@ -1,4 +1,5 @@
 -- The registers as a map: X0 to X7, A0 to A7 and B0 to B7, of which B0 is always +0.
+-- Source: 60100000, operating registers.
 use Rattle.std.specs.Prelude.{ℕ, zero, suc, slice_index_or, slice_set}
 use Rattle.word60.specs.Words.{low18}
 use Rattle.instruction_table.specs.declared.instr.Reg.{Reg}

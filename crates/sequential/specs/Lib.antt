@@ -1,3 +1,5 @@
+-- The definitions of the machine that does one instruction at a time, its exchange and its log; each file names its
+-- source.
 pub mod Place
 pub mod State
 pub mod Work

@@ -1,17 +1,20 @@
 -- The log as its callers see it: the steps, and the room that was made for more.
+-- Source: ours.
 use Rattle.std.specs.Prelude.{ℕ, suc, ◌+◌, Bool, true, false, List, [], ◌∷◌, ◌++◌, replicate}
 use Rattle.sequential.specs.declared.log.Entry.{Entry}
 use Rattle.sequential.specs.declared.log.Entry.TheVariants.{Issued as Count, Exchange}
 use Rattle.sequential.specs.Replay.{LogStep, Issued, Exchanged}
 
+-- a log: what the machine did, step by step, and its room
 pub record Logged : Type 0 where
+  -- instructions and exchanges, in the order in which they were made
   pub steps : List LogStep
   -- how many entries can be added without memory
   pub room : ℕ
   -- the last entry is a count of instructions, so that one more needs no entry of its own
   pub is_open : Bool
 
--- the entries, step by step
+-- the steps of a log's entries: a count stands for so many instructions
 unfoldable pub steps_of : List Entry → List LogStep
 steps_of [] = []
 steps_of (Count n ∷ es) = replicate n Issued ++ steps_of es
@@ -36,13 +39,14 @@ more_behind n (Count k ∷ []) = Count (k + n) ∷ []
 more_behind n (Exchange k ∷ []) = Exchange k ∷ Count n ∷ []
 more_behind n (e ∷ f ∷ es) = e ∷ more_behind n (f ∷ es)
 
+-- the last entry is a count of instructions
 unfoldable pub ends_open : List Entry → Bool
 ends_open [] = false
 ends_open (Count n ∷ []) = true
 ends_open (Exchange n ∷ []) = false
 ends_open (e ∷ f ∷ es) = ends_open (f ∷ es)
 
--- how many instructions there are
+-- how many instructions there are; E3 budget compares this number with the budget
 unfoldable pub issued : List LogStep → ℕ
 issued [] = 0
 issued (Issued ∷ xs) = suc (issued xs)

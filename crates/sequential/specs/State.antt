@@ -1,4 +1,5 @@
 -- The state of the machine that does one instruction at a time, and the single changes of it.
+-- Source: 60100000, registers, RA and FL, exit mode; what is out of range is ours.
 use Rattle.std.specs.Prelude.{ℕ, Bool, ◌||◌, ◌==◌, List, [], ◌∷◌, Option, Some, length, slice_index_or, slice_set}
 use Rattle.word60.specs.Words.{bit}
 use Rattle.instruction_table.specs.declared.instr.Reg.{Reg}
@@ -15,9 +16,12 @@ use Rattle.sequential.specs.Place.{gone}
 
 -- what the range rule looks at: RA, FL, mode and the memory size
 pub record Bounds : Type 0 where
+  -- RA, FL and exit mode
   pub area : Area
+  -- how many words the memory has
   pub size : ℕ
 
+-- what the range rule looks at in a state
 unfoldable pub bounds_of : State → Bounds
 bounds_of s = record { area = s.area; size = length s.memory }
 
@@ -29,18 +33,20 @@ absolute b a = relocate a b.area.ra b.area.fl b.size
 unfoldable pub stops_at_fault : Bounds → Bool
 stops_at_fault b = bit b.area.mode 12 == 1
 
+-- one register is written
 unfoldable pub write : State → Reg → ℕ → State
 write s r v = record s { registers = put s.registers r v }
 
+-- registers are written, each with its own number
 unfoldable pub write_all : State → List (Reg × ℕ) → State
 write_all s [] = s
 write_all s (e ∷ es) = write_all (write s e.0 e.1) es
 
--- a jump, if there is one
+-- a jump is made, if there is one
 unfoldable pub go : State → Option ℕ → State
 go s to = record s { place = gone s.place to }
 
--- one word of memory
+-- one word of memory is written, at an absolute address
 unfoldable pub poke : State → ℕ → ℕ → State
 poke s a w = record s { memory = slice_set s.memory a w }
 
@@ -48,13 +54,15 @@ poke s a w = record s { memory = slice_set s.memory a w }
 unfoldable pub mark : State → Bool → State
 mark s f = record s { fault = s.fault || f }
 
--- a reference to an absolute address
+-- a reference to an absolute address: a load writes Xn with the word there, a store writes the word
 unfoldable pub access_at : State → ℕ → Access → State
 access_at s a (Load n) = write s (X n) (slice_index_or s.memory a 0)
 access_at s a (Store w) = poke s a w
 
+-- the next instruction is at this place
 unfoldable pub move_to : State → Place → State
 move_to s place = record s { place = place }
 
+-- the machine halts, for this reason
 unfoldable pub halt_by : State → Halt → State
 halt_by s h = record s { halt = Some h }

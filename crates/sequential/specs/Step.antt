@@ -1,4 +1,6 @@
 -- The step of the machine that does one instruction at a time.
+-- Source: 60100000, the descriptions of the instructions; ours: how a stop, a refused opcode, an instruction across
+-- the end of its word and a fetch out of range halt.
 use Rattle.std.specs.Prelude.{ℕ, List, Option, Some, None, slice_index_or}
 use Rattle.instruction_table.specs.declared.instr.Instr.{Instr}
 use Rattle.instruction_table.specs.declared.instr.Instr.TheVariants.{Stop, Pass}
@@ -38,6 +40,7 @@ unfoldable pub fetched_from : ℕ → ℕ → Option ℕ → Fetched
 fetched_from p parcel None = Halting FetchRange (beginning p)
 fetched_from p parcel (Some word) = fetched_by p parcel word (reading_at word parcel)
 
+-- the word at an absolute address, none where there is no address
 unfoldable pub word_at : List ℕ → Option ℕ → Option ℕ
 word_at memory None = None
 word_at memory (Some a) = Some (slice_index_or memory a 0)
@@ -47,6 +50,7 @@ unfoldable pub word_seen : Bounds → List ℕ → ℕ → Option ℕ → Option
 word_seen b memory p (Some word) = Some word
 word_seen b memory p None = word_at memory (absolute b p)
 
+-- what the next instruction does to the machine before any unit works: it halts, passes or goes to a unit
 unfoldable pub fetch : Bounds → List ℕ → Place → Fetched
 fetch b memory place = fetched_from place.p place.parcel (word_seen b memory place.p place.held)
 
@@ -54,16 +58,17 @@ fetch b memory place = fetched_from place.p place.parcel (word_seen b memory pla
 unfoldable pub do_instruction : Bounds → State → Instr → ℕ → State
 do_instruction b s instr at = do_work b s (work_of (shape_of instr) (value_of instr (operands instr at s.registers)))
 
+-- the state after what was fetched: a halt, a pass, or an instruction of the word at an address
 unfoldable pub do_fetched : Bounds → State → ℕ → Fetched → State
 do_fetched b s at (Halting halt place) = halt_by (move_to s place) halt
 do_fetched b s at (Passing place) = move_to s place
 do_fetched b s at (Taking instr place) = do_instruction b (move_to s place) instr at
 
--- a halted state is unchanged
+-- the state after one step, unless it is halted: a halted state is unchanged
 unfoldable pub step_unless : State → Option Halt → State
 step_unless s (Some halt) = s
 step_unless s None = do_fetched (bounds_of s) s s.place.p (fetch (bounds_of s) s.memory s.place)
 
--- a state with the fault set steps on
+-- one step of the machine; a state with the fault set steps on
 unfoldable pub step : State → State
 step s = step_unless s s.halt

@@ -1,4 +1,5 @@
 -- The exchange: registers and sixteen words of memory change places.
+-- Source: 60100000, exchange jump; that a package starts at parcel 0, running, without fault is ours.
 use Rattle.std.specs.Prelude.{ℕ, false, List, None, is_some}
 use Rattle.relocation.specs.Relocation.{overwritten}
 use Rattle.exchange_package.specs.declared.package.Package.{Package}
@@ -6,7 +7,7 @@ use Rattle.exchange_package.specs.Package.{package_in, words_of, words_at}
 use Rattle.sequential.specs.declared.state.State.{State}
 use Rattle.sequential.specs.Place.{beginning}
 
--- the package that a state leaves
+-- the package that a state leaves in memory
 unfoldable pub package_of : State → Package
 package_of s = record { p = s.place.p; registers = s.registers; area = s.area; halted = is_some s.halt; fault = s.fault }
 

@@ -1,4 +1,5 @@
--- What an instruction does with its value.
+-- What an instruction does with its value: the registers that it writes, its jump and its reference.
+-- Source: 60100000, the descriptions of the instructions, exit mode; what is out of range is ours.
 use Rattle.std.specs.Prelude.{ℕ, ◌+◌, ◌*◌, ◌^◌, Bool, false, ◌&&◌, is_none, if◌then◌else◌, List, [], ◌∷◌, Option, Some, None}
 use Rattle.instruction_table.specs.declared.instr.Instr.{Instr}
 use Rattle.instruction_table.specs.declared.instr.Reg.{Reg}
@@ -17,12 +18,12 @@ use Rattle.sequential.specs.declared.state.State.{State}
 use Rattle.sequential.specs.declared.work.ProgramReference.{ProgramReference}
 use Rattle.sequential.specs.State.{Bounds, absolute, stops_at_fault, write, write_all, go, mark, access_at}
 
--- an absent operand is +0
+-- what an operand register holds; an absent operand is +0
 unfoldable pub operand_at : RegisterFile → Option Reg → ℕ
 operand_at g None = 0
 operand_at g (Some r) = get g r
 
--- what an instruction of the word at a place computes with
+-- what an instruction of the word at an address computes with
 unfoldable pub operands : Instr → ℕ → RegisterFile → Operands
 operands instr place g = record {
   first = operand_at g (row instr).first;
@@ -40,7 +41,7 @@ number_in (Store a w) = a
 number_in (Jump to) = 0
 number_in (Link at back) = 0
 
--- the address that a value refers to
+-- the address that a value refers to, +0 where it refers to none
 unfoldable pub address_in : UnitValue → ℕ
 address_in (Word w) = 0
 address_in (Index n) = 0
@@ -53,7 +54,7 @@ address_in (Link at back) = at
 unfoldable pub link_word : ℕ → ℕ
 link_word back = 256 * 2 ^ 48 + back * 2 ^ 30
 
--- the word that a value stores
+-- the word that a value stores, +0 where it stores none
 unfoldable pub word_in : UnitValue → ℕ
 word_in (Word w) = 0
 word_in (Index n) = 0
@@ -62,10 +63,13 @@ word_in (Store a w) = w
 word_in (Jump to) = 0
 word_in (Link at back) = link_word back
 
--- the registers that are written, the jump and the reference
+-- what an instruction does with its value
 pub record Work : Type 0 where
+  -- the registers that are written, each with its number
   pub puts : List (Reg × ℕ)
+  -- the address that it jumps to, if it jumps
   pub jump : Option ℕ
+  -- the reference that it makes, by the program's own address
   pub reference : Option ProgramReference
 
 -- one number for each of the registers
@@ -73,10 +77,11 @@ unfoldable pub same_for : ℕ → List Reg → List (Reg × ℕ)
 same_for v [] = []
 same_for v (r ∷ rs) = (r, v) ∷ same_for v rs
 
--- where an instruction jumps, if it does; RJ goes on behind its link word
+-- where an instruction jumps, if it does; RJ goes on after its link word
 unfoldable pub jump_for : Shape → UnitValue → Option ℕ
 jump_for shape v = if is_branch_shape shape then destination v else None
 
+-- the reference of an instruction: SA1 to SA5 load, SA6, SA7 and RJ store, all others make none
 unfoldable pub reference_for : Shape → UnitValue → Option ProgramReference
 reference_for (Puts rs) v = None
 reference_for (Loads n) v = Some (record { address = address_in v; access = LoadInto n })
@@ -84,6 +89,7 @@ reference_for (Stores n) v = Some (record { address = address_in v; access = Sto
 reference_for Jumps v = None
 reference_for Links v = Some (record { address = address_in v; access = StoreWord (word_in v) })
 
+-- what a row does with this value
 unfoldable pub work_of : Shape → UnitValue → Work
 work_of shape v = record {
   puts = same_for (number_in v) (puts_of shape);
@@ -96,16 +102,17 @@ unfoldable pub fault_of : Bounds → Option ProgramReference → Bool
 fault_of b None = false
 fault_of b (Some r) = stops_at_fault b && is_none (absolute b r.address)
 
--- the registers of a row that writes one or none, and that one number written
+-- the registers of a row that writes one or none, as a list
 abbrev pub listed : Option Reg → List Reg
 listed None = []
 listed (Some r) = r ∷ []
 
+-- the registers after a write to one of them, if there is one
 abbrev pub put_any : RegisterFile → Option Reg → ℕ → RegisterFile
 put_any g None v = g
 put_any g (Some r) v = put g r v
 
--- all but the reference itself
+-- the state after all but the reference itself: registers, jump and fault flag
 unfoldable pub do_now : Bounds → State → Work → State
 do_now b s work = mark (go (write_all s work.puts) work.jump) (fault_of b work.reference)
 
@@ -115,10 +122,11 @@ refer_at s (Some a) access = access_at s a access
 refer_at s None (LoadInto n) = write s (X n) 0
 refer_at s None (StoreWord w) = s
 
+-- the state after a reference to a program's address, if there is one
 unfoldable pub refer : Bounds → State → Option ProgramReference → State
 refer b s None = s
 refer b s (Some r) = refer_at s (absolute b r.address) r.access
 
--- the whole of it
+-- the state after all of an instruction's work, its reference last
 unfoldable pub do_work : Bounds → State → Work → State
 do_work b s work = refer b (do_now b s work) work.reference

@@ -1,4 +1,6 @@
 -- What a row computes from its operands.
+-- Source: 60100000, the descriptions of the instructions; ours: EQ and NE compare bits, GE and LT order them as two's
+-- complement numbers, a nominal right shift by more than 63 gives +0, and P + 1 and K + 1 of RJ go on from 777777 to 0.
 use Rattle.std.specs.Prelude.{ℕ, ◌+◌, ◌/◌, ◌%◌, ◌^◌, Bool, not, ◌||◌, ◌==◌, nat_lt, nat_le, if◌then◌else◌, Option, Some, None, bit_and, bit_or, bit_xor, count_ones}
 use Rattle.word60.specs.Words.{all_ones, bit, sum, difference, complement, rotate_left, shift_right, mask, low18, extend}
 use Rattle.instruction_table.specs.declared.instr.XTest.{XTest}
@@ -27,18 +29,19 @@ use Rattle.unit_ops.specs.declared.UnitValue.TheVariants.{Word, Index, Load, Sto
 abbrev pub upper : ℕ → ℕ
 upper x = x / 2 ^ 48
 
--- 3777 or 4000, and 1777 or 6000
+-- out of range: the upper twelve bits are 3777 or 4000 (octal)
 abbrev pub is_out_of_range : ℕ → Bool
 is_out_of_range x = (upper x == 2047) || (upper x == 2048)
 
+-- indefinite: the upper twelve bits are 1777 or 6000 (octal)
 abbrev pub is_indefinite : ℕ → Bool
 is_indefinite x = (upper x == 1023) || (upper x == 3072)
 
--- +0 or -0
+-- the word is +0 or -0
 abbrev pub is_zero : ℕ → Bool
 is_zero x = (x == 0) || (x == all_ones 60)
 
--- the jump of 030 to 037 is taken
+-- the jump of 030 to 037 is taken, for this Xj
 abbrev pub x_holds : XTest → ℕ → Bool
 x_holds Zero x = is_zero x
 x_holds NonZero x = not (is_zero x)
@@ -53,14 +56,14 @@ x_holds Indefinite x = is_indefinite x
 abbrev pub rank : ℕ → ℕ
 rank b = (b + 2 ^ 17) % 2 ^ 18
 
--- the jump of 04 to 07 is taken
+-- the jump of 04 to 07 is taken, for these Bi and Bj
 abbrev pub b_holds : BTest → ℕ → ℕ → Bool
 b_holds Equal a b = a == b
 b_holds NotEqual a b = not (a == b)
 b_holds GreaterOrEqual a b = nat_le (rank b) (rank a)
 b_holds Less a b = nat_lt (rank a) (rank b)
 
--- 11 to 13 and 15 to 17, of which the last three complement the second word
+-- what 11 to 13 and 15 to 17 give; the last three complement the second word
 abbrev pub logic : Logic → ℕ → ℕ → ℕ
 logic And x y = bit_and x y
 logic Or x y = bit_or x y
@@ -69,7 +72,7 @@ logic AndNot x y = bit_and x (complement 60 y)
 logic OrNot x y = bit_or x (complement 60 y)
 logic XorNot x y = bit_xor x (complement 60 y)
 
--- 20 and 21
+-- what 20 and 21 give: 20 rotates left by a count, 21 shifts right with the sign copied in
 abbrev pub shifted : Direction → ℕ → ℕ → ℕ
 shifted Left x count = rotate_left x count
 shifted Right x count = shift_right x count
@@ -78,25 +81,25 @@ shifted Right x count = shift_right x count
 abbrev pub is_negative : ℕ → Bool
 is_negative b = bit b 17 == 1
 
--- an index without its sign
+-- an index without its sign: its complement where it is negative
 abbrev pub magnitude : ℕ → ℕ
 magnitude b = if is_negative b then complement 18 b else b
 
--- a shift by a magnitude above 63 leaves +0
+-- a nominal right shift: by a magnitude above 63 it leaves +0
 abbrev pub shifted_out : ℕ → ℕ → ℕ
 shifted_out x count = if nat_lt 63 count then 0 else shift_right x count
 
--- 22 turns left and 23 shifts right, and the other way round for a negative count
+-- 22 rotates left and 23 shifts right, and the other way round for a negative count
 abbrev pub turns : Direction → ℕ → Bool
 turns Left b = not (is_negative b)
 turns Right b = is_negative b
 
--- 22 and 23; a turn goes by the low six bits of the magnitude
+-- what 22 and 23 give; a rotation goes by the low six bits of the magnitude
 abbrev pub shifted_nominally : Direction → ℕ → ℕ → ℕ
 shifted_nominally direction b x =
     if turns direction b then rotate_left x (magnitude b % 64) else shifted_out x (magnitude b)
 
--- 36 and 37
+-- what 36 and 37 give: the sum or the difference of two words
 abbrev pub added : Addition → ℕ → ℕ → ℕ
 added Sum x y = sum 60 x y
 added Difference x y = difference 60 x y
@@ -109,23 +112,23 @@ pair_value AMinusB x y = difference 18 (low18 x) (low18 y)
 pair_value BPlusB x y = sum 18 (low18 x) (low18 y)
 pair_value BMinusB x y = difference 18 (low18 x) (low18 y)
 
--- what an increment instruction computes
+-- what an increment instruction computes in 18 bits: a register plus K, or two registers
 abbrev pub addends_value : Addends → ℕ → ℕ → ℕ
 addends_value (Address base j K) x y = sum 18 (low18 x) K
 addends_value (Registers pair j k) x y = pair_value pair x y
 
--- Ai: SA0 makes no reference, SA1 to SA5 load, SA6 and SA7 store
+-- the value of SAi: SA0 makes no reference, SA1 to SA5 load, SA6 and SA7 store
 abbrev pub reference : ℕ → ℕ → ℕ → UnitValue
 reference i a outgoing =
     if i == 0 then Index a else (if nat_le i 5 then Load a else Store a outgoing)
 
--- Ai with its reference, Bi, or Xi with the sign extended
+-- the value of 50 to 77: Ai with its reference, Bi, or Xi with the sign extended
 abbrev pub increment_value : Target → ℕ → ℕ → ℕ → UnitValue
 increment_value TargetA i v outgoing = reference i v outgoing
 increment_value TargetB i v outgoing = Index v
 increment_value TargetX i v outgoing = Word (extend v)
 
--- to K, or nowhere
+-- the value of a branch: to K where it is taken, and else nowhere
 abbrev pub branch_to : Bool → ℕ → UnitValue
 branch_to taken K = Jump (if taken then Some K else None)
 
@@ -133,7 +136,7 @@ branch_to taken K = Jump (if taken then Some K else None)
 abbrev pub next_place : ℕ → ℕ
 next_place place = (place + 1) % 2 ^ 18
 
--- the value of a row; a pass and a stop have none
+-- the value of a row; a pass and a stop have none, and +0 stands here for it
 abbrev pub value_of : Instr → Operands → UnitValue
 value_of Stop o = Index 0
 value_of Pass o = Index 0
@@ -151,7 +154,7 @@ value_of (Mask i jk) o = Word (mask jk)
 value_of (CountOnes i k) o = Word (count_ones o.first)
 value_of (Increment target i addends) o = increment_value target i (addends_value addends o.first o.second) o.outgoing
 
--- where the answer of a unit sends the machine: after a return jump to the word behind the one that it stores
+-- where the answer of a unit sends the machine, if anywhere: a return jump goes on after the word that it stores
 abbrev pub destination : UnitValue → Option ℕ
 destination (Word x) = None
 destination (Index b) = None
