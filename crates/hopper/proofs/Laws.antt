@@ -8,16 +8,17 @@ use Rattle.instruction_table.specs.declared.refusal.Refusal.TheVariants.{BankBus
 use Rattle.instruction_table.specs.Each.{Each, Pairs}
 use Rattle.instruction_table.specs.Finding.{Found, seek, put_back}
 use Rattle.instruction_table.specs.Order.{sort_by, somes}
-use Rattle.instruction_table.proofs.Lists.{each_left, each_map}
-use Rattle.instruction_table.proofs.Sorted.{below, above, below-above, any_sort, any_earlier, any_somes, sort_each, sort_increasing, IsIncreasing}
-use Rattle.instruction_table.proofs.Seats.{others_differ, own_taken, own_put, taken_with, taken_without, sort_new}
+use Rattle.instruction_table.proofs.Finding.{seek_around, seek_nobody}
+use Rattle.instruction_table.proofs.Lists.{any_map, each_map}
+use Rattle.instruction_table.proofs.Sorted.{any_sort, any_earlier, any_somes, sort_each, sort_increasing, IsIncreasing}
+use Rattle.instruction_table.proofs.Seats.{before_seat, after_seat, each_before, others_differ, own_taken, own_put, taken_with, taken_without, sort_new, seated_others, seated_nobody, seated_here, seated_empty, seated_fill, seat_taken, each_put, length_put, each_taken, each_at, length_taken}
 use Rattle.hopper.specs.declared.entered.Entered.{Entered}
 use Rattle.hopper.specs.declared.reference.Reference.{Reference}
 use Rattle.hopper.specs.declared.waiting.Waiting.{Waiting}
 use Rattle.hopper.specs.Hopper.{bank_of, free_place}
 use Rattle.hopper.specs.Queue.{stands_at, reference_at, is_taken, place_for, waits_for_bank, accept_answer, accepted, stores_here}
-use Rattle.hopper.specs.View.{entered_in, before, queue_of, IsRight, holds, is_older, holds_older, holds_store, lower, lowered, acceptance}
-use Rattle.hopper.proofs.Standing.{placed_others, placed_nowhere, placed_here, placed_emptied, placed_filled, seek_none, seek_here, elsewhere, stands_here, any_map, somebody, first_same, first_free, each_put, length_put, each_taken, each_at, length_taken}
+use Rattle.hopper.specs.View.{entered_in, place_of, before, queue_of, IsRight, holds, is_older, holds_older, holds_store, lower, lowered, acceptance}
+use Rattle.hopper.proofs.Standing.{elsewhere, stands_here, first_same, first_free}
 use Rattle.hopper.proofs.Lowering.{sort_lowered, entered_lowered, apart_lowered, counted_lowered, somes_lowered, placed_lowered}
 
 -- those that wait, in order
@@ -41,8 +42,8 @@ store_is os address = any_somes (λ w. stores_here address w.entered) (holds_sto
 
 taken_is : (os : List (Option Waiting)) (busy : List Bool) → IsRight os busy → (p : ℕ)
     → holds os p ≡ is_taken (entered_of os) p
-unfolding is_taken
-taken_is os busy r p = sym (somebody os 0 p p (omega arith) r.placed) ∙ any_entered (stands_at p) os
+unfolding is_taken stands_at
+taken_is os busy r p = sym (seat_taken place_of os 0 p p (omega arith) r.placed) ∙ any_entered (stands_at p) os
 
 pub place_is : (os : List (Option Waiting)) (busy : List Bool) → IsRight os busy
     → free_place (holds os) ≡ place_for (entered_of os)
@@ -100,7 +101,7 @@ entered_right os busy p number reference r h e =
     record {
       all_places = length-set os p (Some w) ∙ r.all_places;
       all_banks = r.all_banks;
-      placed = placed_filled os 0 p w (omega arith) r.placed;
+      placed = seated_fill place_of os 0 p w (omega arith) r.placed;
       apart = own_put before os p w n l
           (each_map (λ v. before v < length (somes os)) (λ v. before v ≢ number) (λ v k d. omega (arith, k, d, e))
           (somes os) r.counted) r.apart;
@@ -115,30 +116,18 @@ entered_right os busy p number reference r h e =
 unfoldable pub found_at : List (Option Waiting) → ℕ → Waiting → Found Entered Reference
 found_at os p w =
     record {
-      earlier = map entered_in (below before (before w) (sort_by before (somes (set os p None))));
+      earlier = map entered_in (before_seat before os p w);
       member = w.entered;
       what = w.entered.reference;
-      later = map entered_in (above before (before w) (sort_by before (somes (set os p None))));
+      later = map entered_in (after_seat before os p w);
     }
 
 pub nothing_found : (os : List (Option Waiting)) (busy : List Bool) (p : ℕ) → IsRight os busy → get_or os p None ≡ None
     → seek (reference_at p) (entered_of os) ≡ None
 nothing_found os busy p r h =
-    seek_none (reference_at p) (entered_of os)
+    seek_nobody (reference_at p) (entered_of os)
     (elsewhere p (sort_by before (somes os))
-    (sort_each before (λ w. w.entered.place ≢ p) (somes os) (placed_nowhere os p h r.placed)))
-
--- the others stand elsewhere, and so do those before it in order
-earlier_elsewhere : (os : List (Option Waiting)) (busy : List Bool) (p : ℕ) (w : Waiting) → IsRight os busy
-    → Each (λ e. reference_at p e ≡ None)
-    (map entered_in (below before (before w) (sort_by before (somes (set os p None)))))
-earlier_elsewhere os busy p w r =
-    elsewhere p (below before (before w) (sort_by before (somes (set os p None))))
-    (each_left (λ v. v.entered.place ≢ p) (below before (before w) (sort_by before (somes (set os p None))))
-    (above before (before w) (sort_by before (somes (set os p None))))
-    (subst (Each (λ v. v.entered.place ≢ p)) (below-above before (before w) (sort_by before (somes (set os p None))))
-    (sort_each before (λ v. v.entered.place ≢ p) (somes (set os p None))
-    (placed_others os 0 p p (omega arith) r.placed))))
+    (sort_each before (λ w. place_of w ≢ p) (somes os) (seated_nobody place_of os p h r.placed)))
 
 pub one_found : (os : List (Option Waiting)) (busy : List Bool) (p : ℕ) (w : Waiting) → IsRight os busy
     → get_or os p None ≡ Some w → seek (reference_at p) (entered_of os) ≡ Some (found_at os p w)
@@ -146,21 +135,20 @@ unfolding found_at
 one_found os busy p w r h =
     ap (λ ws. seek (reference_at p) (map entered_in ws)) (taken_with before os p w h r.apart)
     ∙ ap (seek (reference_at p))
-    (map-append entered_in (below before (before w) (sort_by before (somes (set os p None))))
-    (w ∷ above before (before w) (sort_by before (somes (set os p None)))))
-    ∙ seek_here (reference_at p) (found_at os p w).earlier w.entered w.entered.reference (found_at os p w).later
-    (earlier_elsewhere os busy p w r)
-    (stands_here p w (placed_here os 0 p w h r.placed ∙ omega arith))
+    (map-append entered_in (before_seat before os p w) (w ∷ after_seat before os p w))
+    ∙ seek_around (reference_at p) (found_at os p w).earlier w.entered w.entered.reference (found_at os p w).later
+    (elsewhere p (before_seat before os p w)
+    (each_before before (λ v. place_of v ≢ p) os p w (seated_others place_of os 0 p p (omega arith) r.placed)))
+    (stands_here p w (seated_here place_of os 0 p w h r.placed ∙ omega arith))
 
 older_is : (os : List (Option Waiting)) (busy : List Bool) (p bank : ℕ) (w : Waiting) → IsRight os busy
     → get_or os p None ≡ Some w
     → list_any (waits_for_bank bank) (found_at os p w).earlier ≡ list_any (holds_older w.before bank) os
 unfolding found_at holds_older
 older_is os busy p bank w r h =
-    let ws = sort_by before (somes (set os p None)) in
-    any_map (waits_for_bank bank) entered_in (below before (before w) ws)
-    ∙ sym (any_earlier before (λ v. waits_for_bank bank v.entered) (below before (before w) ws) w
-    (above before (before w) ws)
+    any_map (waits_for_bank bank) entered_in (before_seat before os p w)
+    ∙ sym (any_earlier before (λ v. waits_for_bank bank v.entered) (before_seat before os p w) w
+    (after_seat before os p w)
     (subst (IsIncreasing before) (taken_with before os p w h r.apart) (sort_increasing before (somes os) r.apart)))
     ∙ ap (list_any (is_older w.before bank)) (sym (taken_with before os p w h r.apart))
     ∙ any_sort before (is_older w.before bank) (somes os)
@@ -220,13 +208,12 @@ pub accepted_view : (os : List (Option Waiting)) (busy : List Bool) (p : ℕ) (w
     ≡ accepted (queue_of os busy) (seek (reference_at p) (entered_of os))
 unfolding found_at accepted put_back
 accepted_view os busy p w r h =
-    let ws = sort_by before (somes (set os p None)) in
     ap (λ es. record { entered = es; busy = set busy (bank_of w.entered.reference.address) true })
     (ap (λ vs. map entered_in (sort_by before vs)) (somes_lowered w.before (set os p None))
     ∙ ap (map entered_in) (sort_lowered w.before (somes (set os p None)) (others_differ before os p w h r.apart))
-    ∙ entered_lowered w.before ws
+    ∙ entered_lowered w.before (sort_by before (somes (set os p None)))
     ∙ ap (map entered_in) (taken_without before (before w) os p)
-    ∙ map-append entered_in (below before (before w) ws) (above before (before w) ws))
+    ∙ map-append entered_in (before_seat before os p w) (after_seat before os p w))
     ∙ ap (accepted (queue_of os busy)) (sym (one_found os busy p w r h))
 
 pub accepted_right : (os : List (Option Waiting)) (busy : List Bool) (p bank : ℕ) (w : Waiting) → IsRight os busy
@@ -241,7 +228,7 @@ accepted_right os busy p bank w r h =
     record {
       all_places = length-map (set os p None) (lowered n) ∙ length-set os p None ∙ r.all_places;
       all_banks = length-set busy bank true ∙ r.all_banks;
-      placed = placed_lowered n 0 (set os p None) (placed_emptied os 0 p r.placed);
+      placed = placed_lowered n 0 (set os p None) (seated_empty place_of os 0 p r.placed);
       apart = subst (Pairs (λ u v. before u ≢ before v)) (sym s)
           (apart_lowered n others differ (own_taken before os p w h r.apart));
       counted =

@@ -2,10 +2,10 @@
 use Rattle.std.proofs.Common.{◌≡◌, ◌≢◌, ◌<◌, ◌≤◌, ◌-◌, ℕ, suc, Bool, true, false, cond, List, [], ◌∷◌, Option, Some, None, refl, ap, ◌∙◌, ltb, map, arith}
 use Rattle.std.proofs.lemmas.Bool.{ltb-true, ltb-false, lt-ltb, le-ltb}
 use Rattle.instruction_table.specs.Each.{Each, Pairs}
-use Rattle.instruction_table.specs.Order.{insert_by, sort_by, somes}
+use Rattle.instruction_table.specs.Order.{insert_by, sort_by, somes, IsSeated}
 use Rattle.instruction_table.proofs.Sorted.{sort_each}
 use Rattle.hopper.specs.declared.waiting.Waiting.{Waiting}
-use Rattle.hopper.specs.View.{entered_in, before, low, lower, lowered, IsPlaced}
+use Rattle.hopper.specs.View.{entered_in, before, low, lower, lowered, place_of}
 
 -- ---- numbers ----
 
@@ -115,7 +115,8 @@ somes_lowered n [] = refl
 somes_lowered n (None ∷ os) = somes_lowered n os
 somes_lowered n (Some w ∷ os) = ap (λ l. lower n w ∷ l) (somes_lowered n os)
 
-pub placed_lowered : (n k : ℕ) (os : List (Option Waiting)) → IsPlaced k os → IsPlaced k (map (lowered n) os)
+pub placed_lowered : (n k : ℕ) (os : List (Option Waiting)) → IsSeated place_of k os
+    → IsSeated place_of k (map (lowered n) os)
 unfolding lowered
 placed_lowered n k [] s = tt
 placed_lowered n k (None ∷ os) s = placed_lowered n (suc k) os s

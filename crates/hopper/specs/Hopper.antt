@@ -1,4 +1,5 @@
 -- The hopper's four places, and the banks that references wait for.
+-- Source: Thornton, stunt box; 60100000, central memory. That the lowest-numbered free place is taken is ours.
 use Rattle.std.specs.Prelude.{ℕ, ◌%◌, Bool, false, ◌==◌, if◌then◌else◌, List, [], ◌∷◌, Option, Some, None}
 use Rattle.relocation.specs.declared.area.Access.{Access}
 use Rattle.relocation.specs.declared.area.Access.TheVariants.{Load, Store}

@@ -1,3 +1,5 @@
+-- The definitions of the hopper: its places, the busy banks, and what is answered. Source: Thornton, stunt box;
+-- 60100000, central memory.
 pub mod Hopper
 pub mod Queue
 pub mod View

@@ -1,4 +1,5 @@
--- What a hopper answers, and what it is behind a change: of those that wait, in the order in which they entered.
+-- What a hopper answers, and what it is after a change: of those that wait, in the order in which they entered.
+-- Source: Thornton, stunt box; 60100000, central memory.
 use Rattle.std.specs.Prelude.{ℕ, Bool, true, false, ◌==◌, if◌then◌else◌, List, [], Option, Some, None, Result, Ok, Err, slice_index_or, slice_set}
 use Rattle.std.specs.List.{list_any}
 use Rattle.instruction_table.specs.declared.refusal.Refusal.{Refusal}
@@ -12,11 +13,12 @@ use Rattle.hopper.specs.Hopper.{bank_of, stores_to, free_place}
 pub record Queue : Type 0 where
   -- the references that wait, in the order in which they entered
   pub entered : List Entered
-  -- by bank
+  -- by the number of the bank, whether it is busy
   pub busy : List Bool
 
 -- ---- places ----
 
+-- it stands in the place
 unfoldable pub stands_at : ℕ → Entered → Bool
 stands_at p e = e.place == p
 
@@ -24,6 +26,7 @@ stands_at p e = e.place == p
 unfoldable pub reference_at : ℕ → Entered → Option Reference
 reference_at p e = if e.place == p then Some e.reference else None
 
+-- a reference stands in the place
 unfoldable pub is_taken : List Entered → ℕ → Bool
 is_taken es p = list_any (stands_at p) es
 
@@ -31,16 +34,19 @@ is_taken es p = list_any (stands_at p) es
 unfoldable pub place_for : List Entered → Option ℕ
 place_for es = free_place (is_taken es)
 
+-- E11, hopper full: all four places are taken; else the place that the reference takes
 unfoldable pub enter_answer : Option ℕ → Result ℕ Refusal
 enter_answer None = Err HopperFull
 enter_answer (Some p) = Ok p
 
 -- ---- banks ----
 
+-- it waits for the bank
 unfoldable pub waits_for_bank : ℕ → Entered → Bool
 waits_for_bank bank e = bank_of e.reference.address == bank
 
--- Nothing stands in the place, its bank is busy, or an older one waits for that bank.
+-- E15, nothing, where no reference stands in the place; E13, bank busy; E14, older in bank, where an older one waits
+-- for that bank; else the reference
 unfoldable pub accept_answer : List Bool → Option (Found Entered Reference) → Result Reference Refusal
 accept_answer busy None = Err Nothing
 accept_answer busy (Some f) =
@@ -52,6 +58,7 @@ unfoldable pub accepted : Queue → Option (Found Entered Reference) → Queue
 accepted q None = q
 accepted q (Some f) = record { entered = put_back f []; busy = slice_set q.busy (bank_of f.what.address) true }
 
+-- E15, nothing: the bank is not busy
 unfoldable pub free_answer : List Bool → ℕ → Result (Unit {0}) Refusal
 free_answer busy bank = if slice_index_or busy bank false then Ok tt else Err Nothing
 

@@ -1,4 +1,5 @@
 -- The line of an answer.
+-- Source: ours.
 use Rattle.std.specs.Prelude.{ℕ, List, [], ◌∷◌, codes, decimal, Some, None, Result, Ok, Err}
 use Rattle.std.specs.List.{concat}
 use Rattle.instruction_table.specs.declared.refusal.Refusal.{Refusal}
@@ -32,7 +33,8 @@ refusal_text refusals.OutOfMemory = codes "E21 out of memory"
 refusal_text refusals.MidWord = codes "E25 mid word"
 refusal_text other = []
 
--- a reservation's unit and number where an issue made one
+-- the line of an answer: `ok`, with a reservation's unit and number where an issue made one; or the refusal's number
+-- and what it says
 abbrev pub answer_line : Result Done Refusal → List ℕ
 answer_line (Ok (Issued (Some note))) = concat (codes "ok " ∷ unit_text note.unit ∷ codes " " ∷ decimal note.number ∷ codes "\n" ∷ [])
 answer_line (Ok (Issued None)) = codes "ok\n"

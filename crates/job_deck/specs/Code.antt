@@ -1,4 +1,5 @@
 -- The word of a `code` line.
+-- Source: ours; the texts and the parcels of the instructions are the manual's.
 use Rattle.std.specs.Prelude.{◌≡◌, ℕ, Bool, true, false, List, [], ◌∷◌, ◌++◌, Option, Some, None, ◌==◌, if◌then◌else◌, slice_index, slice_index_or}
 use Rattle.std.specs.List.{slice_split}
 use Rattle.parcel.specs.Parcels.{joined}
@@ -16,10 +17,12 @@ abbrev pub instr_in : List ℕ → Option Instr
 instr_in [] = None
 instr_in (b ∷ text) = if b == 32 then instr_of text else None
 
+-- these parcels and then the others, if the others are those of instructions
 abbrev pub put_before : List ℕ → Option (List ℕ) → Option (List ℕ)
 put_before parcels None = None
 put_before parcels (Some more) = Some (parcels ++ more)
 
+-- the parcels of an instruction, if there is one
 abbrev pub parcels_if : Option Instr → Option (List ℕ)
 parcels_if None = None
 parcels_if (Some instr) = Some (parcels_of instr)
@@ -28,6 +31,7 @@ parcels_if (Some instr) = Some (parcels_of instr)
 abbrev pub item_parcels : List ℕ → Option (List ℕ)
 item_parcels item = parcels_if (instr_in item)
 
+-- the parcels of an item and then those of the items after it, if each is an instruction's
 abbrev pub all_parcels : Option (List ℕ) → Option (List ℕ) → Option (List ℕ)
 all_parcels None more = None
 all_parcels (Some parcels) more = put_before parcels more
@@ -37,7 +41,7 @@ abbrev pub parcels_in : List (List ℕ) → Option (List ℕ)
 parcels_in [] = Some []
 parcels_in (item ∷ more) = all_parcels (item_parcels item) (parcels_in more)
 
--- these items, if it is so
+-- these items are what is found where the answer is yes; where it is no, nothing is
 abbrev pub OptionalItems : Bool → List ℕ → Option (List ℕ) → Type 0
 OptionalItems false items found = found ≡ None
 OptionalItems true items found = found ≡ Some items
@@ -46,6 +50,6 @@ OptionalItems true items found = found ≡ Some items
 abbrev pub parcel_or_pass : List ℕ → ℕ → ℕ
 parcel_or_pass parcels n = slice_index_or parcels n (slice_index (parcels_of Pass) 0)
 
--- the word of at most four parcels, filled up with passes
+-- the word of at most four parcels, filled up with `NO`
 abbrev pub word_of : List ℕ → ℕ
 word_of parcels = joined (parcel_or_pass parcels 0 ∷ parcel_or_pass parcels 1 ∷ parcel_or_pass parcels 2 ∷ parcel_or_pass parcels 3 ∷ [])

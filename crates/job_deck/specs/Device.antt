@@ -1,4 +1,5 @@
 -- What calls do to the bytes that an input has left and that an output holds, where those are known.
+-- Source: ours.
 use Rattle.std.specs.Prelude.{◌≡◌, ℕ, Bool, true, List, [], ◌∷◌, ◌++◌, Option, Some, None, Result, Ok, Err, ⊤}
 use Rattle.std.specs.Io.KnownBytes.{Appends}
 

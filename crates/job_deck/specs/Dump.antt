@@ -1,4 +1,5 @@
 -- The lines of a dump: octal numbers of as many digits as their kind has, and one space between fields.
+-- Source: ours; the names of the registers are the manual's.
 use Rattle.std.specs.Prelude.{ℕ, zero, suc, ◌+◌, ◌-◌, Bool, true, false, List, [], ◌∷◌, Option, Some, None, codes, decimal, slice_index, slice_index_or}
 use Rattle.std.specs.List.{flat_map, concat}
 use Rattle.word60.specs.Words.{octal_text}
@@ -11,31 +12,38 @@ use Rattle.sequential.specs.declared.place.Place.{Place}
 use Rattle.sequential.specs.declared.state.State.{State}
 use Rattle.job_deck.specs.Pieces.{reason_text, trimmed}
 
+-- the held word in twenty digits, or `none` where it isn't fetched yet
 abbrev pub held_text : Option ℕ → List ℕ
 held_text None = codes "none"
 held_text (Some word) = octal_text 20 word
 
+-- the line `P p PARCEL n HELD w`
 abbrev pub place_line : Place → List ℕ
 place_line place = concat (codes "P " ∷ octal_text 6 place.p ∷ codes " PARCEL " ∷ ((48 + place.parcel) ∷ []) ∷ codes " HELD " ∷ held_text place.held ∷ codes "\n" ∷ [])
 
+-- the first half of the line `HALT h FAULT f`: `running`, or why the machine is halted
 abbrev pub halt_text : Option Halt → List ℕ
 halt_text None = codes "HALT running"
 halt_text (Some halt) = concat (codes "HALT " ∷ reason_text halt ∷ [])
 
+-- the second half of that line: `address` for an address fault, or `none`
 abbrev pub fault_text : Bool → List ℕ
 fault_text true = codes " FAULT address\n"
 fault_text false = codes " FAULT none\n"
 
+-- the line `RA r FL l EM m`
 abbrev pub area_line : Area → List ℕ
 area_line area = concat (codes "RA " ∷ octal_text 6 area.ra ∷ codes " FL " ∷ octal_text 6 area.fl ∷ codes " EM " ∷ octal_text 6 area.mode ∷ codes "\n" ∷ [])
 
--- with a space before it
+-- a number in six digits, with a space before it
 abbrev pub spaced_index : ℕ → List ℕ
 spaced_index n = concat (codes " " ∷ octal_text 6 n ∷ [])
 
+-- a line of a name and numbers of six digits each
 abbrev pub index_line : List ℕ → List ℕ → List ℕ
 index_line name indexes = concat (name ∷ flat_map spaced_index indexes ∷ codes "\n" ∷ [])
 
+-- the line of X register n: its name and its word in twenty digits
 abbrev pub x_line : List ℕ → ℕ → List ℕ
 x_line x n = concat (codes "X" ∷ decimal n ∷ codes " " ∷ octal_text 20 (slice_index x n) ∷ codes "\n" ∷ [])
 
@@ -44,17 +52,19 @@ abbrev pub addresses : ℕ → ℕ → List ℕ
 addresses zero a = []
 addresses (suc n) a = a ∷ addresses n (a + 1)
 
--- X0 to X7
+-- the lines of X0 to X7
 unfoldable pub x_lines : List ℕ → List ℕ
 x_lines x = flat_map (x_line x) (addresses 8 0)
 
+-- the lines of P, of halt and fault, and of RA, FL and EM
 abbrev pub state_lines : State → List ℕ
 state_lines s = concat (place_line s.place ∷ halt_text s.halt ∷ fault_text s.fault ∷ area_line s.area ∷ [])
 
--- B0 is always +0
+-- the lines of A, B and X; B0 is always +0
 abbrev pub register_lines : RegisterFile → List ℕ
 register_lines r = concat (index_line (codes "A") r.a ∷ index_line (codes "B 000000") r.b ∷ x_lines r.x ∷ [])
 
+-- the line `M a w` of the word at an address
 abbrev pub word_line : List ℕ → ℕ → List ℕ
 word_line memory a = concat (codes "M " ∷ octal_text 6 a ∷ codes " " ∷ octal_text 20 (slice_index_or memory a 0) ∷ codes "\n" ∷ [])
 
@@ -62,15 +72,17 @@ word_line memory a = concat (codes "M " ∷ octal_text 6 a ∷ codes " " ∷ oct
 abbrev pub show_lines : List ℕ → ℕ × ℕ → List ℕ
 show_lines memory show = flat_map (word_line memory) (addresses (show.1 + 1 - show.0) show.0)
 
--- with a space before it
+-- an entry of the log with a space before it: `E` and octal digits, or `I` and decimal digits
 abbrev pub spaced_entry : Entry → List ℕ
 spaced_entry (entries.Exchange a) = concat (codes " E" ∷ trimmed (octal_text 20 a) ∷ [])
 spaced_entry (entries.Issued n) = concat (codes " I" ∷ decimal n ∷ [])
 
+-- the entries of the log, or `none` where there are none
 abbrev pub log_text : List Entry → List ℕ
 log_text [] = codes " none"
 log_text (entry ∷ more) = flat_map spaced_entry (entry ∷ more)
 
+-- the line `LOG t`
 abbrev pub log_line : List Entry → List ℕ
 log_line log = concat (codes "LOG" ∷ log_text log ∷ codes "\n" ∷ [])
 

@@ -1,4 +1,5 @@
 -- What the parts of holding a session answer, read and write.
+-- Source: ours.
 use Rattle.std.specs.Prelude.{◌≡◌, ℕ, Bool, true, false, List, ◌++◌, Option, Result, Ok, Err}
 use Rattle.std.specs.Io.KnownBytes.{Keeps, Appends}
 use Rattle.instruction_table.specs.declared.refusal.Refusal.{Refusal}
@@ -18,13 +19,14 @@ use Rattle.job_deck.specs.declared.session.SessionError.{SessionError}
 use Rattle.job_deck.specs.declared.session.SessionError.TheVariants as errors
 use Rattle.job_deck.specs.Told.{IsTaken, WritesCut}
 
+-- why a session ended, as the refusal that is printed: `E20` for a line and its fault, `E21`, `E22` or `E23`
 abbrev pub refusal_of : SessionError → Refusal
 refusal_of (errors.Line n fault) = refusals.Deck n fault
 refusal_of errors.OutOfMemory = refusals.OutOfMemory
 refusal_of errors.Read = refusals.Read
 refusal_of errors.Write = refusals.Write
 
--- whether the error is that a read failed, or a write
+-- whether the error is that a read failed (`E22`)
 abbrev pub is_read_error : {T : Type 0} → Result T SessionError → Bool
 is_read_error (Ok x) = false
 is_read_error (Err (errors.Line n fault)) = false
@@ -32,6 +34,7 @@ is_read_error (Err errors.OutOfMemory) = false
 is_read_error (Err errors.Read) = true
 is_read_error (Err errors.Write) = false
 
+-- whether the error is that a write failed (`E23`)
 abbrev pub is_write_error : {T : Type 0} → Result T SessionError → Bool
 is_write_error (Ok x) = false
 is_write_error (Err (errors.Line n fault)) = false

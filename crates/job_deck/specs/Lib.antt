@@ -1,3 +1,6 @@
+-- What the program reads and prints. Device, Said, Views, Reading, Told and Holding tie the answers of its parts to
+-- that.
+-- Source: ours.
 pub mod Device
 pub mod Image
 pub mod Line

@@ -1,4 +1,5 @@
 -- The lines of some bytes.
+-- Source: ours.
 use Rattle.std.specs.Prelude.{◌≡◌, ◌≢◌, ℕ, ◌≤◌, ◌<◌, List, [], ◌∷◌, ◌++◌, length, All, ◌⊎◌, ◌==◌, if◌then◌else◌}
 use Rattle.job_deck.specs.declared.line.Took.{Took}
 use Rattle.job_deck.specs.declared.line.Took.TheVariants.{Whole, Long, Nothing}
@@ -8,7 +9,8 @@ abbrev pub onto : ℕ → List (List ℕ × List ℕ) → List (List ℕ × List
 onto b [] = (b ∷ [], []) ∷ []
 onto b (line ∷ lines) = (b ∷ line.0, line.1) ∷ lines
 
--- the lines of the bytes, without their line ends, each with the bytes after it: a byte 10 ends a line, and so does the end of the bytes where a line has begun
+-- the lines of the bytes, without their line ends, each with the bytes after it: a byte 10 ends a line, and so does
+-- the end of the bytes where a line has begun
 abbrev pub lines_of : List ℕ → List (List ℕ × List ℕ)
 lines_of [] = []
 lines_of (b ∷ bytes) = if b == 10 then ([], bytes) ∷ lines_of bytes else onto b (lines_of bytes)

@@ -1,4 +1,5 @@
 -- The lines of a listing: each word that a deck placed, with what its parcels say.
+-- Source: ours; the texts and the codes of the instructions are the manual's.
 use Rattle.std.specs.Prelude.{◌≡◌, Bool, true, Option, Result, Ok, Err, ℕ, zero, suc, ◌+◌, ◌==◌, if◌then◌else◌, false, List, [], ◌∷◌, ◌++◌, codes, length, nat_lt, slice_index_or}
 use Rattle.std.specs.List.{flat_map, concat}
 use Rattle.word60.specs.Words.{octal_text}
@@ -15,13 +16,13 @@ use Rattle.job_deck.specs.Image.{Placed}
 use Rattle.job_deck.specs.Pieces.{code_text}
 use Rattle.job_deck.specs.Dump.{addresses}
 
--- a legal instruction's text; or a question mark and why there is none
+-- a legal instruction's text; or `?` and the code of an opcode that is refused; or `?straddle`
 abbrev pub item_text : Decoded → List ℕ
 item_text (Legal instr next) = spelling instr
 item_text (Refused op) = codes "?" ++ code_text op
 item_text Straddle = codes "?straddle"
 
--- the parcel behind an item; an opcode that is refused counts as one parcel
+-- the parcel after an item; an opcode that is refused counts as one parcel
 abbrev pub behind : ℕ → Decoded → ℕ
 behind parcel (Legal instr next) = next
 behind parcel (Refused op) = parcel + 1
@@ -37,13 +38,15 @@ items_from zero word parcel = []
 items_from (suc more) word parcel =
     if nat_lt parcel 4 then separator parcel ++ (item_text (reading_at word parcel) ++ items_from more word (behind parcel (reading_at word parcel))) else []
 
--- a word has at most four
+-- the items of a word, which has at most four
 unfoldable pub items_text : ℕ → List ℕ
 items_text word = items_from 4 word 0
 
+-- the address in six digits and the word in twenty, with a space after each
 abbrev pub placed_word : ℕ → ℕ → List ℕ
 placed_word address word = concat (octal_text 6 address ∷ codes " " ∷ octal_text 20 word ∷ codes " " ∷ [])
 
+-- the line of a word: its address, the word and its items
 abbrev pub listed_word : ℕ → ℕ → List ℕ
 listed_word address word = concat (placed_word address word ∷ items_text word ∷ codes "\n" ∷ [])
 
@@ -51,7 +54,7 @@ listed_word address word = concat (placed_word address word ∷ items_text word 
 abbrev pub listed : Placed → ℕ → List ℕ
 listed image address = if slice_index_or image.placed address false then listed_word address (slice_index_or image.memory address 0) else []
 
--- in order of address
+-- the lines of the words that the deck placed, in order of address
 abbrev pub listing : Placed → List ℕ
 listing image = flat_map (listed image) (addresses (length image.memory) 0)
 
@@ -66,11 +69,12 @@ Lists (Err refusals.Write) (Good plan n after) rest old new = (rest ≡ after) �
 Lists (Err refusals.Write) (Bad n fault) rest old new = ⊥
 Lists (Err other) reading rest old new = ⊥
 
--- whether the answer is that a read failed, or a write
+-- whether the answer is that a read failed (`E22`)
 abbrev pub is_read_refusal : {T : Type 0} → Result T Refusal → Bool
 is_read_refusal (Err refusals.Read) = true
 is_read_refusal other = false
 
+-- whether the answer is that a write failed (`E23`)
 abbrev pub is_write_refusal : {T : Type 0} → Result T Refusal → Bool
 is_write_refusal (Err refusals.Write) = true
 is_write_refusal other = false

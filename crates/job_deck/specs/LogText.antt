@@ -1,4 +1,5 @@
 -- What a log's text says.
+-- Source: ours.
 use Rattle.std.specs.Prelude.{◌≡◌, ℕ, ◌-◌, Bool, true, false, ◌||◌, ◌==◌, nat_lt, if◌then◌else◌, List, [], ◌∷◌, ◌++◌, Option, Some, None, codes}
 use Rattle.std.specs.Str.{bytes_eq}
 use Rattle.sequential.specs.declared.log.Entry.{Entry}
@@ -23,16 +24,17 @@ has_nought_in_front (d ∷ e ∷ more) = d == 48
 abbrev pub plain_number : ℕ → ℕ → List ℕ → Option ℕ
 plain_number base most digits = if has_nought_in_front digits then None else number_of base most digits
 
+-- the entry of an exchange, if its address is a number and one more exchange may come
 abbrev pub exchange_in : Allowance → Option ℕ → Option Entry
 exchange_in left None = None
 exchange_in left (Some n) = if left.exchanges == 0 then None else Some (Exchange n)
 
--- a count isn't 0, and doesn't stand beside another
+-- the entry of a count, which isn't 0, doesn't stand beside another, and is at most what is left of the instructions
 abbrev pub count_in : Allowance → Option ℕ → Option Entry
 count_in left None = None
 count_in left (Some n) = if left.after_count || (n == 0) || nat_lt left.instructions n then None else Some (Count n)
 
--- `E` and one to six octal digits, or `I` and decimal digits
+-- the entry of a field: `E` and one to six octal digits, or `I` and one to eight decimal digits
 abbrev pub entry_in : Allowance → List ℕ → Option Entry
 entry_in left [] = None
 entry_in left (letter ∷ digits) =
@@ -50,10 +52,12 @@ abbrev pub spent : Allowance → Entry → Allowance
 spent left (Exchange n) = record { after_count = false; instructions = left.instructions; exchanges = left.exchanges - 1 }
 spent left (Count n) = record { after_count = true; instructions = left.instructions - n; exchanges = left.exchanges }
 
+-- these steps and then the others, if the others are steps of a log
 abbrev pub put_steps : List LogStep → Option (List LogStep) → Option (List LogStep)
 put_steps steps None = None
 put_steps steps (Some more) = Some (steps ++ more)
 
+-- the steps of an entry and then those of the entries after it, if each is one that may come
 abbrev pub with_entry : Option Entry → (Entry → Option (List LogStep)) → Option (List LogStep)
 with_entry None more = None
 with_entry (Some entry) more = put_steps (steps_of (entry ∷ [])) (more entry)
@@ -63,7 +67,7 @@ abbrev pub steps_in : Allowance → List (List ℕ) → Option (List LogStep)
 steps_in left [] = Some []
 steps_in left (field ∷ more) = with_entry (entry_in left field) (λ entry. steps_in (spent left entry) more)
 
--- `none`, or entries with one space between them
+-- the steps of a log's text: `none`, or entries with one space between them; any other text is refused as `bad log`
 unfoldable pub log_in : List ℕ → Option (List LogStep)
 log_in text = if bytes_eq text (codes "none") then Some [] else steps_in whole_allowance (fields_of text)
 

@@ -1,4 +1,5 @@
--- The names of units and registers, and why a machine stands.
+-- The names of units and registers.
+-- Source: ours; the names of the registers are the manual's.
 use Rattle.std.specs.Prelude.{ℕ, ◌+◌, List, [], ◌∷◌, Option, Some, None, codes, if◌then◌else◌}
 use Rattle.std.specs.Str.{bytes_eq}
 use Rattle.instruction_table.specs.declared.instr.Reg.{Reg}
@@ -6,6 +7,7 @@ use Rattle.instruction_table.specs.declared.instr.Reg.TheVariants.{X, A, B}
 use Rattle.instruction_table.specs.declared.instr.Unit.{Unit as FunctionalUnit}
 use Rattle.instruction_table.specs.declared.instr.Unit.TheVariants.{Branch, Boolean, Shift, Add, LongAdd, Multiply1, Multiply2, Divide, Increment1, Increment2}
 
+-- the name of a unit in a schedule and in an answer
 abbrev pub unit_text : FunctionalUnit → List ℕ
 unit_text Branch = codes "branch"
 unit_text Boolean = codes "boolean"
@@ -18,7 +20,7 @@ unit_text Divide = codes "divide"
 unit_text Increment1 = codes "increment1"
 unit_text Increment2 = codes "increment2"
 
--- the unit with this name
+-- the unit with this name, if there is one
 abbrev pub unit_named : List ℕ → Option FunctionalUnit
 unit_named name =
     if bytes_eq name (unit_text Branch) then Some Branch
@@ -33,7 +35,7 @@ unit_named name =
     else if bytes_eq name (unit_text Increment2) then Some Increment2
     else None
 
--- a letter and a digit
+-- a letter and a digit, as `X1`
 abbrev pub register_text : Reg → List ℕ
 register_text (X n) = 88 ∷ (48 + n) ∷ []
 register_text (A n) = 65 ∷ (48 + n) ∷ []

@@ -1,4 +1,5 @@
--- The text of a piece.
+-- The texts of the pieces that a printed line is made of: numbers, names, opcodes, and why a machine is halted.
+-- Source: ours; the codes of opcodes and the names of the registers are the manual's.
 use Rattle.std.specs.Prelude.{ℕ, ◌+◌, List, [], ◌∷◌, codes, decimal, ◌==◌, if◌then◌else◌}
 use Rattle.std.specs.List.{flat_map, concat}
 use Rattle.word60.specs.Words.{octal_text}
@@ -21,13 +22,14 @@ abbrev pub code_text : Op → List ℕ
 code_text (Plain f m) = (48 + f) ∷ (48 + m) ∷ []
 code_text (Extended f m i) = (48 + f) ∷ (48 + m) ∷ (48 + i) ∷ []
 
--- why a machine stands
+-- why a machine is halted: `stop`, `illegal CODE`, `straddle` or `fetch`
 abbrev pub reason_text : Halt → List ℕ
 reason_text Stop = codes "stop"
 reason_text (Illegal op) = concat (codes "illegal " ∷ code_text op ∷ [])
 reason_text Straddle = codes "straddle"
 reason_text FetchRange = codes "fetch"
 
+-- the text of a piece
 abbrev pub text_of : Piece → List ℕ
 text_of (Text bytes) = bytes.now
 text_of (Opcode op) = code_text op
@@ -40,5 +42,6 @@ text_of (Word n) = octal_text 20 n
 text_of (Address n) = trimmed (octal_text 20 n)
 text_of (Count n) = decimal n
 
+-- the texts of some pieces, one after another
 abbrev pub text_of_all : List Piece → List ℕ
 text_of_all pieces = flat_map text_of pieces

@@ -1,4 +1,5 @@
 -- What reading a deck answers.
+-- Source: ours.
 use Rattle.std.specs.Prelude.{◌≡◌, ℕ, ◌<◌, ◌≤◌, List, [], ◌∷◌, length, Bool, true, false, Result, Ok, Err, ⊤}
 use Rattle.job_deck.specs.Deck.{Reading, Good, Bad, Judged, Goes, Ends, Faulty}
 use Rattle.job_deck.specs.Views.{plan, sketch}
@@ -30,7 +31,8 @@ GivesDeck (Err refusals.OutOfMemory) reading rest = ⊤
 GivesDeck (Err refusals.Read) reading rest = ⊤
 GivesDeck (Err other) reading rest = ⊥
 
--- the line that comes next, line n, is refused with this error: there is none, or it is too long
+-- the line that comes next, line n, is refused with this error: there is none (`no end`), or it is too long (`long`);
+-- of a failed read nothing is claimed
 abbrev pub Refuses : ℕ → DeckError → List (List ℕ × List ℕ) → Type 0
 Refuses n (errors.Deck m fault) [] = (m ≡ n) × (fault ≡ faults.NoEnd)
 Refuses n (errors.Deck m fault) (line ∷ more) = (m ≡ n) × (fault ≡ faults.Long) × (200 < length line.0)
@@ -43,6 +45,7 @@ FollowsErr n (errors.Deck m fault) judged = (m ≡ n) × (judged ≡ Faulty faul
 FollowsErr n errors.OutOfMemory judged = ⊤
 FollowsErr n errors.Read judged = ⊥
 
+-- the answer for line n is what the line does to a deck, unless memory ran out
 abbrev pub Follows : ℕ → Result Step DeckError → Judged → Type 0
 Follows n (Ok (steps.Goes d)) judged = judged ≡ Goes (sketch d)
 Follows n (Ok (steps.Ends d)) judged = judged ≡ Ends (plan d)
@@ -54,7 +57,7 @@ GivesRefusal (errors.Deck n fault) refusal = refusal ≡ refusals.Deck n fault
 GivesRefusal errors.OutOfMemory refusal = refusal ≡ refusals.OutOfMemory
 GivesRefusal errors.Read refusal = refusal ≡ refusals.Read
 
--- the bytes behind the deck, where it has an end, are at most so many
+-- the bytes after the deck, where it has an end, are at most so many
 abbrev pub EndsWithin : ℕ → Reading → Type 0
 EndsWithin k (Good plan n after) = length after ≤ k
 EndsWithin k (Bad n fault) = ⊤

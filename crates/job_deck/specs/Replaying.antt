@@ -1,4 +1,5 @@
 -- What replaying a log on a deck answers and writes.
+-- Source: ours.
 use Rattle.std.specs.Prelude.{◌≡◌, ℕ, List, Option, Some, None, Result, Ok, Err}
 use Rattle.std.specs.Io.KnownBytes.{Keeps, Appends}
 use Rattle.instruction_table.specs.declared.refusal.Refusal.{Refusal}
@@ -11,18 +12,21 @@ use Rattle.job_deck.specs.Device.{WritesFront}
 use Rattle.job_deck.specs.Dump.{dump_text}
 use Rattle.job_deck.specs.LogText.{log_in}
 
+-- what going through a log's text gives
 pub data Replayed : Type 0 where
-  -- the text is no log's
+  -- the text is no log's: `bad log`
   BadLog : Replayed
-  -- the package of an exchange doesn't lie in memory
+  -- the package of an exchange doesn't lie in memory: `E19 package range`
   Undefined : Replayed
-  -- the state behind these steps
+  -- the state after these steps, and the steps
   Reaches : State → List LogStep → Replayed
 
+-- the state after these steps, if the package of each exchange lies in memory
 abbrev pub reached : List LogStep → Option State → Replayed
 reached steps None = Undefined
 reached steps (Some state) = Reaches state steps
 
+-- what the steps give on this memory, if the text was that of a log
 abbrev pub replayed_steps : List ℕ → Option (List LogStep) → Replayed
 replayed_steps memory None = BadLog
 replayed_steps memory (Some steps) = reached steps (replay (boot memory) steps)
@@ -40,7 +44,7 @@ Prints (Err refusals.Write) (Reaches state steps) shows old new = WritesFront ol
 Prints (Err refusals.OutOfMemory) replayed shows old new = Keeps old new
 Prints other replayed shows old new = ⊥
 
--- the same from a deck's bytes on, of which these are left
+-- the same from a deck's bytes on, of which these are left; a fault of the deck comes before one of the log
 abbrev pub Replays : Result (Option State) Refusal → Reading → List ℕ → List ℕ → Option (List ℕ) → Option (List ℕ) → Type 0
 Replays (Err (refusals.Deck m fault)) reading rest text old new = (reading ≡ Bad m fault) × Keeps old new
 Replays (Err refusals.Read) reading rest text old new = Keeps old new

@@ -1,8 +1,10 @@
--- What a line of the code says.
+-- What a deck's line says, as the program has taken it apart.
+-- Source: ours.
 use Rattle.job_deck.specs.Deck.{Said, SaysCore, SaysAt, SaysWord, SaysCode, SaysStart, SaysShow, SaysAsk, SaysEnd, SaysNothing}
 use Rattle.job_deck.specs.declared.parsing.Line.{Line}
 use Rattle.job_deck.specs.declared.parsing.Line.TheVariants as lines
 
+-- what the line says by its fields
 abbrev pub said : Line → Said
 said (lines.Core w) = SaysCore w.now
 said (lines.At a) = SaysAt a.now

@@ -1,4 +1,5 @@
 -- What a line of a schedule says, or what is wrong with it.
+-- Source: ours.
 use Rattle.std.specs.Prelude.{ℕ, List, [], ◌∷◌, length, Option, Some, None, nat_lt, if◌then◌else◌, codes}
 use Rattle.std.specs.Str.{bytes_eq}
 use Rattle.instruction_table.specs.declared.instr.Unit.{Unit as FunctionalUnit}
@@ -10,17 +11,18 @@ use Rattle.job_deck.specs.Names.{unit_named}
 use Rattle.job_deck.specs.declared.schedule.Spoken.{Spoken}
 use Rattle.job_deck.specs.declared.schedule.Spoken.TheVariants.{Makes, Ends, Drains, Faulty}
 
--- the event with the unit, or there is no such unit
+-- the event with the unit, or the fault `unknown` where there is no such unit
 abbrev pub with_unit : Option FunctionalUnit → (FunctionalUnit → Event) → Spoken
 with_unit None event = Faulty faults.Unknown
 with_unit (Some unit) event = Makes (event unit)
 
--- the event with the number, or it is none
+-- the event with the number, or the fault `number` where there is none; that it names no place, channel, bank or
+-- package is no fault of the line
 abbrev pub with_number : Option ℕ → (ℕ → Event) → Spoken
 with_number None event = Faulty faults.Number
 with_number (Some n) event = Makes (event n)
 
--- a line of one field
+-- a line of one field: `issue`, `exchange`, `end` or `drain`; any other has the fault `unknown`
 abbrev pub spoken_alone : List ℕ → Spoken
 spoken_alone word =
     if bytes_eq word (codes "issue") then Makes events.Issue
@@ -29,7 +31,7 @@ spoken_alone word =
     else if bytes_eq word (codes "drain") then Drains
     else Faulty faults.Unknown
 
--- a line of two fields: places, channels and banks are decimal, addresses octal
+-- a line of two fields with a number: places, channels and banks are decimal, addresses octal
 abbrev pub spoken_number : List ℕ → List ℕ → Spoken
 spoken_number word field =
     if bytes_eq word (codes "accept") then with_number (number_of 10 2 field) events.Accept
@@ -38,6 +40,7 @@ spoken_number word field =
     else if bytes_eq word (codes "ask") then with_number (number_of 8 6 field) events.Ask
     else Faulty faults.Unknown
 
+-- a line of two fields: after `read`, `finish` and `store` comes a unit, else a number
 abbrev pub spoken_with : List ℕ → List ℕ → Spoken
 spoken_with word field =
     if bytes_eq word (codes "read") then with_unit (unit_named field) events.Read
@@ -45,6 +48,7 @@ spoken_with word field =
     else if bytes_eq word (codes "store") then with_unit (unit_named field) events.Store
     else spoken_number word field
 
+-- what a line says by its fields; with more than two of them it has the fault `unknown`
 abbrev pub spoken_of : List (List ℕ) → Spoken
 spoken_of [] = Faulty faults.Unknown
 spoken_of (word ∷ []) = spoken_alone word
@@ -55,7 +59,8 @@ spoken_of (word ∷ field ∷ other ∷ more) = Faulty faults.Unknown
 abbrev pub spoken : List ℕ → Spoken
 spoken text = spoken_of (fields_of text)
 
--- what line n says, the first of these lines, of which each comes with the bytes after it
+-- what line n says, the first of these lines, of which each comes with the bytes after it: past line 10,000,000 the
+-- fault is `lines`, where no line is left before that `no end`, and in a line of more than 200 bytes `long`
 abbrev pub heard : ℕ → List (List ℕ × List ℕ) → Spoken
 heard n [] = Faulty (if nat_lt 10000000 n then faults.Lines else faults.NoEnd)
 heard n (line ∷ more) =

@@ -1,4 +1,5 @@
 -- A session: a line of the schedule, a line of the answer, and so on to the last line and what it writes.
+-- Source: ours.
 use Rattle.std.specs.Prelude.{◌≡◌, ◌⊎◌, ℕ, ◌+◌, true, false, List, [], ◌∷◌, length, codes, Some, Result}
 use Rattle.std.specs.List.{flat_map, concat}
 use Rattle.instruction_table.specs.declared.refusal.Refusal.{Refusal}
@@ -6,7 +7,8 @@ use Rattle.sequential.specs.Log.{entries_of}
 use Rattle.machine.specs.declared.event.Done.{Done}
 use Rattle.machine.specs.declared.event.Event.{Event}
 use Rattle.machine.specs.Run.{IsAnswer, IsAnswered, settled_all}
-use Rattle.machine.specs.Whole.{Whole, is_pending, replayed}
+use Rattle.in_flight.specs.Lookup.{is_pending}
+use Rattle.machine.specs.Whole.{Whole, replayed}
 use Rattle.machine.specs.Working.{Works}
 use Rattle.job_deck.specs.AnswerText.{answer_line}
 use Rattle.job_deck.specs.Dump.{dump_text, log_line}
@@ -20,11 +22,15 @@ Says n [] lines left = lines ≡ left
 Says n (e ∷ events) [] left = ⊥
 Says n (e ∷ events) (line ∷ lines) left = (heard n (line ∷ lines) ≡ Makes e) × Says (n + 1) events lines left
 
--- a session so far, with machine w and these lines from line n on: the first lines said events, and each event got an answer that may be given
+-- a session so far, with machine w and these lines from line n on: the first lines said events, and each event got an
+-- answer that may be given
 pub record Session (w : Whole) (n : ℕ) (lines : List (List ℕ × List ℕ)) : Type 0 where
+  -- the events that the first lines say, one a line
   pub events : List Event
+  -- the lines after those
   pub left : List (List ℕ × List ℕ)
   pub said : Says n events lines left
+  -- the answer to each of these events
   pub answers : List (Result Done Refusal)
   pub answered : IsAnswered w events answers
   -- the machine that the answers leave
@@ -39,22 +45,27 @@ pub record Session (w : Whole) (n : ℕ) (lines : List (List ℕ × List ℕ)) :
 
 -- the dump of a drained machine, whose state is the replay of its log
 pub record IsDump (w : Whole) (shows : List (ℕ × ℕ)) (text : List ℕ) : Type 0 where
+  -- no issued instruction has an effect still to come
   pub drained : is_pending w.pending ≡ false
+  -- the machine that does one instruction at a time comes from boot to this state by the log
   pub replay : replayed w ≡ Some w.state
+  -- the state, the words of each `show` line, and the log
   pub dump : text ≡ dump_text w.state (entries_of w.log) shows
 
--- of a machine that isn't drained only the log is shown
+-- of a machine that isn't drained only the line `NOT DRAINED` and the log line are printed
 abbrev pub not_drained_text : Whole → List ℕ
 not_drained_text w = concat (codes "NOT DRAINED\n" ∷ log_line (entries_of w.log) ∷ [])
 
--- what may be written for what a line says: an answer's line; at the end the dump, or that the machine isn't drained; and the dump of the machine to which at most forty accepted events lead that neither issue nor exchange
+-- what may be written for what a line says: an answer's line; at `end` the dump, or that the machine isn't drained; at
+-- `drain` the dump of the machine to which at most forty accepted events lead, none of them an issue, a request or an
+-- exchange
 abbrev pub IsReply : Spoken → Whole → List (ℕ × ℕ) → List ℕ → Type 0
 IsReply (Makes e) w shows text = (answer : Result Done Refusal) × IsAnswer w e answer × (text ≡ answer_line answer)
 IsReply Ends w shows text = IsDump w shows text ⊎ ((is_pending w.pending ≡ true) × (text ≡ not_drained_text w))
 IsReply Drains w shows text = (v : Whole) × (count : ℕ) × Works w v count × IsDump v shows text
 IsReply (Faulty fault) w shows text = ⊥
 
--- no line comes after it
+-- the line ends the session: it says `end` or `drain`
 abbrev pub IsLast : Spoken → Type 0
 IsLast (Makes e) = ⊥
 IsLast Ends = Unit {0}

@@ -1,4 +1,5 @@
 -- Fields and numbers in a line.
+-- Source: ours.
 use Rattle.std.specs.Prelude.{ℕ, List, [], length, drop, Option, Some, None, nat_lt, nat_le, ◌==◌, ◌&&◌, if◌then◌else◌}
 use Rattle.std.specs.Borrow.{Bor}
 use Rattle.std.specs.List.{slice_split, list_all, position_or_len}

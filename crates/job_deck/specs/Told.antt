@@ -1,4 +1,5 @@
 -- What holding a session answers, reads and writes.
+-- Source: ours.
 use Rattle.std.specs.Prelude.{◌≡◌, ◌⊎◌, ℕ, ◌+◌, ◌≤◌, length, List, ◌∷◌, ◌++◌, Option, Result, Ok, Err}
 use Rattle.std.specs.Io.KnownBytes.{Keeps, Appends}
 use Rattle.instruction_table.specs.declared.refusal.Refusal.{Refusal}
@@ -20,7 +21,9 @@ IsTaken lines rest = (line : List ℕ) × (lines ≡ (line, rest) ∷ lines_of r
 abbrev pub WritesCut : Option (List ℕ) → Option (List ℕ) → List ℕ → List ℕ → Type 0
 WritesCut old new text last = (front : List ℕ) × (rest : List ℕ) × (last ≡ front ++ rest) × Appends old new (text ++ front)
 
--- a session with machine w from line n on: an `Ok` has written it all, and leaves what follows its last line; at a fault, a failed read and want of memory for the dump each line before has its whole answer; a failed write has cut the reply to the line that was read last
+-- a session with machine w from line n on: an `Ok` has written it all, and leaves what follows its last line; at a
+-- fault, a failed read and want of memory for the dump each line before has its whole answer; a failed write has cut
+-- the reply to the line that was read last
 abbrev pub Tells : Result (Unit {0}) SessionError → Whole → ℕ → List (ℕ × ℕ) → List ℕ → List ℕ → Option (List ℕ) → Option (List ℕ) → Type 0
 Tells (Ok x) w n shows xs rest old new =
     (s : Session w n (lines_of xs)) × (text : List ℕ) × IsLast (heard s.number s.left) × IsReply (heard s.number s.left) s.machine shows text × IsTaken s.left rest × Appends old new (s.text ++ text)
@@ -30,11 +33,12 @@ Tells (Err errors.Read) w n shows xs rest old new = (s : Session w n (lines_of x
 Tells (Err errors.Write) w n shows xs rest old new =
     (s : Session w n (lines_of xs)) × (text : List ℕ) × IsReply (heard s.number s.left) s.machine shows text × IsTaken s.left rest × WritesCut old new s.text text
 
--- nothing was written, and nothing read of the bytes behind the deck
+-- nothing was written, and nothing read of the bytes after the deck
 abbrev pub HasNotBegun : List ℕ → List ℕ → Option (List ℕ) → Option (List ℕ) → Type 0
 HasNotBegun after rest old new = (length after ≤ length rest) × Keeps old new
 
--- the same of a deck with its schedule: the session of a machine that was booted with the deck's memory, from the line behind the deck on; memory may run out and a read may fail before it begins
+-- the same of a deck with its schedule: the session of a machine that was booted with the deck's memory, from the line
+-- after the deck on; memory may run out and a read may fail before it begins
 abbrev pub Performs : Result (Unit {0}) Refusal → ℕ → Reading → List ℕ → Option (List ℕ) → Option (List ℕ) → Type 0
 Performs (Ok x) budget (Good plan n after) rest old new = Tells (Ok x) (boot_whole plan.image.memory budget) (n + 1) plan.shows after rest old new
 Performs (Ok x) budget (Bad n fault) rest old new = ⊥

@@ -1,5 +1,5 @@
 ghost use Rattle.std.specs.Prelude.{◌≡◌, ◌||◌, true, false};
-ghost use Rattle.machine.specs.Whole.{is_pending};
+ghost use Rattle.in_flight.specs.Lookup.{is_pending};
 ghost use Rattle.sequential.specs.Log.{entries_of};
 ghost use Rattle.job_deck.specs.Device.{Writes, failed_after};
 ghost use Rattle.job_deck.specs.Dump.{log_line};

@@ -1,6 +1,6 @@
 -- A drained machine goes on: nothing that it does not ask for keeps it from the next instruction, or from an exchange.
-use Rattle.std.proofs.Common.{◌≡◌, ◌<◌, ◌≤◌, ℕ, Bool, true, false, cond, leb-true, List, [], ◌∷◌, Option, Some, None, refl, sym, ap, ◌∙◌, subst, arith}
-use Rattle.std.specs.Prelude.{◌&&◌, ◌||◌, IsSome, is_none, is_some, nat_le, not, unwrap_or}
+use Rattle.std.proofs.Common.{◌≡◌, ◌<◌, ◌≤◌, ℕ, Bool, true, false, cond, leb-true, List, [], ◌∷◌, Option, Some, None, refl, ap, ◌∙◌, arith}
+use Rattle.std.specs.Prelude.{◌&&◌, ◌||◌, IsSome, is_none, is_some, nat_le, not}
 use Rattle.std.specs.List.{list_any}
 use Rattle.instruction_table.specs.declared.instr.Reg.{Reg}
 use Rattle.instruction_table.specs.declared.instr.UnitKind.{UnitKind}
@@ -32,9 +32,11 @@ use Rattle.sequential.specs.Place.{moved_on}
 use Rattle.sequential.specs.Step.{fetch, fetched_by, fetched_from, here, met, word_seen}
 use Rattle.instruction_table.specs.Decoding.{reading_at}
 use Rattle.machine.specs.declared.event.Event.TheVariants.{Issue, Exchange as MakeExchange}
-use Rattle.machine.specs.declared.member.Member.{Member}
-use Rattle.machine.specs.Member.{awaited, row_of}
-use Rattle.machine.specs.Whole.{Test, Whole, allowed, exchange_tests, fetch_waits, is_pending, issue_tests, refusal_of, row_tests, tests_of, unit_for, waits_at}
+use Rattle.in_flight.specs.declared.member.Member.{Member}
+use Rattle.in_flight.specs.Member.{awaited}
+use Rattle.in_flight.specs.Tests.{Test, refusal_of, row_tests, unit_for}
+use Rattle.machine.specs.Whole.{Whole, allowed, exchange_tests, fetch_waits, issue_tests, tests_of, waits_at}
+use Rattle.in_flight.specs.Lookup.{is_pending}
 use Rattle.machine.proofs.Theorem.{not_pending}
 
 none_fails : (ts : List Test) → Each (λ t. t.fails ≡ false) ts → refusal_of ts ≡ None
@@ -126,7 +128,7 @@ fetched_unit b memory place = from_unit place.p place.parcel (word_seen b memory
 -- ---- nothing is pending ----
 
 kind_free : (kind : UnitKind) → is_none (unit_for [] (Some kind)) ≡ false
-unfolding unit_for conflict.free_unit conflict.first_free conflict.is_held units_of
+unfolding conflict.unit_for conflict.free_unit conflict.first_free conflict.is_held units_of
 kind_free Branch = refl
 kind_free Boolean = refl
 kind_free Shift = refl

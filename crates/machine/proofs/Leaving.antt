@@ -4,7 +4,6 @@ use Rattle.std.specs.Prelude.{IfSome, is_none}
 use Rattle.instruction_table.specs.declared.instr.Unit.{Unit as FunctionalUnit}
 use Rattle.instruction_table.specs.Each.{Each}
 use Rattle.instruction_table.specs.Shape.{Shape, Puts, Loads, Stores, Jumps, Links, shape_of, has_reference}
-use Rattle.relocation.specs.declared.area.Access.{Access}
 use Rattle.relocation.specs.declared.area.Access.TheVariants.{Load as LoadInto, Store as StoreWord}
 use Rattle.scoreboard.specs.Issued.{channel_of}
 use Rattle.sequential.specs.State.{Bounds, bounds_of, absolute}
@@ -12,18 +11,18 @@ use Rattle.sequential.specs.Work.{address_in, word_in, reference_for, work_of}
 use Rattle.sequential.specs.declared.work.ProgramReference.{ProgramReference}
 use Rattle.unit_ops.specs.declared.UnitValue.{UnitValue}
 use Rattle.machine.specs.declared.event.Event.TheVariants.{Store as StoreResult}
-use Rattle.machine.specs.declared.in_flight.Rest.{Rest}
-use Rattle.machine.specs.declared.member.Later.{Later}
-use Rattle.machine.specs.declared.member.Member.{Member}
-use Rattle.machine.specs.declared.member.Stage.{Stage}
-use Rattle.machine.specs.declared.member.Stage.TheVariants.{Waiting, Read as HasRead, Finished}
-use Rattle.machine.specs.Boarded.{left_to_return}
-use Rattle.machine.specs.InFlight.{later_of, IsRestOf}
-use Rattle.machine.specs.Member.{returning}
-use Rattle.machine.specs.SlotView.{sought}
+use Rattle.in_flight.specs.declared.flight.Rest.{Rest}
+use Rattle.in_flight.specs.declared.member.Member.{Member}
+use Rattle.in_flight.specs.declared.member.Stage.{Stage}
+use Rattle.in_flight.specs.declared.member.Stage.TheVariants.{Finished}
+use Rattle.in_flight.specs.Board.{left_to_return}
+use Rattle.in_flight.specs.Flight.{later_of, IsRestOf}
+use Rattle.in_flight.specs.Member.{returning}
+use Rattle.in_flight.specs.Lookup.{sought, enters, place_for, stage_at}
 use Rattle.instruction_table.specs.Finding.{Found, seek}
-use Rattle.machine.specs.Whole.{Whole, allowed, entering, enters, place_for, refusal_of, rest_of, stage_at, store_tests, tests_found, tests_of}
-use Rattle.machine.proofs.Finding.{no_sought, not_nothing, refusal_none, sought_member, sought_what}
+use Rattle.machine.specs.Whole.{Whole, allowed, entering, rest_of, store_tests, tests_of}
+use Rattle.in_flight.specs.Tests.{refusal_of, tests_found}
+use Rattle.in_flight.proofs.Finding.{no_sought, refusal_none, sought_member, sought_what}
 use Rattle.machine.proofs.Making.{bounds_at}
 
 load_returns : (o : Option ℕ) (n : ℕ) → left_to_return (entering 0 o (LoadInto n)) ≡ Some n

@@ -1,4 +1,4 @@
-use crate::fixtures::{Case, MADE, NO_UNIT, Standing, a, b, issued, x};
+use crate::test_fixtures::{Case, MADE, NO_UNIT, Standing, a, b, issued, x};
 use crate::{Answer, Event};
 use instruction_table::{Halt, Refusal, Unit};
 use sequential::Entry;

@@ -2,8 +2,8 @@
 use Rattle.std.proofs.Common.{◌≡◌, ◌<◌, ◌≤◌, ℕ, zero, suc, Bool, true, false, cond, List, [], ◌∷◌, ◌++◌, Option, Some, None, refl, sym, ap, ◌∙◌, subst, eqb, get_or, set, length, arith}
 use Rattle.std.specs.Prelude.{is_some, ◌&&◌, ◌||◌, IfSome, unwrap_or, find, Ok, Err}
 use Rattle.std.specs.List.{list_any}
-use Rattle.std.proofs.lemmas.Bool.{eqb-true, eqb-false, le-ltb, lt-ltb, or_parts}
-use Rattle.std.proofs.lemmas.List.{get_or-set_same, get_or-set_other}
+use Rattle.std.proofs.lemmas.Bool.{eq-eqb, eqb-true, eqb-false, le-ltb, lt-ltb, or_parts}
+use Rattle.std.proofs.lemmas.List.{length-set, length-append, set-append_left, get_or_append_left, get_or-set_same, get_or-set_other}
 use Rattle.std.proofs.lemmas.List.Folds.{list_any-append}
 use Rattle.instruction_table.specs.declared.instr.Instr.{Instr}
 use Rattle.instruction_table.specs.declared.instr.Reg.{Reg}
@@ -15,75 +15,30 @@ use Rattle.instruction_table.specs.declared.refusal.Refusal.TheVariants.{UnitBus
 use Rattle.instruction_table.specs.RegisterLists.{is_in}
 use Rattle.instruction_table.specs.Shape.{shape_of, puts_of, results}
 use Rattle.instruction_table.specs.Table.{row, sources_of, reg_eq}
-use Rattle.scoreboard.specs.Conflicts.{awaited, is_held, first_free, free_unit, first_such}
-use Rattle.scoreboard.specs.Rows.{comes, to_come, to_come_in}
-use Rattle.scoreboard.specs.Units.{unit_number, units_of}
+use Rattle.scoreboard.specs.Conflicts.{awaited, is_held, first_free, free_unit, unit_for, first_such}
+use Rattle.scoreboard.specs.Rows.{comes, to_come, to_come_in, holds}
+use Rattle.scoreboard.specs.Units.{unit_number, same_unit, units_of, may_take, first_unit}
 use Rattle.scoreboard.specs.declared.issued.Issued.{Issued}
 use Rattle.scoreboard.specs.declared.writer.Writer.{Writer}
 use Rattle.scoreboard.specs.declared.writer.Writer.TheVariants.{OfUnit, OfChannel}
 use Rattle.scoreboard.specs.declared.writers.Writers.{Writers}
-use Rattle.scoreboard.specs.Answers.{Standing, new_issued, holds_unit, unit_for, first_unit, reserve_answer, reserved}
+use Rattle.scoreboard.specs.Answers.{Standing, new_issued, reserve_answer, reserved}
 use Rattle.instruction_table.specs.Each.{Each, Pairs}
 use Rattle.scoreboard.specs.Fields.{writers_with, is_taken, free_for}
 use Rattle.scoreboard.specs.Issued.{row_of, number_of, channel_of, written_by_channel, written_in, written_by, or_else, first_some, if_earlier, writer_of, writer_before}
-use Rattle.instruction_table.specs.Order.{sort_by, somes}
-use Rattle.scoreboard.specs.View.{standing_of, seated, seat_in, seat_of, IsSeated, IsOther, AreProducers, first_produced, IsRight}
-use Rattle.scoreboard.specs.Writers.{IsRegister, writer_at, set_writer, set_each}
+use Rattle.instruction_table.specs.Order.{sort_by, somes, IsSeated}
+use Rattle.scoreboard.specs.View.{standing_of, seated, seat_in, seat_of, IsOther, IsOfKind, AreProducers, first_produced, IsRight}
+use Rattle.scoreboard.specs.Writers.{IsRegister, writer_at, set_writer}
 use Rattle.instruction_table.proofs.Lists.{each_map}
-use Rattle.instruction_table.proofs.Seats.{within, sort_new}
+use Rattle.instruction_table.proofs.Seats.{within, seated_fill, sort_new}
 use Rattle.instruction_table.proofs.Sorted.{any_sort, before_place, behind_place, somes-at}
+use Rattle.scoreboard.proofs.Registers.{AreSized, reg_eq_same, set_gives, set_sized, each_sized, each_gives}
 use Rattle.scoreboard.proofs.Writing.{some_any, any_same, some_written, all_earlier}
-use Rattle.scoreboard.proofs.Seating.{get_front, set_front, length_set, seated_fill, pairs_put, each_here, each_put, writer_put, unit_below}
-use Rattle.scoreboard.proofs.Standing.{unit_seat, nobody_holds, here_holds, produced_found, any_find}
-use Rattle.scoreboard.proofs.Right.{right_again, length_joined}
+use Rattle.scoreboard.proofs.Seating.{pairs_put, each_here, each_put, writer_put, unit_below}
+use Rattle.scoreboard.proofs.Standing.{none_any, unit_seat, nobody_holds, here_holds, produced_found, any_find}
+use Rattle.scoreboard.proofs.Right.{right_again, producers_same}
 
 -- ---- the registers' writers ----
-
-abbrev AreSized : Writers → Type 0
-AreSized ws = (length ws.x ≡ 8) × (length ws.a ≡ 8) × (length ws.b ≡ 8)
-
-get_set : (os : List (Option Writer)) (m n : ℕ) (o : Option Writer) → length os ≡ 8 → m < 8 → get_or (set os m o) n None ≡ cond (eqb n m) o (get_or os n None)
-get_set os m n o l b = by_test (eqb n m) refl
-  where
-    by_test : (t : Bool) → eqb n m ≡ t → get_or (set os m o) n None ≡ cond t o (get_or os n None)
-    by_test true e = ap (λ k. get_or (set os m o) k None) (eqb-true n m e) ∙ get_or-set_same os m o None (omega (arith, l, b))
-    by_test false e = get_or-set_other os m n o None (eqb-false n m e)
-
-set_gives : (ws : Writers) (s r : Reg) (o : Option Writer) → AreSized ws → IsRegister s → writer_at (set_writer ws s o) r ≡ cond (reg_eq r s) o (writer_at ws r)
-unfolding writer_at set_writer
-set_gives ws (X m) (X n) o l b = get_set ws.x m n o l.0 b
-set_gives ws (X m) (A n) o l b = refl
-set_gives ws (X m) (B n) o l b = refl
-set_gives ws (A m) (X n) o l b = refl
-set_gives ws (A m) (A n) o l b = get_set ws.a m n o l.1 b
-set_gives ws (A m) (B n) o l b = refl
-set_gives ws (B m) (X n) o l b = refl
-set_gives ws (B m) (A n) o l b = refl
-set_gives ws (B m) (B n) o l b = get_set ws.b m n o l.2 b
-
-set_sized : (ws : Writers) (s : Reg) (o : Option Writer) → AreSized ws → AreSized (set_writer ws s o)
-unfolding set_writer
-set_sized ws (X m) o l = (length_set ws.x m o ∙ l.0, l.1, l.2)
-set_sized ws (A m) o l = (l.0, length_set ws.a m o ∙ l.1, l.2)
-set_sized ws (B m) o l = (l.0, l.1, length_set ws.b m o ∙ l.2)
-
-each_sized : (rs : List Reg) (ws : Writers) (o : Option Writer) → AreSized ws → AreSized (set_each ws rs o)
-each_sized [] ws o l = l
-each_sized (r ∷ rs) ws o l = each_sized rs (set_writer ws r o) o (set_sized ws r o l)
-
-each_gives : (rs : List Reg) (ws : Writers) (r : Reg) (o : Option Writer) → AreSized ws → Each IsRegister rs → writer_at (set_each ws rs o) r ≡ cond (is_in rs r) o (writer_at ws r)
-unfolding is_in
-each_gives [] ws r o l v = refl
-each_gives (s ∷ rs) ws r o l v =
-    each_gives rs (set_writer ws s o) r o (set_sized ws s o l) v.1
-    ∙ ap (λ q. cond (is_in rs r) o q) (set_gives ws s r o l v.0)
-    ∙ by_tests (reg_eq r s) (is_in rs r)
-  where
-    by_tests : (p q : Bool) → cond q o (cond p o (writer_at ws r)) ≡ cond (p || q) o (writer_at ws r)
-    by_tests true true = refl
-    by_tests true false = refl
-    by_tests false true = refl
-    by_tests false false = refl
 
 with_sized : (ws : Writers) (u : FunctionalUnit) (rs : List Reg) (c : Option ℕ) → AreSized ws → AreSized (writers_with ws u rs c)
 unfolding writers_with
@@ -127,17 +82,6 @@ pub first_awaited : (units channels : List (Option Issued)) (producers : List (L
 first_awaited units channels producers ws last rs ps o right h v e =
     e ∙ produced_found (writer_at ws) rs ps h ∙ find_valid (λ r. is_some (writer_at ws r)) (awaited row_of (sort_by number_of (seated units channels))) (λ r k. awaited_field units channels producers ws last right r k) rs v
 
-reg_eq_same : (r s : Reg) → reg_eq r s ≡ true → r ≡ s
-reg_eq_same (X m) (X n) h = ap X (eqb-true m n h)
-reg_eq_same (A m) (A n) h = ap A (eqb-true m n h)
-reg_eq_same (B m) (B n) h = ap B (eqb-true m n h)
-reg_eq_same (X m) (A n) h = cc
-reg_eq_same (X m) (B n) h = cc
-reg_eq_same (A m) (X n) h = cc
-reg_eq_same (A m) (B n) h = cc
-reg_eq_same (B m) (X n) h = cc
-reg_eq_same (B m) (A n) h = cc
-
 -- where none passes, each fails
 found_none : (test : Reg → Bool) (rs : List Reg) → find test rs ≡ None → (r : Reg) → is_in rs r ≡ true → test r ≡ false
 unfolding is_in
@@ -162,10 +106,6 @@ fresh units channels i u n h r k =
 
 -- ---- the unit ----
 
-none_any : (t : Issued → Bool) (ys : List Issued) → Each (λ y. t y ≡ false) ys → list_any t ys ≡ false
-none_any t [] h = refl
-none_any t (y ∷ ys) h = ap (λ b. b || list_any t ys) h.0 ∙ none_any t ys h.1
-
 or_true : (b : Bool) → (b || true) ≡ true
 or_true true = refl
 or_true false = refl
@@ -178,22 +118,22 @@ any_here t os i x h e =
     ∙ or_true (list_any t (before_place os i))
 
 -- a unit is held where its seat is taken
-held_taken : (units channels : List (Option Issued)) (producers : List (List (Option Writer))) (ws : Writers) (last : ℕ) → IsRight units channels producers ws last → (u : FunctionalUnit) → is_taken units u ≡ is_held row_of (sort_by number_of (seated units channels)) u
-unfolding seated is_held row_of holds_unit
-held_taken units channels producers ws last right u = by_seat (get_or units (unit_number u) None) refl ∙ sym (any_sort number_of (holds_unit u) (somes (units ++ channels)))
+pub held_taken : (units channels : List (Option Issued)) (producers : List (List (Option Writer))) (ws : Writers) (last : ℕ) → IsRight units channels producers ws last → (u : FunctionalUnit) → is_taken units u ≡ is_held row_of (sort_by number_of (seated units channels)) u
+unfolding seated is_held row_of
+held_taken units channels producers ws last right u = by_seat (get_or units (unit_number u) None) refl ∙ sym (any_sort number_of (λ y. holds u y.row) (somes (units ++ channels)))
   where
-    by_seat : (o : Option Issued) → get_or units (unit_number u) None ≡ o → is_some o ≡ list_any (holds_unit u) (somes (units ++ channels))
-    by_seat None e = sym (none_any (holds_unit u) (somes (units ++ channels)) (nobody_holds u (units ++ channels) (unit_number u) refl (unit_seat units channels u (unit_number u) None right.all_units refl e) right.sits))
+    by_seat : (o : Option Issued) → get_or units (unit_number u) None ≡ o → is_some o ≡ list_any (λ y. holds u y.row) (somes (units ++ channels))
+    by_seat None e = sym (none_any (λ y. holds u y.row) (somes (units ++ channels)) (nobody_holds u (units ++ channels) (unit_number u) refl (unit_seat units channels u (unit_number u) None right.all_units refl e) right.sits))
     by_seat (Some x) e =
         let here = unit_seat units channels u (unit_number u) (Some x) right.all_units refl e in
-        sym (any_here (holds_unit u) (units ++ channels) (unit_number u) x here (here_holds u (units ++ channels) (unit_number u) x refl here right.sits))
+        sym (any_here (λ y. holds u y.row) (units ++ channels) (unit_number u) x here (here_holds u (units ++ channels) (unit_number u) x refl here right.sits))
 
 first_free_same : (f g : FunctionalUnit → Bool) → ((u : FunctionalUnit) → f u ≡ g u) → (us : List FunctionalUnit) → first_free f us ≡ first_free g us
 unfolding first_free
 first_free_same f g h [] = refl
 first_free_same f g h (u ∷ us) = ap (λ b. cond b (first_free f us) (Some u)) (h u) ∙ ap (λ o. cond (g u) o (Some u)) (first_free_same f g h us)
 
-pub free_same : (units channels : List (Option Issued)) (producers : List (List (Option Writer))) (ws : Writers) (last : ℕ) → IsRight units channels producers ws last → (k : Option UnitKind) → free_for (is_taken units) k ≡ unit_for (sort_by number_of (seated units channels)) k
+pub free_same : (units channels : List (Option Issued)) (producers : List (List (Option Writer))) (ws : Writers) (last : ℕ) → IsRight units channels producers ws last → (k : Option UnitKind) → free_for (is_taken units) k ≡ unit_for row_of (sort_by number_of (seated units channels)) k
 unfolding free_for unit_for free_unit
 free_same units channels producers ws last right None = refl
 free_same units channels producers ws last right (Some k) = first_free_same (is_taken units) (is_held row_of (sort_by number_of (seated units channels))) (held_taken units channels producers ws last right) (units_of k)
@@ -210,6 +150,23 @@ first_is_free f (v ∷ us) u h = by_test (first_is_free f us u) (f v) refl h
 none_there : (o : Option Issued) → is_some o ≡ false → o ≡ None
 none_there None h = refl
 none_there (Some x) h = cc
+
+-- it is one of them
+first_is_one : (f : FunctionalUnit → Bool) (us : List FunctionalUnit) (u : FunctionalUnit) → first_free f us ≡ Some u → list_any (same_unit u) us ≡ true
+unfolding first_free same_unit
+first_is_one f [] u h = cc
+first_is_one f (v ∷ us) u h = by_test (first_is_one f us u) (f v) h
+  where
+    by_test : (first_free f us ≡ Some u → list_any (same_unit u) us ≡ true) → (b : Bool) → cond b (first_free f us) (Some v) ≡ Some u → (same_unit u v || list_any (same_unit u) us) ≡ true
+    by_test rest true k = ap (λ b. same_unit u v || b) (rest k) ∙ or_true (same_unit u v)
+    by_test rest false k =
+        let q : v ≡ u = cc in
+        ap (λ w. same_unit u w || list_any (same_unit u) us) q ∙ ap (λ b. b || list_any (same_unit u) us) (eq-eqb (unit_number u) (unit_number u) refl)
+
+free_kind : (units : List (Option Issued)) (k : Option UnitKind) (u : FunctionalUnit) → free_for (is_taken units) k ≡ Some u → may_take k u ≡ true
+unfolding free_for may_take
+free_kind units None u h = cc
+free_kind units (Some k) u h = first_is_one (is_taken units) (units_of k) u h
 
 pub free_seat : (units : List (Option Issued)) (k : Option UnitKind) (u : FunctionalUnit) → free_for (is_taken units) k ≡ Some u → get_or units (unit_number u) None ≡ None
 unfolding free_for
@@ -240,7 +197,7 @@ reserved_answer s i o u n e t k =
 -- ---- what holds then ----
 
 front_seat : (units channels : List (Option Issued)) (j : ℕ) (z : Issued) → get_or units j None ≡ Some z → get_or (units ++ channels) j None ≡ Some z
-front_seat units channels j z h = get_front units channels j None (within units j z h) ∙ h
+front_seat units channels j z h = get_or_append_left units channels None j (within units j z h) ∙ h
 
 fresh_others : (last : ℕ) (y : Issued) (ys : List Issued) → y.number ≡ suc last → Each (λ x. x.number ≤ last) ys → ((r : Reg) → comes r y.row ≡ true → list_any (λ z. comes r z.row) ys ≡ false) → Each (IsOther y) ys
 unfolding number_of
@@ -268,11 +225,6 @@ producers_valid f g h [] ps v k = tt
 producers_valid f g h (r ∷ rs) [] v k = absurd k
 producers_valid f g h (r ∷ rs) (p ∷ ps) v k = (k.0 ∙ sym (h r v.0), producers_valid f g h rs ps v.1 k.1)
 
-producers_kept : (f g : Reg → Option Writer) → ((r : Reg) → g r ≡ f r) → (rs : List Reg) (ps : List (Option Writer)) → AreProducers f rs ps → AreProducers g rs ps
-producers_kept f g h [] ps k = tt
-producers_kept f g h (r ∷ rs) [] k = absurd k
-producers_kept f g h (r ∷ rs) (p ∷ ps) k = (k.0 ∙ sym (h r), producers_kept f g h rs ps k.1)
-
 new_written : (r : Reg) (i : Instr) (u : FunctionalUnit) (n : ℕ) → written_by r (new_issued i u n) ≡ cond (is_in (puts_of (shape_of i)) r) (Some (OfUnit u)) (written_by_channel r (channel_of (shape_of i)))
 unfolding written_by written_in new_issued
 new_written r i u n = refl
@@ -289,17 +241,22 @@ new_sources : (i : Instr) (u : FunctionalUnit) (n : ℕ) → sources_of (new_iss
 unfolding new_issued
 new_sources i u n = refl
 
+new_kind : (i : Instr) (u : FunctionalUnit) (n : ℕ) → may_take (row i).unit u ≡ true → IsOfKind (new_issued i u n)
+unfolding new_issued
+new_kind i u n h = h
+
 pub reserved_right : (units channels : List (Option Issued)) (producers : List (List (Option Writer))) (ws : Writers) (last : ℕ) (u : FunctionalUnit) (k : ℕ) (i : Instr) (ps : List (Option Writer)) → IsRight units channels producers ws last → k ≡ unit_number u → get_or units k None ≡ None
     → AreProducers (writer_at ws) (sources_of i) ps → Each IsRegister (sources_of i) → Each IsRegister (puts_of (shape_of i)) → IfSome (channel_of (shape_of i)) (λ n. n < 8)
-    → ((r : Reg) → comes r (new_issued i u (suc last)).row ≡ true → list_any (λ z. comes r z.row) (somes (units ++ channels)) ≡ false)
+    → ((r : Reg) → comes r (new_issued i u (suc last)).row ≡ true → list_any (λ z. comes r z.row) (somes (units ++ channels)) ≡ false) → may_take (row i).unit u ≡ true
     → IsRight (set units k (Some (new_issued i u (suc last)))) channels (set producers k ps) (writers_with ws u (puts_of (shape_of i)) (channel_of (shape_of i))) (suc last)
 unfolding seated writer_before or_else
-reserved_right units channels producers ws last u k i ps right e h made sources puts channel new =
+reserved_right units channels producers ws last u k i ps right e h made sources puts channel new kind =
     right_again (set units k (Some y)) channels (set os k (Some y)) (set producers k ps) (writers_with ws u (puts_of (shape_of i)) (channel_of (shape_of i))) (suc last)
-    (set_front units channels k (Some y) inside) (length_set units k (Some y) ∙ right.all_units) right.all_channels (length_set producers k ps ∙ right.all_producers) (with_sized ws u (puts_of (shape_of i)) (channel_of (shape_of i)) right.all_writers)
-    (seated_fill os 0 k y (new_seat i u (suc last) ∙ omega (arith, e)) right.sits)
+    (set-append_left units channels k (Some y) inside) (length-set units k (Some y) ∙ right.all_units) right.all_channels (length-set producers k ps ∙ right.all_producers) (with_sized ws u (puts_of (shape_of i)) (channel_of (shape_of i)) right.all_writers)
+    (seated_fill seat_of os 0 k y (new_seat i u (suc last) ∙ omega (arith, e)) right.sits)
     (pairs_put os k y empty room others right.apart)
     (each_put (λ z. z.number ≤ suc last) os k y empty room (omega (arith, number)) below_next)
+    (each_put IsOfKind os k y empty room (new_kind i u (suc last) kind) right.kinds)
     (λ r v. with_gives ws u (puts_of (shape_of i)) (channel_of (shape_of i)) r right.all_writers puts channel
     ∙ ap (λ o. or_else o (writer_at ws r)) (sym (new_written r i u (suc last)) ∙ sym (is_earlier (suc (suc last)) r y (omega (arith, number))))
     ∙ ap (or_else (if_earlier (suc (suc last)) (written_by r) y)) (right.written r v ∙ sym (all_earlier (suc last) r (somes os) below_next))
@@ -322,7 +279,7 @@ reserved_right units channels producers ws last u k i ps right e h made sources 
     empty = unit_seat units channels u k None right.all_units e h
 
     room : k < length os
-    room = let q = length_joined units channels in omega (arith, q, inside)
+    room = let q = length-append units channels in omega (arith, q, inside)
 
     others : Each (IsOther y) (somes os)
     others = fresh_others last y (somes os) number right.counted new
@@ -349,7 +306,7 @@ reserved_right units channels producers ws last u k i ps right e h made sources 
         let t : get_or units j None ≡ Some z = sym (get_or-set_other units k j (Some y) None (eqb-false j k b)) ∙ q in
         let n : z.number ≤ last = each_here (λ w. w.number ≤ last) os j z (front_seat units channels j z t) right.counted in
         subst (λ l. AreProducers (writer_before z.number (somes (set os k (Some y)))) (sources_of z.row.instr) l) (sym (get_or-set_other producers k j ps [] (eqb-false j k b)))
-        (producers_kept (writer_before z.number (somes os)) (writer_before z.number (somes (set os k (Some y)))) (λ r. same z.number r (omega (arith, n))) (sources_of z.row.instr) (get_or producers j []) (right.produced j z t))
+        (producers_same (writer_before z.number (somes os)) (writer_before z.number (somes (set os k (Some y)))) (λ r. same z.number r (omega (arith, n))) (sources_of z.row.instr) (get_or producers j []) (right.produced j z t))
 
 -- ---- what the board stands for then ----
 
@@ -360,10 +317,10 @@ reserved_view units channels producers ws last u k i right e h =
     let os : List (Option Issued) = units ++ channels in
     let y : Issued = new_issued i u (suc last) in
     let b = unit_below u in
-    let q = length_joined units channels in
+    let q = length-append units channels in
     let number = new_number i u (suc last) in
     ap (λ l. record { issued = l; last = suc last })
-    (ap (λ m. sort_by number_of (somes m)) (sym (set_front units channels k (Some y) (omega (arith, b, e, right.all_units))))
+    (ap (λ m. sort_by number_of (somes m)) (sym (set-append_left units channels k (Some y) (omega (arith, b, e, right.all_units))))
     ∙ sort_new number_of os k y (unit_seat units channels u k None right.all_units e h) (omega (arith, b, e, right.all_units, q)) (each_map (λ z. z.number ≤ last) (λ z. z.number < y.number) (λ z p. omega (arith, p, number)) (somes os) right.counted))
 
 -- ---- a new board ----
@@ -386,7 +343,7 @@ no_somes [] h = refl
 no_somes (None ∷ os) h = no_somes os h.1
 no_somes (Some x ∷ os) h = absurd (let q : Some x ≡ None = h.0 in cc)
 
-none_seated : (os : List (Option Issued)) (k : ℕ) → AreNone os → IsSeated k os
+none_seated : (os : List (Option Issued)) (k : ℕ) → AreNone os → IsSeated seat_of k os
 none_seated [] k h = tt
 none_seated (None ∷ os) k h = none_seated os (suc k) h.1
 none_seated (Some x ∷ os) k h = absurd (let q : Some x ≡ None = h.0 in cc)
@@ -406,6 +363,7 @@ none_right units channels producers ws hu hc hx ha hb lu lc lp lw =
     (none_seated (units ++ channels) 0 (none_join units channels hu hc))
     (subst (Pairs IsOther) (sym none) tt)
     (subst (Each (λ x. x.number ≤ 0)) (sym none) tt)
+    (subst (Each IsOfKind) (sym none) tt)
     (λ r v. writer_none ws r hx ha hb ∙ ap (λ l. writer_before (suc 0) l r) (sym none))
     (λ j z h. absurd (let q : None ≡ Some z = sym (none_at units j hu) ∙ h in cc))
 
@@ -428,22 +386,25 @@ first_found units channels producers ws last i rs ss ps q right h v er es eq =
     first_awaited units channels producers ws last ss ps q right (subst (λ l. AreProducers (writer_at ws) l ps) e h) (subst (Each IsRegister) e v) eq
     ∙ ap (find (awaited row_of (sort_by number_of (seated units channels)))) es
 
-pub unit_found : (units channels : List (Option Issued)) (producers : List (List (Option Writer))) (ws : Writers) (last : ℕ) (k : Option UnitKind) (o q : Option FunctionalUnit) → IsRight units channels producers ws last → o ≡ free_for (is_taken units) k → o ≡ q → unit_for (standing_of units channels last).issued k ≡ q
+pub unit_found : (units channels : List (Option Issued)) (producers : List (List (Option Writer))) (ws : Writers) (last : ℕ) (k : Option UnitKind) (o q : Option FunctionalUnit) → IsRight units channels producers ws last → o ≡ free_for (is_taken units) k → o ≡ q → unit_for row_of (standing_of units channels last).issued k ≡ q
 unit_found units channels producers ws last k o q right e h = sym (free_same units channels producers ws last right k) ∙ sym e ∙ h
 
 pub seat_found : (units : List (Option Issued)) (k : Option UnitKind) (o : Option FunctionalUnit) (u : FunctionalUnit) (i : ℕ) → o ≡ free_for (is_taken units) k → o ≡ Some u → i ≡ unit_number u → get_or units i None ≡ None
 seat_found units k o u i e h q = ap (λ m. get_or units m None) q ∙ free_seat units k u (sym e ∙ h)
 
+pub kind_found : (units : List (Option Issued)) (k : Option UnitKind) (o : Option FunctionalUnit) (u : FunctionalUnit) → o ≡ free_for (is_taken units) k → o ≡ Some u → may_take k u ≡ true
+kind_found units k o u e h = free_kind units k u (sym e ∙ h)
+
 pub new_right : (units channels : List (Option Issued)) (producers : List (List (Option Writer))) (ws ws' : Writers) (last n : ℕ) (u : FunctionalUnit) (k : ℕ) (i : Instr) (rs : List Reg) (ps : List (Option Writer)) (y : Issued) → IsRight units channels producers ws last → n ≡ suc last → k ≡ unit_number u → get_or units k None ≡ None
     → rs ≡ sources_of i → AreProducers (writer_at ws) rs ps → Each IsRegister rs → Each IsRegister (puts_of (shape_of i)) → IfSome (channel_of (shape_of i)) (λ m. m < 8)
     → find (awaited row_of (sort_by number_of (seated units channels))) (results (shape_of i)) ≡ None
-    → y ≡ new_issued i u n → ws' ≡ writers_with ws u (puts_of (shape_of i)) (channel_of (shape_of i))
+    → may_take (row i).unit u ≡ true → y ≡ new_issued i u n → ws' ≡ writers_with ws u (puts_of (shape_of i)) (channel_of (shape_of i))
     → IsRight (set units k (Some y)) channels (set producers k ps) ws' n
-new_right units channels producers ws ws' last n u k i rs ps y right en e h er made sources puts channel none ey ew =
+new_right units channels producers ws ws' last n u k i rs ps y right en e h er made sources puts channel none kind ey ew =
     subst (λ v. IsRight (set units k (Some y)) channels (set producers k ps) v n) (sym ew)
     (subst (λ v. IsRight (set units k (Some v)) channels (set producers k ps) (writers_with ws u (puts_of (shape_of i)) (channel_of (shape_of i))) n) (sym ey)
     (subst (λ m. IsRight (set units k (Some (new_issued i u m))) channels (set producers k ps) (writers_with ws u (puts_of (shape_of i)) (channel_of (shape_of i))) m) (sym en)
-    (reserved_right units channels producers ws last u k i ps right e h (subst (λ l. AreProducers (writer_at ws) l ps) er made) (subst (Each IsRegister) er sources) puts channel (fresh units channels i u (suc last) none))))
+    (reserved_right units channels producers ws last u k i ps right e h (subst (λ l. AreProducers (writer_at ws) l ps) er made) (subst (Each IsRegister) er sources) puts channel (fresh units channels i u (suc last) none) kind)))
 
 pub new_view : (units channels : List (Option Issued)) (producers : List (List (Option Writer))) (ws : Writers) (last n : ℕ) (u : FunctionalUnit) (k : ℕ) (i : Instr) (y : Issued) → IsRight units channels producers ws last → n ≡ suc last → k ≡ unit_number u → get_or units k None ≡ None → y ≡ new_issued i u n
     → standing_of (set units k (Some y)) channels n ≡ reserved (standing_of units channels last) i (Ok (u, n))

@@ -1,10 +1,10 @@
 -- What always holds of a board still holds behind each change.
-use Rattle.std.proofs.Common.{◌≡◌, ◌≢◌, ◌<◌, ◌≤◌, ◌+◌, ℕ, suc, Bool, true, false, cond, List, [], ◌∷◌, ◌++◌, Option, Some, None, refl, sym, ap, ◌∙◌, subst, eqb, ltb, map, get_or, set, length, arith}
+use Rattle.std.proofs.Common.{◌≡◌, ◌≢◌, ◌<◌, ◌≤◌, ◌+◌, ℕ, zero, suc, Bool, true, false, cond, List, [], ◌∷◌, ◌++◌, Option, Some, None, refl, sym, ap, ◌∙◌, subst, eqb, ltb, map, get_or, set, length, arith}
 use Rattle.std.specs.Prelude.{◌&&◌, ◌||◌, IfSome}
 use Rattle.std.proofs.lemmas.Bool.{eq-eqb, eqb-true, eqb-false}
-use Rattle.std.proofs.lemmas.List.{get_or-set_same, get_or-set_other}
+use Rattle.std.proofs.lemmas.List.{length-set, length-append, set-set, set-append_left, get_or-set_same, get_or-set_other}
 use Rattle.instruction_table.specs.declared.instr.Reg.{Reg}
-use Rattle.instruction_table.specs.declared.instr.Reg.TheVariants.{X, A, B}
+use Rattle.instruction_table.specs.declared.instr.Reg.TheVariants.{X}
 use Rattle.instruction_table.specs.declared.instr.Unit.{Unit as FunctionalUnit}
 use Rattle.instruction_table.specs.RegisterLists.{is_in}
 use Rattle.instruction_table.specs.Shape.{Shape, Puts, Loads, Stores, Jumps, Links, shape_of, puts_of, loads_of, results}
@@ -18,31 +18,33 @@ use Rattle.scoreboard.specs.declared.writer.Writer.TheVariants.{OfUnit, OfChanne
 use Rattle.scoreboard.specs.declared.writers.Writers.{Writers}
 use Rattle.scoreboard.specs.Answers.{in_progress}
 use Rattle.instruction_table.specs.Each.{Each, Pairs}
-use Rattle.scoreboard.specs.Fields.{channels_with}
-use Rattle.scoreboard.specs.Issued.{number_of, channel_of, written_by_channel, written_in, written_by, or_else, if_earlier, writer_of, writer_before}
-use Rattle.instruction_table.specs.Order.{somes}
-use Rattle.scoreboard.specs.View.{seated, seat_in, seat_of, IsSeated, IsOther, AreProducers, IsRight}
-use Rattle.scoreboard.specs.Writers.{IsRegister, writer_at, forget}
+use Rattle.scoreboard.specs.Fields.{channels_with, forget_in_taken}
+use Rattle.scoreboard.specs.Issued.{number_of, channel_of, written_by_channel, written_in, written_by, or_else, first_some, if_earlier, writer_of, writer_before}
+use Rattle.instruction_table.specs.Order.{somes, IsSeated}
+use Rattle.scoreboard.specs.View.{seated, seat_in, seat_of, IsOther, IsOfKind, AreProducers, IsRight}
+use Rattle.scoreboard.specs.Writers.{IsRegister, writer_at, set_writer, set_each, same_writer, forget}
 use Rattle.instruction_table.proofs.Lists.{each_map}
-use Rattle.instruction_table.proofs.Seats.{within}
-use Rattle.scoreboard.proofs.Writing.{all_earlier, producers_forget, get-map, unit_kept, channel_kept, left_written, returned_written}
-use Rattle.scoreboard.proofs.Seating.{set_front, set_back, set_again, length_set, seated_others, seated_here, seated_empty, seated_fill, sits_reserved, sits_returning, others_of, pairs_taken, pairs_put, each_taken, each_here, each_put, writer_put, writer_gone, writer_same}
+use Rattle.instruction_table.proofs.Seats.{within, seated_others, seated_here, seated_empty, seated_fill}
+use Rattle.scoreboard.proofs.Registers.{AreSized, reg_eq_same, set_gives, set_sized, each_sized, each_gives}
+use Rattle.scoreboard.proofs.Writing.{all_earlier, producers_forget, forget_first, earlier_forget, earlier_at, channel_no_unit, unit_kept, channel_kept, left_written, returned_written}
+use Rattle.scoreboard.proofs.Seating.{set_back, sits_reserved, sits_returning, others_of, pairs_taken, pairs_put, each_taken, each_here, each_put, writer_put, writer_taken, writer_gone, writer_same}
 use Rattle.scoreboard.proofs.Standing.{unit_seat, channel_seat}
 
 -- ---- from the seats as one list ----
 
 pub right_again : (units channels l : List (Option Issued)) (producers : List (List (Option Writer))) (ws : Writers) (last : ℕ) → l ≡ units ++ channels → length units ≡ 10 → length channels ≡ 8 → length producers ≡ 10 → (length ws.x ≡ 8) × (length ws.a ≡ 8) × (length ws.b ≡ 8)
-    → IsSeated 0 l → Pairs IsOther (somes l) → Each (λ x. x.number ≤ last) (somes l) → ((r : Reg) → IsRegister r → writer_at ws r ≡ writer_before (suc last) (somes l) r)
+    → IsSeated seat_of 0 l → Pairs IsOther (somes l) → Each (λ x. x.number ≤ last) (somes l) → Each IsOfKind (somes l) → ((r : Reg) → IsRegister r → writer_at ws r ≡ writer_before (suc last) (somes l) r)
     → ((j : ℕ) (z : Issued) → get_or units j None ≡ Some z → AreProducers (writer_before z.number (somes l)) (sources_of z.row.instr) (get_or producers j [])) → IsRight units channels producers ws last
 unfolding seated
-right_again units channels l producers ws last e lu lc lp lw s a n w p = record {
+right_again units channels l producers ws last e lu lc lp lw s a n k w p = record {
   all_units = lu;
   all_channels = lc;
   all_producers = lp;
   all_writers = lw;
-  sits = subst (IsSeated 0) e s;
+  sits = subst (IsSeated seat_of 0) e s;
   apart = subst (λ m. Pairs IsOther (somes m)) e a;
   counted = subst (λ m. Each (λ x. x.number ≤ last) (somes m)) e n;
+  kinds = subst (λ m. Each IsOfKind (somes m)) e k;
   written = λ r v. w r v ∙ all_earlier last r (somes l) n ∙ ap (λ m. writer_of (somes m) r) e;
   produced = λ j z h. subst (λ m. AreProducers (writer_before z.number (somes m)) (sources_of z.row.instr) (get_or producers j [])) e (p j z h);
 }
@@ -52,7 +54,7 @@ written_now : (units channels : List (Option Issued)) (producers : List (List (O
 unfolding seated
 written_now units channels producers ws last right r v = right.written r v ∙ sym (all_earlier last r (somes (units ++ channels)) right.counted)
 
-producers_same : (f g : Reg → Option Writer) → ((r : Reg) → g r ≡ f r) → (rs : List Reg) (ps : List (Option Writer)) → AreProducers f rs ps → AreProducers g rs ps
+pub producers_same : (f g : Reg → Option Writer) → ((r : Reg) → g r ≡ f r) → (rs : List Reg) (ps : List (Option Writer)) → AreProducers f rs ps → AreProducers g rs ps
 producers_same f g h [] ps k = tt
 producers_same f g h (r ∷ rs) [] k = absurd k
 producers_same f g h (r ∷ rs) (p ∷ ps) k = (k.0 ∙ sym (h r), producers_same f g h rs ps k.1)
@@ -87,10 +89,11 @@ marked_other x z b e k = other_less x (in_progress x (Reserved true)) z refl (λ
 pub marked_right : (units channels : List (Option Issued)) (producers : List (List (Option Writer))) (ws : Writers) (last : ℕ) (u : FunctionalUnit) (i : ℕ) (x : Issued) → IsRight units channels producers ws last → i ≡ unit_number u → get_or units i None ≡ Some x → IsRight (set units i (Some (in_progress x (Reserved true)))) channels producers ws last
 unfolding seated number_of in_progress
 marked_right units channels producers ws last u i x right e h =
-    right_again (set units i (Some y)) channels (set os i (Some y)) producers ws last (set_front units channels i (Some y) (within units i x h)) (length_set units i (Some y) ∙ right.all_units) right.all_channels right.all_producers right.all_writers
-    (seated_fill os 0 i y (marked_seat x reserved.0 reserved.1 ∙ seated_here os 0 i x here right.sits) right.sits)
+    right_again (set units i (Some y)) channels (set os i (Some y)) producers ws last (set-append_left units channels i (Some y) (within units i x h)) (length-set units i (Some y) ∙ right.all_units) right.all_channels right.all_producers right.all_writers
+    (seated_fill seat_of os 0 i y (marked_seat x reserved.0 reserved.1 ∙ seated_here seat_of os 0 i x here right.sits) right.sits)
     (subst (λ m. Pairs IsOther (somes m)) again (pairs_put (set os i None) i y empty room others (pairs_taken os i x here right.apart)))
     (subst (λ m. Each (λ z. z.number ≤ last) (somes m)) again (each_put (λ z. z.number ≤ last) (set os i None) i y empty room (each_here (λ z. z.number ≤ last) os i x here right.counted) (each_taken (λ z. z.number ≤ last) os i x here right.counted)))
+    (subst (λ m. Each IsOfKind (somes m)) again (each_put IsOfKind (set os i None) i y empty room (each_here IsOfKind os i x here right.kinds) (each_taken IsOfKind os i x here right.kinds)))
     (λ r v. written_now units channels producers ws last right r v ∙ sym (same (suc last) r))
     (λ j z k. by_place j z k (eqb j i) refl)
   where
@@ -104,16 +107,16 @@ marked_right units channels producers ws last u i x right e h =
     here = unit_seat units channels u i (Some x) right.all_units e h
 
     reserved : (b : Bool) × (x.row.progress ≡ Reserved b) × (same_unit x.row.unit u ≡ true)
-    reserved = sits_reserved u x (seated_here os 0 i x here right.sits ∙ omega (arith, e))
+    reserved = sits_reserved u x (seated_here seat_of os 0 i x here right.sits ∙ omega (arith, e))
 
     again : set (set os i None) i (Some y) ≡ set os i (Some y)
-    again = set_again os i None (Some y)
+    again = set-set os i None (Some y)
 
     empty : get_or (set os i None) i None ≡ None
     empty = get_or-set_same os i None None (within os i x here)
 
     room : i < length (set os i None)
-    room = let b = within os i x here in let q = length_set os i None in omega (arith, b, q)
+    room = let b = within os i x here in let q = length-set os i None in omega (arith, b, q)
 
     others : Each (IsOther y) (somes (set os i None))
     others = each_map (IsOther x) (IsOther y) (λ z k. marked_other x z reserved.0 reserved.1 k) (somes (set os i None)) (others_of os i x here right.apart)
@@ -135,30 +138,61 @@ marked_right units channels producers ws last u i x right e h =
 
 -- ---- somebody has written ----
 
-pub writers_forget : (w : Writer) (ws : Writers) (r : Reg) → writer_at (record { x = map (forget w) ws.x; a = map (forget w) ws.a; b = map (forget w) ws.b }) r ≡ forget w (writer_at ws r)
-unfolding writer_at forget
-writers_forget w ws (X n) = get-map (forget w) ws.x n None None refl
-writers_forget w ws (A n) = get-map (forget w) ws.a n None None refl
-writers_forget w ws (B n) = get-map (forget w) ws.b n None None refl
+length_forgotten : (w : Writer) (os : List (Option Issued)) (pss : List (List (Option Writer))) → length (forget_in_taken w os pss) ≡ length pss
+unfolding forget_in_taken
+length_forgotten w [] pss = refl
+length_forgotten w (o ∷ os) [] = refl
+length_forgotten w (None ∷ os) (ps ∷ pss) = ap suc (length_forgotten w os pss)
+length_forgotten w (Some x ∷ os) (ps ∷ pss) = ap suc (length_forgotten w os pss)
 
-length_mapped : {X Y : Type 0} (f : X → Y) (xs : List X) → length (map f xs) ≡ length xs
-length_mapped f [] = refl
-length_mapped f (x ∷ xs) = ap suc (length_mapped f xs)
+-- the producers of a unit that is taken
+forgotten_at : (w : Writer) (os : List (Option Issued)) (pss : List (List (Option Writer))) (j : ℕ) (z : Issued) → get_or os j None ≡ Some z → get_or (forget_in_taken w os pss) j [] ≡ map (forget w) (get_or pss j [])
+unfolding forget_in_taken
+forgotten_at w [] pss j z h = cc
+forgotten_at w (o ∷ os) [] j z h = refl
+forgotten_at w (None ∷ os) (ps ∷ pss) zero z h = cc
+forgotten_at w (Some x ∷ os) (ps ∷ pss) zero z h = refl
+forgotten_at w (None ∷ os) (ps ∷ pss) (suc j) z h = forgotten_at w os pss j z h
+forgotten_at w (Some x ∷ os) (ps ∷ pss) (suc j) z h = forgotten_at w os pss j z h
 
-pub length_joined : {K : Type 0} (xs ys : List K) → length (xs ++ ys) ≡ length xs + length ys
-length_joined [] ys = omega arith
-length_joined (x ∷ xs) ys = let e = length_joined xs ys in omega (arith, e)
-
-pub forgetting : (w : Writer) (units channels units' channels' l : List (Option Issued)) (producers : List (List (Option Writer))) (ws : Writers) (last : ℕ) → IsRight units channels producers ws last → l ≡ units' ++ channels' → length units' ≡ 10 → length channels' ≡ 8
-    → IsSeated 0 l → Pairs IsOther (somes l) → Each (λ x. x.number ≤ last) (somes l) → ((n : ℕ) (r : Reg) → writer_before n (somes l) r ≡ forget w (writer_before n (somes (units ++ channels)) r))
+pub forgetting : (w : Writer) (units channels units' channels' l : List (Option Issued)) (producers : List (List (Option Writer))) (ws ws' : Writers) (last : ℕ) → IsRight units channels producers ws last → l ≡ units' ++ channels' → length units' ≡ 10 → length channels' ≡ 8 → AreSized ws'
+    → IsSeated seat_of 0 l → Pairs IsOther (somes l) → Each (λ x. x.number ≤ last) (somes l) → Each IsOfKind (somes l) → ((n : ℕ) (r : Reg) → writer_before n (somes l) r ≡ forget w (writer_before n (somes (units ++ channels)) r))
+    → ((r : Reg) → IsRegister r → writer_at ws' r ≡ forget w (writer_at ws r))
     → ((j : ℕ) (z : Issued) → get_or units' j None ≡ Some z → get_or units j None ≡ Some z)
-    → IsRight units' channels' (map (map (forget w)) producers) (record { x = map (forget w) ws.x; a = map (forget w) ws.a; b = map (forget w) ws.b }) last
+    → IsRight units' channels' (forget_in_taken w units' producers) ws' last
 unfolding seated
-forgetting w units channels units' channels' l producers ws last right e lu lc s a n k t =
-    right_again units' channels' l (map (map (forget w)) producers) _ last e lu lc (length_mapped (map (forget w)) producers ∙ right.all_producers) (length_mapped (forget w) ws.x ∙ right.all_writers.0, length_mapped (forget w) ws.a ∙ right.all_writers.1, length_mapped (forget w) ws.b ∙ right.all_writers.2) s a n
-    (λ r v. writers_forget w ws r ∙ ap (forget w) (written_now units channels producers ws last right r v) ∙ sym (k (suc last) r))
-    (λ j z h. subst (λ ps. AreProducers (writer_before z.number (somes l)) (sources_of z.row.instr) ps) (sym (get-map (map (forget w)) producers j [] [] refl))
+forgetting w units channels units' channels' l producers ws ws' last right e lu lc lw s a n o k f t =
+    right_again units' channels' l (forget_in_taken w units' producers) ws' last e lu lc (length_forgotten w units' producers ∙ right.all_producers) lw s a n o
+    (λ r v. f r v ∙ ap (forget w) (written_now units channels producers ws last right r v) ∙ sym (k (suc last) r))
+    (λ j z h. subst (λ ps. AreProducers (writer_before z.number (somes l)) (sources_of z.row.instr) ps) (sym (forgotten_at w units' producers j z h))
     (producers_forget w (writer_before z.number (somes (units ++ channels))) (writer_before z.number (somes l)) (k z.number) (sources_of z.row.instr) (get_or producers j []) (right.produced j z (t j z h))))
+
+-- a register's field is cleared where the one in a seat has its writer entered there
+cleared : (w : Writer) (b : Bool) (units channels : List (Option Issued)) (producers : List (List (Option Writer))) (ws : Writers) (last : ℕ) (i : ℕ) (x : Issued) (r : Reg) → IsRight units channels producers ws last → IsRegister r → get_or (units ++ channels) i None ≡ Some x
+    → ((s : Reg) → Each (λ y. forget w (written_by s y) ≡ written_by s y) (somes (set (units ++ channels) i None)))
+    → ((rest : Option Writer) → forget w rest ≡ rest → cond b None (or_else (written_by r x) rest) ≡ forget w (or_else (written_by r x) rest))
+    → cond b None (writer_at ws r) ≡ forget w (writer_at ws r)
+unfolding writer_before seated
+cleared w b units channels producers ws last i x r right v h k step =
+    ap (λ o. cond b None o) entered ∙ step rest kept ∙ ap (forget w) (sym entered)
+  where
+    os : List (Option Issued)
+    os = units ++ channels
+
+    f : Issued → Option Writer
+    f = if_earlier (suc last) (written_by r)
+
+    rest : Option Writer
+    rest = first_some f (somes (set os i None))
+
+    kept : forget w rest ≡ rest
+    kept = forget_first w f (somes (set os i None)) (each_map (λ y. forget w (written_by r y) ≡ written_by r y) (λ y. forget w (f y) ≡ f y) (λ y q. earlier_forget w (suc last) r y q) (somes (set os i None)) (k r))
+
+    entered : writer_at ws r ≡ or_else (written_by r x) rest
+    entered =
+        written_now units channels producers ws last right r v
+        ∙ writer_taken (suc last) r os i x h right.apart
+        ∙ ap (λ o. or_else o rest) (earlier_at last r x (each_here (λ y. y.number ≤ last) os i x h right.counted))
 
 -- what was in a seat that was not emptied
 not_emptied : (units : List (Option Issued)) (i : ℕ) (j : ℕ) (z : Issued) → i < length units → get_or (set units i None) j None ≡ Some z → get_or units j None ≡ Some z
@@ -195,6 +229,17 @@ gone_written w os i x h p g k n r =
 
 -- ---- a load has returned ----
 
+field_returned : (n : ℕ) (r : Reg) (x : Issued) (rest : Option Writer) → x.row.progress ≡ Left (Some n) → forget (OfChannel n) rest ≡ rest → cond (reg_eq r (X n)) None (or_else (written_by r x) rest) ≡ forget (OfChannel n) (or_else (written_by r x) rest)
+unfolding written_by written_in written_by_channel forget same_writer or_else
+field_returned n r x rest e k =
+    ap (λ p. cond (reg_eq r (X n)) None (or_else (written_in r x.row.unit (shape_of x.row.instr) p) rest)) e
+    ∙ by_test (reg_eq r (X n))
+    ∙ ap (λ p. forget (OfChannel n) (or_else (written_in r x.row.unit (shape_of x.row.instr) p) rest)) (sym e)
+  where
+    by_test : (b : Bool) → cond b None (or_else (cond b (Some (OfChannel n)) None) rest) ≡ forget (OfChannel n) (or_else (cond b (Some (OfChannel n)) None) rest)
+    by_test true = sym (ap (λ b. cond b None (Some (OfChannel n))) (eq-eqb n n refl))
+    by_test false = sym k
+
 comes_returning : (n : ℕ) (x : Issued) → x.row.progress ≡ Left (Some n) → comes (X n) x.row ≡ true
 unfolding comes to_come to_come_in returning_to is_in
 comes_returning n x e = ap (λ p. is_in (to_come_in (shape_of x.row.instr) p) (X n)) e ∙ ap (λ b. b || false) (eq-eqb n n refl)
@@ -203,12 +248,13 @@ others_not_loading : (n : ℕ) (x : Issued) (ys : List Issued) → comes (X n) x
 others_not_loading n x ys h k r = each_map (IsOther x) (λ y. forget (OfChannel n) (written_by r y) ≡ written_by r y) (λ y q. channel_kept n r y (sym (ap (λ b. b && comes (X n) y.row) h) ∙ q.results (X n))) ys k
 
 pub returned_right : (units channels : List (Option Issued)) (producers : List (List (Option Writer))) (ws : Writers) (last n : ℕ) (x : Issued) → IsRight units channels producers ws last → n < 8 → get_or channels n None ≡ Some x
-    → IsRight units (set channels n None) (map (map (forget (OfChannel n))) producers) (record { x = map (forget (OfChannel n)) ws.x; a = map (forget (OfChannel n)) ws.a; b = map (forget (OfChannel n)) ws.b }) last
+    → IsRight units (set channels n None) (forget_in_taken (OfChannel n) units producers) (set_writer ws (X n) None) last
 unfolding seated
 returned_right units channels producers ws last n x right below_8 h =
-    forgetting (OfChannel n) units channels units (set channels n None) (set os (10 + n) None) producers ws last right (set_back units channels n (10 + n) None (omega (arith, right.all_units))) right.all_units (length_set channels n None ∙ right.all_channels)
-    (seated_empty os 0 (10 + n) right.sits) (pairs_taken os (10 + n) x here right.apart) (each_taken (λ z. z.number ≤ last) os (10 + n) x here right.counted)
-    (gone_written (OfChannel n) os (10 + n) x here right.apart (λ r. returned_written n r x returning) (others_not_loading n x (somes (set os (10 + n) None)) (comes_returning n x returning) (others_of os (10 + n) x here right.apart)))
+    forgetting (OfChannel n) units channels units (set channels n None) (set os (10 + n) None) producers ws (set_writer ws (X n) None) last right (set_back units channels n (10 + n) None (omega (arith, right.all_units))) right.all_units (length-set channels n None ∙ right.all_channels) (set_sized ws (X n) None right.all_writers)
+    (seated_empty seat_of os 0 (10 + n) right.sits) (pairs_taken os (10 + n) x here right.apart) (each_taken (λ z. z.number ≤ last) os (10 + n) x here right.counted) (each_taken IsOfKind os (10 + n) x here right.kinds)
+    (gone_written (OfChannel n) os (10 + n) x here right.apart (λ r. returned_written n r x returning) others)
+    (λ r v. set_gives ws (X n) r None right.all_writers below_8 ∙ cleared (OfChannel n) (reg_eq r (X n)) units channels producers ws last (10 + n) x r right v here others (λ rest k. field_returned n r x rest returning k))
     (λ j z k. k)
   where
     os : List (Option Issued)
@@ -218,12 +264,34 @@ returned_right units channels producers ws last n x right below_8 h =
     here = channel_seat units channels n (Some x) right.all_units h
 
     returning : x.row.progress ≡ Left (Some n)
-    returning = sits_returning n x below_8 (seated_here os 0 (10 + n) x here right.sits ∙ omega arith)
+    returning = sits_returning n x below_8 (seated_here seat_of os 0 (10 + n) x here right.sits ∙ omega arith)
+
+    others : (r : Reg) → Each (λ y. forget (OfChannel n) (written_by r y) ≡ written_by r y) (somes (set os (10 + n) None))
+    others = others_not_loading n x (somes (set os (10 + n) None)) (comes_returning n x returning) (others_of os (10 + n) x here right.apart)
 
 -- ---- a unit is released ----
 
-others_elsewhere : (u : FunctionalUnit) (os : List (Option Issued)) (i : ℕ) → i ≡ unit_number u → IsSeated 0 os → (r : Reg) → Each (λ y. forget (OfUnit u) (written_by r y) ≡ written_by r y) (somes (set os i None))
-others_elsewhere u os i e s r = each_map (λ y. seat_of y ≢ i) (λ y. forget (OfUnit u) (written_by r y) ≡ written_by r y) (λ y k. unit_kept u r y (λ q. k (q ∙ sym e))) (somes (set os i None)) (seated_others os 0 i i (omega arith) s)
+field_left_in : (u v : FunctionalUnit) (r : Reg) (s : Shape) (has_read : Bool) (rest : Option Writer) → same_unit v u ≡ true → forget (OfUnit u) rest ≡ rest → cond (is_in (puts_of s) r) None (or_else (written_in r v s (Reserved has_read)) rest) ≡ forget (OfUnit u) (or_else (written_in r v s (Reserved has_read)) rest)
+unfolding written_in forget same_writer or_else
+field_left_in u v r s has_read rest h k = by_test (is_in (puts_of s) r)
+  where
+    by_channel : (o : Option Writer) → forget (OfUnit u) o ≡ o → or_else o rest ≡ forget (OfUnit u) (or_else o rest)
+    by_channel None e = sym k
+    by_channel (Some c) e = sym e
+
+    by_test : (b : Bool) → cond b None (or_else (cond b (Some (OfUnit v)) (written_by_channel r (channel_of s))) rest) ≡ forget (OfUnit u) (or_else (cond b (Some (OfUnit v)) (written_by_channel r (channel_of s))) rest)
+    by_test true = sym (ap (λ b. cond b None (Some (OfUnit v))) h)
+    by_test false = by_channel (written_by_channel r (channel_of s)) (channel_no_unit u r (channel_of s))
+
+field_left : (u : FunctionalUnit) (r : Reg) (x : Issued) (has_read : Bool) (rest : Option Writer) → x.row.progress ≡ Reserved has_read → same_unit x.row.unit u ≡ true → forget (OfUnit u) rest ≡ rest → cond (is_in (puts_of (shape_of x.row.instr)) r) None (or_else (written_by r x) rest) ≡ forget (OfUnit u) (or_else (written_by r x) rest)
+unfolding written_by
+field_left u r x has_read rest e h k =
+    ap (λ p. cond (is_in (puts_of (shape_of x.row.instr)) r) None (or_else (written_in r x.row.unit (shape_of x.row.instr) p) rest)) e
+    ∙ field_left_in u x.row.unit r (shape_of x.row.instr) has_read rest h k
+    ∙ ap (λ p. forget (OfUnit u) (or_else (written_in r x.row.unit (shape_of x.row.instr) p) rest)) (sym e)
+
+others_elsewhere : (u : FunctionalUnit) (os : List (Option Issued)) (i : ℕ) → i ≡ unit_number u → IsSeated seat_of 0 os → (r : Reg) → Each (λ y. forget (OfUnit u) (written_by r y) ≡ written_by r y) (somes (set os i None))
+others_elsewhere u os i e s r = each_map (λ y. seat_of y ≢ i) (λ y. forget (OfUnit u) (written_by r y) ≡ written_by r y) (λ y k. unit_kept u r y (λ q. k (q ∙ sym e))) (somes (set os i None)) (seated_others seat_of os 0 i i (omega arith) s)
 
 comes_loading_in : (n : ℕ) (s : Shape) (b : Bool) → channel_of s ≡ Some n → is_in (to_come_in s (Reserved b)) (X n) ≡ true
 unfolding channel_of to_come_in results puts_of loads_of is_in
@@ -237,17 +305,6 @@ comes_loading_in n Links b h = cc
 pub comes_loading : (n : ℕ) (x : Issued) (b : Bool) → x.row.progress ≡ Reserved b → channel_of (shape_of x.row.instr) ≡ Some n → comes (X n) x.row ≡ true
 unfolding comes to_come
 comes_loading n x b e h = ap (λ p. is_in (to_come_in (shape_of x.row.instr) p) (X n)) e ∙ comes_loading_in n (shape_of x.row.instr) b h
-
-reg_eq_same : (r s : Reg) → reg_eq r s ≡ true → r ≡ s
-reg_eq_same (X m) (X n) h = ap X (eqb-true m n h)
-reg_eq_same (A m) (A n) h = ap A (eqb-true m n h)
-reg_eq_same (B m) (B n) h = ap B (eqb-true m n h)
-reg_eq_same (X m) (A n) h = cc
-reg_eq_same (X m) (B n) h = cc
-reg_eq_same (A m) (X n) h = cc
-reg_eq_same (A m) (B n) h = cc
-reg_eq_same (B m) (X n) h = cc
-reg_eq_same (B m) (A n) h = cc
 
 -- and nothing else once it has left
 left_comes : (n : ℕ) (x : Issued) (b : Bool) → x.row.progress ≡ Reserved b → channel_of (shape_of x.row.instr) ≡ Some n → (r : Reg) → comes r (in_progress x (Left (Some n))).row ≡ true → comes r x.row ≡ true
@@ -275,13 +332,13 @@ unfolding seat_of seat_in in_progress
 left_seat n x = refl
 
 -- the channel of a load that is in its unit is empty
-pub channel_empty : (os : List (Option Issued)) (i n : ℕ) (x : Issued) (b : Bool) → n < 8 → get_or os i None ≡ Some x → IsSeated 0 os → Pairs IsOther (somes os) → x.row.progress ≡ Reserved b → channel_of (shape_of x.row.instr) ≡ Some n → get_or (set os i None) (10 + n) None ≡ None
+pub channel_empty : (os : List (Option Issued)) (i n : ℕ) (x : Issued) (b : Bool) → n < 8 → get_or os i None ≡ Some x → IsSeated seat_of 0 os → Pairs IsOther (somes os) → x.row.progress ≡ Reserved b → channel_of (shape_of x.row.instr) ≡ Some n → get_or (set os i None) (10 + n) None ≡ None
 channel_empty os i n x b l h s p e k = by_seat (get_or (set os i None) (10 + n) None) refl
   where
     by_seat : (o : Option Issued) → get_or (set os i None) (10 + n) None ≡ o → o ≡ None
     by_seat None q = refl
     by_seat (Some z) q =
-        let t : z.row.progress ≡ Left (Some n) = sits_returning n z l (seated_here (set os i None) 0 (10 + n) z q (seated_empty os 0 i s) ∙ omega arith) in
+        let t : z.row.progress ≡ Left (Some n) = sits_returning n z l (seated_here seat_of (set os i None) 0 (10 + n) z q (seated_empty seat_of os 0 i s) ∙ omega arith) in
         let o : IsOther x z = each_here (IsOther x) (set os i None) (10 + n) z q (others_of os i x h p) in
         let f : (comes (X n) x.row && comes (X n) z.row) ≡ false = o.results (X n) in
         let g : (comes (X n) x.row && comes (X n) z.row) ≡ true = ap (λ v. v && comes (X n) z.row) (comes_loading n x b e k) ∙ comes_returning n z t in
@@ -291,10 +348,10 @@ channel_empty os i n x b l h s p e k = by_seat (get_or (set os i None) (10 + n) 
         both true f g = cc
         both false f g = cc
 
-pub released_right : (units channels : List (Option Issued)) (producers : List (List (Option Writer))) (ws : Writers) (last : ℕ) (u : FunctionalUnit) (i : ℕ) (x : Issued) → IsRight units channels producers ws last → i ≡ unit_number u → get_or units i None ≡ Some x → IfSome (channel_of (shape_of x.row.instr)) (λ n. n < 8)
-    → IsRight (set units i None) (channels_with channels x (channel_of (shape_of x.row.instr))) (map (map (forget (OfUnit u))) producers) (record { x = map (forget (OfUnit u)) ws.x; a = map (forget (OfUnit u)) ws.a; b = map (forget (OfUnit u)) ws.b }) last
+pub released_right : (units channels : List (Option Issued)) (producers : List (List (Option Writer))) (ws : Writers) (last : ℕ) (u : FunctionalUnit) (i : ℕ) (x : Issued) → IsRight units channels producers ws last → i ≡ unit_number u → get_or units i None ≡ Some x → Each IsRegister (puts_of (shape_of x.row.instr)) → IfSome (channel_of (shape_of x.row.instr)) (λ n. n < 8)
+    → IsRight (set units i None) (channels_with channels x (channel_of (shape_of x.row.instr))) (forget_in_taken (OfUnit u) (set units i None) producers) (set_each ws (puts_of (shape_of x.row.instr)) None) last
 unfolding seated channels_with number_of in_progress
-released_right units channels producers ws last u i x right e h below_8 = by_channel (channel_of (shape_of x.row.instr)) refl below_8
+released_right units channels producers ws last u i x right e h valid below_8 = by_channel (channel_of (shape_of x.row.instr)) refl below_8
   where
     os : List (Option Issued)
     os = units ++ channels
@@ -303,29 +360,46 @@ released_right units channels producers ws last u i x right e h below_8 = by_cha
     here = unit_seat units channels u i (Some x) right.all_units e h
 
     reserved : (b : Bool) × (x.row.progress ≡ Reserved b) × (same_unit x.row.unit u ≡ true)
-    reserved = sits_reserved u x (seated_here os 0 i x here right.sits ∙ omega (arith, e))
+    reserved = sits_reserved u x (seated_here seat_of os 0 i x here right.sits ∙ omega (arith, e))
 
     front : set os i None ≡ set units i None ++ channels
-    front = set_front units channels i None (within units i x h)
+    front = set-append_left units channels i None (within units i x h)
 
     fewer : length (set units i None) ≡ 10
-    fewer = length_set units i None ∙ right.all_units
+    fewer = length-set units i None ∙ right.all_units
 
-    by_channel : (o : Option ℕ) → channel_of (shape_of x.row.instr) ≡ o → IfSome o (λ n. n < 8) → IsRight (set units i None) (channels_with channels x o) (map (map (forget (OfUnit u))) producers) (record { x = map (forget (OfUnit u)) ws.x; a = map (forget (OfUnit u)) ws.a; b = map (forget (OfUnit u)) ws.b }) last
+    emptied : Writers
+    emptied = set_each ws (puts_of (shape_of x.row.instr)) None
+
+    sized : AreSized emptied
+    sized = each_sized (puts_of (shape_of x.row.instr)) ws None right.all_writers
+
+    elsewhere : (r : Reg) → Each (λ y. forget (OfUnit u) (written_by r y) ≡ written_by r y) (somes (set os i None))
+    elsewhere = others_elsewhere u os i e right.sits
+
+    fields : (r : Reg) → IsRegister r → writer_at emptied r ≡ forget (OfUnit u) (writer_at ws r)
+    fields r v =
+        each_gives (puts_of (shape_of x.row.instr)) ws r None right.all_writers valid
+        ∙ cleared (OfUnit u) (is_in (puts_of (shape_of x.row.instr)) r) units channels producers ws last i x r right v here elsewhere (λ rest k. field_left u r x reserved.0 rest reserved.1 reserved.2 k)
+
+    by_channel : (o : Option ℕ) → channel_of (shape_of x.row.instr) ≡ o → IfSome o (λ n. n < 8) → IsRight (set units i None) (channels_with channels x o) (forget_in_taken (OfUnit u) (set units i None) producers) (set_each ws (puts_of (shape_of x.row.instr)) None) last
     by_channel None k l =
-        forgetting (OfUnit u) units channels (set units i None) channels (set os i None) producers ws last right front fewer right.all_channels
-        (seated_empty os 0 i right.sits) (pairs_taken os i x here right.apart) (each_taken (λ z. z.number ≤ last) os i x here right.counted)
-        (gone_written (OfUnit u) os i x here right.apart (λ r. left_nothing u r x reserved.0 reserved.1 reserved.2 k) (others_elsewhere u os i e right.sits))
+        forgetting (OfUnit u) units channels (set units i None) channels (set os i None) producers ws emptied last right front fewer right.all_channels sized
+        (seated_empty seat_of os 0 i right.sits) (pairs_taken os i x here right.apart) (each_taken (λ z. z.number ≤ last) os i x here right.counted) (each_taken IsOfKind os i x here right.kinds)
+        (gone_written (OfUnit u) os i x here right.apart (λ r. left_nothing u r x reserved.0 reserved.1 reserved.2 k) elsewhere)
+        fields
         (λ j z q. not_emptied units i j z (within units i x h) q)
     by_channel (Some n) k l =
-        forgetting (OfUnit u) units channels (set units i None) (set channels n (Some y)) (set (set os i None) (10 + n) (Some y)) producers ws last right
-        (ap (λ m. set m (10 + n) (Some y)) front ∙ set_back (set units i None) channels n (10 + n) (Some y) (omega (arith, fewer))) fewer (length_set channels n (Some y) ∙ right.all_channels)
-        (seated_fill (set os i None) 0 (10 + n) y (left_seat n x ∙ omega arith) (seated_empty os 0 i right.sits))
+        forgetting (OfUnit u) units channels (set units i None) (set channels n (Some y)) (set (set os i None) (10 + n) (Some y)) producers ws emptied last right
+        (ap (λ m. set m (10 + n) (Some y)) front ∙ set_back (set units i None) channels n (10 + n) (Some y) (omega (arith, fewer))) fewer (length-set channels n (Some y) ∙ right.all_channels) sized
+        (seated_fill seat_of (set os i None) 0 (10 + n) y (left_seat n x ∙ omega arith) (seated_empty seat_of os 0 i right.sits))
         (pairs_put (set os i None) (10 + n) y empty room others (pairs_taken os i x here right.apart))
         (each_put (λ z. z.number ≤ last) (set os i None) (10 + n) y empty room (each_here (λ z. z.number ≤ last) os i x here right.counted) (each_taken (λ z. z.number ≤ last) os i x here right.counted))
+        (each_put IsOfKind (set os i None) (10 + n) y empty room (each_here IsOfKind os i x here right.kinds) (each_taken IsOfKind os i x here right.kinds))
         (λ m r. writer_put m r (set os i None) (10 + n) y empty room others
         ∙ ap (λ o. or_else o (writer_before m (somes (set os i None)) r)) (earlier_left (OfUnit u) m r x y refl (left_writes u n r x reserved.0 reserved.1 reserved.2 k))
-        ∙ writer_gone (OfUnit u) m r os i x here right.apart (others_elsewhere u os i e right.sits))
+        ∙ writer_gone (OfUnit u) m r os i x here right.apart elsewhere)
+        fields
         (λ j z q. not_emptied units i j z (within units i x h) q)
       where
         y : Issued
@@ -335,7 +409,7 @@ released_right units channels producers ws last u i x right e h below_8 = by_cha
         empty = channel_empty os i n x reserved.0 l here right.sits right.apart reserved.1 k
 
         room : 10 + n < length (set os i None)
-        room = let q = ap length front ∙ length_joined (set units i None) channels in omega (arith, q, fewer, right.all_channels, l)
+        room = let q = ap length front ∙ length-append (set units i None) channels in omega (arith, q, fewer, right.all_channels, l)
 
         others : Each (IsOther y) (somes (set os i None))
         others = each_map (IsOther x) (IsOther y) (λ z q. left_other n x z reserved.0 reserved.1 k q) (somes (set os i None)) (others_of os i x here right.apart)

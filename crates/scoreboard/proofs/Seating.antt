@@ -2,7 +2,6 @@
 use Rattle.std.proofs.Common.{◌≡◌, ◌≢◌, ◌<◌, ◌+◌, ℕ, zero, suc, Bool, true, false, cond, List, [], ◌∷◌, ◌++◌, Option, Some, None, refl, sym, ap, ◌∙◌, subst, ltb, get_or, set, length, arith}
 use Rattle.std.specs.Prelude.{◌&&◌}
 use Rattle.std.proofs.lemmas.Bool.{eq-eqb, ne_eqb}
-use Rattle.std.proofs.lemmas.List.{set-get_or}
 use Rattle.instruction_table.specs.declared.instr.Reg.{Reg}
 use Rattle.instruction_table.specs.declared.instr.Unit.{Unit as FunctionalUnit}
 use Rattle.instruction_table.specs.declared.instr.Unit.TheVariants.{Branch, Boolean, Shift, Add, LongAdd, Multiply1, Multiply2, Divide, Increment1, Increment2}
@@ -12,11 +11,11 @@ use Rattle.scoreboard.specs.Rows.{comes, holds, is_reserved}
 use Rattle.scoreboard.specs.Units.{unit_number, same_unit}
 use Rattle.scoreboard.specs.declared.issued.Issued.{Issued}
 use Rattle.scoreboard.specs.declared.writer.Writer.{Writer}
-use Rattle.scoreboard.specs.Answers.{holds_unit, returns_in, returns_by}
+use Rattle.scoreboard.specs.Answers.{held_in, returns_in, returning_by}
 use Rattle.instruction_table.specs.Each.{Each, Pairs}
 use Rattle.scoreboard.specs.Issued.{number_of, written_by, or_else, first_some, if_earlier, writer_before}
 use Rattle.instruction_table.specs.Order.{somes}
-use Rattle.scoreboard.specs.View.{IsSeated, IsOther, seat_in, seat_of}
+use Rattle.scoreboard.specs.View.{IsOther, seat_in, seat_of}
 use Rattle.scoreboard.specs.Writers.{forget}
 use Rattle.instruction_table.proofs.Lists.{each_left, each_right, each_append, each_map, pairs_before, pairs_right, pairs_without}
 use Rattle.instruction_table.proofs.Sorted.{before_place, behind_place, somes-at, somes-set_some, somes-set_none, somes-empty}
@@ -24,16 +23,6 @@ use Rattle.instruction_table.proofs.Seats.{within, HasOwnKeys}
 use Rattle.scoreboard.proofs.Writing.{IsAlone, first_at, first_none, first_replaced, forget_first, forgotten_rest, earlier_alone, earlier_forget}
 
 -- ---- two lists of seats as one ----
-
-pub get_front : {K : Type 0} (xs ys : List K) (i : ℕ) (d : K) → i < length xs → get_or (xs ++ ys) i d ≡ get_or xs i d
-get_front [] ys i d h = absurd (omega arith)
-get_front (x ∷ xs) ys zero d h = refl
-get_front (x ∷ xs) ys (suc i) d h = get_front xs ys i d (omega arith)
-
-pub set_front : {K : Type 0} (xs ys : List K) (i : ℕ) (v : K) → i < length xs → set (xs ++ ys) i v ≡ set xs i v ++ ys
-set_front [] ys i v h = absurd (omega arith)
-set_front (x ∷ xs) ys zero v h = refl
-set_front (x ∷ xs) ys (suc i) v h = ap (λ l. x ∷ l) (set_front xs ys i v (omega arith))
 
 pub get_back : {K : Type 0} (xs ys : List K) (i j : ℕ) (d : K) → j ≡ length xs + i → get_or (xs ++ ys) j d ≡ get_or ys i d
 get_back [] ys i j d h = let e : j ≡ i = omega (arith, h) in ap (λ k. get_or ys k d) e
@@ -44,59 +33,6 @@ pub set_back : {K : Type 0} (xs ys : List K) (i j : ℕ) (v : K) → j ≡ lengt
 set_back [] ys i j v h = let e : j ≡ i = omega (arith, h) in ap (λ k. set ys k v) e
 set_back (x ∷ xs) ys i zero v h = absurd (omega (arith, h))
 set_back (x ∷ xs) ys i (suc j) v h = ap (λ l. x ∷ l) (set_back xs ys i j v (omega (arith, h)))
-
-pub set_again : {K : Type 0} (os : List K) (i : ℕ) (a b : K) → set (set os i a) i b ≡ set os i b
-set_again [] i a b = refl
-set_again (o ∷ os) zero a b = refl
-set_again (o ∷ os) (suc i) a b = ap (λ l. o ∷ l) (set_again os i a b)
-
-pub length_set : {K : Type 0} (os : List K) (i : ℕ) (a : K) → length (set os i a) ≡ length os
-length_set [] i a = refl
-length_set (o ∷ os) zero a = refl
-length_set (o ∷ os) (suc i) a = ap suc (length_set os i a)
-
--- ---- each in its own seat ----
-
-seated_from : (os : List (Option Issued)) (k v : ℕ) → v < k → IsSeated k os → Each (λ y. seat_of y ≢ v) (somes os)
-unfolding somes
-seated_from [] k v h s = tt
-seated_from (None ∷ os) k v h s = seated_from os (suc k) v (omega arith) s
-seated_from (Some x ∷ os) k v h s = (λ e. let q : seat_of x ≡ k = s.0 in omega (arith, e, q, h), seated_from os (suc k) v (omega arith) s.1)
-
--- no other sits there
-pub seated_others : (os : List (Option Issued)) (k i v : ℕ) → v ≡ k + i → IsSeated k os → Each (λ y. seat_of y ≢ v) (somes (set os i None))
-unfolding somes
-seated_others [] k i v e s = tt
-seated_others (None ∷ os) k zero v e s = seated_from os (suc k) v (omega (arith, e)) s
-seated_others (Some x ∷ os) k zero v e s = seated_from os (suc k) v (omega (arith, e)) s.1
-seated_others (None ∷ os) k (suc i) v e s = seated_others os (suc k) i v (omega (arith, e)) s
-seated_others (Some x ∷ os) k (suc i) v e s = (λ q. let p : seat_of x ≡ k = s.0 in omega (arith, e, q, p), seated_others os (suc k) i v (omega (arith, e)) s.1)
-
--- and nobody at all where it is empty
-pub seated_nobody : (os : List (Option Issued)) (i : ℕ) → get_or os i None ≡ None → IsSeated 0 os → Each (λ y. seat_of y ≢ i) (somes os)
-seated_nobody os i h s =
-    subst (λ l. Each (λ y. seat_of y ≢ i) (somes l)) (ap (set os i) (sym h) ∙ set-get_or os i None) (seated_others os 0 i i (omega arith) s)
-
-pub seated_here : (os : List (Option Issued)) (k i : ℕ) (x : Issued) → get_or os i None ≡ Some x → IsSeated k os → seat_of x ≡ k + i
-seated_here [] k i x h s = cc
-seated_here (None ∷ os) k zero x h s = cc
-seated_here (Some y ∷ os) k zero x h s = let e : y ≡ x = cc in let q : seat_of y ≡ k = s.0 in ap seat_of (sym e) ∙ q ∙ omega arith
-seated_here (None ∷ os) k (suc i) x h s = seated_here os (suc k) i x h s ∙ omega arith
-seated_here (Some y ∷ os) k (suc i) x h s = seated_here os (suc k) i x h s.1 ∙ omega arith
-
-pub seated_empty : (os : List (Option Issued)) (k i : ℕ) → IsSeated k os → IsSeated k (set os i None)
-seated_empty [] k i s = tt
-seated_empty (None ∷ os) k zero s = s
-seated_empty (Some x ∷ os) k zero s = s.1
-seated_empty (None ∷ os) k (suc i) s = seated_empty os (suc k) i s
-seated_empty (Some x ∷ os) k (suc i) s = (s.0, seated_empty os (suc k) i s.1)
-
-pub seated_fill : (os : List (Option Issued)) (k i : ℕ) (y : Issued) → seat_of y ≡ k + i → IsSeated k os → IsSeated k (set os i (Some y))
-seated_fill [] k i y e s = tt
-seated_fill (None ∷ os) k zero y e s = (e ∙ omega arith, s)
-seated_fill (Some x ∷ os) k zero y e s = (e ∙ omega arith, s.1)
-seated_fill (None ∷ os) k (suc i) y e s = seated_fill os (suc k) i y (e ∙ omega arith) s
-seated_fill (Some x ∷ os) k (suc i) y e s = (s.0, seated_fill os (suc k) i y (e ∙ omega arith) s.1)
 
 -- ---- which seat is whose ----
 
@@ -118,8 +54,8 @@ holds_in u v (Reserved has_read) h = ap (λ b. b && true) (eq-eqb (unit_number v
 holds_in u v (Left None) h = absurd (let b = unit_below u in omega (arith, h, b))
 holds_in u v (Left (Some n)) h = absurd (let b = unit_below u in omega (arith, h, b))
 
-pub sits_holds : (u : FunctionalUnit) (x : Issued) → seat_of x ≡ unit_number u → holds_unit u x ≡ true
-unfolding holds_unit holds seat_of
+pub sits_holds : (u : FunctionalUnit) (x : Issued) → seat_of x ≡ unit_number u → holds u x.row ≡ true
+unfolding holds seat_of
 sits_holds u x h = holds_in u x.row.unit x.row.progress h
 
 holds_not_in : (u v : FunctionalUnit) (p : Progress) → (seat_in v p ≡ unit_number u → ⊥) → (same_unit v u && is_reserved p) ≡ false
@@ -131,9 +67,17 @@ holds_not_in u v (Left o) h = and_false (same_unit v u)
     and_false true = refl
     and_false false = refl
 
-pub sits_not : (u : FunctionalUnit) (x : Issued) → (seat_of x ≡ unit_number u → ⊥) → holds_unit u x ≡ false
-unfolding holds_unit holds seat_of
+pub sits_not : (u : FunctionalUnit) (x : Issued) → (seat_of x ≡ unit_number u → ⊥) → holds u x.row ≡ false
+unfolding holds seat_of
 sits_not u x h = holds_not_in u x.row.unit x.row.progress h
+
+pub sits_held : (u : FunctionalUnit) (x : Issued) → seat_of x ≡ unit_number u → held_in u x ≡ Some x.row.instr
+unfolding held_in
+sits_held u x h = ap (λ b. cond b (Some x.row.instr) None) (sits_holds u x h)
+
+pub sits_not_held : (u : FunctionalUnit) (x : Issued) → (seat_of x ≡ unit_number u → ⊥) → held_in u x ≡ None
+unfolding held_in
+sits_not_held u x h = ap (λ b. cond b (Some x.row.instr) None) (sits_not u x h)
 
 -- one in the seat of a unit is reserved there
 reserved_in : (u v : FunctionalUnit) (p : Progress) → seat_in v p ≡ unit_number u → (b : Bool) × (p ≡ Reserved b) × (same_unit v u ≡ true)
@@ -156,9 +100,9 @@ pub sits_returning : (n : ℕ) (x : Issued) → n < 8 → seat_of x ≡ 10 + n �
 unfolding seat_of
 sits_returning n x b h = returns_at n x.row.unit x.row.progress b h
 
-pub sits_returns : (n : ℕ) (x : Issued) → n < 8 → seat_of x ≡ 10 + n → returns_by n x ≡ true
-unfolding returns_by returns_in
-sits_returns n x b h = ap (returns_in n) (sits_returning n x b h) ∙ eq-eqb n n refl
+pub sits_returns : (n : ℕ) (x : Issued) → n < 8 → seat_of x ≡ 10 + n → returning_by n x ≡ Some x.row.instr
+unfolding returning_by returns_in
+sits_returns n x b h = ap (λ t. cond t (Some x.row.instr) None) (ap (returns_in n) (sits_returning n x b h) ∙ eq-eqb n n refl)
 
 returns_not_in : (n : ℕ) (v : FunctionalUnit) (p : Progress) → (seat_in v p ≡ 10 + n → ⊥) → returns_in n p ≡ false
 unfolding seat_in returns_in
@@ -166,9 +110,9 @@ returns_not_in n v (Reserved has_read) h = refl
 returns_not_in n v (Left None) h = refl
 returns_not_in n v (Left (Some m)) h = ne_eqb m n (λ e. h (ap (λ k. 10 + k) e))
 
-pub sits_returns_not : (n : ℕ) (x : Issued) → (seat_of x ≡ 10 + n → ⊥) → returns_by n x ≡ false
-unfolding returns_by seat_of
-sits_returns_not n x h = returns_not_in n x.row.unit x.row.progress h
+pub sits_not_returning : (n : ℕ) (x : Issued) → (seat_of x ≡ 10 + n → ⊥) → returning_by n x ≡ None
+unfolding returning_by seat_of
+sits_not_returning n x h = ap (λ t. cond t (Some x.row.instr) None) (returns_not_in n x.row.unit x.row.progress h)
 
 -- ---- pairs in seats ----
 

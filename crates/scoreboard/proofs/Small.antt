@@ -1,11 +1,15 @@
 -- Lists of registers and of writers, one element at a time.
-use Rattle.std.proofs.Common.{◌≡◌, ◌<◌, ◌≤◌, ◌+◌, ℕ, zero, suc, true, false, List, [], ◌∷◌, ◌++◌, Option, Some, None, length, get_or, set, map, take, drop, refl, ap, ◌∙◌, arith}
+use Rattle.std.proofs.Common.{◌≡◌, ◌<◌, ◌≤◌, ◌+◌, ℕ, zero, suc, true, false, cond, List, [], ◌∷◌, ◌++◌, Option, Some, None, length, get_or, set, map, take, drop, refl, sym, ap, ◌∙◌, arith}
 use Rattle.std.specs.Prelude.{is_some, slice_get, IfSome}
+use Rattle.std.specs.List.{list_any}
+use Rattle.std.proofs.lemmas.List.{set-get_or}
 use Rattle.instruction_table.specs.declared.instr.Reg.{Reg}
 use Rattle.scoreboard.specs.declared.writer.Writer.{Writer}
+use Rattle.scoreboard.specs.declared.issued.Issued.{Issued}
 use Rattle.instruction_table.specs.Each.{Each}
+use Rattle.scoreboard.specs.Fields.{forget_in_taken}
 use Rattle.scoreboard.specs.View.{AreProducers, first_produced}
-use Rattle.scoreboard.specs.Writers.{IsRegister, writer_if}
+use Rattle.scoreboard.specs.Writers.{IsRegister, writer_if, is_expected, forget}
 
 -- ---- a change of each element, in place ----
 
@@ -20,6 +24,52 @@ mapped_more f xs ys i d z h e k =
     ap (λ l. set l i z) e
     ∙ mapped_at f xs i d z h (k ∙ ap (λ l. f (get_or l i d)) e)
     ∙ ap (λ n. map f (take n xs) ++ drop n xs) s
+
+-- one that stays as it is
+pub mapped_same : {K : Type 0} (f : K → K) (xs ys : List K) (i : ℕ) (d : K) → i < length xs → ys ≡ map f (take i xs) ++ drop i xs → get_or ys i d ≡ f (get_or ys i d) → ys ≡ map f (take (i + 1) xs) ++ drop (i + 1) xs
+mapped_same f xs ys i d h e k = sym (set-get_or ys i d) ∙ mapped_more f xs ys i d (get_or ys i d) h e k
+
+pub expected_goes : (w : Writer) (o : Option Writer) → is_expected w o ≡ true → None ≡ forget w o
+unfolding is_expected forget
+expected_goes w None h = refl
+expected_goes w (Some v) h = sym (ap (λ b. cond b None (Some v)) h)
+
+pub other_stays : (w : Writer) (o : Option Writer) → is_expected w o ≡ false → o ≡ forget w o
+unfolding is_expected forget
+other_stays w None h = refl
+other_stays w (Some v) h = sym (ap (λ b. cond b None (Some v)) h)
+
+-- ---- the producers of the units that are taken ----
+
+pub taken_more : (w : Writer) (os : List (Option Issued)) (pss qss : List (List (Option Writer))) (i : ℕ) (o : Option Issued) (ps : List (Option Writer)) → i < length os → i < length pss → o ≡ get_or os i o → is_some o ≡ true → qss ≡ forget_in_taken w (take i os) pss → ps ≡ map (forget w) (get_or qss i []) → set qss i ps ≡ forget_in_taken w (take (i + 1) os) pss
+unfolding forget_in_taken
+taken_more w os pss qss i o ps h l g t e k =
+    let s : suc i ≡ i + 1 = omega arith in
+    ap (λ m. set m i ps) e
+    ∙ step os pss i o ps h l g t (k ∙ ap (λ m. map (forget w) (get_or m i [])) e)
+    ∙ ap (λ n. forget_in_taken w (take n os) pss) s
+  where
+    step : (os : List (Option Issued)) (pss : List (List (Option Writer))) (i : ℕ) (o : Option Issued) (ps : List (Option Writer)) → i < length os → i < length pss → o ≡ get_or os i o → is_some o ≡ true → ps ≡ map (forget w) (get_or (forget_in_taken w (take i os) pss) i []) → set (forget_in_taken w (take i os) pss) i ps ≡ forget_in_taken w (take (suc i) os) pss
+    step [] pss i o ps h l g t k = absurd (omega arith)
+    step (x ∷ os) [] i o ps h l g t k = absurd (omega arith)
+    step (None ∷ os) (qs ∷ pss) zero o ps h l g t k = let q : is_some o ≡ false = ap is_some g in cc
+    step (Some x ∷ os) (qs ∷ pss) zero o ps h l g t k = ap (λ m. m ∷ pss) k
+    step (None ∷ os) (qs ∷ pss) (suc i) o ps h l g t k = ap (λ m. qs ∷ m) (step os pss i o ps (omega arith) (omega arith) g t k)
+    step (Some x ∷ os) (qs ∷ pss) (suc i) o ps h l g t k = ap (λ m. map (forget w) qs ∷ m) (step os pss i o ps (omega arith) (omega arith) g t k)
+
+pub free_more : (w : Writer) (os : List (Option Issued)) (pss qss : List (List (Option Writer))) (i : ℕ) (o : Option Issued) → i < length os → i < length pss → o ≡ get_or os i o → is_some o ≡ false → qss ≡ forget_in_taken w (take i os) pss → qss ≡ forget_in_taken w (take (i + 1) os) pss
+unfolding forget_in_taken
+free_more w os pss qss i o h l g t e =
+    let s : suc i ≡ i + 1 = omega arith in
+    e ∙ step os pss i o h l g t ∙ ap (λ n. forget_in_taken w (take n os) pss) s
+  where
+    step : (os : List (Option Issued)) (pss : List (List (Option Writer))) (i : ℕ) (o : Option Issued) → i < length os → i < length pss → o ≡ get_or os i o → is_some o ≡ false → forget_in_taken w (take i os) pss ≡ forget_in_taken w (take (suc i) os) pss
+    step [] pss i o h l g t = absurd (omega arith)
+    step (x ∷ os) [] i o h l g t = absurd (omega arith)
+    step (None ∷ os) (qs ∷ pss) zero o h l g t = refl
+    step (Some x ∷ os) (qs ∷ pss) zero o h l g t = let q : is_some o ≡ true = ap is_some g in cc
+    step (None ∷ os) (qs ∷ pss) (suc i) o h l g t = ap (λ m. qs ∷ m) (step os pss i o (omega arith) (omega arith) g t)
+    step (Some x ∷ os) (qs ∷ pss) (suc i) o h l g t = ap (λ m. map (forget w) qs ∷ m) (step os pss i o (omega arith) (omega arith) g t)
 
 -- ---- the first register with a producer ----
 
@@ -55,6 +105,14 @@ produced_nowhere (x ∷ rs) [] (suc i) h = nobody (drop i rs)
     nobody [] = refl
     nobody (r ∷ rs) = refl
 produced_nowhere (x ∷ rs) (p ∷ ps) (suc i) h = produced_nowhere rs ps i (omega arith)
+
+-- where there is no writer there is no first
+pub none_produced : (rs : List Reg) (ps : List (Option Writer)) → list_any is_some ps ≡ false → None ≡ first_produced rs ps
+unfolding first_produced
+none_produced [] ps h = refl
+none_produced (r ∷ rs) [] h = refl
+none_produced (r ∷ rs) (None ∷ ps) h = none_produced rs ps h
+none_produced (r ∷ rs) (Some w ∷ ps) h = cc
 
 -- ---- the writers of at most three registers ----
 

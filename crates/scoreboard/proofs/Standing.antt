@@ -1,94 +1,59 @@
 -- What the seats hold, in the order of their numbers: who is found there, who is earlier, and what a change leaves.
 use Rattle.std.proofs.Common.{◌≡◌, ◌≢◌, ◌<◌, ◌≤◌, ◌+◌, ℕ, zero, suc, Bool, true, false, cond, List, [], ◌∷◌, ◌++◌, Option, Some, None, refl, sym, ap, ◌∙◌, subst, ltb, get_or, set, length, arith}
-use Rattle.std.specs.Prelude.{is_some, not, ◌&&◌, ◌||◌, unwrap_or, find, Result, Ok, Err}
+use Rattle.std.specs.Prelude.{is_some, ◌&&◌, ◌||◌, unwrap_or, find, Result, Ok, Err}
 use Rattle.std.specs.List.{list_any}
+use Rattle.std.proofs.lemmas.List.{get_or_append_left}
 use Rattle.std.proofs.lemmas.List.Folds.{list_any-append}
 use Rattle.instruction_table.specs.declared.instr.Reg.{Reg}
 use Rattle.instruction_table.specs.declared.instr.Reg.TheVariants.{X, B}
 use Rattle.instruction_table.specs.declared.instr.Unit.{Unit as FunctionalUnit}
 use Rattle.instruction_table.specs.declared.refusal.Refusal.{Refusal}
-use Rattle.instruction_table.specs.declared.refusal.Refusal.TheVariants.{OperandAwaited, ResultHeld, OutOfTurn}
-use Rattle.instruction_table.specs.Shape.{shape_of, puts_of, is_branch_shape, has_reference, has_store}
+use Rattle.instruction_table.specs.declared.refusal.Refusal.TheVariants.{OperandAwaited, ResultHeld}
+use Rattle.instruction_table.specs.declared.instr.Instr.{Instr}
+use Rattle.instruction_table.specs.Finding.{seek, replaced}
+use Rattle.instruction_table.specs.Shape.{shape_of, puts_of}
 use Rattle.instruction_table.specs.Table.{sources_of}
 use Rattle.scoreboard.specs.declared.row.Progress.{Progress}
 use Rattle.scoreboard.specs.declared.row.Progress.TheVariants.{Reserved, Left}
-use Rattle.scoreboard.specs.declared.row.Row.{Row}
-use Rattle.scoreboard.specs.Rows.{comes, reads, reads_in, reads_it, is_branch, has_turn, has_store_turn, is_reserved}
+use Rattle.scoreboard.specs.Rows.{comes, holds, reads, reads_in, reads_it, is_reserved}
 use Rattle.scoreboard.specs.Units.{unit_number}
 use Rattle.scoreboard.specs.Conflicts.{awaited, to_be_read, first_such}
 use Rattle.instruction_table.specs.RegisterLists.{is_in}
 use Rattle.scoreboard.specs.declared.issued.Issued.{Issued}
 use Rattle.scoreboard.specs.declared.writer.Writer.{Writer}
 use Rattle.scoreboard.specs.declared.writers.Writers.{Writers}
-use Rattle.scoreboard.specs.Answers.{behind, seek, change, holds_unit, returns_by, unless, read_answer, store_answer, return_answer, turn_answer}
+use Rattle.scoreboard.specs.Answers.{held_in, returning_by, unless, read_answer, store_answer, return_answer}
 use Rattle.instruction_table.specs.Each.{Each, Pairs}
-use Rattle.scoreboard.specs.Fields.{seat_is, seat_reads, seat_has_turn}
+use Rattle.scoreboard.specs.Fields.{seat_reads}
 use Rattle.scoreboard.specs.Issued.{row_of, number_of, written_by, if_earlier, writer_before}
-use Rattle.instruction_table.specs.Order.{sort_by, somes}
-use Rattle.scoreboard.specs.View.{seated, IsSeated, IsOther, seat_in, seat_of, AreProducers, first_produced, IsRight}
-use Rattle.instruction_table.proofs.Lists.{each_left, each_map}
-use Rattle.instruction_table.proofs.Sorted.{below, above, any_sort, any_earlier, any_somes, IsIncreasing, sort_increasing, sort_each, below-above}
-use Rattle.instruction_table.proofs.Seats.{taken_with}
+use Rattle.instruction_table.specs.Order.{sort_by, somes, IsSeated}
+use Rattle.scoreboard.specs.View.{seated, IsOther, seat_in, seat_of, AreProducers, first_produced, IsRight}
+use Rattle.instruction_table.proofs.Lists.{each_map}
+use Rattle.instruction_table.proofs.Sorted.{any_sort, any_earlier, any_somes, IsIncreasing, sort_increasing, sort_each}
+use Rattle.instruction_table.proofs.Seats.{taken_with, seated_others, seated_nobody, seated_here, before_seat, after_seat, each_before, found_there, found_nobody}
+use Rattle.instruction_table.proofs.Finding.{replaced_around, replaced_nobody}
 use Rattle.scoreboard.proofs.Writing.{some_any, any_same, earlier_some}
-use Rattle.scoreboard.proofs.Seating.{get_front, get_back, own_keys, seated_others, seated_nobody, seated_here, sits_holds, sits_not, sits_returns, sits_returns_not, unit_below}
-
--- ---- finding and changing in a list ----
-
-pub seek_at : {M : Type 0} (test : M → Bool) (es : List M) (x : M) (ls : List M) → Each (λ e. test e ≡ false) es → test x ≡ true → seek test (es ++ x ∷ ls) ≡ Some (record { earlier = es; member = x; later = ls })
-unfolding seek behind
-seek_at test [] x ls h e = ap (λ b. cond b (Some (record { earlier = []; member = x; later = ls })) (behind x (seek test ls))) e
-seek_at test (y ∷ es) x ls h e = ap (λ b. cond b (Some (record { earlier = []; member = y; later = es ++ x ∷ ls })) (behind y (seek test (es ++ x ∷ ls)))) h.0 ∙ ap (behind y) (seek_at test es x ls h.1 e)
-
-pub seek_nobody : {M : Type 0} (test : M → Bool) (xs : List M) → Each (λ x. test x ≡ false) xs → seek test xs ≡ None
-unfolding seek behind
-seek_nobody test [] h = refl
-seek_nobody test (x ∷ xs) h = ap (λ b. cond b (Some (record { earlier = []; member = x; later = xs })) (behind x (seek test xs))) h.0 ∙ ap (behind x) (seek_nobody test xs h.1)
-
-pub change_at : {M : Type 0} (test : M → Bool) (f : M → List M) (es : List M) (x : M) (ls : List M) → Each (λ e. test e ≡ false) es → test x ≡ true → change test f (es ++ x ∷ ls) ≡ es ++ (f x ++ ls)
-unfolding change
-change_at test f [] x ls h e = ap (λ b. cond b (f x ++ ls) (x ∷ change test f ls)) e
-change_at test f (y ∷ es) x ls h e = ap (λ b. cond b (f y ++ (es ++ x ∷ ls)) (y ∷ change test f (es ++ x ∷ ls))) h.0 ∙ ap (λ l. y ∷ l) (change_at test f es x ls h.1 e)
-
-pub change_nobody : {M : Type 0} (test : M → Bool) (f : M → List M) (xs : List M) → Each (λ x. test x ≡ false) xs → change test f xs ≡ xs
-unfolding change
-change_nobody test f [] h = refl
-change_nobody test f (x ∷ xs) h = ap (λ b. cond b (f x ++ xs) (x ∷ change test f xs)) h.0 ∙ ap (λ l. x ∷ l) (change_nobody test f xs h.1)
+use Rattle.scoreboard.proofs.Seating.{get_back, own_keys, sits_holds, sits_not, sits_held, sits_not_held, sits_returns, sits_not_returning, unit_below}
 
 -- ---- the one in a seat, in order ----
 
--- those with a lower number, and those with a higher one
-abbrev pub before_seat : List (Option Issued) → ℕ → Issued → List Issued
-before_seat os i x = below number_of (number_of x) (sort_by number_of (somes (set os i None)))
+-- with others in its place
+pub changed : (f : Issued → Option Instr) (g : Issued → List Issued) (os : List (Option Issued)) (i : ℕ) (x : Issued) → get_or os i None ≡ Some x → Pairs IsOther (somes os) → f x ≡ Some x.row.instr → Each (λ y. f y ≡ None) (somes (set os i None)) → replaced (seek f (sort_by number_of (somes os))) (sort_by number_of (somes os)) g ≡ before_seat number_of os i x ++ (g x ++ after_seat number_of os i x)
+changed f g os i x h p e k =
+    ap (λ l. replaced (seek f l) l g) (taken_with number_of os i x h (own_keys (somes os) p))
+    ∙ replaced_around f g (before_seat number_of os i x) x x.row.instr (after_seat number_of os i x) (each_before number_of (λ y. f y ≡ None) os i x k) e
 
-abbrev pub after_seat : List (Option Issued) → ℕ → Issued → List Issued
-after_seat os i x = above number_of (number_of x) (sort_by number_of (somes (set os i None)))
-
-pub around : (os : List (Option Issued)) (i : ℕ) (x : Issued) → get_or os i None ≡ Some x → Pairs IsOther (somes os) → sort_by number_of (somes os) ≡ before_seat os i x ++ x ∷ after_seat os i x
-around os i x h p = taken_with number_of os i x h (own_keys (somes os) p)
-
-each_before : (P : Issued → Type 0) (os : List (Option Issued)) (i : ℕ) (x : Issued) → Each P (somes (set os i None)) → Each P (before_seat os i x)
-each_before P os i x h = each_left P (before_seat os i x) (after_seat os i x) (subst (Each P) (below-above number_of (number_of x) (sort_by number_of (somes (set os i None)))) (sort_each number_of P (somes (set os i None)) h))
-
-pub found : (test : Issued → Bool) (os : List (Option Issued)) (i : ℕ) (x : Issued) → get_or os i None ≡ Some x → Pairs IsOther (somes os) → test x ≡ true → Each (λ y. test y ≡ false) (somes (set os i None)) → seek test (sort_by number_of (somes os)) ≡ Some (record { earlier = before_seat os i x; member = x; later = after_seat os i x })
-found test os i x h p e k = ap (seek test) (around os i x h p) ∙ seek_at test (before_seat os i x) x (after_seat os i x) (each_before (λ y. test y ≡ false) os i x k) e
-
-pub changed : (test : Issued → Bool) (f : Issued → List Issued) (os : List (Option Issued)) (i : ℕ) (x : Issued) → get_or os i None ≡ Some x → Pairs IsOther (somes os) → test x ≡ true → Each (λ y. test y ≡ false) (somes (set os i None)) → change test f (sort_by number_of (somes os)) ≡ before_seat os i x ++ (f x ++ after_seat os i x)
-changed test f os i x h p e k = ap (change test f) (around os i x h p) ∙ change_at test f (before_seat os i x) x (after_seat os i x) (each_before (λ y. test y ≡ false) os i x k) e
-
-pub nobody_found : (test : Issued → Bool) (os : List (Option Issued)) → Each (λ y. test y ≡ false) (somes os) → seek test (sort_by number_of (somes os)) ≡ None
-nobody_found test os k = seek_nobody test (sort_by number_of (somes os)) (sort_each number_of (λ y. test y ≡ false) (somes os) k)
-
-pub nobody_changed : (test : Issued → Bool) (f : Issued → List Issued) (os : List (Option Issued)) → Each (λ y. test y ≡ false) (somes os) → change test f (sort_by number_of (somes os)) ≡ sort_by number_of (somes os)
-nobody_changed test f os k = change_nobody test f (sort_by number_of (somes os)) (sort_each number_of (λ y. test y ≡ false) (somes os) k)
+pub nobody_changed : (f : Issued → Option Instr) (g : Issued → List Issued) (os : List (Option Issued)) → Each (λ y. f y ≡ None) (somes os) → replaced (seek f (sort_by number_of (somes os))) (sort_by number_of (somes os)) g ≡ sort_by number_of (somes os)
+nobody_changed f g os k = replaced_nobody f g (sort_by number_of (somes os)) (sort_each number_of (λ y. f y ≡ None) (somes os) k)
 
 -- a test of the earlier ones is a test of the seats with a lower number
-pub earlier_any : (f : Issued → Bool) (os : List (Option Issued)) (i : ℕ) (x : Issued) → get_or os i None ≡ Some x → Pairs IsOther (somes os) → list_any (λ y. ltb (number_of y) (number_of x) && f y) (somes os) ≡ list_any f (before_seat os i x)
+pub earlier_any : (f : Issued → Bool) (os : List (Option Issued)) (i : ℕ) (x : Issued) → get_or os i None ≡ Some x → Pairs IsOther (somes os) → list_any (λ y. ltb (number_of y) (number_of x) && f y) (somes os) ≡ list_any f (before_seat number_of os i x)
 earlier_any f os i x h p =
     let t : Issued → Bool = λ y. ltb (number_of y) (number_of x) && f y in
-    let order = around os i x h p in
+    let order = taken_with number_of os i x h (own_keys (somes os) p) in
     sym (any_sort number_of t (somes os))
     ∙ ap (list_any t) order
-    ∙ any_earlier number_of f (before_seat os i x) x (after_seat os i x) (subst (IsIncreasing number_of) order (sort_increasing number_of (somes os) (own_keys (somes os) p)))
+    ∙ any_earlier number_of f (before_seat number_of os i x) x (after_seat number_of os i x) (subst (IsIncreasing number_of) order (sort_increasing number_of (somes os) (own_keys (somes os) p)))
 
 -- ---- the seats of units and channels ----
 
@@ -110,29 +75,35 @@ list_read (y ∷ xs) (suc i) x h e = list_read xs i x (omega arith) e
 pub unit_seat : (units channels : List (Option Issued)) (u : FunctionalUnit) (i : ℕ) (o : Option Issued) → length units ≡ 10 → i ≡ unit_number u → get_or units i None ≡ o → get_or (units ++ channels) i None ≡ o
 unit_seat units channels u i o l e h =
     let b : unit_number u < 10 = unit_below u in
-    get_front units channels i None (omega (arith, b, e, l)) ∙ h
+    get_or_append_left units channels None i (omega (arith, b, e, l)) ∙ h
 
 pub channel_seat : (units channels : List (Option Issued)) (n : ℕ) (o : Option Issued) → length units ≡ 10 → get_or channels n None ≡ o → get_or (units ++ channels) (10 + n) None ≡ o
 channel_seat units channels n o l h = get_back units channels n (10 + n) None (omega (arith, l)) ∙ h
 
 -- no other holds the unit
-pub others_free : (u : FunctionalUnit) (os : List (Option Issued)) (i : ℕ) → i ≡ unit_number u → IsSeated 0 os → Each (λ y. holds_unit u y ≡ false) (somes (set os i None))
-others_free u os i e s = each_map (λ y. seat_of y ≢ i) (λ y. holds_unit u y ≡ false) (λ y k. sits_not u y (λ q. k (q ∙ sym e))) (somes (set os i None)) (seated_others os 0 i i (omega arith) s)
+pub others_free : (u : FunctionalUnit) (os : List (Option Issued)) (i : ℕ) → i ≡ unit_number u → IsSeated seat_of 0 os → Each (λ y. held_in u y ≡ None) (somes (set os i None))
+others_free u os i e s = each_map (λ y. seat_of y ≢ i) (λ y. held_in u y ≡ None) (λ y k. sits_not_held u y (λ q. k (q ∙ sym e))) (somes (set os i None)) (seated_others seat_of os 0 i i (omega arith) s)
 
-pub nobody_holds : (u : FunctionalUnit) (os : List (Option Issued)) (i : ℕ) → i ≡ unit_number u → get_or os i None ≡ None → IsSeated 0 os → Each (λ y. holds_unit u y ≡ false) (somes os)
-nobody_holds u os i e h s = each_map (λ y. seat_of y ≢ i) (λ y. holds_unit u y ≡ false) (λ y k. sits_not u y (λ q. k (q ∙ sym e))) (somes os) (seated_nobody os i h s)
+pub nobody_holds : (u : FunctionalUnit) (os : List (Option Issued)) (i : ℕ) → i ≡ unit_number u → get_or os i None ≡ None → IsSeated seat_of 0 os → Each (λ y. holds u y.row ≡ false) (somes os)
+nobody_holds u os i e h s = each_map (λ y. seat_of y ≢ i) (λ y. holds u y.row ≡ false) (λ y k. sits_not u y (λ q. k (q ∙ sym e))) (somes os) (seated_nobody seat_of os i h s)
 
-pub here_holds : (u : FunctionalUnit) (os : List (Option Issued)) (i : ℕ) (x : Issued) → i ≡ unit_number u → get_or os i None ≡ Some x → IsSeated 0 os → holds_unit u x ≡ true
-here_holds u os i x e h s = let q = seated_here os 0 i x h s in sits_holds u x (q ∙ omega (arith, e))
+pub nobody_held : (u : FunctionalUnit) (os : List (Option Issued)) (i : ℕ) → i ≡ unit_number u → get_or os i None ≡ None → IsSeated seat_of 0 os → Each (λ y. held_in u y ≡ None) (somes os)
+nobody_held u os i e h s = each_map (λ y. seat_of y ≢ i) (λ y. held_in u y ≡ None) (λ y k. sits_not_held u y (λ q. k (q ∙ sym e))) (somes os) (seated_nobody seat_of os i h s)
 
-pub others_not_returning : (n : ℕ) (os : List (Option Issued)) → IsSeated 0 os → Each (λ y. returns_by n y ≡ false) (somes (set os (10 + n) None))
-others_not_returning n os s = each_map (λ y. seat_of y ≢ 10 + n) (λ y. returns_by n y ≡ false) (λ y k. sits_returns_not n y k) (somes (set os (10 + n) None)) (seated_others os 0 (10 + n) (10 + n) (omega arith) s)
+pub here_holds : (u : FunctionalUnit) (os : List (Option Issued)) (i : ℕ) (x : Issued) → i ≡ unit_number u → get_or os i None ≡ Some x → IsSeated seat_of 0 os → holds u x.row ≡ true
+here_holds u os i x e h s = let q = seated_here seat_of os 0 i x h s in sits_holds u x (q ∙ omega (arith, e))
 
-pub nobody_returns : (n : ℕ) (os : List (Option Issued)) → get_or os (10 + n) None ≡ None → IsSeated 0 os → Each (λ y. returns_by n y ≡ false) (somes os)
-nobody_returns n os h s = each_map (λ y. seat_of y ≢ 10 + n) (λ y. returns_by n y ≡ false) (λ y k. sits_returns_not n y k) (somes os) (seated_nobody os (10 + n) h s)
+pub here_held : (u : FunctionalUnit) (os : List (Option Issued)) (i : ℕ) (x : Issued) → i ≡ unit_number u → get_or os i None ≡ Some x → IsSeated seat_of 0 os → held_in u x ≡ Some x.row.instr
+here_held u os i x e h s = let q = seated_here seat_of os 0 i x h s in sits_held u x (q ∙ omega (arith, e))
 
-pub here_returns : (n : ℕ) (os : List (Option Issued)) (x : Issued) → n < 8 → get_or os (10 + n) None ≡ Some x → IsSeated 0 os → returns_by n x ≡ true
-here_returns n os x b h s = let q = seated_here os 0 (10 + n) x h s in sits_returns n x b (q ∙ omega arith)
+pub others_not_returning : (n : ℕ) (os : List (Option Issued)) → IsSeated seat_of 0 os → Each (λ y. returning_by n y ≡ None) (somes (set os (10 + n) None))
+others_not_returning n os s = each_map (λ y. seat_of y ≢ 10 + n) (λ y. returning_by n y ≡ None) (λ y k. sits_not_returning n y k) (somes (set os (10 + n) None)) (seated_others seat_of os 0 (10 + n) (10 + n) (omega arith) s)
+
+pub nobody_returns : (n : ℕ) (os : List (Option Issued)) → get_or os (10 + n) None ≡ None → IsSeated seat_of 0 os → Each (λ y. returning_by n y ≡ None) (somes os)
+nobody_returns n os h s = each_map (λ y. seat_of y ≢ 10 + n) (λ y. returning_by n y ≡ None) (λ y k. sits_not_returning n y k) (somes os) (seated_nobody seat_of os (10 + n) h s)
+
+pub here_returns : (n : ℕ) (os : List (Option Issued)) (x : Issued) → n < 8 → get_or os (10 + n) None ≡ Some x → IsSeated seat_of 0 os → returning_by n x ≡ Some x.row.instr
+here_returns n os x b h s = let q = seated_here seat_of os 0 (10 + n) x h s in sits_returns n x b (q ∙ omega arith)
 
 -- ---- answers by the first register ----
 
@@ -170,36 +141,36 @@ produced_found f (r ∷ rs) (Some w ∷ ps) h = ap (λ o. cond (is_some o) (Some
 -- ---- Second order ----
 
 -- a source has a producer where it is a result still to come of an earlier one
-pub awaited_earlier : (r : Reg) (os : List (Option Issued)) (i : ℕ) (x : Issued) → get_or os i None ≡ Some x → Pairs IsOther (somes os) → is_some (writer_before x.number (somes os) r) ≡ awaited row_of (before_seat os i x) r
+pub awaited_earlier : (r : Reg) (os : List (Option Issued)) (i : ℕ) (x : Issued) → get_or os i None ≡ Some x → Pairs IsOther (somes os) → is_some (writer_before x.number (somes os) r) ≡ awaited row_of (before_seat number_of os i x) r
 unfolding writer_before awaited number_of row_of
 awaited_earlier r os i x h p =
     some_any (if_earlier x.number (written_by r)) (somes os)
     ∙ any_same (λ y. is_some (if_earlier x.number (written_by r) y)) (λ y. ltb y.number x.number && comes r y.row) (earlier_some x.number r) (somes os)
     ∙ earlier_any (λ y. comes r y.row) os i x h p
 
-pub read_answered : (units channels : List (Option Issued)) (producers : List (List (Option Writer))) (ws : Writers) (last : ℕ) (u : FunctionalUnit) (i : ℕ) (x : Issued) (rs : List Reg) (ps : List (Option Writer)) (o : Option Reg) → IsRight units channels producers ws last → i ≡ unit_number u → get_or units i None ≡ Some x → rs ≡ sources_of x.row.instr → ps ≡ get_or producers i [] → o ≡ first_produced rs ps → from_found o OperandAwaited ≡ read_answer (seek (holds_unit u) (sort_by number_of (seated units channels)))
+pub read_answered : (units channels : List (Option Issued)) (producers : List (List (Option Writer))) (ws : Writers) (last : ℕ) (u : FunctionalUnit) (i : ℕ) (x : Issued) (rs : List Reg) (ps : List (Option Writer)) (o : Option Reg) → IsRight units channels producers ws last → i ≡ unit_number u → get_or units i None ≡ Some x → rs ≡ sources_of x.row.instr → ps ≡ get_or producers i [] → o ≡ first_produced rs ps → from_found o OperandAwaited ≡ read_answer (seek (held_in u) (sort_by number_of (seated units channels)))
 unfolding seated read_answer
 read_answered units channels producers ws last u i x rs ps o right e h er ep eo =
     let os : List (Option Issued) = units ++ channels in
     let here = unit_seat units channels u i (Some x) right.all_units e h in
     let f : Reg → Option Writer = writer_before x.number (somes os) in
     let made : AreProducers f (sources_of x.row.instr) (get_or producers i []) = right.produced i x h in
-    ap (λ q. from_found q OperandAwaited) (eo ∙ ap (λ l. first_produced l ps) er ∙ ap (first_produced (sources_of x.row.instr)) ep ∙ produced_found f (sources_of x.row.instr) (get_or producers i []) made ∙ find_same (λ r. is_some (f r)) (awaited row_of (before_seat os i x)) (λ r. awaited_earlier r os i x here right.apart) (sources_of x.row.instr))
-    ∙ unless_found (awaited row_of (before_seat os i x)) (sources_of x.row.instr) OperandAwaited
-    ∙ ap read_answer (sym (found (holds_unit u) os i x here right.apart (here_holds u os i x e here right.sits) (others_free u os i e right.sits)))
+    ap (λ q. from_found q OperandAwaited) (eo ∙ ap (λ l. first_produced l ps) er ∙ ap (first_produced (sources_of x.row.instr)) ep ∙ produced_found f (sources_of x.row.instr) (get_or producers i []) made ∙ find_same (λ r. is_some (f r)) (awaited row_of (before_seat number_of os i x)) (λ r. awaited_earlier r os i x here right.apart) (sources_of x.row.instr))
+    ∙ unless_found (awaited row_of (before_seat number_of os i x)) (sources_of x.row.instr) OperandAwaited
+    ∙ ap read_answer (sym (found_there number_of (held_in u) os i x x.row.instr here (own_keys (somes os) right.apart) (here_held u os i x e here right.sits) (others_free u os i e right.sits)))
 
-pub nobody_answers : (units channels : List (Option Issued)) (producers : List (List (Option Writer))) (ws : Writers) (last : ℕ) (u : FunctionalUnit) (i : ℕ) → IsRight units channels producers ws last → i ≡ unit_number u → get_or units i None ≡ None → seek (holds_unit u) (sort_by number_of (seated units channels)) ≡ None
+pub nobody_answers : (units channels : List (Option Issued)) (producers : List (List (Option Writer))) (ws : Writers) (last : ℕ) (u : FunctionalUnit) (i : ℕ) → IsRight units channels producers ws last → i ≡ unit_number u → get_or units i None ≡ None → seek (held_in u) (sort_by number_of (seated units channels)) ≡ None
 unfolding seated
-nobody_answers units channels producers ws last u i right e h = nobody_found (holds_unit u) (units ++ channels) (nobody_holds u (units ++ channels) i e (unit_seat units channels u i None right.all_units e h) right.sits)
+nobody_answers units channels producers ws last u i right e h = found_nobody number_of (held_in u) (units ++ channels) (nobody_held u (units ++ channels) i e (unit_seat units channels u i None right.all_units e h) right.sits)
 
 -- ---- Third order, and the turn ----
 
-seated_back : (xs ys : List (Option Issued)) (k l : ℕ) → l ≡ k + length xs → IsSeated k (xs ++ ys) → IsSeated l ys
-seated_back [] ys k l e s = let q : k ≡ l = omega (arith, e) in subst (λ m. IsSeated m ys) q s
+seated_back : (xs ys : List (Option Issued)) (k l : ℕ) → l ≡ k + length xs → IsSeated seat_of k (xs ++ ys) → IsSeated seat_of l ys
+seated_back [] ys k l e s = let q : k ≡ l = omega (arith, e) in subst (λ m. IsSeated seat_of m ys) q s
 seated_back (None ∷ xs) ys k l e s = seated_back xs ys (suc k) l (omega (arith, e)) s
 seated_back (Some x ∷ xs) ys k l e s = seated_back xs ys (suc k) l (omega (arith, e)) s.1
 
-left_from : (os : List (Option Issued)) (k : ℕ) → 10 ≤ k → IsSeated k os → Each (λ y. is_reserved y.row.progress ≡ false) (somes os)
+left_from : (os : List (Option Issued)) (k : ℕ) → 10 ≤ k → IsSeated seat_of k os → Each (λ y. is_reserved y.row.progress ≡ false) (somes os)
 unfolding somes seat_in seat_of is_reserved
 left_from [] k h s = tt
 left_from (None ∷ os) k h s = left_from os (suc k) (omega arith) s
@@ -215,7 +186,7 @@ somes-append [] ys = refl
 somes-append (None ∷ xs) ys = somes-append xs ys
 somes-append (Some x ∷ xs) ys = ap (λ l. x ∷ l) (somes-append xs ys)
 
-none_any : (t : Issued → Bool) (ys : List Issued) → Each (λ y. t y ≡ false) ys → list_any t ys ≡ false
+pub none_any : (t : Issued → Bool) (ys : List Issued) → Each (λ y. t y ≡ false) ys → list_any t ys ≡ false
 none_any t [] h = refl
 none_any t (y ∷ ys) h = ap (λ b. b || list_any t ys) h.0 ∙ none_any t ys h.1
 
@@ -224,7 +195,7 @@ or_false true = refl
 or_false false = refl
 
 -- a test that those in channels fail is a test of the units
-pub units_any : (t : Issued → Bool) (g : Option Issued → Bool) → g None ≡ false → ((x : Issued) → g (Some x) ≡ t x) → ((y : Issued) → is_reserved y.row.progress ≡ false → t y ≡ false) → (units channels : List (Option Issued)) → length units ≡ 10 → IsSeated 0 (units ++ channels) → list_any g units ≡ list_any t (somes (units ++ channels))
+pub units_any : (t : Issued → Bool) (g : Option Issued → Bool) → g None ≡ false → ((x : Issued) → g (Some x) ≡ t x) → ((y : Issued) → is_reserved y.row.progress ≡ false → t y ≡ false) → (units channels : List (Option Issued)) → length units ≡ 10 → IsSeated seat_of 0 (units ++ channels) → list_any g units ≡ list_any t (somes (units ++ channels))
 units_any t g none some silent units channels l s =
     any_somes t g none some units
     ∙ sym (or_false (list_any t (somes units)))
@@ -245,62 +216,30 @@ no_reads r y h = by_progress y.row.progress h
     by_progress (Left o) k = refl
 
 -- a register has still to be read by a unit with a lower number where an earlier one has still to read it
-pub read_earlier : (r : Reg) (units channels : List (Option Issued)) (i : ℕ) (x : Issued) → length units ≡ 10 → IsSeated 0 (units ++ channels) → get_or (units ++ channels) i None ≡ Some x → Pairs IsOther (somes (units ++ channels)) → list_any (seat_reads x.number r) units ≡ to_be_read row_of (before_seat (units ++ channels) i x) r
+pub read_earlier : (r : Reg) (units channels : List (Option Issued)) (i : ℕ) (x : Issued) → length units ≡ 10 → IsSeated seat_of 0 (units ++ channels) → get_or (units ++ channels) i None ≡ Some x → Pairs IsOther (somes (units ++ channels)) → list_any (seat_reads x.number r) units ≡ to_be_read row_of (before_seat number_of (units ++ channels) i x) r
 unfolding to_be_read number_of row_of seat_reads
 read_earlier r units channels i x l s h p =
     units_any (λ y. ltb y.number x.number && reads_it r y.row) (seat_reads x.number r) refl (λ y. refl) (λ y k. ap (λ b. ltb y.number x.number && b) (no_reads r y k) ∙ and_false (ltb y.number x.number)) units channels l s
     ∙ earlier_any (λ y. reads_it r y.row) (units ++ channels) i x h p
 
-pub store_answered : (units channels : List (Option Issued)) (producers : List (List (Option Writer))) (ws : Writers) (last : ℕ) (u : FunctionalUnit) (i : ℕ) (x : Issued) (rs : List Reg) (o : Option Reg) → IsRight units channels producers ws last → i ≡ unit_number u → get_or units i None ≡ Some x → rs ≡ puts_of (shape_of x.row.instr) → o ≡ find (λ r. list_any (seat_reads x.number r) units) rs → from_found o ResultHeld ≡ store_answer (seek (holds_unit u) (sort_by number_of (seated units channels)))
+pub store_answered : (units channels : List (Option Issued)) (producers : List (List (Option Writer))) (ws : Writers) (last : ℕ) (u : FunctionalUnit) (i : ℕ) (x : Issued) (rs : List Reg) (o : Option Reg) → IsRight units channels producers ws last → i ≡ unit_number u → get_or units i None ≡ Some x → rs ≡ puts_of (shape_of x.row.instr) → o ≡ find (λ r. list_any (seat_reads x.number r) units) rs → from_found o ResultHeld ≡ store_answer (seek (held_in u) (sort_by number_of (seated units channels)))
 unfolding seated store_answer
 store_answered units channels producers ws last u i x rs o right e h er eo =
     let os : List (Option Issued) = units ++ channels in
     let here = unit_seat units channels u i (Some x) right.all_units e h in
-    let test : Reg → Bool = to_be_read row_of (before_seat os i x) in
+    let test : Reg → Bool = to_be_read row_of (before_seat number_of os i x) in
     ap (λ q. from_found q ResultHeld) (eo ∙ ap (find (λ r. list_any (seat_reads x.number r) units)) er ∙ find_same (λ r. list_any (seat_reads x.number r) units) test (λ r. read_earlier r units channels i x right.all_units right.sits here right.apart) (puts_of (shape_of x.row.instr)))
     ∙ unless_found test (puts_of (shape_of x.row.instr)) ResultHeld
-    ∙ ap store_answer (sym (found (holds_unit u) os i x here right.apart (here_holds u os i x e here right.sits) (others_free u os i e right.sits)))
+    ∙ ap store_answer (sym (found_there number_of (held_in u) os i x x.row.instr here (own_keys (somes os) right.apart) (here_held u os i x e here right.sits) (others_free u os i e right.sits)))
 
-pub return_answered : (units channels : List (Option Issued)) (producers : List (List (Option Writer))) (ws : Writers) (last n : ℕ) (x : Issued) (b : Bool) → IsRight units channels producers ws last → n < 8 → get_or channels n None ≡ Some x → b ≡ list_any (seat_reads x.number (X n)) units → unless b (ResultHeld (X n)) ≡ return_answer n (seek (returns_by n) (sort_by number_of (seated units channels)))
+pub return_answered : (units channels : List (Option Issued)) (producers : List (List (Option Writer))) (ws : Writers) (last n : ℕ) (x : Issued) (b : Bool) → IsRight units channels producers ws last → n < 8 → get_or channels n None ≡ Some x → b ≡ list_any (seat_reads x.number (X n)) units → unless b (ResultHeld (X n)) ≡ return_answer n (seek (returning_by n) (sort_by number_of (seated units channels)))
 unfolding seated return_answer
 return_answered units channels producers ws last n x b right below_8 h eb =
     let os : List (Option Issued) = units ++ channels in
     let here = channel_seat units channels n (Some x) right.all_units h in
     ap (λ q. unless q (ResultHeld (X n))) (eb ∙ read_earlier (X n) units channels (10 + n) x right.all_units right.sits here right.apart)
-    ∙ ap (return_answer n) (sym (found (returns_by n) os (10 + n) x here right.apart (here_returns n os x below_8 here right.sits) (others_not_returning n os right.sits)))
+    ∙ ap (return_answer n) (sym (found_there number_of (returning_by n) os (10 + n) x x.row.instr here (own_keys (somes os) right.apart) (here_returns n os x below_8 here right.sits) (others_not_returning n os right.sits)))
 
-pub nobody_returning : (units channels : List (Option Issued)) (producers : List (List (Option Writer))) (ws : Writers) (last n : ℕ) → IsRight units channels producers ws last → get_or channels n None ≡ None → seek (returns_by n) (sort_by number_of (seated units channels)) ≡ None
+pub nobody_returning : (units channels : List (Option Issued)) (producers : List (List (Option Writer))) (ws : Writers) (last n : ℕ) → IsRight units channels producers ws last → get_or channels n None ≡ None → seek (returning_by n) (sort_by number_of (seated units channels)) ≡ None
 unfolding seated
-nobody_returning units channels producers ws last n right h = nobody_found (returns_by n) (units ++ channels) (nobody_returns n (units ++ channels) (channel_seat units channels n None right.all_units h) right.sits)
-
-no_turn : (y : Issued) → is_reserved y.row.progress ≡ false → has_turn y.row ≡ false
-unfolding has_turn
-no_turn y h = ap (λ b. b && has_reference (shape_of y.row.instr)) h
-
-pub turn_answered : (units channels : List (Option Issued)) (producers : List (List (Option Writer))) (ws : Writers) (last : ℕ) (u : FunctionalUnit) (i : ℕ) (x : Issued) (b : Bool) → IsRight units channels producers ws last → i ≡ unit_number u → get_or units i None ≡ Some x → b ≡ (has_reference (shape_of x.row.instr) && list_any (seat_has_turn x.number) units) → unless b OutOfTurn ≡ turn_answer (seek (holds_unit u) (sort_by number_of (seated units channels)))
-unfolding seated turn_answer number_of row_of seat_has_turn
-turn_answered units channels producers ws last u i x b right e h eb =
-    let os : List (Option Issued) = units ++ channels in
-    let here = unit_seat units channels u i (Some x) right.all_units e h in
-    ap (λ q. unless q OutOfTurn) (eb ∙ ap (λ q. has_reference (shape_of x.row.instr) && q)
-    (units_any (λ y. ltb y.number x.number && has_turn y.row) (seat_has_turn x.number) refl (λ y. refl) (λ y k. ap (λ q. ltb y.number x.number && q) (no_turn y k) ∙ and_false (ltb y.number x.number)) units channels right.all_units right.sits
-    ∙ earlier_any (λ y. has_turn y.row) os i x here right.apart))
-    ∙ ap turn_answer (sym (found (holds_unit u) os i x here right.apart (here_holds u os i x e here right.sits) (others_free u os i e right.sits)))
-
--- ---- whether any holds Branch, or has a store to come ----
-
-pub no_branch : (r : Row) → is_reserved r.progress ≡ false → is_branch r ≡ false
-unfolding is_branch
-no_branch r h = ap (λ b. b && is_branch_shape (shape_of r.instr)) h
-
-pub no_store_turn : (r : Row) → is_reserved r.progress ≡ false → has_store_turn r ≡ false
-unfolding has_store_turn
-no_store_turn r h = ap (λ b. (b && has_store (shape_of r.instr)) && not (is_branch_shape (shape_of r.instr))) h
-
--- a test that those who left their units fail is answered by the units
-pub any_reserved : (test : Row → Bool) → ((r : Row) → is_reserved r.progress ≡ false → test r ≡ false) → (units channels : List (Option Issued)) (producers : List (List (Option Writer))) (ws : Writers) (last : ℕ) → IsRight units channels producers ws last → list_any (seat_is test) units ≡ list_any (λ x. test x.row) (sort_by number_of (seated units channels))
-unfolding seated seat_is
-any_reserved test silent units channels producers ws last right =
-    let t : Issued → Bool = λ x. test x.row in
-    units_any t (seat_is test) refl (λ y. refl) (λ y k. silent y.row k) units channels right.all_units right.sits
-    ∙ sym (any_sort number_of t (somes (units ++ channels)))
+nobody_returning units channels producers ws last n right h = found_nobody number_of (returning_by n) (units ++ channels) (nobody_returns n (units ++ channels) (channel_seat units channels n None right.all_units h) right.sits)

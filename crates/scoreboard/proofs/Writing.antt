@@ -1,5 +1,5 @@
 -- Who writes a register: the first answer of a list, and what one row answers.
-use Rattle.std.proofs.Common.{◌≡◌, ◌≤◌, ℕ, zero, suc, Bool, true, false, cond, List, [], ◌∷◌, ◌++◌, Option, Some, None, refl, sym, ap, ◌∙◌, eqb, ltb, map, get_or, arith}
+use Rattle.std.proofs.Common.{◌≡◌, ◌≤◌, ℕ, suc, Bool, true, false, cond, List, [], ◌∷◌, ◌++◌, Option, Some, None, refl, sym, ap, ◌∙◌, eqb, ltb, map, arith}
 use Rattle.std.specs.Prelude.{is_some, ◌&&◌, ◌||◌}
 use Rattle.std.specs.List.{list_any}
 use Rattle.std.proofs.lemmas.Bool.{eq-eqb, ne_eqb, lt-ltb}
@@ -127,7 +127,7 @@ unfolding written_by comes to_come
 some_written r x = some_in r x.row.unit (shape_of x.row.instr) x.row.progress
 
 -- a channel is no unit
-channel_no_unit : (u : FunctionalUnit) (r : Reg) (o : Option ℕ) → forget (OfUnit u) (written_by_channel r o) ≡ written_by_channel r o
+pub channel_no_unit : (u : FunctionalUnit) (r : Reg) (o : Option ℕ) → forget (OfUnit u) (written_by_channel r o) ≡ written_by_channel r o
 unfolding forget written_by_channel same_writer
 channel_no_unit u r None = refl
 channel_no_unit u r (Some n) = by_test (reg_eq r (X n))
@@ -258,7 +258,7 @@ earlier_forget w n r y h = by_test (ltb y.number n)
     by_test true = h
     by_test false = refl
 
-earlier_at : (last : ℕ) (r : Reg) (y : Issued) → y.number ≤ last → if_earlier (suc last) (written_by r) y ≡ written_by r y
+pub earlier_at : (last : ℕ) (r : Reg) (y : Issued) → y.number ≤ last → if_earlier (suc last) (written_by r) y ≡ written_by r y
 unfolding if_earlier
 earlier_at last r y h = ap (λ b. cond b (written_by r y) None) (lt-ltb y.number (suc last) (omega arith))
 
@@ -277,8 +277,3 @@ pub producers_forget : (w : Writer) (f g : Reg → Option Writer) → ((r : Reg)
 producers_forget w f g h [] ps k = tt
 producers_forget w f g h (r ∷ rs) [] k = absurd k
 producers_forget w f g h (r ∷ rs) (p ∷ ps) k = (ap (forget w) k.0 ∙ sym (h r), producers_forget w f g h rs ps k.1)
-
-pub get-map : {X Y : Type 0} (f : X → Y) (xs : List X) (i : ℕ) (d : X) (e : Y) → f d ≡ e → get_or (map f xs) i e ≡ f (get_or xs i d)
-get-map f [] i d e h = sym h
-get-map f (x ∷ xs) zero d e h = refl
-get-map f (x ∷ xs) (suc i) d e h = get-map f xs i d e h

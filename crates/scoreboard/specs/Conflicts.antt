@@ -1,6 +1,8 @@
--- The three orders of conflict, and the turn of references, over a list of issued instructions in issue
--- order. What stands in the list may be more than a row: `row_of` gives the row of each.
-use Rattle.std.specs.Prelude.{Bool, is_none, if◌then◌else◌, List, [], ◌∷◌, Option, Some, None, find, unwrap_or}
+-- The three orders of conflict, and the turn of references, over a list of issued instructions in issue order. What
+-- stands in the list may be more than a row: `row_of` gives the row of each.
+-- Source: Thornton, scoreboard; 60100000, unit and register conflicts. The turn of references, and that the
+-- lower-numbered free unit is taken, are ours.
+use Rattle.std.specs.Prelude.{Bool, if◌then◌else◌, List, [], ◌∷◌, Option, Some, None, find, unwrap_or}
 use Rattle.std.specs.List.{list_any}
 use Rattle.instruction_table.specs.declared.instr.Reg.{Reg}
 use Rattle.instruction_table.specs.declared.instr.Reg.TheVariants.{B}
@@ -22,6 +24,7 @@ to_be_read row_of issued register = list_any (λ m. reads_it register (row_of m)
 unfoldable pub is_held : {M : Type 0} → (M → Row) → List M → Unit → Bool
 is_held row_of issued unit = list_any (λ m. holds unit (row_of m)) issued
 
+-- the first of the units that is not held
 unfoldable pub first_free : (Unit → Bool) → List Unit → Option Unit
 first_free held [] = None
 first_free held (u ∷ us) = if held u then first_free held us else Some u
@@ -30,26 +33,28 @@ first_free held (u ∷ us) = if held u then first_free held us else Some u
 unfoldable pub free_unit : {M : Type 0} → (M → Row) → List M → UnitKind → Option Unit
 free_unit row_of issued kind = first_free (is_held row_of issued) (units_of kind)
 
--- the first of the registers that passes a test, B0 if none does
+-- the unit that an issue reserves: of the kind that the instruction takes, none where each of the kind is held
+unfoldable pub unit_for : {M : Type 0} → (M → Row) → List M → Option UnitKind → Option Unit
+unit_for row_of issued None = None
+unit_for row_of issued (Some kind) = free_unit row_of issued kind
+
+-- the first of the registers that passes a test, B0 if none does: the register that a refusal names
 abbrev pub first_such : (Reg → Bool) → List Reg → Reg
 first_such test registers = unwrap_or (find test registers) (B 0)
 
--- First order, in two parts: no unit of the kind is free; a result register is a result still to come of
+-- E8, result reserved (first order, where a unit of the kind is free): a result register is a result still to come of
 -- some instruction
-abbrev pub no_unit : {M : Type 0} → (M → Row) → List M → UnitKind → Bool
-no_unit row_of issued kind = is_none (free_unit row_of issued kind)
-
 abbrev pub result_reserved : {M : Type 0} → (M → Row) → List M → List Reg → Bool
 result_reserved row_of issued results = list_any (awaited row_of issued) results
 
--- Second order: a source is a result still to come of an earlier instruction
+-- E9, operand awaited (second order): an operand is a result still to come of an earlier instruction
 abbrev pub operand_awaited : {M : Type 0} → (M → Row) → List M → List Reg → Bool
 operand_awaited row_of earlier sources = list_any (awaited row_of earlier) sources
 
--- Third order: an earlier instruction has still to read a register that is about to be written
+-- E10, result held (third order): an earlier instruction has still to read a register that is about to be written
 abbrev pub result_held : {M : Type 0} → (M → Row) → List M → List Reg → Bool
 result_held row_of earlier written = list_any (to_be_read row_of earlier) written
 
--- an earlier reference has not come to its store event
+-- E12, out of turn: an earlier reference has not come to its store event
 abbrev pub out_of_turn : {M : Type 0} → (M → Row) → List M → Bool
 out_of_turn row_of earlier = list_any (λ m. has_turn (row_of m)) earlier

@@ -1,22 +1,26 @@
--- What the seats of a board are asked.
-use Rattle.std.specs.Prelude.{ℕ, Bool, false, ◌&&◌, nat_lt, List, Option, Some, None, is_some, slice_index_or, slice_set}
+-- What the fields of a board are asked, and what an issue or a store event changes in them. A seat is the field of
+-- one unit or of one load channel.
+-- Source: Thornton, scoreboard; docs/scoreboard.md sets the fields beside his.
+use Rattle.std.specs.Prelude.{ℕ, Bool, false, ◌&&◌, ◌||◌, nat_lt, List, [], ◌∷◌, Option, Some, None, is_some, map, slice_index_or, slice_set}
 use Rattle.instruction_table.specs.declared.instr.Reg.TheVariants.{X}
+use Rattle.instruction_table.specs.declared.instr.Unit.TheVariants.{Increment1, Increment2}
 use Rattle.instruction_table.specs.declared.instr.UnitKind.{UnitKind}
 use Rattle.scoreboard.specs.declared.row.Progress.TheVariants.{Left}
 use Rattle.scoreboard.specs.declared.row.Row.{Row}
 use Rattle.scoreboard.specs.Conflicts.{first_free}
 use Rattle.scoreboard.specs.Units.{units_of}
+use Rattle.scoreboard.specs.declared.writer.Writer.{Writer}
 use Rattle.scoreboard.specs.declared.writer.Writer.TheVariants.{OfUnit, OfChannel}
 use Rattle.scoreboard.specs.declared.writers.Writers.{Writers}
 use Rattle.scoreboard.specs.Answers.{in_progress}
-use Rattle.scoreboard.specs.Writers.{set_each, set_writer}
+use Rattle.scoreboard.specs.Writers.{set_each, set_writer, forget}
 use Rattle.instruction_table.specs.declared.instr.Reg.{Reg}
 use Rattle.instruction_table.specs.declared.instr.Unit.{Unit as FunctionalUnit}
 use Rattle.scoreboard.specs.Rows.{reads_it, has_turn}
 use Rattle.scoreboard.specs.Units.{unit_number}
 use Rattle.scoreboard.specs.declared.issued.Issued.{Issued}
 
--- its instruction passes the test
+-- an instruction sits there, and it passes the test
 unfoldable pub seat_is : (Row → Bool) → Option Issued → Bool
 seat_is test None = false
 seat_is test (Some x) = test x.row
@@ -31,21 +35,37 @@ unfoldable pub seat_has_turn : ℕ → Option Issued → Bool
 seat_has_turn n None = false
 seat_has_turn n (Some x) = nat_lt x.number n && has_turn x.row
 
+-- what sits in the seat of the unit
+abbrev pub seat_at : List (Option Issued) → FunctionalUnit → Option Issued
+seat_at units unit = slice_index_or units (unit_number unit) None
+
 -- the seat of the unit is taken
 abbrev pub is_taken : List (Option Issued) → FunctionalUnit → Bool
-is_taken units unit = is_some (slice_index_or units (unit_number unit) None)
+is_taken units unit = is_some (seat_at units unit)
+
+-- the seat of an Increment unit passes the test
+abbrev pub in_increment : (Option Issued → Bool) → List (Option Issued) → Bool
+in_increment test units = test (seat_at units Increment1) || test (seat_at units Increment2)
 
 -- the first unit of a kind that is not taken
 unfoldable pub free_for : (FunctionalUnit → Bool) → Option UnitKind → Option FunctionalUnit
 free_for taken None = None
 free_for taken (Some kind) = first_free taken (units_of kind)
 
--- a load in its channel
+-- the channels after a store event: a load is in its own
 unfoldable pub channels_with : List (Option Issued) → Issued → Option ℕ → List (Option Issued)
 channels_with channels x None = channels
 channels_with channels x (Some n) = slice_set channels n (Some (in_progress x (Left (Some n))))
 
--- one more writer of these registers, and the channel of its load
+-- the writers after an issue: the unit for the registers that its store event writes, the load's channel for its X
+-- register
 unfoldable pub writers_with : Writers → FunctionalUnit → List Reg → Option ℕ → Writers
 writers_with ws unit rs None = set_each ws rs (Some (OfUnit unit))
 writers_with ws unit rs (Some n) = set_each (set_writer ws (X n) (Some (OfChannel n))) rs (Some (OfUnit unit))
+
+-- the producers without that writer, where the unit is taken
+unfoldable pub forget_in_taken : Writer → List (Option Issued) → List (List (Option Writer)) → List (List (Option Writer))
+forget_in_taken w [] pss = pss
+forget_in_taken w (o ∷ os) [] = []
+forget_in_taken w (None ∷ os) (ps ∷ pss) = ps ∷ forget_in_taken w os pss
+forget_in_taken w (Some x ∷ os) (ps ∷ pss) = map (forget w) ps ∷ forget_in_taken w os pss

@@ -1,4 +1,5 @@
 -- An issued instruction with its number, and the writer of a register among such.
+-- Source: Thornton, scoreboard (result designators). The numbers, and that a load channel is a writer, are ours.
 use Rattle.std.specs.Prelude.{ℕ, nat_lt, if◌then◌else◌, List, [], ◌∷◌, Option, Some, None}
 use Rattle.instruction_table.specs.declared.instr.Reg.{Reg}
 use Rattle.instruction_table.specs.declared.instr.Reg.TheVariants.{X}
@@ -13,13 +14,15 @@ use Rattle.scoreboard.specs.declared.writer.Writer.{Writer}
 use Rattle.scoreboard.specs.declared.writer.Writer.TheVariants.{OfUnit, OfChannel}
 use Rattle.scoreboard.specs.declared.issued.Issued.{Issued}
 
+-- what was issued, to which unit, and how far it has come
 unfoldable pub row_of : Issued → Row
 row_of x = x.row
 
+-- the number of its reservation
 unfoldable pub number_of : Issued → ℕ
 number_of x = x.number
 
--- the channel of a load
+-- the channel of a load: the number of its X register
 unfoldable pub channel_of : Shape → Option ℕ
 channel_of (Puts rs) = None
 channel_of (Loads n) = Some n
@@ -27,10 +30,13 @@ channel_of (Stores n) = None
 channel_of Jumps = None
 channel_of Links = None
 
+-- the channel of this number is the writer of its own X register, and of no other
 unfoldable pub written_by_channel : Reg → Option ℕ → Option Writer
 written_by_channel r None = None
 written_by_channel r (Some n) = if reg_eq r (X n) then Some (OfChannel n) else None
 
+-- before the store event the unit is the writer of what that event writes, and the channel that of a load's X
+-- register; after it only a channel is left
 unfoldable pub written_in : Reg → FunctionalUnit → Shape → Progress → Option Writer
 written_in r unit shape (Reserved has_read) = if is_in (puts_of shape) r then Some (OfUnit unit) else written_by_channel r (channel_of shape)
 written_in r unit shape (Left returning) = written_by_channel r returning
@@ -39,11 +45,12 @@ written_in r unit shape (Left returning) = written_by_channel r returning
 unfoldable pub written_by : Reg → Issued → Option Writer
 written_by r x = written_in r x.row.unit (shape_of x.row.instr) x.row.progress
 
+-- this answer, or the other one where there is none
 unfoldable pub or_else : {W : Type 0} → Option W → Option W → Option W
 or_else None o = o
 or_else (Some w) o = Some w
 
--- the first answer
+-- the first answer that one of them gives
 unfoldable pub first_some : {M W : Type 0} → (M → Option W) → List M → Option W
 first_some f [] = None
 first_some f (x ∷ xs) = or_else (f x) (first_some f xs)
@@ -52,6 +59,7 @@ first_some f (x ∷ xs) = or_else (f x) (first_some f xs)
 unfoldable pub writer_of : List Issued → Reg → Option Writer
 writer_of xs r = first_some (written_by r) xs
 
+-- asked only of an instruction with a lower number
 unfoldable pub if_earlier : {W : Type 0} → ℕ → (Issued → Option W) → Issued → Option W
 if_earlier n f x = if nat_lt x.number n then f x else None
 

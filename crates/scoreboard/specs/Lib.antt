@@ -1,4 +1,5 @@
--- The definitions.
+-- The definitions of the scoreboard: units, issued instructions, their conflicts, and the board.
+-- Source: Thornton, scoreboard; 60100000, unit and register conflicts.
 pub mod Units
 pub mod Rows
 pub mod Conflicts

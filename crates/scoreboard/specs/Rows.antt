@@ -1,4 +1,5 @@
 -- One issued instruction: what it has still to write and to read, and what it holds.
+-- Source: Thornton, scoreboard; 60100000, unit and register conflicts.
 use Rattle.std.specs.Prelude.{ℕ, Bool, true, false, not, ◌&&◌, List, [], ◌∷◌, Option, Some, None}
 use Rattle.instruction_table.specs.declared.instr.Reg.{Reg}
 use Rattle.instruction_table.specs.declared.instr.Reg.TheVariants.{X}
@@ -16,10 +17,12 @@ unfoldable pub is_reserved : Progress → Bool
 is_reserved (Reserved has_read) = true
 is_reserved (Left returning) = false
 
+-- the X register of this number, to which a load has still to return, if there is one
 unfoldable pub returning_to : Option ℕ → List Reg
 returning_to None = []
 returning_to (Some n) = X n ∷ []
 
+-- the results still to come: all of them while the unit is held, then the X register of a load that has to return
 unfoldable pub to_come_in : Shape → Progress → List Reg
 to_come_in shape (Reserved has_read) = results shape
 to_come_in shape (Left returning) = returning_to returning
@@ -28,12 +31,13 @@ to_come_in shape (Left returning) = returning_to returning
 unfoldable pub to_come : Row → List Reg
 to_come row = to_come_in (shape_of row.instr) row.progress
 
+-- the operands that are still to be read: all of them before the read, none after it
 unfoldable pub reads_in : List Reg → Progress → List Reg
 reads_in sources (Reserved false) = sources
 reads_in sources (Reserved true) = []
 reads_in sources (Left returning) = []
 
--- the sources that it has still to read
+-- the operands that it has still to read
 unfoldable pub reads : Row → List Reg
 reads row = reads_in (sources_of row.instr) row.progress
 
@@ -41,10 +45,11 @@ reads row = reads_in (sources_of row.instr) row.progress
 unfoldable pub comes : Reg → Row → Bool
 comes register row = is_in (to_come row) register
 
--- a register is one of the sources that it has still to read
+-- a register is one of the operands that it has still to read
 unfoldable pub reads_it : Reg → Row → Bool
 reads_it register row = is_in (reads row) register
 
+-- it holds this unit
 unfoldable pub holds : Unit → Row → Bool
 holds unit row = same_unit row.unit unit && is_reserved row.progress
 

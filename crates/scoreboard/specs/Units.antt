@@ -1,10 +1,13 @@
--- The functional units, by number.
-use Rattle.std.specs.Prelude.{ℕ, Bool, ◌==◌, List, [], ◌∷◌}
+-- The functional units, by number, and the kinds of unit that instructions take.
+-- Source: Thornton, scoreboard; 60100000, functional units. The numbers and their order are ours.
+use Rattle.std.specs.Prelude.{ℕ, Bool, false, ◌==◌, List, [], ◌∷◌, Option, Some, None}
+use Rattle.std.specs.List.{list_any}
 use Rattle.instruction_table.specs.declared.instr.Unit.{Unit}
 use Rattle.instruction_table.specs.declared.instr.Unit.TheVariants.{Branch, Boolean, Shift, Add, LongAdd, Multiply1, Multiply2, Divide, Increment1, Increment2}
 use Rattle.instruction_table.specs.declared.instr.UnitKind.{UnitKind}
 use Rattle.instruction_table.specs.declared.instr.UnitKind.TheVariants.{Branch as BranchKind, Boolean as BooleanKind, Shift as ShiftKind, LongAdd as LongAddKind, Divide as DivideKind, Increment as IncrementKind}
 
+-- the number of a unit, from 0 for Branch to 9 for Increment 2
 abbrev pub unit_number : Unit → ℕ
 unit_number Branch = 0
 unit_number Boolean = 1
@@ -17,6 +20,7 @@ unit_number Divide = 7
 unit_number Increment1 = 8
 unit_number Increment2 = 9
 
+-- two units are one: they have the same number
 unfoldable pub same_unit : Unit → Unit → Bool
 same_unit unit other = unit_number unit == unit_number other
 
@@ -28,3 +32,19 @@ units_of ShiftKind = Shift ∷ []
 units_of LongAddKind = LongAdd ∷ []
 units_of DivideKind = Divide ∷ []
 units_of IncrementKind = Increment1 ∷ Increment2 ∷ []
+
+-- an instruction of the kind may be issued to the unit
+unfoldable pub may_take : Option UnitKind → Unit → Bool
+may_take None unit = false
+may_take (Some kind) unit = list_any (same_unit unit) (units_of kind)
+
+-- the first of the units (Branch where there is none)
+unfoldable pub head_unit : List Unit → Unit
+head_unit [] = Branch
+head_unit (u ∷ us) = u
+
+-- the unit that E7, unit busy, names: the lower-numbered one of the kind (Branch for an instruction that takes no
+-- unit)
+unfoldable pub first_unit : Option UnitKind → Unit
+first_unit None = Branch
+first_unit (Some kind) = head_unit (units_of kind)

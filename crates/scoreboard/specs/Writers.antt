@@ -1,4 +1,5 @@
--- Who will write a register.
+-- Who will write a register: a unit at its store event, or a load channel at the return.
+-- Source: Thornton, scoreboard (result designators). That a load channel is a writer is ours.
 use Rattle.std.specs.Prelude.{◌<◌, Bool, false, ◌==◌, if◌then◌else◌, List, [], ◌∷◌, Option, Some, None, slice_index_or, slice_set}
 use Rattle.instruction_table.specs.declared.instr.Reg.{Reg}
 use Rattle.instruction_table.specs.declared.instr.Reg.TheVariants.{X, A, B}
@@ -7,11 +8,17 @@ use Rattle.scoreboard.specs.declared.writer.Writer.{Writer}
 use Rattle.scoreboard.specs.declared.writer.Writer.TheVariants.{OfUnit, OfChannel}
 use Rattle.scoreboard.specs.declared.writers.Writers.{Writers}
 
+-- two writers are one: the same unit, or the same load channel
 unfoldable pub same_writer : Writer → Writer → Bool
 same_writer (OfUnit u) (OfUnit v) = same_unit u v
 same_writer (OfUnit u) (OfChannel n) = false
 same_writer (OfChannel n) (OfUnit v) = false
 same_writer (OfChannel m) (OfChannel n) = m == n
+
+-- it is that writer that is expected
+unfoldable pub is_expected : Writer → Option Writer → Bool
+is_expected w None = false
+is_expected w (Some v) = same_writer v w
 
 -- none, where it is that writer
 unfoldable pub forget : Writer → Option Writer → Option Writer
@@ -24,11 +31,13 @@ IsRegister (X n) = n < 8
 IsRegister (A n) = n < 8
 IsRegister (B n) = n < 8
 
+-- who is to write the register
 unfoldable pub writer_at : Writers → Reg → Option Writer
 writer_at ws (X n) = slice_index_or ws.x n None
 writer_at ws (A n) = slice_index_or ws.a n None
 writer_at ws (B n) = slice_index_or ws.b n None
 
+-- the register has another writer, or none
 unfoldable pub set_writer : Writers → Reg → Option Writer → Writers
 set_writer ws (X n) o = record ws { x = slice_set ws.x n o }
 set_writer ws (A n) o = record ws { a = slice_set ws.a n o }

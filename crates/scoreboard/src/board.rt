@@ -2,16 +2,18 @@
 
 ghost use Rattle.std.specs.Prelude.{◌≡◌, ◌<◌, ◌+◌, ◌^◌, [], IsSome};
 ghost use Rattle.std.specs.List.{list_any};
+ghost use Rattle.instruction_table.specs.Finding.{seek, replaced};
 ghost use Rattle.instruction_table.specs.Table.{row};
 ghost use Rattle.scoreboard.specs.Rows.{is_branch, has_store_turn};
 ghost use Rattle.scoreboard.specs.Units.{unit_number};
-ghost use Rattle.scoreboard.specs.Answers.{seek, change, holds_unit, returns_by, read_answer, store_answer, return_answer, turn_answer, unit_for, reserve_answer, reserved, read, left, gone, with_issued};
+ghost use Rattle.scoreboard.specs.Issued.{row_of};
+ghost use Rattle.scoreboard.specs.Conflicts.{unit_for};
+ghost use Rattle.scoreboard.specs.Answers.{held_in, returning_by, read_answer, store_answer, return_answer, turn_answer, reserve_answer, reserved, read, left, gone, with_issued};
 
 use crate::fields::{
-    any_branch, any_store, any_turn, expect, first_produced, first_to_be_read, first_unit,
-    free_unit_for, is_to_be_read, put_left,
+    any_store, any_turn, any_writer, expect, first_produced, first_to_be_read, first_unit,
+    forget_in_taken, free_unit_for, is_taken, is_to_be_read, put_left,
 };
-use crate::writer::forget_in_each;
 use crate::{Issued, Progress, Writer, Writers, unit_number};
 use instruction_table::{Digit, Instr, Refusal, Reg, Unit, results, sources};
 use std::marker::Model;
@@ -99,7 +101,7 @@ impl Board {
     pub fn try_reserve(&mut self, instr: &Instr) -> Result<(Unit, u64), Refusal>
         requires unit { IsSome (row instr.now).unit }
         requires number { self.old.last + 1 < 2 ^ 64 }
-        ensures answer { result ≡ reserve_answer self.old instr.now (unit_for self.old.issued (row instr.now).unit) }
+        ensures answer { result ≡ reserve_answer self.old instr.now (unit_for row_of self.old.issued (row instr.now).unit) }
         ensures after { self.new ≡ reserved self.old instr.now result }
     {
         let Some(unit) = free_unit_for(&self.units, instr) else {
@@ -127,16 +129,21 @@ impl Board {
     /// `OperandAwaited` with the first of its sources, in the instruction table's order, that is a result still
     /// to come of an earlier instruction.
     pub fn may_read(&self, unit: Unit) -> Result<(), Refusal>
-        ensures { result ≡ read_answer (seek (holds_unit unit) self.now.issued) }
+        ensures { result ≡ read_answer (seek (held_in unit) self.now.issued) }
     {
         let index = index_of(unit);
         let seat = self.units[index];
         let Some(issued) = seat else {
             return Ok(());
         };
-        let sources = sources(&issued.row.instr);
         let producers = &self.producers[..];
-        match first_produced(sources.as_slice(), &producers[index]) {
+        let awaited = &producers[index];
+        if !any_writer(awaited) {
+            return Ok(());
+        }
+        // Only a refusal has to know which sources they are.
+        let sources = sources(&issued.row.instr);
+        match first_produced(sources.as_slice(), awaited) {
             Some(register) => Err(Refusal::OperandAwaited(register)),
             None => Ok(()),
         }
@@ -148,7 +155,7 @@ impl Board {
     /// # Errors
     /// `ResultHeld` with the first of these registers that an earlier instruction has still to read.
     pub fn may_store(&self, unit: Unit) -> Result<(), Refusal>
-        ensures { result ≡ store_answer (seek (holds_unit unit) self.now.issued) }
+        ensures { result ≡ store_answer (seek (held_in unit) self.now.issued) }
     {
         let index = index_of(unit);
         let seat = self.units[index];
@@ -169,7 +176,7 @@ impl Board {
     /// `ResultHeld` with that register, where an earlier instruction has still to read it.
     pub fn may_return(&self, channel: u8) -> Result<(), Refusal>
         requires { channel < 8 }
-        ensures { result ≡ return_answer channel (seek (returns_by channel) self.now.issued) }
+        ensures { result ≡ return_answer channel (seek (returning_by channel) self.now.issued) }
     {
         let seat = self.channels[usize::from(channel)];
         let Some(issued) = seat else {
@@ -189,7 +196,7 @@ impl Board {
     /// # Errors
     /// `OutOfTurn`.
     pub fn in_turn(&self, unit: Unit) -> Result<(), Refusal>
-        ensures { result ≡ turn_answer (seek (holds_unit unit) self.now.issued) }
+        ensures { result ≡ turn_answer (seek (held_in unit) self.now.issued) }
     {
         let index = index_of(unit);
         let seat = self.units[index];
@@ -208,7 +215,8 @@ impl Board {
     pub fn is_branch_held(&self) -> bool
         ensures { result ≡ list_any (λ x. is_branch x.row) self.now.issued }
     {
-        any_branch(&self.units)
+        // Branch takes no other instructions than branches.
+        is_taken(&self.units, Unit::Branch)
     }
 
     /// Whether an SA6 or SA7 was issued that hasn't come to its store event. A return jump isn't counted: it
@@ -221,7 +229,7 @@ impl Board {
 
     /// The instruction in the unit has read its operands. That it may is the caller's to ask first.
     pub fn mark_read(&mut self, unit: Unit)
-        ensures { self.new ≡ with_issued self.old (change (holds_unit unit) read self.old.issued) }
+        ensures { self.new ≡ with_issued self.old (replaced (seek (held_in unit) self.old.issued) self.old.issued read) }
     {
         let index = index_of(unit);
         let seat = self.units[index];
@@ -233,34 +241,36 @@ impl Board {
     /// The instruction in the unit has come to its store event. The unit is free, and nobody waits for it any
     /// longer; a load goes to the channel of its X register. That it may is the caller's to ask first.
     pub fn release(&mut self, unit: Unit)
-        ensures { self.new ≡ with_issued self.old (change (holds_unit unit) left self.old.issued) }
+        ensures { self.new ≡ with_issued self.old (replaced (seek (held_in unit) self.old.issued) self.old.issued left) }
     {
         let index = index_of(unit);
         let seat = self.units[index];
         let Some(issued) = seat else {
             return;
         };
-        let writer = Writer::OfUnit(unit);
+        let written = issued.row.instr.puts();
         self.units[index] = None;
         put_left(&mut self.channels, &issued);
-        self.writers.forget(&writer);
-        forget_in_each(&mut self.producers, &writer);
+        // The unit is entered as the writer of these registers alone.
+        self.writers.set_each(written.as_slice(), &None);
+        forget_in_taken(&self.units, &mut self.producers, &Writer::OfUnit(unit));
     }
 
     /// The load in the channel has returned, and nobody waits for it any longer. Channels are numbered from 0 to
     /// 7, as X registers are. That it may is the caller's to ask first.
     pub fn returned(&mut self, channel: u8)
         requires { channel < 8 }
-        ensures { self.new ≡ with_issued self.old (change (returns_by channel) gone self.old.issued) }
+        ensures { self.new ≡ with_issued self.old (replaced (seek (returning_by channel) self.old.issued) self.old.issued gone) }
     {
         let index = usize::from(channel);
         let seat = self.channels[index];
         let Some(_) = seat else {
             return;
         };
-        let writer = Writer::OfChannel(digit(channel));
+        let number = digit(channel);
         self.channels[index] = None;
-        self.writers.forget(&writer);
-        forget_in_each(&mut self.producers, &writer);
+        // The channel is entered as the writer of this register alone.
+        self.writers.set(Reg::X(number), None);
+        forget_in_taken(&self.units, &mut self.producers, &Writer::OfChannel(number));
     }
 }

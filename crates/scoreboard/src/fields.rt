@@ -1,14 +1,14 @@
 //! What the fields of a board are asked, and how an issue and a store event change them. A seat is the field of
 //! one unit.
 
-ghost use Rattle.std.specs.Prelude.{IfSome, ◌≡◌, ◌≤◌, ◌<◌, ◌∷◌, [], length, find};
+ghost use Rattle.std.specs.Prelude.{IfSome, ◌≡◌, ◌≤◌, ◌<◌, ◌||◌, ◌∷◌, [], length, find, is_some};
 ghost use Rattle.std.specs.List.{list_any};
+ghost use Rattle.instruction_table.specs.declared.instr.Unit.TheVariants.{Branch};
 ghost use Rattle.instruction_table.specs.Table.{row};
 ghost use Rattle.scoreboard.specs.Conflicts.{first_free};
-ghost use Rattle.scoreboard.specs.Units.{units_of};
-ghost use Rattle.scoreboard.specs.Answers.{first_unit};
-ghost use Rattle.scoreboard.specs.Rows.{is_branch, has_store_turn};
-ghost use Rattle.scoreboard.specs.Fields.{is_taken, seat_is, seat_reads, seat_has_turn, free_for, channels_with, writers_with};
+ghost use Rattle.scoreboard.specs.Units.{units_of, first_unit};
+ghost use Rattle.scoreboard.specs.Rows.{has_store_turn};
+ghost use Rattle.scoreboard.specs.Fields.{seat_at, in_increment, is_taken, seat_is, seat_reads, seat_has_turn, free_for, channels_with, writers_with, forget_in_taken};
 ghost use Rattle.instruction_table.specs.Shape.{shape_of, puts_of};
 ghost use Rattle.instruction_table.specs.Each.{Each};
 ghost use Rattle.scoreboard.specs.Issued.{channel_of};
@@ -16,8 +16,16 @@ ghost use Rattle.scoreboard.specs.Writers.{IsRegister};
 ghost use Rattle.scoreboard.specs.View.{first_produced};
 
 use crate::issued::channel;
+use crate::writer::forget_in;
 use crate::{Issued, Progress, Writer, Writers, unit_number};
 use instruction_table::{Instr, Reg, Unit, UnitKind, unit_kind};
+
+/// Whether there is a writer among the three.
+pub(crate) fn any_writer(producers: &[Option<Writer>; 3]) -> bool
+    ensures { result ≡ list_any is_some producers.now }
+{
+    producers[0].is_some() || producers[1].is_some() || producers[2].is_some()
+}
 
 /// The first of the registers that somebody is to write; the producers are in the registers' order.
 pub(crate) fn first_produced(registers: &[Reg], producers: &[Option<Writer>]) -> Option<Reg>
@@ -66,62 +74,51 @@ pub(crate) fn first_to_be_read(
     None
 }
 
-/// Whether the seat's instruction has a lower number and a reference that hasn't come to its store event.
+/// Whether the unit's instruction has a lower number and a reference that hasn't come to its store event.
 #[tactic(auto, unfolding(crate::specs::Fields::seat_has_turn))]
-fn seat_has_turn(seat: &Option<Issued>, number: u64) -> bool
-    ensures { result ≡ seat_has_turn number seat.now }
+fn unit_has_turn(units: &[Option<Issued>], unit: Unit, number: u64) -> bool
+    requires { length units.now ≡ 10 }
+    ensures { result ≡ seat_has_turn number (seat_at units.now unit) }
 {
-    match seat {
+    match &units[usize::from(unit_number(unit))] {
         None => false,
         Some(issued) => issued.number < number && issued.row.has_turn(),
     }
 }
 
-/// Whether an instruction of a lower number has a reference that hasn't come to its store event.
-pub(crate) fn any_turn(seats: &[Option<Issued>], number: u64) -> bool
-    ensures { result ≡ list_any (seat_has_turn number) seats.now }
+/// Whether an instruction of a lower number has a reference that hasn't come to its store event. No unit but Branch
+/// and the Increment units takes such instructions.
+pub(crate) fn any_turn(units: &[Option<Issued>], number: u64) -> bool
+    requires { length units.now ≡ 10 }
+    ensures { result ≡ (seat_has_turn number (seat_at units.now Branch) || in_increment (seat_has_turn number) units.now) }
 {
-    seats.iter().any(|seat| seat_has_turn(seat, number))
+    unit_has_turn(units, Unit::Branch, number)
+        || unit_has_turn(units, Unit::Increment1, number)
+        || unit_has_turn(units, Unit::Increment2, number)
 }
 
-/// Whether the seat's instruction is a branch that holds its unit.
+/// Whether the unit's instruction is an SA6 or SA7 that hasn't come to its store event.
 #[tactic(auto, unfolding(crate::specs::Fields::seat_is))]
-fn seat_is_branch(seat: &Option<Issued>) -> bool
-    ensures { result ≡ seat_is is_branch seat.now }
+fn unit_has_store(units: &[Option<Issued>], unit: Unit) -> bool
+    requires { length units.now ≡ 10 }
+    ensures { result ≡ seat_is has_store_turn (seat_at units.now unit) }
 {
-    match seat {
-        None => false,
-        Some(issued) => issued.row.is_branch(),
-    }
-}
-
-/// Whether an instruction is a branch that holds its unit.
-pub(crate) fn any_branch(seats: &[Option<Issued>]) -> bool
-    ensures { result ≡ list_any (seat_is is_branch) seats.now }
-{
-    seats.iter().any(|seat| seat_is_branch(seat))
-}
-
-/// Whether the seat's instruction is an SA6 or SA7 that hasn't come to its store event.
-#[tactic(auto, unfolding(crate::specs::Fields::seat_is))]
-fn seat_has_store(seat: &Option<Issued>) -> bool
-    ensures { result ≡ seat_is has_store_turn seat.now }
-{
-    match seat {
+    match &units[usize::from(unit_number(unit))] {
         None => false,
         Some(issued) => issued.row.has_store_turn(),
     }
 }
 
-/// Whether an instruction is an SA6 or SA7 that hasn't come to its store event.
-pub(crate) fn any_store(seats: &[Option<Issued>]) -> bool
-    ensures { result ≡ list_any (seat_is has_store_turn) seats.now }
+/// Whether an instruction is an SA6 or SA7 that hasn't come to its store event. Only the Increment units take them.
+pub(crate) fn any_store(units: &[Option<Issued>]) -> bool
+    requires { length units.now ≡ 10 }
+    ensures { result ≡ in_increment (seat_is has_store_turn) units.now }
 {
-    seats.iter().any(|seat| seat_has_store(seat))
+    unit_has_store(units, Unit::Increment1) || unit_has_store(units, Unit::Increment2)
 }
 
 /// Whether the seat of the unit is taken.
-fn is_taken(units: &[Option<Issued>], unit: Unit) -> bool
+pub(crate) fn is_taken(units: &[Option<Issued>], unit: Unit) -> bool
     requires { length units.now ≡ 10 }
     ensures { result ≡ is_taken units.now unit }
 {
@@ -162,7 +159,7 @@ fn free_unit(units: &[Option<Issued>], kind: UnitKind) -> Option<Unit>
 }
 
 /// The lower-numbered unit of an instruction's kind, Branch where it takes no unit.
-#[tactic(auto, unfolding(crate::specs::Answers::first_unit, crate::specs::Answers::head_unit, crate::specs::Units::units_of))]
+#[tactic(auto, unfolding(crate::specs::Units::first_unit, crate::specs::Units::head_unit, crate::specs::Units::units_of))]
 pub(crate) fn first_unit(instr: &Instr) -> Unit
     ensures { result ≡ first_unit (row instr.now).unit }
 {
@@ -213,5 +210,22 @@ pub(crate) fn expect(writers: &mut Writers, instr: &Instr, unit: Unit)
         writers.set(Reg::X(n), Some(Writer::OfChannel(n)));
     }
     let written = instr.puts();
-    writers.set_each(written.as_slice(), &Writer::OfUnit(unit));
+    writers.set_each(written.as_slice(), &Some(Writer::OfUnit(unit)));
+}
+
+/// No instruction in a unit waits for the writer any longer, for it has written. The producers of a free unit are
+/// not looked at.
+pub(crate) fn forget_in_taken(
+    units: &[Option<Issued>],
+    producers: &mut [[Option<Writer>; 3]],
+    writer: &Writer,
+)
+    requires { length units.now ≤ length producers.old }
+    ensures { producers.new ≡ forget_in_taken writer.now units.now producers.old }
+{
+    for index in 0..units.len() {
+        if units[index].is_some() {
+            forget_in(&mut producers[index], writer);
+        }
+    }
 }

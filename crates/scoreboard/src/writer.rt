@@ -1,5 +1,5 @@
 ghost use Rattle.std.specs.Prelude.{◌≡◌, map};
-ghost use Rattle.scoreboard.specs.Writers.{same_writer, forget};
+ghost use Rattle.scoreboard.specs.Writers.{same_writer, is_expected, forget};
 
 use crate::is_same_unit;
 use instruction_table::{Digit, Unit};
@@ -30,18 +30,14 @@ fn is_same(writer: &Writer, other: &Writer) -> bool
     }
 }
 
-/// The writer that is still expected when this one has written.
-#[tactic(auto, unfolding(crate::specs::Writers::forget))]
-fn forgotten(writer: &Writer, expected: &Option<Writer>) -> Option<Writer>
-    ensures { result ≡ forget writer.now expected.now }
+/// Whether it is this writer that is expected.
+#[tactic(auto, unfolding(crate::specs::Writers::is_expected))]
+fn is_expected(expected: &Option<Writer>, writer: &Writer) -> bool
+    ensures { result ≡ is_expected writer.now expected.now }
 {
     match expected {
-        None => None,
-        Some(other) => if is_same(other, writer) {
-            None
-        } else {
-            Some(*other)
-        },
+        None => false,
+        Some(other) => is_same(other, writer),
     }
 }
 
@@ -50,15 +46,8 @@ pub(crate) fn forget_in(expected: &mut [Option<Writer>], writer: &Writer)
     ensures { expected.new ≡ map (forget writer.now) expected.old }
 {
     for index in 0..expected.len() {
-        expected[index] = forgotten(writer, &expected[index]);
-    }
-}
-
-/// The same for the producers of each unit.
-pub(crate) fn forget_in_each(expected: &mut [[Option<Writer>; 3]], writer: &Writer)
-    ensures { expected.new ≡ map (map (forget writer.now)) expected.old }
-{
-    for index in 0..expected.len() {
-        forget_in(&mut expected[index], writer);
+        if is_expected(&expected[index], writer) {
+            expected[index] = None;
+        }
     }
 }

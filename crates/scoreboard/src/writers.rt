@@ -1,10 +1,9 @@
-ghost use Rattle.std.specs.Prelude.{◌≡◌, ◌≤◌, map, Some, None, length, slice_get, IfSome, replicate};
-ghost use Rattle.scoreboard.specs.Writers.{IsRegister, writer_at, set_writer, writer_if, set_each, forget};
+ghost use Rattle.std.specs.Prelude.{◌≡◌, ◌≤◌, None, length, slice_get, IfSome, replicate};
+ghost use Rattle.scoreboard.specs.Writers.{IsRegister, writer_at, set_writer, writer_if, set_each};
 ghost use Rattle.instruction_table.specs.Each.{Each};
 ghost use Rattle.scoreboard.specs.View.{AreProducers};
 
 use crate::Writer;
-use crate::writer::forget_in;
 use instruction_table::Reg;
 
 /// Who is to write each register, None where nobody is (Thornton, result register designators).
@@ -56,20 +55,6 @@ impl Writers {
         }
     }
 
-    /// This writer has written: it is expected nowhere any longer.
-    pub(crate) fn forget(&mut self, writer: &Writer)
-        ensures { self.new
-            ≡ record {
-              x = map (forget writer.now) self.old.x;
-              a = map (forget writer.now) self.old.a;
-              b = map (forget writer.now) self.old.b;
-            } }
-    {
-        forget_in(&mut self.x, writer);
-        forget_in(&mut self.a, writer);
-        forget_in(&mut self.b, writer);
-    }
-
     /// Who is to write the register at the index, None where the slice has no more.
     #[tactic(auto, unfolding(crate::specs::Writers::writer_if))]
     fn at(&self, registers: &[Reg], index: usize) -> Option<Writer>
@@ -96,12 +81,12 @@ impl Writers {
     }
 
     /// Sets who is to write each of the registers.
-    pub(crate) fn set_each(&mut self, registers: &[Reg], writer: &Writer)
-        ensures value { self.new ≡ set_each self.old registers.now (Some writer.now) }
+    pub(crate) fn set_each(&mut self, registers: &[Reg], writer: &Option<Writer>)
+        ensures value { self.new ≡ set_each self.old registers.now writer.now }
         ensures registers { Each IsRegister registers.now }
     {
         for register in registers {
-            self.set(*register, Some(*writer));
+            self.set(*register, *writer);
         }
     }
 }

@@ -1,5 +1,5 @@
 use Rattle.std.proofs.Common.{◌≡◌, true, inr, refl, rules}
-use Rattle.machine.specs.Whole.{is_pending}
+use Rattle.in_flight.specs.Lookup.{is_pending}
 use Rattle.job_deck.specs.Session.{not_drained_text}
 use Rattle.job_deck.proofs.ending.put_end.Goals as goal
 

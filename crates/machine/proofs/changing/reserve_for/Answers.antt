@@ -1,6 +1,5 @@
-use Rattle.std.proofs.Common.{◌≡◌, ap, sym, ◌∙◌}
-use Rattle.machine.specs.Changes.{refusal_in}
-use Rattle.machine.specs.Whole.{refusal_of, row_tests}
+use Rattle.std.proofs.Common.{◌≡◌, ap, ◌∙◌}
+use Rattle.in_flight.specs.Tests.{refusal_in, refusal_of, row_tests}
 use Rattle.machine.proofs.changing.reserve_for.Goals as goal
 
 pub returns-in-Ok-clause-answer : goal.returns-in-Ok-clause-answer

@@ -1,13 +1,13 @@
--- Whether a unit has an SA6 or SA7, as the list says it.
+-- Whether an Increment unit has an SA6 or SA7, as the list says it.
 use Rattle.std.proofs.Common.{ap, ◌∙◌}
 use Rattle.std.specs.List.{list_any}
 use Rattle.scoreboard.specs.Rows.{has_store_turn}
 use Rattle.scoreboard.specs.Answers.{Standing}
-use Rattle.scoreboard.proofs.Standing.{no_store_turn, any_reserved}
+use Rattle.scoreboard.proofs.OfKind.{store_found}
 use Rattle.scoreboard.proofs.board.Board.has_store_to_come.Goals as goal
 
 pub returns : goal.returns
 returns c =
     c.any_store.ensures
-    ∙ any_reserved has_store_turn no_store_turn c.self.inside.units c.self.inside.channels c.self.inside.producers c.self.inside.writers c.self.inside.last c.self.invariant
+    ∙ store_found c.self.inside.units c.self.inside.channels c.self.inside.producers c.self.inside.writers c.self.inside.last c.self.invariant
     ∙ ap (λ (s : Standing). list_any (λ x. has_store_turn x.row) s.issued) c.self.view_is

@@ -1,7 +1,8 @@
 -- Third order at a return: the units with a lower number, as the list says it.
 use Rattle.std.proofs.Common.{ap, sym, ◌∙◌, None, get_or, true, false, arith}
 use Rattle.std.specs.List.{list_any}
-use Rattle.scoreboard.specs.Answers.{Standing, return_answer, seek, returns_by, unless}
+use Rattle.instruction_table.specs.Finding.{seek}
+use Rattle.scoreboard.specs.Answers.{Standing, return_answer, returning_by, unless}
 use Rattle.scoreboard.specs.Fields.{seat_reads}
 use Rattle.instruction_table.specs.declared.instr.Reg.TheVariants.{X}
 use Rattle.instruction_table.specs.declared.refusal.Refusal.TheVariants.{ResultHeld}
@@ -15,7 +16,7 @@ returns-in_default c =
     (ap (λ k. get_or c.self.inside.channels k None) (sym c.from.ensures)
     ∙ seat_any c.self.inside.channels c.from.result c.index-self-from.result (omega (arith, c.requires, c.from.ensures, c.self.invariant.all_channels))
     ∙ no_seat (get_or c.self.inside.channels c.from.result c.index-self-from.result) c.in_default.not-Some)))
-    ∙ ap (λ (s : Standing). return_answer c.args.channel (seek (returns_by c.args.channel) s.issued)) c.self.view_is
+    ∙ ap (λ (s : Standing). return_answer c.args.channel (seek (returning_by c.args.channel) s.issued)) c.self.view_is
 
 pub returns-then-is_to_be_read : goal.returns-then-is_to_be_read
 returns-then-is_to_be_read c =
@@ -25,7 +26,7 @@ returns-then-is_to_be_read c =
     ∙ seat_any c.self.inside.channels c.from.result c.index-self-from.result (omega (arith, c.requires, c.from.ensures, c.self.invariant.all_channels))
     ∙ c.in-Some.is)
     (sym c.if-is_to_be_read.true ∙ c.is_to_be_read.ensures ∙ ap (λ k. list_any (seat_reads c.in-Some.issued.number (X k)) c.self.inside.units) c.digit.ensures)
-    ∙ ap (λ (s : Standing). return_answer c.args.channel (seek (returns_by c.args.channel) s.issued)) c.self.view_is
+    ∙ ap (λ (s : Standing). return_answer c.args.channel (seek (returning_by c.args.channel) s.issued)) c.self.view_is
 
 pub returns-else-is_to_be_read : goal.returns-else-is_to_be_read
 returns-else-is_to_be_read c =
@@ -34,4 +35,4 @@ returns-else-is_to_be_read c =
     ∙ seat_any c.self.inside.channels c.from.result c.index-self-from.result (omega (arith, c.requires, c.from.ensures, c.self.invariant.all_channels))
     ∙ c.in-Some.is)
     (sym c.if-is_to_be_read.false ∙ c.is_to_be_read.ensures ∙ ap (λ k. list_any (seat_reads c.in-Some.issued.number (X k)) c.self.inside.units) c.digit.ensures)
-    ∙ ap (λ (s : Standing). return_answer c.args.channel (seek (returns_by c.args.channel) s.issued)) c.self.view_is
+    ∙ ap (λ (s : Standing). return_answer c.args.channel (seek (returning_by c.args.channel) s.issued)) c.self.view_is

@@ -1,9 +1,12 @@
 -- A return: the invariant and the list behind it, and that an empty channel changes nothing.
-use Rattle.std.proofs.Common.{ap, sym, ◌∙◌, subst, map, None, get_or, set, arith}
+use Rattle.std.proofs.Common.{ap, sym, ◌∙◌, subst, None, get_or, set, arith}
+use Rattle.instruction_table.specs.declared.instr.Reg.TheVariants.{X}
 use Rattle.scoreboard.specs.declared.writer.Writer.TheVariants.{OfChannel}
-use Rattle.scoreboard.specs.Answers.{Standing, change, returns_by, with_issued, gone}
+use Rattle.instruction_table.specs.Finding.{seek, replaced}
+use Rattle.scoreboard.specs.Answers.{Standing, returning_by, with_issued, gone}
+use Rattle.scoreboard.specs.Fields.{forget_in_taken}
 use Rattle.scoreboard.specs.View.{standing_of, IsRight}
-use Rattle.scoreboard.specs.Writers.{forget}
+use Rattle.scoreboard.specs.Writers.{set_writer}
 use Rattle.scoreboard.proofs.Standing.{seat_any}
 use Rattle.scoreboard.proofs.Right.{returned_right}
 use Rattle.scoreboard.proofs.Changing.{nobody_returned, returned_view}
@@ -15,13 +18,13 @@ returns-in_default c =
     ∙ nobody_returned gone c.self.inside.units c.self.inside.channels c.self.inside.producers c.self.inside.writers c.self.inside.last c.args.channel c.self.invariant
     (ap (λ k. get_or c.self.inside.channels k None) (sym c.from-index.ensures)
     ∙ seat_any c.self.inside.channels c.from-index.result c.index-self-index.result (omega (arith, c.requires, c.from-index.ensures, c.self.invariant.all_channels)) ∙ c.in_default.is)
-    ∙ ap (λ (s : Standing). with_issued s (change (returns_by c.args.channel) gone s.issued)) c.self.view_is
+    ∙ ap (λ (s : Standing). with_issued s (replaced (seek (returning_by c.args.channel) s.issued) s.issued gone)) c.self.view_is
 
 pub invariant_of-self : goal.invariant_of-self
 invariant_of-self c =
-    subst (λ i. IsRight c.self.inside.units (set c.self.inside.channels i None) c.forget_in_each.new.expected c.forget.new.self c.self.inside.last) (sym c.from-index.ensures)
-    (subst (λ ps. IsRight c.self.inside.units (set c.self.inside.channels c.args.channel None) ps c.forget.new.self c.self.inside.last) (sym (c.forget_in_each.ensures ∙ ap (λ d. map (map (forget (OfChannel d))) c.self.inside.producers) c.digit.ensures))
-    (subst (λ ws. IsRight c.self.inside.units (set c.self.inside.channels c.args.channel None) (map (map (forget (OfChannel c.args.channel))) c.self.inside.producers) ws c.self.inside.last) (sym (c.forget.ensures ∙ ap (λ d. record { x = map (forget (OfChannel d)) c.self.inside.writers.x; a = map (forget (OfChannel d)) c.self.inside.writers.a; b = map (forget (OfChannel d)) c.self.inside.writers.b }) c.digit.ensures))
+    subst (λ i. IsRight c.self.inside.units (set c.self.inside.channels i None) c.forget_in_taken.new.producers c.set.new.self c.self.inside.last) (sym c.from-index.ensures)
+    (subst (λ ps. IsRight c.self.inside.units (set c.self.inside.channels c.args.channel None) ps c.set.new.self c.self.inside.last) (sym (c.forget_in_taken.ensures ∙ ap (λ d. forget_in_taken (OfChannel d) c.self.inside.units c.self.inside.producers) c.digit-number.ensures))
+    (subst (λ ws. IsRight c.self.inside.units (set c.self.inside.channels c.args.channel None) (forget_in_taken (OfChannel c.args.channel) c.self.inside.units c.self.inside.producers) ws c.self.inside.last) (sym (c.set.ensures.value ∙ ap (λ d. set_writer c.self.inside.writers (X d) None) c.digit-number.ensures))
     (returned_right c.self.inside.units c.self.inside.channels c.self.inside.producers c.self.inside.writers c.self.inside.last c.args.channel c.in-Some.field-0 c.self.invariant c.requires
     (ap (λ k. get_or c.self.inside.channels k None) (sym c.from-index.ensures)
     ∙ seat_any c.self.inside.channels c.from-index.result c.index-self-index.result (omega (arith, c.requires, c.from-index.ensures, c.self.invariant.all_channels)) ∙ c.in-Some.is))))
@@ -32,4 +35,4 @@ returns c =
     ∙ returned_view c.self.inside.units c.self.inside.channels c.self.inside.producers c.self.inside.writers c.self.inside.last c.args.channel c.in-Some.field-0 c.self.invariant c.requires
     (ap (λ k. get_or c.self.inside.channels k None) (sym c.from-index.ensures)
     ∙ seat_any c.self.inside.channels c.from-index.result c.index-self-index.result (omega (arith, c.requires, c.from-index.ensures, c.self.invariant.all_channels)) ∙ c.in-Some.is)
-    ∙ ap (λ (s : Standing). with_issued s (change (returns_by c.args.channel) gone s.issued)) c.self.view_is
+    ∙ ap (λ (s : Standing). with_issued s (replaced (seek (returning_by c.args.channel) s.issued) s.issued gone)) c.self.view_is

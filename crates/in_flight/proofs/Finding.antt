@@ -1,0 +1,85 @@
+-- The member that an event names, and the tests that its answer passed.
+use Rattle.std.proofs.Common.{◌≡◌, ℕ, Bool, true, false, cond, List, [], ◌∷◌, Some, None, refl, ap, eqb}
+use Rattle.instruction_table.specs.Each.{Each}
+use Rattle.instruction_table.specs.Finding.{Found}
+use Rattle.in_flight.specs.Tests.{Test, nothing, refusal_of}
+use Rattle.in_flight.specs.Lookup.{arrival_at, arrival_in, entry_at, entry_in, stage_at, stage_in, sought}
+use Rattle.instruction_table.specs.declared.instr.Unit.{Unit as FunctionalUnit}
+use Rattle.scoreboard.specs.Units.{same_unit}
+use Rattle.in_flight.specs.declared.member.Arrival.{Arrival}
+use Rattle.in_flight.specs.declared.member.Entry.{Entry}
+use Rattle.in_flight.specs.declared.member.Later.TheVariants.{Accepted, Entered}
+use Rattle.in_flight.specs.declared.member.Member.{Member}
+use Rattle.in_flight.specs.declared.member.Phase.{Phase}
+use Rattle.in_flight.specs.declared.member.Phase.TheVariants.{After, Before}
+use Rattle.in_flight.specs.declared.member.Stage.{Stage}
+use Rattle.in_flight.specs.declared.slots.Sought.{Sought}
+use Rattle.instruction_table.proofs.Finding.{some_inj}
+
+-- no refusal: no test failed
+pub refusal_none : (ts : List Test) → refusal_of ts ≡ None → Each (λ t. t.fails ≡ false) ts
+unfolding refusal_of
+refusal_none [] h = tt
+refusal_none (t ∷ ts) h = head_first (refusal_none ts) t.fails refl h
+  where
+    head_first : (refusal_of ts ≡ None → Each (λ t. t.fails ≡ false) ts) → (f : Bool) → t.fails ≡ f → cond f (Some t.refusal) (refusal_of ts) ≡ None → (t.fails ≡ false) × Each (λ t. t.fails ≡ false) ts
+    head_first rest true e k = cc
+    head_first rest false e k = (e, rest k)
+
+pub not_nothing : refusal_of nothing ≡ None → ⊥
+unfolding refusal_of nothing
+not_nothing h = cc
+
+-- the member that was sought is the one that was found
+pub sought_member : {K : Type 0} (f : Found Member K) (s : Sought K) → sought (Some f) ≡ Some s → f.member ≡ s.member
+unfolding sought
+sought_member {K} f s h = ap (λ (x : Sought K). x.member) (some_inj _ s h)
+
+pub sought_what : {K : Type 0} (f : Found Member K) (s : Sought K) → sought (Some f) ≡ Some s → f.what ≡ s.what
+unfolding sought
+sought_what {K} f s h = ap (λ (x : Sought K). x.what) (some_inj _ s h)
+
+pub no_sought : {K : Type 0} (s : Sought K) → sought None ≡ Some s → ⊥
+unfolding sought
+no_sought s h = cc
+
+stage_in_found : (p : Phase) (t : Stage) → stage_in p ≡ Some t → p ≡ Before t
+unfolding stage_in
+stage_in_found (Before s) t h = ap Before (some_inj s t h)
+stage_in_found (After l) t h = cc
+
+pub stage_found : (u : FunctionalUnit) (m : Member) (t : Stage) → stage_at u m ≡ Some t → m.phase ≡ Before t
+unfolding stage_at
+stage_found u m t h = by_test (same_unit m.unit u) h
+  where
+    by_test : (f : Bool) → cond f (stage_in m.phase) None ≡ Some t → m.phase ≡ Before t
+    by_test true k = stage_in_found m.phase t k
+    by_test false k = cc
+
+pub entry_in_found : (p : ℕ) (q : Phase) (e : Entry) → entry_in p q ≡ Some e → (slot : ℕ) × (q ≡ After (Entered slot e.a e.access))
+unfolding entry_in
+entry_in_found p (Before t) e h = cc
+entry_in_found p (After (Accepted n w)) e h = cc
+entry_in_found p (After (Entered slot a access)) e h = by_test (eqb slot p) h
+  where
+    by_test : (f : Bool) → cond f (Some (record { a = a; access = access })) None ≡ Some e → (k : ℕ) × (After (Entered slot a access) ≡ After (Entered k e.a e.access))
+    by_test true k = (slot, ap (λ (y : Entry). After (Entered slot y.a y.access)) (some_inj _ e k))
+    by_test false k = cc
+
+pub entry_found : (p : ℕ) (m : Member) (e : Entry) → entry_at p m ≡ Some e → (slot : ℕ) × (m.phase ≡ After (Entered slot e.a e.access))
+unfolding entry_at
+entry_found p m e h = entry_in_found p m.phase e h
+
+pub arrival_in_found : (c : ℕ) (q : Phase) (x : Arrival) → arrival_in c q ≡ Some x → q ≡ After (Accepted x.channel x.word)
+unfolding arrival_in
+arrival_in_found c (Before t) x h = cc
+arrival_in_found c (After (Entered slot a access)) x h = cc
+arrival_in_found c (After (Accepted n v)) x h = by_test (eqb n c) h
+  where
+    by_test : (f : Bool) → cond f (Some (record { channel = n; word = v })) None ≡ Some x → After (Accepted n v) ≡ After (Accepted x.channel x.word)
+    by_test true k = ap (λ (y : Arrival). After (Accepted y.channel y.word)) (some_inj _ x k)
+    by_test false k = cc
+
+pub arrival_found : (c : ℕ) (m : Member) (x : Arrival) → arrival_at c m ≡ Some x → m.phase ≡ After (Accepted x.channel x.word)
+unfolding arrival_at
+arrival_found c m x h = arrival_in_found c m.phase x h

@@ -1,0 +1,9 @@
+pub mod Finding
+pub mod Phases
+pub mod Slotting
+pub mod Moving
+pub mod Oldest
+pub mod Boarding
+pub mod Beside
+pub mod Referring
+pub mod Alone

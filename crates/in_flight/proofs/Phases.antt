@@ -1,0 +1,70 @@
+-- What a phase says of the member in it, for any instruction.
+use Rattle.std.proofs.Common.{◌≡◌, ℕ, Bool, true, false, List, [], Option, Some, None, refl}
+use Rattle.std.specs.Prelude.{◌+◌, ◌&&◌, ◌||◌, ◌==◌, not}
+use Rattle.instruction_table.specs.declared.instr.Reg.{Reg}
+use Rattle.instruction_table.specs.Shape.{Shape, shape_of, is_branch_shape, has_store}
+use Rattle.relocation.specs.declared.area.Access.TheVariants.{Load as LoadInto, Store as StoreWord}
+use Rattle.hopper.specs.Hopper.{stores_to}
+use Rattle.scoreboard.specs.Rows as row
+use Rattle.scoreboard.specs.Rows.{is_reserved, returning_to}
+use Rattle.in_flight.specs.declared.member.Later.{Later}
+use Rattle.in_flight.specs.declared.member.Later.TheVariants.{Entered, Accepted}
+use Rattle.in_flight.specs.declared.member.Phase.{Phase}
+use Rattle.in_flight.specs.declared.member.Phase.TheVariants.{Before, After}
+use Rattle.in_flight.specs.declared.member.Member.{Member}
+use Rattle.in_flight.specs.Member.{returning, progress_of, row_of, is_branch, stores_in, delays_fetch}
+use Rattle.in_flight.specs.Slots.{unit_slot}
+use Rattle.instruction_table.specs.declared.instr.Unit.{Unit as FunctionalUnit}
+
+unfoldable pub to_come_in : Shape → Phase → List Reg
+to_come_in h p = row.to_come_in h (progress_of p)
+
+unfoldable pub target_of : Later → List Reg
+target_of l = returning_to (returning l)
+
+unfoldable pub reads_in : List Reg → Phase → List Reg
+reads_in rs p = row.reads_in rs (progress_of p)
+
+unfoldable pub before_and : Bool → Phase → Bool
+before_and f p = is_reserved (progress_of p) && f
+
+unfoldable pub may_store_in : Bool → ℕ → Phase → Bool
+may_store_in f a (Before t) = f
+may_store_in f a (After (Entered place b (StoreWord w))) = b == a
+may_store_in f a (After (Entered place b (LoadInto n))) = false
+may_store_in f a (After (Accepted n w)) = false
+
+-- it may still store to that absolute address
+unfoldable pub may_store : ℕ → Member → Bool
+may_store a m = may_store_in (has_store (shape_of m.instr)) a m.phase
+
+-- the registers that an option of what is left writes
+unfoldable pub targets_left : Option Later → List Reg
+targets_left None = []
+targets_left (Some l) = target_of l
+
+-- the slot of a member: units have the slots 0 to 6, places 7 to 10, channels 11 to 15
+unfoldable pub slot_in : FunctionalUnit → Phase → ℕ
+slot_in unit (Before t) = unit_slot unit
+slot_in unit (After (Entered place a access)) = 7 + place
+slot_in unit (After (Accepted n word)) = 10 + n
+
+unfoldable pub slot_of : Member → ℕ
+slot_of m = slot_in m.unit m.phase
+
+no_store : (f g x : Bool) → (((true && f) && not g) || x) ≡ false → (true && g) ≡ false → f ≡ false
+no_store false g x h k = refl
+no_store true true x h k = cc
+no_store true false x h k = cc
+
+may_store_none : (f g : Bool) (a : ℕ) (p : Phase) → (((is_reserved (progress_of p) && f) && not g) || stores_in a p) ≡ false → (is_reserved (progress_of p) && g) ≡ false → may_store_in f a p ≡ false
+unfolding progress_of is_reserved stores_in stores_to may_store_in
+may_store_none f g a (Before t) h k = no_store f g false h k
+may_store_none f g a (After (Entered place b (StoreWord w))) h k = h
+may_store_none f g a (After (Entered place b (LoadInto n))) h k = refl
+may_store_none f g a (After (Accepted n w)) h k = refl
+
+-- a member that delays no fetch of a word, and is no branch, stores nothing there
+pub stores_nothing : (a : ℕ) (m : Member) → delays_fetch a m ≡ false → is_branch m ≡ false → may_store a m ≡ false
+unfolding delays_fetch is_branch row_of row.has_store_turn row.is_branch may_store
+stores_nothing a m h k = may_store_none (has_store (shape_of m.instr)) (is_branch_shape (shape_of m.instr)) a m.phase h k

@@ -1,0 +1,30 @@
+use Rattle.std.proofs.Common.{◌≡◌, true, false, sym, ap, ◌∙◌, subst}
+use Rattle.std.specs.Prelude.{IfSome, is_none}
+use Rattle.instruction_table.specs.Each.{Pairs}
+use Rattle.instruction_table.specs.Shape.{shape_of}
+use Rattle.in_flight.specs.Flight.{Flight, IsRestOf, later_of}
+use Rattle.in_flight.specs.Lookup.{sought, stage_at, place_for, enters}
+use Rattle.in_flight.specs.Apart.{IsApart}
+use Rattle.instruction_table.specs.Finding.{seek}
+use Rattle.in_flight.proofs.Beside.{some_from, nobody_from}
+use Rattle.in_flight.proofs.Referring.{room_for_rest, leave_tied, leave_flight, leave_nobody}
+use Rattle.in_flight.proofs.flight.InFlight.leave.Goals as goal
+
+pub returns-then-is_none : goal.returns-then-is_none
+returns-then-is_none c =
+    leave_nobody c.args.unit c.args.rest.now c.args.self.now
+    (sym (ap (λ (x : Flight). seek (stage_at c.args.unit) x.pending) c.self.view_is) ∙ nobody_from (seek (stage_at c.args.unit) c.self.inside.slots) c.find_stage.result c.is_none.result c.find_stage.ensures c.is_none.ensures c.if-is_none.true)
+
+pub leave-requires : goal.leave-requires
+leave-requires c =
+    let p = (some_from (seek (stage_at c.args.unit) c.self.inside.slots) c.find_stage.result c.is_none.result c.find_stage.ensures c.is_none.ensures c.if-is_none.false) in
+    room_for_rest c.args.unit c.self.inside.slots c.self.inside.hopper p.0 c.args.rest.now c.waiting_rest-later.result c.self.invariant.entered (subst (λ (x : Flight). Pairs IsApart x.pending) (sym c.self.view_is) c.requires.apart) p.1 (subst (λ (x : Flight). IfSome (sought (seek (stage_at c.args.unit) x.pending)) (λ s. IsRestOf (shape_of s.member.instr) c.args.rest.now)) (sym c.self.view_is) c.requires.rest) c.waiting_rest-later.ensures.answer
+
+pub invariant_of-self : goal.invariant_of-self
+invariant_of-self c =
+    let p = (some_from (seek (stage_at c.args.unit) c.self.inside.slots) c.find_stage.result c.is_none.result c.find_stage.ensures c.is_none.ensures c.if-is_none.false) in
+    leave_tied c.args.unit c.self.inside.slots c.leave.new.self c.self.inside.hopper c.waiting_rest-later.new.hopper c.self.inside.board c.release.new.self p.0 c.args.rest.now c.waiting_rest-later.result c.self.invariant (subst (λ (x : Flight). Pairs IsApart x.pending) (sym c.self.view_is) c.requires.apart) p.1 (subst (λ (x : Flight). IfSome (sought (seek (stage_at c.args.unit) x.pending)) (λ s. IsRestOf (shape_of s.member.instr) c.args.rest.now)) (sym c.self.view_is) c.requires.rest) (subst (λ (x : Flight). enters (later_of 0 c.args.rest.now) ≡ true → is_none (place_for x.pending) ≡ false) (sym c.self.view_is) c.requires.room) c.waiting_rest-later.ensures.answer c.leave.ensures c.waiting_rest-later.ensures.after c.release.ensures
+
+pub returns : goal.returns
+returns c =
+    leave_flight c.args.unit c.self.inside.slots c.leave.new.self c.self.inside.hopper c.waiting_rest-later.new.hopper c.self.inside.board c.release.new.self c.args.rest.now c.waiting_rest-later.result c.args.self.now c.self.view_is c.self.invariant (subst (λ (x : Flight). enters (later_of 0 c.args.rest.now) ≡ true → is_none (place_for x.pending) ≡ false) (sym c.self.view_is) c.requires.room) c.waiting_rest-later.ensures.answer c.leave.ensures c.waiting_rest-later.ensures.after c.release.ensures

@@ -1,0 +1,39 @@
+use Rattle.std.proofs.Common.{◌≡◌, [], sym, ap, ◌∙◌, subst}
+use Rattle.std.specs.Prelude.{IfSome}
+use Rattle.instruction_table.specs.Each.{Pairs}
+use Rattle.scoreboard.specs.Answers.{returning_by, gone}
+use Rattle.in_flight.specs.Flight.{Flight}
+use Rattle.instruction_table.specs.Finding.{replaced, seek}
+use Rattle.in_flight.specs.Apart.{IsApart}
+use Rattle.in_flight.specs.Tests.{refusal_of, tests_found, return_tests}
+use Rattle.in_flight.specs.Lookup.{arrival_at}
+use Rattle.in_flight.proofs.Beside.{nothing_there, return_answered, return_tied, what_there, changed_flight}
+use Rattle.in_flight.proofs.flight.InFlight.return_load.Goals as goal
+
+pub returns-in_default-clause-answer : goal.returns-in_default-clause-answer
+returns-in_default-clause-answer c =
+    sym (ap (λ (f : Flight). refusal_of (tests_found (seek (arrival_at c.args.channel) f.pending) (λ f. return_tests f.earlier f.what))) c.self.view_is)
+    ∙ nothing_there (seek (arrival_at c.args.channel) c.self.inside.slots) _ (sym c.find_arrival.ensures.found ∙ c.in_default.is)
+
+pub returns-in-Err-clause-answer : goal.returns-in-Err-clause-answer
+returns-in-Err-clause-answer c =
+    sym (ap (λ (f : Flight). refusal_of (tests_found (seek (arrival_at c.args.channel) f.pending) (λ f. return_tests f.earlier f.what))) c.self.view_is)
+    ∙ return_answered c.args.channel c.self.inside.slots c.self.inside.board.issued c.in-Some.found _ c.self.invariant.boarded (subst (λ (f : Flight). Pairs IsApart f.pending) (sym c.self.view_is) c.requires.apart) (sym c.find_arrival.ensures.found ∙ c.in-Some.is) (sym c.in-Err.is ∙ c.may_return.ensures)
+
+pub invariant_of-self : goal.invariant_of-self
+invariant_of-self c =
+    return_tied c.args.channel c.self.inside.slots c.returned.new.self c.self.inside.hopper c.self.inside.board c.returned-2.new.self c.in-Some.found (subst (λ (f : Flight). Pairs IsApart f.pending) (sym c.self.view_is) c.requires.apart) (sym c.find_arrival.ensures.found ∙ c.in-Some.is) c.self.invariant c.returned.ensures c.returned-2.ensures
+
+pub returns-clause-answer : goal.returns-clause-answer
+returns-clause-answer c =
+    sym (ap (λ (f : Flight). refusal_of (tests_found (seek (arrival_at c.args.channel) f.pending) (λ f. return_tests f.earlier f.what))) c.self.view_is)
+    ∙ return_answered c.args.channel c.self.inside.slots c.self.inside.board.issued c.in-Some.found _ c.self.invariant.boarded (subst (λ (f : Flight). Pairs IsApart f.pending) (sym c.self.view_is) c.requires.apart) (sym c.find_arrival.ensures.found ∙ c.in-Some.is) (sym c.in_default-may_return.is ∙ c.may_return.ensures)
+
+pub returns-clause-arrival : goal.returns-clause-arrival
+returns-clause-arrival c =
+    subst (λ (f : Flight). IfSome (seek (arrival_at c.args.channel) f.pending) (λ f. f.what ≡ c.in-Some.found.what)) c.self.view_is
+    (what_there (seek (arrival_at c.args.channel) c.self.inside.slots) c.in-Some.found (sym c.find_arrival.ensures.found ∙ c.in-Some.is))
+
+pub returns-clause-after : goal.returns-clause-after
+returns-clause-after c =
+    changed_flight (λ ms. replaced (seek (arrival_at c.args.channel) ms) ms (λ m. [])) c.self.inside.slots c.returned.new.self c.self.inside.hopper c.self.inside.board c.returned-2.new.self (replaced (seek (returning_by c.args.channel) c.self.inside.board.issued) c.self.inside.board.issued gone) c.args.self.now c.self.view_is c.returned.ensures c.returned-2.ensures

@@ -1,0 +1,91 @@
+-- Which of the instructions in flight an event names, and what is put in its place. Source: ours.
+use Rattle.std.specs.Prelude.{ℕ, Bool, true, false, ◌==◌, if◌then◌else◌, List, [], ◌∷◌, Option, Some, None, is_some}
+use Rattle.std.specs.List.{list_any}
+use Rattle.instruction_table.specs.declared.instr.Unit.{Unit as FunctionalUnit}
+use Rattle.instruction_table.specs.Finding.{Found}
+use Rattle.hopper.specs.Hopper.{free_place}
+use Rattle.scoreboard.specs.Units.{same_unit}
+use Rattle.in_flight.specs.declared.member.Arrival.{Arrival}
+use Rattle.in_flight.specs.declared.member.Entry.{Entry}
+use Rattle.in_flight.specs.declared.member.Later.{Later}
+use Rattle.in_flight.specs.declared.member.Later.TheVariants.{Entered, Accepted}
+use Rattle.in_flight.specs.declared.member.Member.{Member}
+use Rattle.in_flight.specs.declared.member.Phase.{Phase}
+use Rattle.in_flight.specs.declared.member.Phase.TheVariants.{Before, After}
+use Rattle.in_flight.specs.declared.member.Stage.{Stage}
+use Rattle.in_flight.specs.declared.slots.Sought.{Sought}
+
+-- the stage in that phase, before the store event
+unfoldable pub stage_in : Phase → Option Stage
+stage_in (Before t) = Some t
+stage_in (After l) = None
+
+-- the stage of the instruction that holds the unit
+unfoldable pub stage_at : FunctionalUnit → Member → Option Stage
+stage_at unit m = if same_unit m.unit unit then stage_in m.phase else None
+
+-- the reference in that phase, if it waits in the place of this number
+unfoldable pub entry_in : ℕ → Phase → Option Entry
+entry_in p (Before t) = None
+entry_in p (After (Entered place a access)) = if place == p then Some (record { a = a; access = access }) else None
+entry_in p (After (Accepted n word)) = None
+
+-- the reference in a hopper place
+unfoldable pub entry_at : ℕ → Member → Option Entry
+entry_at p m = entry_in p m.phase
+
+-- the load in that phase, if it waits in the channel of this number
+unfoldable pub arrival_in : ℕ → Phase → Option Arrival
+arrival_in c (Before t) = None
+arrival_in c (After (Entered place a access)) = None
+arrival_in c (After (Accepted n word)) = if n == c then Some (record { channel = n; word = word }) else None
+
+-- the word that waits in a channel
+unfoldable pub arrival_at : ℕ → Member → Option Arrival
+arrival_at c m = arrival_in c m.phase
+
+-- what is known of the one that was found
+unfoldable pub sought : {K : Type 0} → Option (Found Member K) → Option (Sought K)
+sought None = None
+sought (Some f) = Some (record { member = f.member; what = f.what })
+
+-- the oldest of the pending instructions
+unfoldable pub first_of : List Member → Option Member
+first_of [] = None
+first_of (m ∷ ms) = Some m
+
+-- there is a pending instruction
+unfoldable pub is_pending : List Member → Bool
+is_pending [] = false
+is_pending (m ∷ ms) = true
+
+-- ---- places of the hopper ----
+
+-- its reference waits in the hopper place
+unfoldable pub in_place : ℕ → Member → Bool
+in_place p m = is_some (entry_at p m)
+
+-- a reference waits in the hopper place
+abbrev pub is_taken : List Member → ℕ → Bool
+is_taken ms p = list_any (in_place p) ms
+
+-- the lowest-numbered free one of the four hopper places
+unfoldable pub place_for : List Member → Option ℕ
+place_for ms = free_place (is_taken ms)
+
+-- ---- what is put in its place ----
+
+-- the instruction has come to that phase
+unfoldable pub in_phase : Member → Phase → Member
+in_phase m phase = record m { phase = phase }
+
+-- after its store event an instruction is pending while something is left of it
+unfoldable pub kept : Member → Option Later → List Member
+kept m None = []
+kept m (Some l) = in_phase m (After l) ∷ []
+
+-- what is left is a reference, which enters the hopper
+unfoldable pub enters : Option Later → Bool
+enters None = false
+enters (Some (Entered place a access)) = true
+enters (Some (Accepted n word)) = false

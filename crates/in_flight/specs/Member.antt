@@ -1,0 +1,123 @@
+-- Pending: the instructions in issue order that have an effect still to come. Source: ours.
+use Rattle.std.specs.Prelude.{ℕ, Bool, true, false, ◌||◌, ◌==◌, List, Option, Some, None}
+use Rattle.instruction_table.specs.declared.instr.Reg.{Reg}
+use Rattle.instruction_table.specs.declared.instr.Unit.{Unit as FunctionalUnit}
+use Rattle.relocation.specs.declared.area.Access.TheVariants.{Load, Store}
+use Rattle.hopper.specs.Hopper.{bank_of, stores_to}
+use Rattle.scoreboard.specs.declared.row.Progress.{Progress}
+use Rattle.scoreboard.specs.declared.row.Progress.TheVariants.{Reserved, Left}
+use Rattle.scoreboard.specs.declared.row.Row.{Row}
+use Rattle.scoreboard.specs.Rows as row
+use Rattle.scoreboard.specs.Conflicts as conflict
+use Rattle.in_flight.specs.declared.member.Stage.{Stage}
+use Rattle.in_flight.specs.declared.member.Stage.TheVariants.{Waiting, Read, Finished}
+use Rattle.in_flight.specs.declared.member.Later.{Later}
+use Rattle.in_flight.specs.declared.member.Later.TheVariants.{Entered, Accepted}
+use Rattle.in_flight.specs.declared.member.Phase.{Phase}
+use Rattle.in_flight.specs.declared.member.Phase.TheVariants.{Before, After}
+use Rattle.in_flight.specs.declared.member.Member.{Member}
+
+-- ---- what the scoreboard sees ----
+
+-- it has read its operands
+unfoldable pub has_read : Stage → Bool
+has_read Waiting = false
+has_read (Read os) = true
+has_read (Finished v) = true
+
+-- it has still to read its operands
+unfoldable pub is_waiting : Stage → Bool
+is_waiting Waiting = true
+is_waiting (Read os) = false
+is_waiting (Finished v) = false
+
+-- it has its value
+unfoldable pub is_finished : Stage → Bool
+is_finished Waiting = false
+is_finished (Read os) = false
+is_finished (Finished v) = true
+
+-- the X register to which a load has still to return
+unfoldable pub returning : Later → Option ℕ
+returning (Entered place a (Load n)) = Some n
+returning (Entered place a (Store word)) = None
+returning (Accepted n word) = Some n
+
+-- what the board knows of a phase: whether a unit's instruction has read, or which X register has still to be
+-- returned to
+unfoldable pub progress_of : Phase → Progress
+progress_of (Before t) = Reserved (has_read t)
+progress_of (After l) = Left (returning l)
+
+-- what the board knows of an instruction
+unfoldable pub row_of : Member → Row
+row_of m = record { instr = m.instr; unit = m.unit; progress = progress_of m.phase }
+
+-- its results still to come
+unfoldable pub to_come : Member → List Reg
+to_come m = row.to_come (row_of m)
+
+-- the operands that it has still to read
+unfoldable pub reads : Member → List Reg
+reads m = row.reads (row_of m)
+
+-- the register is one of its results still to come
+unfoldable pub comes : Reg → Member → Bool
+comes register m = row.comes register (row_of m)
+
+-- the register is an operand that it has still to read
+unfoldable pub reads_it : Reg → Member → Bool
+reads_it register m = row.reads_it register (row_of m)
+
+-- it holds the unit
+unfoldable pub holds : FunctionalUnit → Member → Bool
+holds unit m = row.holds unit (row_of m)
+
+-- it is a branch that holds its unit, Branch
+unfoldable pub is_branch : Member → Bool
+is_branch m = row.is_branch (row_of m)
+
+-- it has a reference that has not come to its store event
+unfoldable pub has_turn : Member → Bool
+has_turn m = row.has_turn (row_of m)
+
+-- the register is a result still to come of one of them
+abbrev pub awaited : List Member → Reg → Bool
+awaited ms register = conflict.awaited row_of ms register
+
+-- one of them has still to read the register
+abbrev pub to_be_read : List Member → Reg → Bool
+to_be_read ms register = conflict.to_be_read row_of ms register
+
+-- ---- what the hopper sees ----
+
+-- in that phase its reference waits in the hopper
+unfoldable pub entered_in : Phase → Bool
+entered_in (Before t) = false
+entered_in (After (Entered place a access)) = true
+entered_in (After (Accepted n word)) = false
+
+-- it waits in the hopper
+unfoldable pub is_entered : Member → Bool
+is_entered m = entered_in m.phase
+
+-- in that phase its reference waits in the hopper for that bank
+unfoldable pub in_bank_in : ℕ → Phase → Bool
+in_bank_in bank (Before t) = false
+in_bank_in bank (After (Entered place a access)) = bank_of a == bank
+in_bank_in bank (After (Accepted n word)) = false
+
+-- it waits in the hopper for that bank
+unfoldable pub in_bank : ℕ → Member → Bool
+in_bank bank m = in_bank_in bank m.phase
+
+-- in that phase it is a store to that absolute address, which waits in the hopper
+unfoldable pub stores_in : ℕ → Phase → Bool
+stores_in address (Before t) = false
+stores_in address (After (Entered place a access)) = stores_to address a access
+stores_in address (After (Accepted n word)) = false
+
+-- a fetch of the word at that absolute address waits for it: it is an SA6 or SA7 that has not come to its
+-- store event, or a store to that address that waits in the hopper
+unfoldable pub delays_fetch : ℕ → Member → Bool
+delays_fetch address m = row.has_store_turn (row_of m) || stores_in address m.phase

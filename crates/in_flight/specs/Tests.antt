@@ -1,0 +1,104 @@
+-- What an event is refused for, where it depends on the instructions in flight: the first refusal that applies.
+-- Source: Thornton, scoreboard and stunt box; 60100000, unit and register conflicts and central memory. The order of
+-- the tests and the turn of references are ours.
+use Rattle.std.specs.Prelude.{ℕ, Bool, true, false, not, ◌&&◌, if◌then◌else◌, List, [], ◌∷◌, Option, Some, None, is_none, Result, Ok, Err, slice_index_or}
+use Rattle.std.specs.List.{list_any}
+use Rattle.instruction_table.specs.declared.instr.Instr.{Instr}
+use Rattle.instruction_table.specs.declared.instr.Reg.TheVariants.{X}
+use Rattle.instruction_table.specs.declared.instr.Unit.{Unit as FunctionalUnit}
+use Rattle.instruction_table.specs.declared.instr.UnitKind.{UnitKind}
+use Rattle.instruction_table.specs.declared.refusal.Refusal.{Refusal}
+use Rattle.instruction_table.specs.declared.refusal.Refusal.TheVariants.{UnitBusy, ResultReserved, OperandAwaited, ResultHeld, HopperFull, OutOfTurn, BankBusy, OlderInBank, Nothing}
+use Rattle.instruction_table.specs.Finding.{Found}
+use Rattle.instruction_table.specs.Shape.{shape_of, puts_of, results, has_reference}
+use Rattle.instruction_table.specs.Table.{row, sources_of}
+use Rattle.hopper.specs.Hopper.{bank_of}
+use Rattle.scoreboard.specs.Conflicts as conflict
+use Rattle.scoreboard.specs.Conflicts.{first_such, result_reserved, operand_awaited, result_held, out_of_turn}
+use Rattle.scoreboard.specs.Units.{first_unit}
+use Rattle.sequential.specs.declared.fetching.Fetched.{Fetched}
+use Rattle.sequential.specs.declared.fetching.Fetched.TheVariants.{Halting, Passing, Taking}
+use Rattle.in_flight.specs.declared.member.Arrival.{Arrival}
+use Rattle.in_flight.specs.declared.member.Entry.{Entry}
+use Rattle.in_flight.specs.declared.member.Member.{Member}
+use Rattle.in_flight.specs.declared.member.Stage.{Stage}
+use Rattle.in_flight.specs.declared.member.Stage.TheVariants.{Waiting, Read as HasRead, Finished}
+use Rattle.in_flight.specs.Lookup.{place_for}
+use Rattle.in_flight.specs.Member.{row_of, awaited, to_be_read, in_bank}
+
+-- a refusal, and whether it applies
+pub record Test : Type 0 where
+  pub fails : Bool
+  pub refusal : Refusal
+
+-- the first refusal that applies
+unfoldable pub refusal_of : List Test → Option Refusal
+refusal_of [] = None
+refusal_of (t ∷ ts) = if t.fails then Some t.refusal else refusal_of ts
+
+-- E15, nothing: there is nothing that the event could act on
+unfoldable pub nothing : List Test
+nothing = record { fails = true; refusal = Nothing } ∷ []
+
+-- the tests of the one that was found; E15, nothing, where none was
+unfoldable pub tests_found : {K : Type 0} → Option (Found Member K) → (Found Member K → List Test) → List Test
+tests_found None f = nothing
+tests_found (Some x) f = f x
+
+-- what was refused, if anything was
+abbrev pub refusal_in : {K : Type 0} → Result K Refusal → Option Refusal
+refusal_in (Ok x) = None
+refusal_in (Err k) = Some k
+
+-- ---- issue ----
+
+-- the unit that an instruction takes: the lower-numbered free one of its kind, if there is one
+abbrev pub unit_for : List Member → Option UnitKind → Option FunctionalUnit
+unit_for ms kind = conflict.unit_for row_of ms kind
+
+-- first order: E7, unit busy, where no unit of the kind is free; E8, result reserved, where a result register is a
+-- result still to come (a pass and a halt take no unit)
+unfoldable pub row_tests : List Member → Fetched → List Test
+row_tests ms (Halting h place) = []
+row_tests ms (Passing place) = []
+row_tests ms (Taking i place) =
+    record { fails = is_none (unit_for ms (row i).unit); refusal = UnitBusy (first_unit (row i).unit) }
+    ∷ record { fails = result_reserved row_of ms (results (shape_of i)); refusal = ResultReserved (first_such (awaited ms) (results (shape_of i))) }
+    ∷ []
+
+-- ---- the events of a unit ----
+
+-- E9, operand awaited (second order): an operand is a result still to come of an earlier instruction; E15, nothing,
+-- where it has read before
+unfoldable pub read_tests : Stage → List Member → Instr → List Test
+read_tests Waiting earlier i =
+    record { fails = operand_awaited row_of earlier (sources_of i); refusal = OperandAwaited (first_such (awaited earlier) (sources_of i)) } ∷ []
+read_tests (HasRead os) earlier i = nothing
+read_tests (Finished v) earlier i = nothing
+
+-- E10, result held (third order); E11, hopper full: a reference would enter and no place is free; E12, out of turn:
+-- an earlier reference has not come to its store event
+abbrev pub store_conflicts : List Member → List Member → Instr → Bool → List Test
+store_conflicts ms earlier i entering =
+    record { fails = result_held row_of earlier (puts_of (shape_of i)); refusal = ResultHeld (first_such (to_be_read earlier) (puts_of (shape_of i))) }
+    ∷ record { fails = entering && is_none (place_for ms); refusal = HopperFull }
+    ∷ record { fails = has_reference (shape_of i) && out_of_turn row_of earlier; refusal = OutOfTurn }
+    ∷ []
+
+-- ---- the events of memory ----
+
+-- E13, bank busy; E14, older in bank: an older reference for that bank waits
+unfoldable pub accept_tests : List Bool → List Member → Entry → List Test
+accept_tests busy earlier entry =
+    record { fails = slice_index_or busy (bank_of entry.a) false; refusal = BankBusy (bank_of entry.a) }
+    ∷ record { fails = list_any (in_bank (bank_of entry.a)) earlier; refusal = OlderInBank }
+    ∷ []
+
+-- E10, result held (third order): an earlier instruction has still to read the X register of the load
+unfoldable pub return_tests : List Member → Arrival → List Test
+return_tests earlier arrival =
+    record { fails = to_be_read earlier (X arrival.channel); refusal = ResultHeld (X arrival.channel) } ∷ []
+
+-- E15, nothing: the bank is not busy
+unfoldable pub free_tests : List Bool → ℕ → List Test
+free_tests busy bank = record { fails = not (slice_index_or busy bank false); refusal = Nothing } ∷ []

@@ -1,0 +1,318 @@
+ghost use Rattle.std.specs.Prelude.{◌≡◌, ◌<◌, ◌+◌, ◌^◌, suc, [], ◌∷◌, true, false, not, is_none, slice_index_or, slice_set, replicate, length, IfOk, IfSome, MatchResult, unwrap_or, Some, None};
+ghost use Rattle.std.specs.List.{list_any};
+ghost use Rattle.instruction_table.specs.Each.{Pairs};
+ghost use Rattle.instruction_table.specs.Shape.{shape_of};
+ghost use Rattle.hopper.specs.Hopper.{bank_of};
+ghost use Rattle.hopper.specs.Queue.{place_for as free_in};
+ghost use Rattle.sequential.specs.declared.fetching.Fetched.TheVariants.{Taking};
+ghost use Rattle.sequential.specs.declared.place.Place.{Place as SomePlace};
+ghost use Rattle.sequential.specs.Work.{operands};
+ghost use Rattle.in_flight.specs.declared.member.Phase.TheVariants.{Before};
+ghost use Rattle.in_flight.specs.declared.member.Stage.{Stage as SomeStage};
+ghost use Rattle.in_flight.specs.declared.member.Stage.TheVariants.{Waiting, Read, Finished};
+ghost use Rattle.in_flight.specs.Tests.{refusal_in, store_conflicts, refusal_of, tests_found, row_tests, read_tests, accept_tests, return_tests, free_tests};
+ghost use Rattle.in_flight.specs.Flight.{left_by, later_of, IsRestOf, unit_taken, reserved_in, with_pending, entered_at, rest_at, queue_with, queue_behind};
+ghost use Rattle.in_flight.specs.Member.{has_read, is_branch, delays_fetch};
+ghost use Rattle.in_flight.specs.Lookup.{first_of, sought, stage_at, entry_at, arrival_at, in_phase, kept, enters, place_for, is_pending};
+ghost use Rattle.instruction_table.specs.Finding.{replaced, Found, seek};
+ghost use Rattle.in_flight.specs.Slots.{IsSlotted};
+ghost use Rattle.in_flight.specs.Apart.{IsApart};
+
+use crate::slots::Slots;
+use crate::{Arrival, Later, Member, Phase, Sought, Stage};
+use hopper::{Hopper, Reference};
+use instruction_table::{Digit, Instr, Refusal, Unit, unit_kind};
+use registers::RegisterFile;
+use relocation::{Access, Storage};
+use scoreboard::Board;
+use std::marker::Model;
+use unit_ops::{Operands, UnitValue};
+use word60::{Word18, Word60};
+
+/// What is left of an instruction after its store event, before it has its place.
+#[derive(Clone, Copy, Debug, Drop, PartialEq, Eq)]
+pub enum Rest {
+    /// A reference that enters the hopper.
+    Enters(Reference),
+    /// A load out of range, which has +0 in the channel of this number.
+    Arrives(Digit),
+}
+
+/// The instructions with an effect still to come, by the unit, place or channel that each has, beside the
+/// scoreboard and the hopper, which answer for them.
+#[derive(Drop)]
+pub struct InFlight {
+    slots: Slots,
+    board: Board,
+    hopper: Hopper,
+}
+
+impl Model for InFlight {
+    ghost use Rattle.in_flight.specs.Flight.{Flight, flight_of, IsTied};
+
+    ghost Value = { Flight };
+
+    ghost view = { λ f. flight_of f.slots f.hopper f.board };
+
+    ghost invariant = { λ f. IsTied f.slots f.hopper f.board };
+}
+
+/// The reference in the lowest-numbered free place of the hopper.
+#[tactic(auto, unfolding(crate::specs::Flight::entered_at, crate::specs::Flight::queue_with, hopper::specs::Queue::enter_answer))]
+fn entered(hopper: &mut Hopper, reference: &Reference) -> Option<Later>
+    ensures answer { result ≡ entered_at (free_in hopper.old.entered) reference.now }
+    ensures after { hopper.new ≡ queue_with hopper.old (free_in hopper.old.entered) reference.now }
+{
+    let address = reference.address;
+    let access = reference.access;
+    match hopper.enter(*reference) {
+        Ok(place) => Some(Later::Entered(place, address, access)),
+        Err(_) => None,
+    }
+}
+
+/// What is left of an instruction, where it waits: a reference enters the hopper.
+#[tactic(auto, unfolding(crate::specs::Flight::rest_at, crate::specs::Flight::queue_behind))]
+fn waiting_rest(hopper: &mut Hopper, rest: &Option<Rest>) -> Option<Later>
+    ensures answer { result ≡ rest_at (free_in hopper.old.entered) rest.now }
+    ensures after { hopper.new ≡ queue_behind hopper.old (free_in hopper.old.entered) rest.now }
+{
+    match rest {
+        None => None,
+        Some(Rest::Enters(reference)) => entered(hopper, reference),
+        Some(Rest::Arrives(n)) => Some(Later::Accepted(*n, Word60::default())),
+    }
+}
+
+/// The instruction as it waited, and what it reads.
+fn reading(member: &Member, registers: &RegisterFile) -> (Member, Operands)
+    ensures member { result.0 ≡ member.now }
+    ensures operands { result.1 ≡ operands member.now.instr member.now.at registers.now }
+{
+    (*member, member.operands(registers))
+}
+
+/// What is left of a reference that its bank took.
+fn left_by(memory: &Storage, reference: &Reference) -> Option<Later>
+    requires { reference.now.address < length memory.now }
+    ensures { result ≡ left_by memory.now reference.now.address reference.now.access }
+{
+    match &reference.access {
+        Access::Load(n) => Some(Later::Accepted(*n, memory.load(reference.address))),
+        Access::Store(_) => None,
+    }
+}
+
+impl InFlight {
+    /// Nothing is in flight, and all banks are free.
+    pub fn new() -> InFlight
+        ensures { result ≡ record { pending = []; busy = replicate 32 false; last = 0 } }
+    {
+        InFlight {
+            slots: Slots::new(),
+            board: Board::new(),
+            hopper: Hopper::new(),
+        }
+    }
+
+    /// Whether nothing is pending.
+    pub fn is_empty(&self) -> bool
+        ensures { result ≡ not (is_pending self.now.pending) }
+    {
+        self.slots.is_empty()
+    }
+
+    /// Whether an instruction holds Branch.
+    pub fn is_branch_held(&self) -> bool
+        ensures { result ≡ list_any is_branch self.now.pending }
+    {
+        self.board.is_branch_held()
+    }
+
+    /// Whether a fetch of the word at the absolute address waits for a store.
+    pub fn delays_fetch(&self, address: u32) -> bool
+        ensures { result ≡ list_any (delays_fetch address) self.now.pending }
+    {
+        self.board.has_store_to_come() || self.hopper.store_for(address)
+    }
+
+    /// Whether a bank is busy; there is none after the last.
+    pub fn is_bank_busy(&self, bank: u8) -> bool
+        ensures { result ≡ slice_index_or self.now.busy bank false }
+    {
+        self.hopper.is_bank_busy(bank)
+    }
+
+    /// The instruction that holds the unit, with its stage.
+    pub fn find(&self, unit: Unit) -> Option<Sought<Stage>>
+        ensures { result ≡ sought (seek (stage_at unit) self.now.pending) }
+    {
+        self.slots.find_stage(unit)
+    }
+
+    /// The oldest of them.
+    pub fn oldest(&self) -> Option<Member>
+        ensures { result ≡ first_of self.now.pending }
+    {
+        self.slots.oldest()
+    }
+
+    /// First order: reserves a unit for an instruction of the word at `at`. It answers the unit and the reservation's
+    /// number.
+    ///
+    /// # Errors
+    /// `UnitBusy`, `ResultReserved`.
+    pub fn reserve(&mut self, instr: &Instr, at: Word18) -> Result<(Unit, u64), Refusal>
+        requires number { self.old.last + 1 < 2 ^ 64 }
+        ensures answer { (place : SomePlace) → refusal_of (row_tests self.old.pending (Taking instr.now place)) ≡ refusal_in result }
+        ensures reservation { IfOk result (λ reserved. (reserved.0 ≡ unit_taken self.old instr.now) × (reserved.1 ≡ suc self.old.last)) }
+        ensures after { MatchResult result (λ reserved. self.new ≡ reserved_in self.old instr.now at) (λ refusal. self.new ≡ self.old) }
+    {
+        if unit_kind(instr).is_none() {
+            return Err(Refusal::UnitBusy(Unit::Branch));
+        }
+        let (unit, number) = match self.board.try_reserve(instr) {
+            Ok(reserved) => reserved,
+            Err(refusal) => return Err(refusal),
+        };
+        self.slots.push(Member {
+            instr: *instr,
+            at,
+            number,
+            unit,
+            phase: Phase::Before(Stage::Waiting),
+        });
+        Ok((unit, number))
+    }
+
+    /// Second order: the unit's instruction reads its operands. It answers the instruction as it waited, and what
+    /// it has read.
+    ///
+    /// # Errors
+    /// `Nothing`, `OperandAwaited`.
+    pub fn read(
+        &mut self,
+        unit: Unit,
+        registers: &RegisterFile,
+    ) -> Result<(Member, Operands), Refusal>
+        ensures answer { refusal_of (tests_found (seek (stage_at unit) self.old.pending) (λ f. read_tests f.what f.earlier f.member.instr)) ≡ refusal_in result }
+        ensures member { IfOk result (λ read. sought (seek (stage_at unit) self.old.pending) ≡ Some (record { member = read.0; what = Waiting })) }
+        ensures operands { IfOk result (λ read. read.1 ≡ operands read.0.instr read.0.at registers.now) }
+        ensures after { MatchResult result
+            (λ read. self.new ≡ with_pending self.old (replaced (seek (stage_at unit) self.old.pending) self.old.pending (λ m. in_phase m (Before (Read read.1)) ∷ [])))
+            (λ refusal. self.new ≡ self.old) }
+    {
+        let Some(found) = self.slots.find_stage(unit) else {
+            return Err(Refusal::Nothing);
+        };
+        let Stage::Waiting = found.what else {
+            return Err(Refusal::Nothing);
+        };
+        if let Err(refusal) = self.board.may_read(unit) {
+            return Err(refusal);
+        }
+        let read = reading(&found.member, registers);
+        self.slots.set_stage(unit, Stage::Read(read.1));
+        self.board.mark_read(unit);
+        Ok(read)
+    }
+
+    /// The unit's instruction, which has read its operands, has its value.
+    pub fn finish(&mut self, unit: Unit, value: UnitValue)
+        requires { IfSome (sought (seek (stage_at unit) self.old.pending)) (λ s. has_read s.what ≡ true) }
+        ensures { self.new ≡ with_pending self.old (replaced (seek (stage_at unit) self.old.pending) self.old.pending (λ m. in_phase m (Before (Finished value)) ∷ [])) }
+    {
+        self.slots.set_stage(unit, Stage::Finished(value));
+    }
+
+    /// Third order, the hopper's room where a reference would enter, and the turn of references.
+    ///
+    /// # Errors
+    /// `ResultHeld`, `HopperFull`, `OutOfTurn`.
+    pub fn may_store(&self, unit: Unit, enters: bool) -> Result<(), Refusal>
+        ensures { (f : Found Member SomeStage) → seek (stage_at unit) self.now.pending ≡ Some f → refusal_of (store_conflicts self.now.pending f.earlier f.member.instr enters) ≡ refusal_in result }
+    {
+        if let Err(refusal) = self.board.may_store(unit) {
+            return Err(refusal);
+        }
+        if enters && self.hopper.is_full() {
+            return Err(Refusal::HopperFull);
+        }
+        self.board.in_turn(unit)
+    }
+
+    /// The unit's instruction leaves it; what is left of it enters the hopper or waits in its channel.
+    pub fn leave(&mut self, unit: Unit, rest: &Option<Rest>)
+        requires apart { Pairs IsApart self.old.pending }
+        requires rest { IfSome (sought (seek (stage_at unit) self.old.pending)) (λ s. IsRestOf (shape_of s.member.instr) rest.now) }
+        requires room { enters (later_of 0 rest.now) ≡ true → is_none (place_for self.old.pending) ≡ false }
+        ensures { self.new ≡ with_pending self.old (replaced (seek (stage_at unit) self.old.pending) self.old.pending (λ m. kept m (later_of (unwrap_or (place_for self.old.pending) 0) rest.now))) }
+    {
+        if self.slots.find_stage(unit).is_none() {
+            return;
+        }
+        let later = waiting_rest(&mut self.hopper, rest);
+        self.slots.leave(unit, &later);
+        self.board.release(unit);
+    }
+
+    /// The bank of the reference in a place of the hopper takes it and is busy: a load has its word in its channel,
+    /// and of a store nothing is left. It answers the reference; a store is still to be written to memory.
+    ///
+    /// # Errors
+    /// `Nothing`, `BankBusy`, `OlderInBank`.
+    pub fn accept(&mut self, place: u8, memory: &Storage) -> Result<Reference, Refusal>
+        requires apart { Pairs IsApart self.old.pending }
+        requires slotted { IsSlotted (length memory.now) self.old.pending }
+        ensures answer { refusal_of (tests_found (seek (entry_at place) self.old.pending) (λ f. accept_tests self.old.busy f.earlier f.what)) ≡ refusal_in result }
+        ensures entry { IfOk result (λ reference. IfSome (seek (entry_at place) self.old.pending) (λ f. f.what ≡ record { a = reference.address; access = reference.access })) }
+        ensures after { MatchResult result
+            (λ reference. self.new ≡ record self.old {
+              pending = replaced (seek (entry_at place) self.old.pending) self.old.pending (λ m. kept m (left_by memory.now reference.address reference.access));
+              busy = slice_set self.old.busy (bank_of reference.address) true;
+            })
+            (λ refusal. self.new ≡ self.old) }
+    {
+        let reference = match self.hopper.accept(place) {
+            Ok(reference) => reference,
+            Err(refusal) => return Err(refusal),
+        };
+        let left = left_by(memory, &reference);
+        self.slots.accept(place, &left);
+        Ok(reference)
+    }
+
+    /// Third order: the load in a channel returns. It answers the word and its register's number.
+    ///
+    /// # Errors
+    /// `Nothing`, `ResultHeld`.
+    pub fn return_load(&mut self, channel: u8) -> Result<Arrival, Refusal>
+        requires apart { Pairs IsApart self.old.pending }
+        ensures answer { refusal_of (tests_found (seek (arrival_at channel) self.old.pending) (λ f. return_tests f.earlier f.what)) ≡ refusal_in result }
+        ensures arrival { IfOk result (λ arrival. IfSome (seek (arrival_at channel) self.old.pending) (λ f. f.what ≡ arrival)) }
+        ensures after { MatchResult result
+            (λ arrival. self.new ≡ with_pending self.old (replaced (seek (arrival_at channel) self.old.pending) self.old.pending (λ m. [])))
+            (λ refusal. self.new ≡ self.old) }
+    {
+        let Some(found) = self.slots.find_arrival(channel) else {
+            return Err(Refusal::Nothing);
+        };
+        if let Err(refusal) = self.board.may_return(channel) {
+            return Err(refusal);
+        }
+        self.slots.returned(channel);
+        self.board.returned(channel);
+        Ok(found.what)
+    }
+
+    /// A bank is free again.
+    ///
+    /// # Errors
+    /// `Nothing`.
+    pub fn bank_free(&mut self, bank: u8) -> Result<(), Refusal>
+        ensures answer { refusal_of (free_tests self.old.busy bank) ≡ refusal_in result }
+        ensures after { MatchResult result (λ freed. self.new ≡ record self.old { busy = slice_set self.old.busy bank false }) (λ refusal. self.new ≡ self.old) }
+    {
+        self.hopper.bank_free(bank)
+    }
+}

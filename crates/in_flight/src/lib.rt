@@ -1,0 +1,15 @@
+//! The instructions in flight: the members of the list of pending instructions by the unit, the place of the hopper or
+//! the channel that each has, beside the scoreboard and the hopper, which answer for them.
+#![tactic(auto)]
+
+mod flight;
+mod member;
+mod slots;
+#[cfg(test)]
+mod test_calls;
+#[cfg(test)]
+mod tests;
+
+pub use flight::{InFlight, Rest};
+pub use member::{Arrival, Entry, Later, Member, Phase, Stage};
+pub use slots::Sought;

@@ -1,0 +1,155 @@
+ghost use Rattle.std.specs.Prelude.{◌≡◌};
+ghost use Rattle.sequential.specs.Work.{operands};
+ghost use Rattle.in_flight.specs.Member.{is_waiting, is_finished};
+ghost use Rattle.in_flight.specs.Lookup.{stage_at, entry_at, arrival_at};
+
+use instruction_table::{Digit, Instr, Unit};
+use registers::RegisterFile;
+use relocation::Access;
+use scoreboard::is_same_unit;
+use sequential::operands;
+use unit_ops::{Operands, UnitValue};
+use word60::{Word18, Word60};
+
+/// How far an instruction has come in its unit.
+#[derive(Clone, Copy, Debug, Drop, PartialEq, Eq)]
+pub enum Stage {
+    /// It has still to read its operands.
+    Waiting,
+    /// It has read them.
+    Read(Operands),
+    /// It has its value.
+    Finished(UnitValue),
+}
+
+/// What is left of an instruction after its store event.
+#[derive(Clone, Copy, Debug, Drop, PartialEq, Eq)]
+pub enum Later {
+    /// A reference that waits in a place of the hopper (0 to 3): the place, the absolute address and what
+    /// it does there.
+    Entered(u8, u32, Access),
+    /// A load that waits in its channel (1 to 5, the number of its X register) with its word.
+    Accepted(Digit, Word60),
+}
+
+/// How far an instruction has come.
+#[derive(Clone, Copy, Debug, Drop, PartialEq, Eq)]
+pub enum Phase {
+    /// It holds its unit.
+    Before(Stage),
+    /// It has come to its store event and left its unit.
+    After(Later),
+}
+
+/// An issued instruction with an effect still to come.
+#[derive(Clone, Copy, Debug, Drop, PartialEq, Eq)]
+pub struct Member {
+    pub instr: Instr,
+    /// The address of its word.
+    pub at: Word18,
+    /// The number of its reservation, from 1 since boot.
+    pub number: u64,
+    pub unit: Unit,
+    pub phase: Phase,
+}
+
+/// A reference in a place of the hopper.
+#[derive(Clone, Copy, Debug, Drop, PartialEq, Eq)]
+pub struct Entry {
+    /// The absolute address.
+    pub a: u32,
+    pub access: Access,
+}
+
+/// A load that waits in its channel.
+#[derive(Clone, Copy, Debug, Drop, PartialEq, Eq)]
+pub struct Arrival {
+    /// The channel, which is the number of the X register.
+    pub channel: Digit,
+    pub word: Word60,
+}
+
+impl Stage {
+    /// Whether it has still to read its operands.
+    #[tactic(auto, unfolding(crate::specs::Member::is_waiting))]
+    pub fn is_waiting(&self) -> bool
+        ensures { result ≡ is_waiting self.now }
+    {
+        matches!(self, Stage::Waiting)
+    }
+
+    /// Whether it has its value.
+    #[tactic(auto, unfolding(crate::specs::Member::is_finished))]
+    pub fn is_finished(&self) -> bool
+        ensures { result ≡ is_finished self.now }
+    {
+        matches!(self, Stage::Finished(_))
+    }
+}
+
+impl Default for Member {
+    fn default() -> Member {
+        Member {
+            instr: Instr::Pass,
+            at: Word18::default(),
+            number: 0,
+            unit: Unit::Branch,
+            phase: Phase::Before(Stage::Waiting),
+        }
+    }
+}
+
+impl Member {
+    /// What its unit reads, as the registers are.
+    pub(crate) fn operands(&self, registers: &RegisterFile) -> Operands
+        ensures { result ≡ operands self.now.instr self.now.at registers.now }
+    {
+        operands(&self.instr, self.at, registers)
+    }
+
+    /// Its stage, if it holds the unit.
+    #[tactic(auto, unfolding(crate::specs::Lookup::stage_at, crate::specs::Lookup::stage_in))]
+    pub(crate) fn stage_in(&self, unit: Unit) -> Option<Stage>
+        ensures { result ≡ stage_at unit self.now }
+    {
+        if !is_same_unit(self.unit, unit) {
+            return None;
+        }
+        match self.phase {
+            Phase::Before(stage) => Some(stage),
+            Phase::After(_) => None,
+        }
+    }
+
+    /// Its reference, if it stands in the place of the hopper.
+    #[tactic(auto, unfolding(crate::specs::Lookup::entry_at, crate::specs::Lookup::entry_in))]
+    pub(crate) fn entry_in(&self, place: u8) -> Option<Entry>
+        ensures { result ≡ entry_at place self.now }
+    {
+        match self.phase {
+            Phase::Before(_) => None,
+            Phase::After(Later::Entered(taken, a, access)) => if taken == place {
+                Some(Entry { a, access })
+            } else {
+                None
+            },
+            Phase::After(Later::Accepted(_, _)) => None,
+        }
+    }
+
+    /// Its word, if it waits in the channel.
+    #[tactic(auto, unfolding(crate::specs::Lookup::arrival_at, crate::specs::Lookup::arrival_in))]
+    pub(crate) fn arrival_in(&self, given: u8) -> Option<Arrival>
+        ensures { result ≡ arrival_at given self.now }
+    {
+        match self.phase {
+            Phase::Before(_) => None,
+            Phase::After(Later::Entered(_, _, _)) => None,
+            Phase::After(Later::Accepted(channel, word)) => if channel.get() == given {
+                Some(Arrival { channel, word })
+            } else {
+                None
+            },
+        }
+    }
+}

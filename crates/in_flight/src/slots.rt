@@ -1,0 +1,278 @@
+ghost use Rattle.std.specs.Prelude.{◌≡◌, ◌<◌, ◌∷◌, ◌++◌, [], length, Some, None, is_none, slice_index_or, IfSome};
+ghost use Rattle.std.specs.List.{list_all};
+ghost use Rattle.scoreboard.specs.Units.{unit_number};
+ghost use Rattle.instruction_table.specs.Each.{Each};
+ghost use Rattle.in_flight.specs.declared.member.Phase.TheVariants.{Before, After};
+ghost use Rattle.in_flight.specs.declared.member.Stage.TheVariants.{Waiting};
+ghost use Rattle.instruction_table.specs.Finding.{seek, replaced};
+ghost use Rattle.in_flight.specs.Lookup.{stage_at, entry_at, arrival_at, in_phase, kept, sought, first_of};
+ghost use Rattle.in_flight.specs.Seats.{HasRoom, places_with, channels_with, has_none, lower_of, lowest_of};
+
+use crate::{Arrival, Entry, Later, Member, Phase, Stage};
+use instruction_table::Unit;
+use scoreboard::unit_number;
+use std::marker::Model;
+
+/// A member that was sought, with what was asked of it.
+#[derive(Clone, Copy, Drop)]
+pub struct Sought<K> {
+    pub member: Member,
+    pub what: K,
+}
+
+/// The pending instructions: by the number of the unit that they hold, by the place of the hopper in which their
+/// reference waits, by the channel in which their load waits.
+#[derive(Drop)]
+pub struct Slots {
+    units: [Option<Member>; 10],
+    places: [Option<Member>; 4],
+    channels: [Option<Member>; 8],
+}
+
+impl Model for Slots {
+    ghost use Rattle.std.specs.Prelude.{List};
+    ghost use Rattle.in_flight.specs.declared.member.Member.{Member};
+
+    ghost Value = { List Member };
+
+    ghost use Rattle.in_flight.specs.Seats.{seats, in_order, IsRight};
+
+    ghost view = { λ p. in_order (seats p.units p.places p.channels) };
+
+    ghost invariant = { λ p. IsRight p.units p.places p.channels };
+}
+
+/// The number of the unit, as an index.
+fn index_of(unit: Unit) -> usize
+    ensures value { result ≡ unit_number unit }
+    ensures range { result < 10 }
+{
+    usize::from(unit_number(unit))
+}
+
+impl Member {
+    /// The member in another phase.
+    #[tactic(auto, unfolding(crate::specs::Lookup::in_phase))]
+    fn in_phase(&self, phase: Phase) -> Member
+        ensures { result ≡ in_phase self.now phase }
+    {
+        Member { phase, ..*self }
+    }
+}
+
+/// What is left of a member goes to its place or its channel.
+#[tactic(auto, unfolding(crate::specs::Seats::places_with, crate::specs::Seats::channels_with))]
+fn put_rest(
+    places: &mut [Option<Member>],
+    channels: &mut [Option<Member>],
+    member: &Member,
+    later: &Option<Later>,
+)
+    requires places { length places.old ≡ 4 }
+    requires channels { length channels.old ≡ 8 }
+    requires room { HasRoom later.now [] }
+    ensures places { places.new ≡ places_with places.old member.now later.now }
+    ensures channels { channels.new ≡ channels_with channels.old member.now later.now }
+{
+    match *later {
+        None => {}
+        Some(Later::Entered(place, address, access)) => {
+            let rest = member.in_phase(Phase::After(Later::Entered(place, address, access)));
+            places[usize::from(place)] = Some(rest);
+        }
+        Some(Later::Accepted(n, word)) => {
+            let rest = member.in_phase(Phase::After(Later::Accepted(n, word)));
+            channels[usize::from(n.get())] = Some(rest);
+        }
+    }
+}
+
+/// What the seat holds, None if there is no such seat.
+fn seat_at(seats: &[Option<Member>], index: usize) -> Option<Member>
+    ensures { result ≡ slice_index_or seats.now index None }
+{
+    match seats.get(index) {
+        Some(seat) => *seat,
+        None => None,
+    }
+}
+
+/// Whether no seat is held.
+fn none_held(seats: &[Option<Member>]) -> bool
+    ensures { result ≡ list_all is_none seats.now }
+{
+    seats.iter().all(|seat| seat.is_none())
+}
+
+/// The one with the lower number, or the only one.
+#[tactic(auto, unfolding(crate::specs::Seats::lower_of))]
+fn lower(first: &Option<Member>, second: &Option<Member>) -> Option<Member>
+    ensures { result ≡ lower_of first.now second.now }
+{
+    let Some(one) = *first else {
+        return *second;
+    };
+    match *second {
+        None => Some(one),
+        Some(other) => {
+            if one.number < other.number {
+                Some(one)
+            } else {
+                Some(other)
+            }
+        }
+    }
+}
+
+/// The one with the lowest number in the seats.
+fn lowest(seats: &[Option<Member>]) -> Option<Member>
+    ensures { result ≡ lowest_of seats.now }
+{
+    let mut found = None;
+    for seat in seats {
+        found = lower(&found, seat);
+    }
+    found
+}
+
+impl Slots {
+    /// Nothing is pending.
+    pub fn new() -> Slots
+        ensures { result ≡ [] }
+    {
+        Slots {
+            units: [None; 10],
+            places: [None; 4],
+            channels: [None; 8],
+        }
+    }
+
+    /// Whether nothing is pending.
+    pub fn is_empty(&self) -> bool
+        ensures { result ≡ has_none self.now }
+    {
+        if !none_held(&self.units) {
+            return false;
+        }
+        if !none_held(&self.places) {
+            return false;
+        }
+        none_held(&self.channels)
+    }
+
+    /// The member with the lowest number.
+    pub fn oldest(&self) -> Option<Member>
+        ensures { result ≡ first_of self.now }
+    {
+        let referring = lower(&lowest(&self.places), &lowest(&self.channels));
+        lower(&lowest(&self.units), &referring)
+    }
+
+    /// The member that holds the unit, with its stage.
+    pub fn find_stage(&self, unit: Unit) -> Option<Sought<Stage>>
+        ensures { result ≡ sought (seek (stage_at unit) self.now) }
+    {
+        let index = index_of(unit);
+        let seat = self.units[index];
+        let Some(member) = seat else {
+            return None;
+        };
+        match member.stage_in(unit) {
+            Some(what) => Some(Sought { member, what }),
+            None => None,
+        }
+    }
+
+    /// The member that holds the unit comes to another stage.
+    pub fn set_stage(&mut self, unit: Unit, stage: Stage)
+        ensures { self.new ≡ replaced (seek (stage_at unit) self.old) self.old (λ m. in_phase m (Before stage) ∷ []) }
+    {
+        let index = index_of(unit);
+        if let Some(member) = &mut self.units[index] {
+            member.phase = Phase::Before(stage);
+        }
+    }
+
+    /// The member that holds the unit leaves it; what is left of it goes to its place or its channel.
+    pub fn leave(&mut self, unit: Unit, later: &Option<Later>)
+        requires { HasRoom later.now self.old }
+        ensures { self.new ≡ replaced (seek (stage_at unit) self.old) self.old (λ m. kept m later.now) }
+    {
+        let index = index_of(unit);
+        let seat = self.units[index];
+        let Some(member) = seat else {
+            return;
+        };
+        self.units[index] = None;
+        put_rest(&mut self.places, &mut self.channels, &member, later);
+    }
+
+    /// The member that stands in a place of the hopper, with its reference.
+    pub fn find_entry(&self, place: u8) -> Option<Sought<Entry>>
+        requires { place < 4 }
+        ensures { result ≡ sought (seek (entry_at place) self.now) }
+    {
+        let seat = self.places[usize::from(place)];
+        let Some(member) = seat else {
+            return None;
+        };
+        match member.entry_in(place) {
+            Some(what) => Some(Sought { member, what }),
+            None => None,
+        }
+    }
+
+    /// The member in the place leaves it; what is left of it goes to its channel.
+    pub fn accept(&mut self, place: u8, later: &Option<Later>)
+        requires place { place < 4 }
+        requires room { HasRoom later.now self.old }
+        ensures { self.new ≡ replaced (seek (entry_at place) self.old) self.old (λ m. kept m later.now) }
+    {
+        let index = usize::from(place);
+        let seat = self.places[index];
+        let Some(member) = seat else {
+            return;
+        };
+        self.places[index] = None;
+        put_rest(&mut self.places, &mut self.channels, &member, later);
+    }
+
+    /// The member that waits in a channel, with its word.
+    pub fn find_arrival(&self, channel: u8) -> Option<Sought<Arrival>>
+        ensures found { result ≡ sought (seek (arrival_at channel) self.now) }
+        ensures range { IfSome result (λ s. channel < 8) }
+    {
+        let seat = seat_at(&self.channels, usize::from(channel));
+        let Some(member) = seat else {
+            return None;
+        };
+        match member.arrival_in(channel) {
+            Some(what) => Some(Sought { member, what }),
+            None => None,
+        }
+    }
+
+    /// The member in the channel has returned.
+    pub fn returned(&mut self, channel: u8)
+        requires { channel < 8 }
+        ensures { self.new ≡ replaced (seek (arrival_at channel) self.old) self.old (λ m. []) }
+    {
+        let index = usize::from(channel);
+        let seat = self.channels[index];
+        let Some(_) = seat else {
+            return;
+        };
+        self.channels[index] = None;
+    }
+
+    /// A new member, with a number above all, goes to its unit, which is free.
+    pub fn push(&mut self, member: Member)
+        requires waits { member.phase ≡ Before Waiting }
+        requires free { seek (stage_at member.unit) self.old ≡ None }
+        requires last { Each (λ m. m.number < member.number) self.old }
+        ensures { self.new ≡ self.old ++ member ∷ [] }
+    {
+        let index = index_of(member.unit);
+        self.units[index] = Some(member);
+    }
+}

@@ -1,0 +1,263 @@
+//! For the tests: calls to what is in flight, with the answer of each.
+
+ghost use Rattle.std.specs.Prelude.{◌≡◌};
+ghost use Rattle.instruction_table.specs.Shape.{shape_of};
+ghost use Rattle.in_flight.specs.Flight.{IsRestOf};
+
+use crate::{Arrival, InFlight, Member, Phase, Rest, Stage};
+use hopper::Reference;
+use instruction_table::{Addends, Digit, Instr, Pair, Refusal, Reg, Unit, read_text};
+use registers::RegisterFile;
+use relocation::Storage;
+use std::marker::Model;
+use unit_ops::{Operands, UnitValue};
+use word60::{Word18, Word60};
+
+/// A call. Instructions are given as texts.
+#[derive(Clone, Copy, Drop)]
+pub(crate) enum Call {
+    Reserve(&'static str),
+    Read(Unit),
+    /// The unit has the value 5, if its instruction has read its operands.
+    Finish(Unit),
+    MayStore(Unit),
+    BankFree(u8),
+    IsEmpty,
+    IsBranchHeld,
+    DelaysFetch(u32),
+    IsBankBusy(u8),
+    Find(Unit),
+    Oldest,
+}
+
+#[derive(Clone, Copy, Drop, PartialEq, Eq)]
+pub(crate) enum Answer {
+    /// It may, or it is done.
+    Fine,
+    Reserved(Unit, u64),
+    Refused(Refusal),
+    Truth(bool),
+    /// The number of the reservation that was found, with the stage of its instruction.
+    At(u64, Stage),
+    /// The number of the oldest reservation.
+    Number(u64),
+    /// There is none.
+    Free,
+    /// The text is no instruction's.
+    NoText,
+}
+
+pub(crate) const FINE: Answer = Answer::Fine;
+
+pub(crate) const YES: Answer = Answer::Truth(true);
+
+pub(crate) const NO: Answer = Answer::Truth(false);
+
+/// The instruction of this text is reserved a unit under a number.
+pub(crate) fn reserves(text: &'static str, unit: Unit, number: u64) -> (Call, Answer) {
+    (Call::Reserve(text), Answer::Reserved(unit, number))
+}
+
+pub(crate) fn refused(call: Call, refusal: Refusal) -> (Call, Answer) {
+    (call, Answer::Refused(refusal))
+}
+
+pub(crate) fn x(number: u16) -> Reg {
+    Reg::X(Digit::low(number))
+}
+
+/// B0+B0.
+pub(crate) fn no_addends() -> Addends {
+    Addends::Registers {
+        pair: Pair::BPlusB,
+        j: Digit::default(),
+        k: Digit::default(),
+    }
+}
+
+/// The value that every unit finishes with.
+pub(crate) fn five() -> UnitValue {
+    UnitValue::Word(Word60::from_bits(5))
+}
+
+/// Registers of which X1 is 3 and X2 is 4, and the others are +0.
+pub(crate) fn registers() -> RegisterFile {
+    let mut file = RegisterFile::default();
+    file.set(x(1), Word60::from_bits(3));
+    file.set(x(2), Word60::from_bits(4));
+    file
+}
+
+/// What IX3 X1+X2 in the word at this address reads of those registers.
+pub(crate) fn three_and_four(at: Word18) -> Operands {
+    Operands {
+        first: Word60::from_bits(3),
+        second: Word60::from_bits(4),
+        outgoing: Word60::default(),
+        place: at,
+    }
+}
+
+/// The answer where nothing is in flight.
+pub(crate) fn accept_at_boot(place: u8, memory: &Storage) -> Result<Reference, Refusal> {
+    let mut flight = InFlight::new();
+    flight.accept(place, memory)
+}
+
+/// The answer where nothing is in flight.
+pub(crate) fn return_at_boot(channel: u8) -> Result<Arrival, Refusal> {
+    let mut flight = InFlight::new();
+    flight.return_load(channel)
+}
+
+/// Whether nothing is in flight after a unit that is free was left.
+#[tactic(auto, unfolding(crate::specs::Lookup::sought, crate::specs::Lookup::enters, crate::specs::Flight::later_of, instruction_table::specs::Finding::seek))]
+pub(crate) fn is_empty_after_leave(unit: Unit) -> bool {
+    let mut flight = InFlight::new();
+    flight.leave(unit, &None);
+    flight.is_empty()
+}
+
+/// What is in flight after an instruction alone came to its store event and left this.
+pub(crate) fn left_alone(instr: &Instr, rest: &Option<Rest>) -> Option<InFlight>
+    requires { IsRestOf (shape_of instr.now) rest.now }
+{
+    let mut flight = InFlight::new();
+    let unit = match flight.reserve(instr, Word18::default()) {
+        Ok((unit, _)) => unit,
+        Err(_) => return None,
+    };
+    flight.leave(unit, rest);
+    Some(flight)
+}
+
+/// The first reservation after boot, of the instruction IX3 X1+X2 at this address.
+pub(crate) fn first_add(instr: Instr, at: Word18, stage: Stage) -> Member {
+    Member {
+        instr,
+        at,
+        number: 1,
+        unit: Unit::LongAdd,
+        phase: Phase::Before(stage),
+    }
+}
+
+/// What is in flight, and a bound of the reservations that were made.
+#[derive(Drop)]
+pub(crate) struct Counted {
+    flight: InFlight,
+    bound: u64,
+}
+
+impl Model for Counted {
+    ghost use Rattle.std.specs.Prelude.{◌≤◌};
+    ghost use Rattle.in_flight.specs.Flight.{Flight};
+
+    ghost Value = { Flight };
+
+    ghost view = { λ c. c.flight };
+
+    ghost invariant = { λ c. c.flight.last ≤ c.bound };
+}
+
+/// What a judgement says.
+fn judged(judgement: Result<(), Refusal>) -> Answer {
+    match judgement {
+        Ok(()) => Answer::Fine,
+        Err(refusal) => Answer::Refused(refusal),
+    }
+}
+
+/// The unit has the value 5, if its instruction has read its operands.
+#[tactic(auto, unfolding(crate::specs::Member::has_read))]
+fn finish(flight: &mut InFlight, unit: Unit) -> Answer
+    ensures { flight.new.last ≡ flight.old.last }
+{
+    let Some(found) = flight.find(unit) else {
+        return Answer::Free;
+    };
+    let Stage::Read(_) = found.what else {
+        return Answer::Free;
+    };
+    flight.finish(unit, five());
+    Answer::Fine
+}
+
+/// The stage of the unit's instruction.
+fn find(flight: &InFlight, unit: Unit) -> Answer {
+    match flight.find(unit) {
+        Some(found) => Answer::At(found.member.number, found.what),
+        None => Answer::Free,
+    }
+}
+
+/// The number of the oldest reservation.
+fn oldest(flight: &InFlight) -> Answer {
+    match flight.oldest() {
+        Some(member) => Answer::Number(member.number),
+        None => Answer::Free,
+    }
+}
+
+impl Counted {
+    fn new() -> Counted {
+        Counted {
+            flight: InFlight::new(),
+            bound: 0,
+        }
+    }
+
+    /// Asks for a unit for the instruction, of the word at +0.
+    fn reserve(&mut self, instr: &Instr) -> Answer {
+        if self.bound >= 1000 {
+            return Answer::NoText;
+        }
+        self.bound += 1;
+        match self.flight.reserve(instr, Word18::default()) {
+            Ok((unit, number)) => Answer::Reserved(unit, number),
+            Err(refusal) => Answer::Refused(refusal),
+        }
+    }
+
+    fn reserve_text(&mut self, text: &str) -> Answer {
+        match read_text(text) {
+            Some(instr) => self.reserve(&instr),
+            None => Answer::NoText,
+        }
+    }
+
+    fn read(&mut self, unit: Unit) -> Answer {
+        match self.flight.read(unit, &registers()) {
+            Ok(_) => Answer::Fine,
+            Err(refusal) => Answer::Refused(refusal),
+        }
+    }
+
+    fn make(&mut self, call: Call) -> Answer {
+        match call {
+            Call::Reserve(text) => self.reserve_text(text),
+            Call::Read(unit) => self.read(unit),
+            Call::Finish(unit) => finish(&mut self.flight, unit),
+            Call::MayStore(unit) => judged(self.flight.may_store(unit, true)),
+            Call::BankFree(bank) => judged(self.flight.bank_free(bank)),
+            Call::IsEmpty => Answer::Truth(self.flight.is_empty()),
+            Call::IsBranchHeld => Answer::Truth(self.flight.is_branch_held()),
+            Call::DelaysFetch(address) => Answer::Truth(self.flight.delays_fetch(address)),
+            Call::IsBankBusy(bank) => Answer::Truth(self.flight.is_bank_busy(bank)),
+            Call::Find(unit) => find(&self.flight, unit),
+            Call::Oldest => oldest(&self.flight),
+        }
+    }
+}
+
+/// The index of the first call that isn't answered so where nothing was in flight, None if all are.
+pub(crate) fn first_wrong(calls: &[(Call, Answer)]) -> Option<usize> {
+    let mut counted = Counted::new();
+    for index in 0..calls.len() {
+        let (call, wanted) = calls[index];
+        if counted.make(call) != wanted {
+            return Some(index);
+        }
+    }
+    None
+}

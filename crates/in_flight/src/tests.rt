@@ -1,0 +1,242 @@
+use crate::test_calls::{
+    Answer, Call, FINE, NO, YES, accept_at_boot, first_add, first_wrong, five,
+    is_empty_after_leave, left_alone, no_addends, refused, registers, reserves, return_at_boot,
+    three_and_four, x,
+};
+use crate::{InFlight, Rest, Stage};
+use hopper::Reference;
+use instruction_table::{Digit, Instr, Refusal, Target, Unit, read_text};
+use relocation::{Access, Storage};
+use std::test::Fail;
+use unit_ops::UnitValue;
+use word60::{Word18, Word60};
+
+/// Boot: nothing is pending, no unit is held and all banks are free.
+#[test]
+fn nothing_is_in_flight_at_boot(rt: HostRuntime) {
+    let wrong = first_wrong(&[
+        (Call::IsEmpty, YES),
+        (Call::IsBranchHeld, NO),
+        (Call::DelaysFetch(0), NO),
+        (Call::Oldest, Answer::Free),
+        (Call::Find(Unit::Branch), Answer::Free),
+        (Call::IsBankBusy(0), NO),
+        (Call::IsBankBusy(31), NO),
+        (Call::IsBankBusy(32), NO),
+        (Call::MayStore(Unit::Branch), FINE),
+    ]);
+    assert_eq!(rt; wrong, None);
+}
+
+/// The lower-numbered free unit of the kind; where both Increment units are taken, the first is named.
+#[test]
+fn reserves_a_free_unit(rt: HostRuntime) {
+    let wrong = first_wrong(&[
+        reserves("SX1 B0+B0", Unit::Increment1, 1),
+        reserves("SX2 B0+B0", Unit::Increment2, 2),
+        refused(
+            Call::Reserve("SX3 B0+B0"),
+            Refusal::UnitBusy(Unit::Increment1),
+        ),
+        reserves("IX3 X0+X0", Unit::LongAdd, 3),
+        refused(Call::Reserve("IX4 X0+X0"), Refusal::UnitBusy(Unit::LongAdd)),
+        (Call::IsEmpty, NO),
+        (Call::Oldest, Answer::Number(1)),
+        (Call::Find(Unit::LongAdd), Answer::At(3, Stage::Waiting)),
+        (Call::Find(Unit::Shift), Answer::Free),
+    ]);
+    assert_eq!(rt; wrong, None);
+}
+
+/// A result that is still to come is reserved once, and a busy unit comes before a reserved result.
+#[test]
+fn reserves_no_result_twice(rt: HostRuntime) {
+    let wrong = first_wrong(&[
+        reserves("IX1 X0+X0", Unit::LongAdd, 1),
+        refused(Call::Reserve("SX1 B0+B0"), Refusal::ResultReserved(x(1))),
+        refused(Call::Reserve("IX1 X0+X0"), Refusal::UnitBusy(Unit::LongAdd)),
+        // What was refused has no number.
+        reserves("SX2 B0+B0", Unit::Increment1, 2),
+    ]);
+    assert_eq!(rt; wrong, None);
+}
+
+/// An instruction reads once, and waits for an earlier writer of its operand.
+#[test]
+fn reads_when_no_operand_is_awaited(rt: HostRuntime) {
+    let wrong = first_wrong(&[
+        refused(Call::Read(Unit::LongAdd), Refusal::Nothing),
+        reserves("SX1 B0+B0", Unit::Increment1, 1),
+        reserves("IX3 X1+X2", Unit::LongAdd, 2),
+        refused(Call::Read(Unit::LongAdd), Refusal::OperandAwaited(x(1))),
+        (Call::Find(Unit::LongAdd), Answer::At(2, Stage::Waiting)),
+        (Call::Read(Unit::Increment1), FINE),
+        refused(Call::Read(Unit::Increment1), Refusal::Nothing),
+        (Call::Finish(Unit::Increment1), FINE),
+        refused(Call::Read(Unit::Increment1), Refusal::Nothing),
+        refused(Call::Read(Unit::Shift), Refusal::Nothing),
+    ]);
+    assert_eq!(rt; wrong, None);
+}
+
+/// A value is the unit's whose instruction has read its operands.
+#[test]
+fn finishes_what_has_read(rt: HostRuntime) {
+    let wrong = first_wrong(&[
+        reserves("SX1 B0+B0", Unit::Increment1, 1),
+        reserves("SX2 B0+B0", Unit::Increment2, 2),
+        (Call::Finish(Unit::Increment1), Answer::Free),
+        (Call::Read(Unit::Increment1), FINE),
+        (Call::Finish(Unit::Increment1), FINE),
+        (
+            Call::Find(Unit::Increment1),
+            Answer::At(1, Stage::Finished(five())),
+        ),
+        (Call::Find(Unit::Increment2), Answer::At(2, Stage::Waiting)),
+        (Call::Oldest, Answer::Number(1)),
+    ]);
+    assert_eq!(rt; wrong, None);
+}
+
+/// A store event waits for an earlier reader of the result, and not for a later one.
+#[test]
+fn stores_after_earlier_reads(rt: HostRuntime) {
+    let wrong = first_wrong(&[
+        reserves("IX3 X1+X2", Unit::LongAdd, 1),
+        reserves("SX1 B0+B0", Unit::Increment1, 2),
+        reserves("BX4 X1", Unit::Boolean, 3),
+        refused(Call::MayStore(Unit::Increment1), Refusal::ResultHeld(x(1))),
+        (Call::Read(Unit::LongAdd), FINE),
+        (Call::MayStore(Unit::Increment1), FINE),
+        (Call::MayStore(Unit::LongAdd), FINE),
+    ]);
+    assert_eq!(rt; wrong, None);
+}
+
+/// References come to their store events in turn; an instruction without one has no turn.
+#[test]
+fn references_keep_their_turn(rt: HostRuntime) {
+    let wrong = first_wrong(&[
+        reserves("SA1 X0+B0", Unit::Increment1, 1),
+        reserves("SA6 X0+B0", Unit::Increment2, 2),
+        reserves("IX3 X0+X0", Unit::LongAdd, 3),
+        (Call::MayStore(Unit::Increment1), FINE),
+        refused(Call::MayStore(Unit::Increment2), Refusal::OutOfTurn),
+        (Call::MayStore(Unit::LongAdd), FINE),
+    ]);
+    assert_eq!(rt; wrong, None);
+}
+
+/// A store that has not come to its store event delays every fetch, and a load or a return jump none.
+#[test]
+fn a_store_to_come_delays_fetches(rt: HostRuntime) {
+    let wrong = first_wrong(&[
+        reserves("SA1 X0+B0", Unit::Increment1, 1),
+        (Call::DelaysFetch(0), NO),
+        (Call::IsBranchHeld, NO),
+        reserves("SA6 X0+B0", Unit::Increment2, 2),
+        (Call::DelaysFetch(0), YES),
+        (Call::DelaysFetch(0o100), YES),
+        (Call::IsBranchHeld, NO),
+    ]);
+    assert_eq!(rt; wrong, None);
+    let wrong = first_wrong(&[
+        reserves("RJ 10", Unit::Branch, 1),
+        (Call::DelaysFetch(0), NO),
+        (Call::IsBranchHeld, YES),
+        (Call::Read(Unit::Branch), FINE),
+        (Call::IsBranchHeld, YES),
+    ]);
+    assert_eq!(rt; wrong, None);
+}
+
+/// A bank that is not busy is not freed, and there is none after the last.
+#[test]
+fn frees_no_free_bank(rt: HostRuntime) {
+    let wrong = first_wrong(&[
+        refused(Call::BankFree(0), Refusal::Nothing),
+        refused(Call::BankFree(31), Refusal::Nothing),
+        refused(Call::BankFree(32), Refusal::Nothing),
+        refused(Call::BankFree(255), Refusal::Nothing),
+    ]);
+    assert_eq!(rt; wrong, None);
+}
+
+/// Nothing waits in the hopper or in a channel at boot, and a free unit has nothing to leave it.
+#[test]
+fn nothing_to_accept_or_to_return(rt: HostRuntime) -> Result<(), Fail> {
+    let memory = Storage::new(rt.alloc(), 32).ok().ok_or("memory")?;
+    for place in [0, 3, 4, 255] {
+        assert_eq!(rt; accept_at_boot(place, &memory), Err(Refusal::Nothing));
+    }
+    for channel in [0, 1, 5, 8, 255] {
+        assert_eq!(rt; return_at_boot(channel), Err(Refusal::Nothing));
+    }
+    assert!(rt; is_empty_after_leave(Unit::Shift));
+    Ok(())
+}
+
+/// SX1 B0+B0 sets its register at the store event, and nothing is left of it.
+#[test]
+fn a_sum_leaves_nothing(rt: HostRuntime) -> Result<(), Fail> {
+    let instr = Instr::Increment {
+        target: Target::X,
+        i: Digit::low(1),
+        addends: no_addends(),
+    };
+    let flight = left_alone(&instr, &None).ok_or("reserve")?;
+    assert!(rt; flight.is_empty());
+    Ok(())
+}
+
+/// SA6 B0+B0 enters the hopper at its store event, and delays a fetch of its word alone.
+#[test]
+fn a_store_waits_in_the_hopper(rt: HostRuntime) -> Result<(), Fail> {
+    let instr = Instr::Increment {
+        target: Target::A,
+        i: Digit::low(6),
+        addends: no_addends(),
+    };
+    let reference = Reference {
+        address: 0o47,
+        access: Access::Store(Word60::default()),
+    };
+    let rest = Some(Rest::Enters(reference));
+    let flight = left_alone(&instr, &rest).ok_or("reserve")?;
+    assert!(rt; !flight.is_empty());
+    assert!(rt; flight.find(Unit::Increment1).is_none());
+    assert!(rt; flight.delays_fetch(0o47));
+    // The same bank.
+    assert!(rt; !flight.delays_fetch(0o7));
+    Ok(())
+}
+
+/// The instruction as it waited, with what its operand registers hold.
+#[test]
+fn reads_its_operand_registers(rt: HostRuntime) -> Result<(), Fail> {
+    let instr = read_text("IX3 X1+X2").ok_or("text")?;
+    let mut flight = InFlight::new();
+    let at = Word18::from_bits(0o1234);
+    assert_eq!(rt; flight.reserve(&instr, at), Ok((Unit::LongAdd, 1)));
+    let waited = first_add(instr, at, Stage::Waiting);
+    assert_eq!(rt; flight.oldest(), Some(waited));
+    let wanted = Ok((first_add(instr, at, Stage::Waiting), three_and_four(at)));
+    assert_eq!(rt; flight.read(Unit::LongAdd, &registers()), wanted);
+    let read = first_add(instr, at, Stage::Read(three_and_four(at)));
+    assert_eq!(rt; flight.oldest(), Some(read));
+    Ok(())
+}
+
+#[test]
+fn a_stage_waits_or_has_its_value(rt: HostRuntime) {
+    let read = Stage::Read(three_and_four(Word18::default()));
+    let finished = Stage::Finished(UnitValue::Jump(None));
+    for (stage, waits, has_value) in [
+        (Stage::Waiting, true, false),
+        (read, false, false),
+        (finished, false, true),
+    ] {
+        assert_eq!(rt; stage.is_waiting(), waits);
+        assert_eq!(rt; stage.is_finished(), has_value);
+    }
+}

@@ -1,0 +1,44 @@
+-- Complete: the effects that instructions in flight have still to make. Source: ours.
+use Rattle.std.specs.Prelude.{ℕ, List, [], ◌∷◌}
+use Rattle.instruction_table.specs.declared.instr.Instr.{Instr}
+use Rattle.instruction_table.specs.declared.instr.Reg.TheVariants.{X}
+use Rattle.instruction_table.specs.Shape.{shape_of}
+use Rattle.registers.specs.declared.file.RegisterFile.{RegisterFile}
+use Rattle.unit_ops.specs.declared.UnitValue.{UnitValue}
+use Rattle.unit_ops.specs.Values.{value_of}
+use Rattle.sequential.specs.declared.state.State.{State}
+use Rattle.sequential.specs.State.{Bounds, write, access_at}
+use Rattle.sequential.specs.Work.{operands, work_of, do_work}
+use Rattle.in_flight.specs.declared.member.Later.{Later}
+use Rattle.in_flight.specs.declared.member.Later.TheVariants.{Entered, Accepted}
+use Rattle.in_flight.specs.declared.member.Member.{Member}
+use Rattle.in_flight.specs.declared.member.Phase.{Phase}
+use Rattle.in_flight.specs.declared.member.Phase.TheVariants.{Before, After}
+use Rattle.in_flight.specs.declared.member.Stage.{Stage}
+use Rattle.in_flight.specs.declared.member.Stage.TheVariants.{Waiting, Read, Finished}
+
+-- the value of an instruction: one that waits reads the registers as they then are, a later one uses its operands or
+-- has its value
+unfoldable pub value_at : Instr → ℕ → Stage → RegisterFile → UnitValue
+value_at instr at Waiting g = value_of instr (operands instr at g)
+value_at instr at (Read os) g = value_of instr os
+value_at instr at (Finished v) g = v
+
+-- what is left after the store event: a reference, or a word on its way to its register
+unfoldable pub do_later : State → Later → State
+do_later s (Entered place a access) = access_at s a access
+do_later s (Accepted n word) = write s (X n) word
+
+-- the effects still to come of an instruction in that phase
+unfoldable pub run_phase : Bounds → State → Instr → ℕ → Phase → State
+run_phase b s instr at (Before t) = do_work b s (work_of (shape_of instr) (value_at instr at t s.registers))
+run_phase b s instr at (After l) = do_later s l
+
+-- all effects of a pending instruction that are still to come
+unfoldable pub run : Bounds → State → Member → State
+run b s m = run_phase b s m.instr m.at m.phase
+
+-- Complete: the state after the effects of all, oldest first
+unfoldable pub complete : Bounds → State → List Member → State
+complete b s [] = s
+complete b s (m ∷ ms) = complete b (run b s m) ms
