@@ -1,4 +1,4 @@
--- What a board stands for behind each change.
+-- What a board stands for after each change.
 use Rattle.std.proofs.Common.{◌≡◌, ◌<◌, ◌+◌, ℕ, Bool, true, List, ◌++◌, Option, Some, None, refl, sym, ap, ◌∙◌, get_or, set, length, arith}
 use Rattle.std.specs.Prelude.{IfSome}
 use Rattle.std.proofs.lemmas.List.{length-set, length-append, set-set, set-append_left, get_or-set_same}

@@ -1,8 +1,8 @@
--- What always holds of a board still holds behind each change.
+-- What always holds of a board still holds after each change.
 use Rattle.std.proofs.Common.{◌≡◌, ◌≢◌, ◌<◌, ◌≤◌, ◌+◌, ℕ, zero, suc, Bool, true, false, cond, List, [], ◌∷◌, ◌++◌, Option, Some, None, refl, sym, ap, ◌∙◌, subst, eqb, ltb, map, get_or, set, length, arith}
 use Rattle.std.specs.Prelude.{◌&&◌, ◌||◌, IfSome}
-use Rattle.std.proofs.lemmas.Bool.{eq-eqb, eqb-true, eqb-false}
-use Rattle.std.proofs.lemmas.List.{length-set, length-append, set-set, set-append_left, get_or-set_same, get_or-set_other}
+use Rattle.std.proofs.lemmas.Bool.{eq-eqb, eqb-true, eqb-false, le-ltb}
+use Rattle.std.proofs.lemmas.List.{length-set, length-append, set-set, set-append_left, get_or_append_left, get_or-set_same, get_or-set_other}
 use Rattle.instruction_table.specs.declared.instr.Reg.{Reg}
 use Rattle.instruction_table.specs.declared.instr.Reg.TheVariants.{X}
 use Rattle.instruction_table.specs.declared.instr.Unit.{Unit as FunctionalUnit}
@@ -155,17 +155,30 @@ forgotten_at w (Some x ∷ os) (ps ∷ pss) zero z h = refl
 forgotten_at w (None ∷ os) (ps ∷ pss) (suc j) z h = forgotten_at w os pss j z h
 forgotten_at w (Some x ∷ os) (ps ∷ pss) (suc j) z h = forgotten_at w os pss j z h
 
-pub forgetting : (w : Writer) (units channels units' channels' l : List (Option Issued)) (producers : List (List (Option Writer))) (ws ws' : Writers) (last : ℕ) → IsRight units channels producers ws last → l ≡ units' ++ channels' → length units' ≡ 10 → length channels' ≡ 8 → AreSized ws'
+-- in the producers of the units, a writer is forgotten that has written, or nobody waited for it
+abbrev pub AreForgotten : Writer → List (Option Issued) → List (Option Issued) → List (List (Option Writer)) → Type 0
+AreForgotten w os units pss =
+    (length pss ≡ 10) × ((j : ℕ) (z : Issued) → get_or units j None ≡ Some z → (g : Reg → Option Writer) → ((r : Reg) → g r ≡ forget w (writer_before z.number (somes os) r)) → AreProducers g (sources_of z.row.instr) (get_or pss j []))
+
+pub all_forgotten : (w : Writer) (units channels units' : List (Option Issued)) (producers : List (List (Option Writer))) (ws : Writers) (last : ℕ) → IsRight units channels producers ws last
+    → ((j : ℕ) (z : Issued) → get_or units' j None ≡ Some z → get_or units j None ≡ Some z)
+    → AreForgotten w (units ++ channels) units' (forget_in_taken w units' producers)
+unfolding seated
+all_forgotten w units channels units' producers ws last right t =
+    (length_forgotten w units' producers ∙ right.all_producers,
+    λ j z h g k. subst (λ ps. AreProducers g (sources_of z.row.instr) ps) (sym (forgotten_at w units' producers j z h))
+    (producers_forget w (writer_before z.number (somes (units ++ channels))) g k (sources_of z.row.instr) (get_or producers j []) (right.produced j z (t j z h))))
+
+pub written : (w : Writer) (units channels units' channels' l : List (Option Issued)) (producers pss : List (List (Option Writer))) (ws ws' : Writers) (last : ℕ) → IsRight units channels producers ws last → l ≡ units' ++ channels' → length units' ≡ 10 → length channels' ≡ 8 → AreSized ws'
     → IsSeated seat_of 0 l → Pairs IsOther (somes l) → Each (λ x. x.number ≤ last) (somes l) → Each IsOfKind (somes l) → ((n : ℕ) (r : Reg) → writer_before n (somes l) r ≡ forget w (writer_before n (somes (units ++ channels)) r))
     → ((r : Reg) → IsRegister r → writer_at ws' r ≡ forget w (writer_at ws r))
-    → ((j : ℕ) (z : Issued) → get_or units' j None ≡ Some z → get_or units j None ≡ Some z)
-    → IsRight units' channels' (forget_in_taken w units' producers) ws' last
+    → AreForgotten w (units ++ channels) units' pss
+    → IsRight units' channels' pss ws' last
 unfolding seated
-forgetting w units channels units' channels' l producers ws ws' last right e lu lc lw s a n o k f t =
-    right_again units' channels' l (forget_in_taken w units' producers) ws' last e lu lc (length_forgotten w units' producers ∙ right.all_producers) lw s a n o
+written w units channels units' channels' l producers pss ws ws' last right e lu lc lw s a n o k f p =
+    right_again units' channels' l pss ws' last e lu lc p.0 lw s a n o
     (λ r v. f r v ∙ ap (forget w) (written_now units channels producers ws last right r v) ∙ sym (k (suc last) r))
-    (λ j z h. subst (λ ps. AreProducers (writer_before z.number (somes l)) (sources_of z.row.instr) ps) (sym (forgotten_at w units' producers j z h))
-    (producers_forget w (writer_before z.number (somes (units ++ channels))) (writer_before z.number (somes l)) (k z.number) (sources_of z.row.instr) (get_or producers j []) (right.produced j z (t j z h))))
+    (λ j z h. p.1 j z h (writer_before z.number (somes l)) (k z.number))
 
 -- a register's field is cleared where the one in a seat has its writer entered there
 cleared : (w : Writer) (b : Bool) (units channels : List (Option Issued)) (producers : List (List (Option Writer))) (ws : Writers) (last : ℕ) (i : ℕ) (x : Issued) (r : Reg) → IsRight units channels producers ws last → IsRegister r → get_or (units ++ channels) i None ≡ Some x
@@ -227,6 +240,38 @@ gone_written w os i x h p g k n r =
     ap (λ o. or_else o (writer_before n (somes (set os i None)) r)) (earlier_gone w n r x (g r))
     ∙ writer_gone w n r os i x h p k
 
+-- what those up to the number of the one in a seat wait for is no result of its own
+nobody_waits : (w : Writer) (os : List (Option Issued)) (i : ℕ) (x : Issued) (n : ℕ) (r : Reg) → get_or os i None ≡ Some x → Pairs IsOther (somes os) → Each (λ y. forget w (written_by r y) ≡ written_by r y) (somes (set os i None)) → n ≤ x.number → forget w (writer_before n (somes os) r) ≡ writer_before n (somes os) r
+unfolding writer_before or_else if_earlier
+nobody_waits w os i x n r here a others l =
+    ap (forget w) without ∙ forget_first w f (somes (set os i None)) kept ∙ sym without
+  where
+    f : Issued → Option Writer
+    f = if_earlier n (written_by r)
+
+    without : writer_before n (somes os) r ≡ writer_before n (somes (set os i None)) r
+    without =
+        writer_taken n r os i x here a
+        ∙ ap (λ b. or_else (cond b (written_by r x) None) (writer_before n (somes (set os i None)) r)) (le-ltb x.number n l)
+
+    kept : Each (λ y. forget w (f y) ≡ f y) (somes (set os i None))
+    kept = each_map (λ y. forget w (written_by r y) ≡ written_by r y) (λ y. forget w (f y) ≡ f y) (λ y q. earlier_forget w n r y q) (somes (set os i None)) others
+
+-- nobody waits for the last one
+last_forgotten : (w : Writer) (units channels units' : List (Option Issued)) (producers : List (List (Option Writer))) (ws : Writers) (last i : ℕ) (x : Issued) → IsRight units channels producers ws last → get_or (units ++ channels) i None ≡ Some x
+    → ((r : Reg) → Each (λ y. forget w (written_by r y) ≡ written_by r y) (somes (set (units ++ channels) i None))) → x.number ≡ last
+    → ((j : ℕ) (z : Issued) → get_or units' j None ≡ Some z → get_or units j None ≡ Some z)
+    → AreForgotten w (units ++ channels) units' producers
+unfolding seated
+last_forgotten w units channels units' producers ws last i x right here others k t =
+    (right.all_producers,
+    λ j z q g f.
+        let there = t j z q in
+        let up_to : z.number ≤ last = each_here (λ y. y.number ≤ last) (units ++ channels) j z (get_or_append_left units channels None j (within units j z there) ∙ there) right.counted in
+        producers_same (writer_before z.number (somes (units ++ channels))) g
+        (λ r. f r ∙ nobody_waits w (units ++ channels) i x z.number r here right.apart (others r) (omega (arith, up_to, k)))
+        (sources_of z.row.instr) (get_or producers j []) (right.produced j z there))
+
 -- ---- a load has returned ----
 
 field_returned : (n : ℕ) (r : Reg) (x : Issued) (rest : Option Writer) → x.row.progress ≡ Left (Some n) → forget (OfChannel n) rest ≡ rest → cond (reg_eq r (X n)) None (or_else (written_by r x) rest) ≡ forget (OfChannel n) (or_else (written_by r x) rest)
@@ -248,14 +293,15 @@ others_not_loading : (n : ℕ) (x : Issued) (ys : List Issued) → comes (X n) x
 others_not_loading n x ys h k r = each_map (IsOther x) (λ y. forget (OfChannel n) (written_by r y) ≡ written_by r y) (λ y q. channel_kept n r y (sym (ap (λ b. b && comes (X n) y.row) h) ∙ q.results (X n))) ys k
 
 pub returned_right : (units channels : List (Option Issued)) (producers : List (List (Option Writer))) (ws : Writers) (last n : ℕ) (x : Issued) → IsRight units channels producers ws last → n < 8 → get_or channels n None ≡ Some x
-    → IsRight units (set channels n None) (forget_in_taken (OfChannel n) units producers) (set_writer ws (X n) None) last
+    → (pss : List (List (Option Writer))) → AreForgotten (OfChannel n) (units ++ channels) units pss
+    → IsRight units (set channels n None) pss (set_writer ws (X n) None) last
 unfolding seated
-returned_right units channels producers ws last n x right below_8 h =
-    forgetting (OfChannel n) units channels units (set channels n None) (set os (10 + n) None) producers ws (set_writer ws (X n) None) last right (set_back units channels n (10 + n) None (omega (arith, right.all_units))) right.all_units (length-set channels n None ∙ right.all_channels) (set_sized ws (X n) None right.all_writers)
+returned_right units channels producers ws last n x right below_8 h pss forgotten =
+    written (OfChannel n) units channels units (set channels n None) (set os (10 + n) None) producers pss ws (set_writer ws (X n) None) last right (set_back units channels n (10 + n) None (omega (arith, right.all_units))) right.all_units (length-set channels n None ∙ right.all_channels) (set_sized ws (X n) None right.all_writers)
     (seated_empty seat_of os 0 (10 + n) right.sits) (pairs_taken os (10 + n) x here right.apart) (each_taken (λ z. z.number ≤ last) os (10 + n) x here right.counted) (each_taken IsOfKind os (10 + n) x here right.kinds)
     (gone_written (OfChannel n) os (10 + n) x here right.apart (λ r. returned_written n r x returning) others)
     (λ r v. set_gives ws (X n) r None right.all_writers below_8 ∙ cleared (OfChannel n) (reg_eq r (X n)) units channels producers ws last (10 + n) x r right v here others (λ rest k. field_returned n r x rest returning k))
-    (λ j z k. k)
+    forgotten
   where
     os : List (Option Issued)
     os = units ++ channels
@@ -268,6 +314,25 @@ returned_right units channels producers ws last n x right below_8 h =
 
     others : (r : Reg) → Each (λ y. forget (OfChannel n) (written_by r y) ≡ written_by r y) (somes (set os (10 + n) None))
     others = others_not_loading n x (somes (set os (10 + n) None)) (comes_returning n x returning) (others_of os (10 + n) x here right.apart)
+
+-- nobody waits for the last one's register
+pub returned_last : (units channels : List (Option Issued)) (producers : List (List (Option Writer))) (ws : Writers) (last n : ℕ) (x : Issued) → IsRight units channels producers ws last → n < 8 → get_or channels n None ≡ Some x → x.number ≡ last
+    → AreForgotten (OfChannel n) (units ++ channels) units producers
+unfolding seated
+returned_last units channels producers ws last n x right below_8 h k =
+    last_forgotten (OfChannel n) units channels units producers ws last (10 + n) x right here
+    (others_not_loading n x (somes (set (units ++ channels) (10 + n) None)) (comes_returning n x returning) (others_of (units ++ channels) (10 + n) x here right.apart)) k (λ j z q. q)
+  where
+    here : get_or (units ++ channels) (10 + n) None ≡ Some x
+    here = channel_seat units channels n (Some x) right.all_units h
+
+    returning : x.row.progress ≡ Left (Some n)
+    returning = sits_returning n x below_8 (seated_here seat_of (units ++ channels) 0 (10 + n) x here right.sits ∙ omega arith)
+
+-- and for that of another they wait no longer
+pub returned_others : (units channels : List (Option Issued)) (producers : List (List (Option Writer))) (ws : Writers) (last n : ℕ) → IsRight units channels producers ws last
+    → AreForgotten (OfChannel n) (units ++ channels) units (forget_in_taken (OfChannel n) units producers)
+returned_others units channels producers ws last n right = all_forgotten (OfChannel n) units channels units producers ws last right (λ j z k. k)
 
 -- ---- a unit is released ----
 
@@ -348,10 +413,26 @@ channel_empty os i n x b l h s p e k = by_seat (get_or (set os i None) (10 + n) 
         both true f g = cc
         both false f g = cc
 
+-- ---- an instruction has come to its store event ----
+
+-- nobody waits for the last one's results
+pub released_last : (units channels : List (Option Issued)) (producers : List (List (Option Writer))) (ws : Writers) (last : ℕ) (u : FunctionalUnit) (i : ℕ) (x : Issued) → IsRight units channels producers ws last → i ≡ unit_number u → get_or units i None ≡ Some x → x.number ≡ last
+    → AreForgotten (OfUnit u) (units ++ channels) (set units i None) producers
+released_last units channels producers ws last u i x right e h k =
+    last_forgotten (OfUnit u) units channels (set units i None) producers ws last i x right (unit_seat units channels u i (Some x) right.all_units e h)
+    (others_elsewhere u (units ++ channels) i e right.sits) k (λ j z q. not_emptied units i j z (within units i x h) q)
+
+-- and for those of another they wait no longer
+pub released_others : (units channels : List (Option Issued)) (producers : List (List (Option Writer))) (ws : Writers) (last : ℕ) (u : FunctionalUnit) (i : ℕ) (x : Issued) → IsRight units channels producers ws last → get_or units i None ≡ Some x
+    → AreForgotten (OfUnit u) (units ++ channels) (set units i None) (forget_in_taken (OfUnit u) (set units i None) producers)
+released_others units channels producers ws last u i x right h =
+    all_forgotten (OfUnit u) units channels (set units i None) producers ws last right (λ j z q. not_emptied units i j z (within units i x h) q)
+
 pub released_right : (units channels : List (Option Issued)) (producers : List (List (Option Writer))) (ws : Writers) (last : ℕ) (u : FunctionalUnit) (i : ℕ) (x : Issued) → IsRight units channels producers ws last → i ≡ unit_number u → get_or units i None ≡ Some x → Each IsRegister (puts_of (shape_of x.row.instr)) → IfSome (channel_of (shape_of x.row.instr)) (λ n. n < 8)
-    → IsRight (set units i None) (channels_with channels x (channel_of (shape_of x.row.instr))) (forget_in_taken (OfUnit u) (set units i None) producers) (set_each ws (puts_of (shape_of x.row.instr)) None) last
+    → (pss : List (List (Option Writer))) → AreForgotten (OfUnit u) (units ++ channels) (set units i None) pss
+    → IsRight (set units i None) (channels_with channels x (channel_of (shape_of x.row.instr))) pss (set_each ws (puts_of (shape_of x.row.instr)) None) last
 unfolding seated channels_with number_of in_progress
-released_right units channels producers ws last u i x right e h valid below_8 = by_channel (channel_of (shape_of x.row.instr)) refl below_8
+released_right units channels producers ws last u i x right e h valid below_8 pss forgotten = by_channel (channel_of (shape_of x.row.instr)) refl below_8
   where
     os : List (Option Issued)
     os = units ++ channels
@@ -382,15 +463,15 @@ released_right units channels producers ws last u i x right e h valid below_8 = 
         each_gives (puts_of (shape_of x.row.instr)) ws r None right.all_writers valid
         ∙ cleared (OfUnit u) (is_in (puts_of (shape_of x.row.instr)) r) units channels producers ws last i x r right v here elsewhere (λ rest k. field_left u r x reserved.0 rest reserved.1 reserved.2 k)
 
-    by_channel : (o : Option ℕ) → channel_of (shape_of x.row.instr) ≡ o → IfSome o (λ n. n < 8) → IsRight (set units i None) (channels_with channels x o) (forget_in_taken (OfUnit u) (set units i None) producers) (set_each ws (puts_of (shape_of x.row.instr)) None) last
+    by_channel : (o : Option ℕ) → channel_of (shape_of x.row.instr) ≡ o → IfSome o (λ n. n < 8) → IsRight (set units i None) (channels_with channels x o) pss (set_each ws (puts_of (shape_of x.row.instr)) None) last
     by_channel None k l =
-        forgetting (OfUnit u) units channels (set units i None) channels (set os i None) producers ws emptied last right front fewer right.all_channels sized
+        written (OfUnit u) units channels (set units i None) channels (set os i None) producers pss ws emptied last right front fewer right.all_channels sized
         (seated_empty seat_of os 0 i right.sits) (pairs_taken os i x here right.apart) (each_taken (λ z. z.number ≤ last) os i x here right.counted) (each_taken IsOfKind os i x here right.kinds)
         (gone_written (OfUnit u) os i x here right.apart (λ r. left_nothing u r x reserved.0 reserved.1 reserved.2 k) elsewhere)
         fields
-        (λ j z q. not_emptied units i j z (within units i x h) q)
+        forgotten
     by_channel (Some n) k l =
-        forgetting (OfUnit u) units channels (set units i None) (set channels n (Some y)) (set (set os i None) (10 + n) (Some y)) producers ws emptied last right
+        written (OfUnit u) units channels (set units i None) (set channels n (Some y)) (set (set os i None) (10 + n) (Some y)) producers pss ws emptied last right
         (ap (λ m. set m (10 + n) (Some y)) front ∙ set_back (set units i None) channels n (10 + n) (Some y) (omega (arith, fewer))) fewer (length-set channels n (Some y) ∙ right.all_channels) sized
         (seated_fill seat_of (set os i None) 0 (10 + n) y (left_seat n x ∙ omega arith) (seated_empty seat_of os 0 i right.sits))
         (pairs_put (set os i None) (10 + n) y empty room others (pairs_taken os i x here right.apart))
@@ -400,7 +481,7 @@ released_right units channels producers ws last u i x right e h valid below_8 = 
         ∙ ap (λ o. or_else o (writer_before m (somes (set os i None)) r)) (earlier_left (OfUnit u) m r x y refl (left_writes u n r x reserved.0 reserved.1 reserved.2 k))
         ∙ writer_gone (OfUnit u) m r os i x here right.apart elsewhere)
         fields
-        (λ j z q. not_emptied units i j z (within units i x h) q)
+        forgotten
       where
         y : Issued
         y = in_progress x (Left (Some n))

@@ -57,7 +57,7 @@ earlier_any f os i x h p =
 
 -- ---- the seats of units and channels ----
 
--- what was read from a seat, whatever is read behind the last
+-- what was read from a seat, whatever is read after the last
 pub seat_any : (os : List (Option Issued)) (i : ℕ) (o : Option Issued) → i < length os → get_or os i None ≡ get_or os i o
 seat_any [] i o h = absurd (omega arith)
 seat_any (x ∷ os) zero o h = refl

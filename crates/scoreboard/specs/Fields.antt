@@ -16,7 +16,7 @@ use Rattle.scoreboard.specs.Answers.{in_progress}
 use Rattle.scoreboard.specs.Writers.{set_each, set_writer, forget}
 use Rattle.instruction_table.specs.declared.instr.Reg.{Reg}
 use Rattle.instruction_table.specs.declared.instr.Unit.{Unit as FunctionalUnit}
-use Rattle.scoreboard.specs.Rows.{reads_it, has_turn}
+use Rattle.scoreboard.specs.Rows.{is_unread, reads_it, has_turn}
 use Rattle.scoreboard.specs.Units.{unit_number}
 use Rattle.scoreboard.specs.declared.issued.Issued.{Issued}
 
@@ -24,6 +24,11 @@ use Rattle.scoreboard.specs.declared.issued.Issued.{Issued}
 unfoldable pub seat_is : (Row → Bool) → Option Issued → Bool
 seat_is test None = false
 seat_is test (Some x) = test x.row
+
+-- its instruction has a lower number and has not come to its read event
+unfoldable pub seat_waits : ℕ → Option Issued → Bool
+seat_waits n None = false
+seat_waits n (Some x) = nat_lt x.number n && is_unread x.row.progress
 
 -- its instruction has a lower number and has still to read the register
 unfoldable pub seat_reads : ℕ → Reg → Option Issued → Bool

@@ -232,9 +232,8 @@ impl Board {
         ensures { self.new ≡ with_issued self.old (replaced (seek (held_in unit) self.old.issued) self.old.issued read) }
     {
         let index = index_of(unit);
-        let seat = self.units[index];
-        if let Some(issued) = seat {
-            self.units[index] = Some(issued.in_progress(Progress::Reserved { has_read: true }));
+        if let Some(issued) = &mut self.units[index] {
+            issued.row.progress = Progress::Reserved { has_read: true };
         }
     }
 
@@ -253,7 +252,10 @@ impl Board {
         put_left(&mut self.channels, &issued);
         // The unit is entered as the writer of these registers alone.
         self.writers.set_each(written.as_slice(), &None);
-        forget_in_taken(&self.units, &mut self.producers, &Writer::OfUnit(unit));
+        // Nobody was issued after the last one, so nobody waits for it.
+        if issued.number != self.last {
+            forget_in_taken(&self.units, &mut self.producers, &Writer::OfUnit(unit));
+        }
     }
 
     /// The load in the channel has returned, and nobody waits for it any longer. Channels are numbered from 0 to
@@ -264,13 +266,15 @@ impl Board {
     {
         let index = usize::from(channel);
         let seat = self.channels[index];
-        let Some(_) = seat else {
+        let Some(issued) = seat else {
             return;
         };
         let number = digit(channel);
         self.channels[index] = None;
         // The channel is entered as the writer of this register alone.
         self.writers.set(Reg::X(number), None);
-        forget_in_taken(&self.units, &mut self.producers, &Writer::OfChannel(number));
+        if issued.number != self.last {
+            forget_in_taken(&self.units, &mut self.producers, &Writer::OfChannel(number));
+        }
     }
 }

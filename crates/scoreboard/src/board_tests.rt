@@ -279,7 +279,7 @@ fn keeps_the_turn(rt: HostRuntime) {
         (Call::InTurn(Unit::Branch), OUT_OF_TURN),
         (Call::Release(Unit::Increment2), FINE),
         (Call::InTurn(Unit::Branch), FINE),
-        // SA0 makes no reference; SA2 comes behind the return jump.
+        // SA0 makes no reference; SA2 comes after the return jump.
         reserves("SA0 X0+B0", Unit::Increment1, 5),
         reserves("SA2 X0+B0", Unit::Increment2, 6),
         (Call::InTurn(Unit::Increment1), FINE),

@@ -8,7 +8,7 @@ ghost use Rattle.instruction_table.specs.Table.{row};
 ghost use Rattle.scoreboard.specs.Conflicts.{first_free};
 ghost use Rattle.scoreboard.specs.Units.{units_of, first_unit};
 ghost use Rattle.scoreboard.specs.Rows.{has_store_turn};
-ghost use Rattle.scoreboard.specs.Fields.{seat_at, in_increment, is_taken, seat_is, seat_reads, seat_has_turn, free_for, channels_with, writers_with, forget_in_taken};
+ghost use Rattle.scoreboard.specs.Fields.{seat_at, in_increment, is_taken, seat_is, seat_waits, seat_reads, seat_has_turn, free_for, channels_with, writers_with, forget_in_taken};
 ghost use Rattle.instruction_table.specs.Shape.{shape_of, puts_of};
 ghost use Rattle.instruction_table.specs.Each.{Each};
 ghost use Rattle.scoreboard.specs.Issued.{channel_of};
@@ -40,6 +40,24 @@ pub(crate) fn first_produced(registers: &[Reg], producers: &[Option<Writer>]) ->
     None
 }
 
+/// Whether the seat's instruction has a lower number and has still to read its operands.
+#[tactic(auto, unfolding(crate::specs::Fields::seat_waits))]
+fn seat_waits(seat: &Option<Issued>, number: u64) -> bool
+    ensures { result ≡ seat_waits number seat.now }
+{
+    match seat {
+        None => false,
+        Some(issued) => issued.number < number && issued.row.is_unread(),
+    }
+}
+
+/// Whether an instruction of a lower number has still to read its operands.
+fn is_any_unread(seats: &[Option<Issued>], number: u64) -> bool
+    ensures { result ≡ list_any (seat_waits number) seats.now }
+{
+    seats.iter().any(|seat| seat_waits(seat, number))
+}
+
 /// Whether the seat's instruction has a lower number and has still to read the register.
 #[tactic(auto, unfolding(crate::specs::Fields::seat_reads))]
 fn seat_reads(seat: &Option<Issued>, number: u64, register: &Reg) -> bool
@@ -66,6 +84,10 @@ pub(crate) fn first_to_be_read(
 ) -> Option<Reg>
     ensures { result ≡ find (λ r. list_any (seat_reads number r) seats.now) registers.now }
 {
+    // Mostly none has anything to read, and then no register is looked for.
+    if registers.is_empty() || !is_any_unread(seats, number) {
+        return None;
+    }
     for register in registers {
         if is_to_be_read(seats, number, register) {
             return Some(*register);

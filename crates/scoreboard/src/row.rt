@@ -1,5 +1,5 @@
 ghost use Rattle.std.specs.Prelude.{◌≡◌};
-ghost use Rattle.scoreboard.specs.Rows.{returning_to, to_come, reads, comes, reads_it, holds, is_branch, has_turn, has_store_turn, is_reserved};
+ghost use Rattle.scoreboard.specs.Rows.{is_unread, returning_to, to_come, reads, comes, reads_it, holds, is_branch, has_turn, has_store_turn, is_reserved};
 ghost use Rattle.instruction_table.specs.Table.{reg_eq};
 ghost use Rattle.instruction_table.specs.RegisterLists.{is_in};
 
@@ -68,6 +68,17 @@ impl Row {
     {
         match self.progress {
             Progress::Reserved { .. } => true,
+            Progress::Left { .. } => false,
+        }
+    }
+
+    /// Whether it has still to read its operands.
+    #[tactic(auto, unfolding(crate::specs::Rows::is_unread))]
+    pub(crate) fn is_unread(&self) -> bool
+        ensures { result ≡ is_unread self.now.progress }
+    {
+        match self.progress {
+            Progress::Reserved { has_read } => !has_read,
             Progress::Left { .. } => false,
         }
     }

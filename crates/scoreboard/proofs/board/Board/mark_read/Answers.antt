@@ -1,29 +1,42 @@
--- A read: the invariant and the list behind it, and that a free unit changes nothing.
-use Rattle.std.proofs.Common.{ap, sym, ◌∙◌, subst, Some, set, arith}
+-- A read: the invariant and the list after it, and that a free unit changes nothing.
+use Rattle.std.proofs.Common.{ap, sym, ◌∙◌, subst, arith}
+use Rattle.std.proofs.lemmas.List.{set-get_or}
 use Rattle.instruction_table.specs.Finding.{seek, replaced}
-use Rattle.scoreboard.specs.Answers.{Standing, held_in, with_issued, read}
+use Rattle.scoreboard.specs.declared.board.Board.TheInside.{Inside}
+use Rattle.scoreboard.specs.Answers.{Standing, held_in, with_issued, read, in_progress}
 use Rattle.scoreboard.specs.View.{standing_of, IsRight}
 use Rattle.scoreboard.proofs.Standing.{seat_any}
 use Rattle.scoreboard.proofs.Right.{marked_right}
 use Rattle.scoreboard.proofs.Changing.{nobody_marked, marked_view}
 use Rattle.scoreboard.proofs.board.Board.mark_read.Goals as goal
+use Rattle.scoreboard.proofs.board.Board.mark_read.Goals.{in-Some, in_default}
 
 pub invariant_of-self : goal.invariant_of-self
+unfolding in_progress
 invariant_of-self c =
-    subst (λ y. IsRight (set c.self.inside.units c.index_of-index.result (Some y)) c.self.inside.channels c.self.inside.producers c.self.inside.writers c.self.inside.last) (sym c.in_progress.ensures)
-    (marked_right c.self.inside.units c.self.inside.channels c.self.inside.producers c.self.inside.writers c.self.inside.last c.args.unit c.index_of-index.result c.in-Some.issued c.self.invariant c.index_of-index.ensures.value
-    (seat_any c.self.inside.units c.index_of-index.result c.index-self-index.result (omega (arith, c.index_of-index.ensures.range, c.self.invariant.all_units)) ∙ c.in-Some.is))
+    elim c.match-self-index.branch [
+      | in-Some w ↦
+          subst (λ (b : Inside). IsRight b.units b.channels b.producers b.writers b.last) (sym w.self-inside-is)
+          (marked_right c.self.inside.units c.self.inside.channels c.self.inside.producers c.self.inside.writers c.self.inside.last c.args.unit c.index_of-index.result w.in-Some.issued c.self.invariant c.index_of-index.ensures.value
+          (seat_any c.self.inside.units c.index_of-index.result c.index-self-index.result (omega (arith, c.index_of-index.ensures.range, c.self.invariant.all_units)) ∙ w.in-Some.is))
+      | in_default w ↦
+          subst (λ (b : Inside). IsRight b.units b.channels b.producers b.writers b.last) (sym w.self-inside-is)
+          (subst (λ us. IsRight us c.self.inside.channels c.self.inside.producers c.self.inside.writers c.self.inside.last) (sym (set-get_or c.self.inside.units c.index_of-index.result c.index-self-index.result)) c.self.invariant)
+    ]
 
-pub returns-in-Some : goal.returns-in-Some
-returns-in-Some c =
-    ap (λ y. standing_of (set c.self.inside.units c.index_of-index.result (Some y)) c.self.inside.channels c.self.inside.last) c.in_progress.ensures
-    ∙ marked_view c.self.inside.units c.self.inside.channels c.self.inside.producers c.self.inside.writers c.self.inside.last c.args.unit c.index_of-index.result c.in-Some.issued c.self.invariant c.index_of-index.ensures.value
-    (seat_any c.self.inside.units c.index_of-index.result c.index-self-index.result (omega (arith, c.index_of-index.ensures.range, c.self.invariant.all_units)) ∙ c.in-Some.is)
-    ∙ ap (λ (s : Standing). with_issued s (replaced (seek (held_in c.args.unit) s.issued) s.issued read)) c.self.view_is
-
-pub returns-in_default : goal.returns-in_default
-returns-in_default c =
-    sym c.self.view_is
-    ∙ nobody_marked read c.self.inside.units c.self.inside.channels c.self.inside.producers c.self.inside.writers c.self.inside.last c.args.unit c.index_of-index.result c.self.invariant c.index_of-index.ensures.value
-    (seat_any c.self.inside.units c.index_of-index.result c.index-self-index.result (omega (arith, c.index_of-index.ensures.range, c.self.invariant.all_units)) ∙ c.in_default.is)
-    ∙ ap (λ (s : Standing). with_issued s (replaced (seek (held_in c.args.unit) s.issued) s.issued read)) c.self.view_is
+pub returns : goal.returns
+unfolding in_progress
+returns c =
+    elim c.match-self-index.branch [
+      | in-Some w ↦
+          ap (λ (b : Inside). standing_of b.units b.channels b.last) w.self-inside-is
+          ∙ marked_view c.self.inside.units c.self.inside.channels c.self.inside.producers c.self.inside.writers c.self.inside.last c.args.unit c.index_of-index.result w.in-Some.issued c.self.invariant c.index_of-index.ensures.value
+          (seat_any c.self.inside.units c.index_of-index.result c.index-self-index.result (omega (arith, c.index_of-index.ensures.range, c.self.invariant.all_units)) ∙ w.in-Some.is)
+          ∙ ap (λ (s : Standing). with_issued s (replaced (seek (held_in c.args.unit) s.issued) s.issued read)) c.self.view_is
+      | in_default w ↦
+          ap (λ (b : Inside). standing_of b.units b.channels b.last) w.self-inside-is
+          ∙ ap (λ us. standing_of us c.self.inside.channels c.self.inside.last) (set-get_or c.self.inside.units c.index_of-index.result c.index-self-index.result)
+          ∙ nobody_marked read c.self.inside.units c.self.inside.channels c.self.inside.producers c.self.inside.writers c.self.inside.last c.args.unit c.index_of-index.result c.self.invariant c.index_of-index.ensures.value
+          (seat_any c.self.inside.units c.index_of-index.result c.index-self-index.result (omega (arith, c.index_of-index.ensures.range, c.self.invariant.all_units)) ∙ w.in_default.is)
+          ∙ ap (λ (s : Standing). with_issued s (replaced (seek (held_in c.args.unit) s.issued) s.issued read)) c.self.view_is
+    ]

@@ -1,4 +1,4 @@
--- An issue: both refusals, the new reservation, and the invariant and the list behind it.
+-- An issue: both refusals, the new reservation, and the invariant and the list after it.
 use Rattle.std.proofs.Common.{◌+◌, ap, sym, ◌∙◌, Some, None, arith}
 use Rattle.std.specs.Prelude.{Ok, Err}
 use Rattle.instruction_table.specs.declared.refusal.Refusal.TheVariants.{UnitBusy}
