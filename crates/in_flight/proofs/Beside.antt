@@ -46,7 +46,8 @@ use Rattle.in_flight.specs.declared.slots.Sought.{Sought}
 use Rattle.in_flight.specs.Board.{on_board}
 use Rattle.in_flight.specs.Tests.{refusal_in, store_conflicts, Test, refusal_of, nothing, tests_found, read_tests, return_tests, free_tests, row_tests, unit_for}
 use Rattle.in_flight.specs.Flight.{Flight, flight_of, waiting_in, waiting, IsTied, reserved_in, with_pending}
-use Rattle.in_flight.specs.Member.{has_read, row_of, progress_of, returning, to_come, comes, awaited, is_branch, has_turn, stores_in, delays_fetch}
+use Rattle.in_flight.specs.Member.{has_read, row_of, progress_of, returning, to_come, awaited, is_branch, has_turn, stores_in, delays_fetch}
+use Rattle.in_flight.proofs.Asked.{comes}
 use Rattle.in_flight.specs.Lookup.{sought, stage_at, stage_in, arrival_at, arrival_in, entry_at, entry_in, in_place, is_taken, place_for, is_pending, in_phase}
 use Rattle.instruction_table.specs.Finding.{replaced, Found, seek, put_back}
 use Rattle.in_flight.specs.Seats.{has_none}

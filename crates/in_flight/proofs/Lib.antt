@@ -1,3 +1,4 @@
+pub mod Asked
 pub mod Finding
 pub mod Phases
 pub mod Slotting

@@ -226,7 +226,7 @@ nothing_with : (units places channels : List (Option Member)) (m : Member) → s
 unfolding places_with channels_with
 nothing_with units places channels m = refl
 
--- one taken out of its seat: behind it the seats are those of the other three lists, and what is left goes among them
+-- one taken out of its seat: after it the seats are those of the other three lists, and what is left goes among them
 pub moved_right : (os units places channels : List (Option Member)) (i : ℕ) (m : Member) (l : Option Later) → IsSeated seat_of 0 os → Own os → length os ≡ 22 → get_or os i None ≡ Some m → set os i None ≡ seats units places channels → length units ≡ 10 → length places ≡ 4 → length channels ≡ 8 → HasRoom l (in_order os) → IsRight units (places_with places m l) (channels_with channels m l)
 moved_right os units places channels i m None s own all h e lu lp lc room = record {
   all_units = lu;

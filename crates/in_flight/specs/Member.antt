@@ -1,7 +1,6 @@
 -- Pending: the instructions in issue order that have an effect still to come. Source: ours.
 use Rattle.std.specs.Prelude.{ℕ, Bool, true, false, ◌||◌, ◌==◌, List, Option, Some, None}
 use Rattle.instruction_table.specs.declared.instr.Reg.{Reg}
-use Rattle.instruction_table.specs.declared.instr.Unit.{Unit as FunctionalUnit}
 use Rattle.relocation.specs.declared.area.Access.TheVariants.{Load, Store}
 use Rattle.hopper.specs.Hopper.{bank_of, stores_to}
 use Rattle.scoreboard.specs.declared.row.Progress.{Progress}
@@ -56,22 +55,6 @@ row_of m = record { instr = m.instr; unit = m.unit; progress = progress_of m.pha
 -- its results still to come
 unfoldable pub to_come : Member → List Reg
 to_come m = row.to_come (row_of m)
-
--- the operands that it has still to read
-unfoldable pub reads : Member → List Reg
-reads m = row.reads (row_of m)
-
--- the register is one of its results still to come
-unfoldable pub comes : Reg → Member → Bool
-comes register m = row.comes register (row_of m)
-
--- the register is an operand that it has still to read
-unfoldable pub reads_it : Reg → Member → Bool
-reads_it register m = row.reads_it register (row_of m)
-
--- it holds the unit
-unfoldable pub holds : FunctionalUnit → Member → Bool
-holds unit m = row.holds unit (row_of m)
 
 -- it is a branch that holds its unit, Branch
 unfoldable pub is_branch : Member → Bool

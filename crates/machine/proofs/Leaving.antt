@@ -1,4 +1,4 @@
--- What an instruction leaves behind its store event: what its shape says of it, and that there is room for it.
+-- What an instruction leaves after its store event: what its shape says of it, and that there is room for it.
 use Rattle.std.proofs.Common.{◌≡◌, ℕ, Bool, true, false, ◌&&◌, Option, Some, None, length, refl, sym, ap, ◌∙◌, subst}
 use Rattle.std.specs.Prelude.{IfSome, is_none}
 use Rattle.instruction_table.specs.declared.instr.Unit.{Unit as FunctionalUnit}

@@ -179,7 +179,7 @@ fn returns(
     case.holds(alloc)
 }
 
-/// In range the link word names the word behind the jump's. Out of range it isn't written, and the jump is
+/// In range the link word names the word after the jump's. Out of range it isn't written, and the jump is
 /// made all the same: with the exit mode's address bit there is a fault, and without it the next fetch is out
 /// of range.
 #[test]

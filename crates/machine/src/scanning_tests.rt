@@ -8,7 +8,7 @@ const AMOUNT: Amount = Amount {
     events: 20_000,
 };
 
-/// EQ B0,B0,0 behind a program, so that it is run again and again.
+/// EQ B0,B0,0 after a program, so that it is run again and again.
 const AGAIN: &str = "04000000004600046000";
 
 /// SA1 B0+17, BX3 X1*X2 and SX2 B1+B2: third order.

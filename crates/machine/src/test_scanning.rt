@@ -412,7 +412,7 @@ impl ScanningMachine {
         Ok(Done::Made)
     }
 
-    /// What is left of an instruction behind its store event.
+    /// What is left of an instruction after its store event.
     fn rest_of(&self, instr: &Instr, value: &UnitValue) -> Option<Phase> {
         let place = place_for(self.pending.as_slice()).unwrap_or(0);
         let Some(reference) = reference(instr, value) else {
@@ -481,7 +481,7 @@ impl ScanningMachine {
         Ok(Done::Made)
     }
 
-    /// Whether a bank is busy; none is behind the last.
+    /// Whether a bank is busy; none is after the last.
     fn is_busy(&self, bank: u8) -> bool {
         usize::from(bank) < 32 && self.busy[usize::from(bank)]
     }
@@ -647,7 +647,7 @@ fn unit_of(number: u64) -> Unit {
     }
 }
 
-/// What seems to be drawn by chance: one number behind another.
+/// What seems to be drawn by chance: one number after another.
 #[derive(Drop)]
 struct Drawing {
     number: u64,
@@ -691,7 +691,7 @@ fn agree_on_exchange(machine: &mut Machine, scanning: &mut ScanningMachine, at: 
     agree_on(machine, scanning, Event::Ask(at)) && agree_on(machine, scanning, Event::Exchange)
 }
 
-/// Whether they do to so many generated events; behind each 97th an exchange is asked for, where a package is given.
+/// Whether they do to so many generated events; after each 97th an exchange is asked for, where a package is given.
 fn agree_on_all(
     machine: &mut Machine,
     scanning: &mut ScanningMachine,

@@ -1,4 +1,4 @@
-use Rattle.std.proofs.Common.{◌≡◌, ap, ◌∙◌}
+use Rattle.std.proofs.Common.{ap, ◌∙◌}
 use Rattle.in_flight.specs.Tests.{refusal_in, refusal_of, row_tests}
 use Rattle.machine.proofs.changing.reserve_for.Goals as goal
 
