@@ -1,0 +1,211 @@
+//! A lane and its two ends.
+ghost use Rattle.std.specs.Prelude.{◌≡◌, ◌⊎◌, ◌++◌, ◌∷◌, [], true, false, OnOk, OnErr, MatchResult, OnSome, IfSome, MatchOption, MatchBool, ◌&&◌, IsTrue};
+ghost use Rattle.instruction_table.specs.declared.refusal.Refusal.TheVariants.{OutOfMemory};
+ghost use Rattle.unit_queue.specs.Lanes.{LaneName, SendEnd, TakeEnd, send_end, take_end, is_closed, is_closing, IsOrderly, IsFull};
+
+use crate::item::Item;
+use crate::rule::{Ends, LaneRule, Sends, Settles, Takes, View};
+use crossbeam_queue::{Pass, RuledArrayQueue};
+use instruction_table::{Refusal, Unit};
+use machine::Note;
+use std::alloc::Global;
+use std::marker::Model;
+use std::sync::Wait;
+
+type Queue = RuledArrayQueue<Item, View, LaneRule>;
+
+/// The lane of one unit: a queue of at most two items (this project's choice). A contract sees which lane it is, and
+/// whose.
+///
+/// What was taken from it, followed by what waits in it, is what was sent on it, in order; and nothing comes after
+/// [`Item::Closed`]. No call promises that an item ever gets through: a caller that finds the lane full or empty
+/// tries again.
+#[derive(Drop)]
+pub struct Lane {
+    queue: Queue,
+    unit: Unit,
+}
+
+impl Model for Lane {
+    ghost use Rattle.std.specs.Prelude.{◌≡◌};
+    ghost use Rattle.crossbeam_queue.specs.Passes.{ruled_capacity};
+    ghost use Rattle.instruction_table.specs.declared.refusal.Refusal.TheVariants.{OutOfMemory};
+    ghost use Rattle.unit_queue.specs.Lanes.{LaneName};
+
+    ghost Value = { LaneName };
+
+    ghost view = { λ s. record { id = s.queue.table.shared.table_id; unit = s.unit } };
+
+    ghost invariant = { λ s. ruled_capacity s.queue ≡ 2 };
+}
+
+/// The right to send on one lane, of which there is one. A contract sees which lane, and what was sent on it from the
+/// beginning.
+#[derive(Drop)]
+pub struct SendPass {
+    pass: Pass<Item, View>,
+    /// Whether `Closed` was sent.
+    closed: bool,
+}
+
+impl Model for SendPass {
+    ghost use Rattle.std.specs.Prelude.{◌≡◌, true, []};
+    ghost use Rattle.unit_queue.specs.Lanes.{SendEnd, send_end, is_closed, IsOrderly};
+
+    ghost Value = { SendEnd };
+
+    ghost view = { λ s. send_end s.pass.table_id s.pass.me.0.client.sent };
+
+    ghost invariant = { λ s. (s.pass.me.1 ≡ []) × (s.pass.me.0.client.sends ≡ true) × (s.closed ≡ is_closed s.pass.me.0.client.sent) × IsOrderly s.pass.me.0.client.sent };
+}
+
+impl SendPass {
+    /// Whether `Closed` was sent.
+    fn is_closed(&self) -> bool
+        ensures closed { result ≡ is_closed self.now.sent }
+        ensures order { IsOrderly self.now.sent }
+    {
+        self.closed
+    }
+}
+
+/// The right to take from one lane, of which there is one. A contract sees which lane, and what was taken from it from
+/// the beginning.
+#[derive(Drop)]
+pub struct TakePass {
+    pass: Pass<Item, View>,
+}
+
+impl Model for TakePass {
+    ghost use Rattle.std.specs.Prelude.{◌≡◌, true, []};
+    ghost use Rattle.unit_queue.specs.Lanes.{TakeEnd, take_end, IsOrderly};
+
+    ghost Value = { TakeEnd };
+
+    ghost view = { λ s. take_end s.pass.table_id s.pass.me.0.client.got };
+
+    ghost invariant = { λ s. (s.pass.me.1 ≡ []) × (s.pass.me.0.client.takes ≡ true) × IsOrderly s.pass.me.0.client.got };
+}
+
+impl Lane {
+    /// An empty lane, with its two ends.
+    ///
+    /// # Errors
+    /// `OutOfMemory`.
+    pub(crate) fn new(alloc: Global, unit: Unit) -> Result<(Lane, SendPass, TakePass), Refusal>
+        ensures { MatchResult result
+            (λ made. (made.0.unit ≡ unit) × (made.1 ≡ send_end made.0.id []) × (made.2 ≡ take_end made.0.id []))
+            (λ refusal. refusal ≡ OutOfMemory) }
+    {
+        let Ok((queue, mut pass)) = Queue::ruled(alloc, 2) else {
+            return Err(Refusal::OutOfMemory);
+        };
+        let other = queue.another::<Ends>(&mut pass);
+        Ok((
+            Lane { queue, unit },
+            SendPass {
+                pass,
+                closed: false,
+            },
+            TakePass { pass: other },
+        ))
+    }
+
+    /// The unit whose reservations it carries.
+    pub fn unit(&self) -> Unit
+        ensures { result ≡ self.now.unit }
+    {
+        self.unit
+    }
+
+    /// Sends an item on a lane that isn't closed, and answers whether there was room for it.
+    fn push<R: Wait>(&self, rt: &R, pass: &mut SendPass, item: Item) -> bool
+        requires lane { pass.old.id ≡ self.now.id }
+        requires open { is_closed pass.old.sent ≡ false }
+        ensures lane { pass.new.id ≡ pass.old.id }
+        ensures sent { MatchBool result (pass.new.sent ≡ pass.old.sent ++ item ∷ []) (pass.new.sent ≡ pass.old.sent) }
+        ensures closed { is_closed pass.new.sent ≡ (result && is_closing item) }
+        ensures full { result ≡ false → IsFull pass.old.sent }
+        ensures order { IsOrderly pass.new.sent }
+    {
+        match self.queue.push_as::<Sends, R>(rt, &mut pass.pass, item) {
+            Ok(()) => {
+                pass.closed = item.closes();
+                true
+            }
+            Err(_) => false,
+        }
+    }
+
+    /// Sends a reservation. The pass has to be this lane's.
+    ///
+    /// # Errors
+    /// The note, where two items waited at one moment of the call, or the lane was closed.
+    pub fn send<R: Wait>(&self, rt: &R, pass: &mut SendPass, note: Note) -> Result<(), Note>
+        requires lane { pass.old.id ≡ self.now.id }
+        ensures lane { pass.new.id ≡ pass.old.id }
+        ensures sent { MatchResult result
+            (λ _. pass.new.sent ≡ pass.old.sent ++ Item.Work note ∷ [])
+            (λ back. (pass.new.sent ≡ pass.old.sent) × (back ≡ note)) }
+        ensures open { OnOk result (is_closed pass.old.sent ≡ false) }
+        ensures refused { OnErr result ((is_closed pass.old.sent ≡ true) ⊎ IsFull pass.old.sent) }
+        ensures order { IsOrderly pass.new.sent }
+    {
+        if pass.is_closed() {
+            return Err(note);
+        }
+        if self.push(rt, pass, Item::Work(note)) {
+            Ok(())
+        } else {
+            Err(note)
+        }
+    }
+
+    /// Sends `Closed`, if it wasn't sent yet: no more notes come. It answers whether the lane is closed, which it isn't
+    /// only where two items waited at one moment of the call. The pass has to be this lane's.
+    pub fn close<R: Wait>(&self, rt: &R, pass: &mut SendPass) -> bool
+        requires lane { pass.old.id ≡ self.now.id }
+        ensures lane { pass.new.id ≡ pass.old.id }
+        ensures closed { IsTrue result → is_closed pass.new.sent ≡ true }
+        ensures again { is_closed pass.old.sent ≡ true → (result ≡ true) × (pass.new.sent ≡ pass.old.sent) }
+        ensures first { is_closed pass.old.sent ≡ false → result ≡ true
+            → pass.new.sent ≡ pass.old.sent ++ Item.Closed ∷ [] }
+        ensures refused { result ≡ false → (pass.new.sent ≡ pass.old.sent) × IsFull pass.old.sent }
+        ensures order { IsOrderly pass.new.sent }
+    {
+        pass.is_closed() || self.push(rt, pass, Item::Closed)
+    }
+
+    /// Takes the oldest item that waits. None where none waited at one moment of the call, and always after `Closed` was
+    /// taken. The pass has to be this lane's.
+    pub fn take<R: Wait>(&self, rt: &R, pass: &mut TakePass) -> Option<Item>
+        requires lane { pass.old.id ≡ self.now.id }
+        ensures lane { pass.new.id ≡ pass.old.id }
+        ensures got { MatchOption result
+            (pass.new.got ≡ pass.old.got)
+            (λ item. pass.new.got ≡ pass.old.got ++ item ∷ []) }
+        ensures open { OnSome result (is_closed pass.old.got ≡ false) }
+        ensures closed { IfSome result (λ item. is_closed pass.new.got ≡ is_closing item) }
+        ensures order { IsOrderly pass.new.got }
+    {
+        self.queue.pop_as::<Takes, R>(rt, &mut pass.pass)
+    }
+
+    /// Ends the sending end, after `Closed` was taken from the lane: all that was sent was taken. It changes neither
+    /// the lane nor what was taken. Both passes have to be this lane's.
+    pub fn settle<R: Wait>(&self, rt: &R, pass: &mut TakePass, ended: SendPass)
+        requires lane { (pass.old.id ≡ self.now.id) × (ended.id ≡ self.now.id) }
+        requires closed { is_closed pass.old.got ≡ true }
+        ensures lane { pass.new ≡ pass.old }
+        ensures all { pass.new.got ≡ ended.sent }
+    {
+        let SendPass {
+            pass: sender,
+            closed: _,
+        } = ended;
+        self.queue.absorb::<Ends>(&mut pass.pass, sender);
+        // A pop at which it is known that nothing can be found.
+        let found = self.queue.pop_as::<Settles, R>(rt, &mut pass.pass);
+        let _ = found;
+    }
+}

@@ -1,0 +1,33 @@
+//! A lane carries the reservations of one unit from the thread that issues to the thread that serves the unit.
+//!
+//! The 6600 had no such thing: the scoreboard drove all units at once (Thornton, scoreboard). Lanes are this
+//! project's choice, for a machine whose units are threads.
+#![tactic(auto)]
+
+ghost use Rattle.std.specs.Prelude.{◌≡◌, [], MatchResult};
+ghost use Rattle.instruction_table.specs.declared.refusal.Refusal.TheVariants.{OutOfMemory};
+ghost use Rattle.unit_queue.specs.Lanes.{send_end, take_end};
+
+mod ends;
+mod item;
+mod rule;
+
+pub use ends::{Lane, SendPass, TakePass};
+use instruction_table::{Refusal, Unit};
+pub use item::Item;
+use std::alloc::Global;
+
+/// An empty lane for a unit, with its two ends: nothing was sent on it, and nothing taken from it.
+///
+/// # Errors
+/// `OutOfMemory`.
+pub fn lane(alloc: Global, unit: Unit) -> Result<(Lane, SendPass, TakePass), Refusal>
+    ensures { MatchResult result
+        (λ made. (made.0.unit ≡ unit) × (made.1 ≡ send_end made.0.id []) × (made.2 ≡ take_end made.0.id []))
+        (λ refusal. refusal ≡ OutOfMemory) }
+{
+    Lane::new(alloc, unit)
+}
+
+#[cfg(test)]
+mod tests;

@@ -1,0 +1,91 @@
+//! The rule that every step on a lane keeps, and the three kinds of step: a note is pushed, `Closed` is pushed, and
+//! an item is popped. Nothing of this exists in the running program but the items.
+
+use crate::item::Item;
+use crossbeam_queue::protocol::{Join, Lesson, Outcome, Protocol, Split};
+use std::collections::LinkedList;
+
+// What the holder of a pass knows: whether it may push and pop, what was pushed with it and what was popped. No
+// value of it is made.
+pub struct View {
+    pub sends: bool,
+    pub takes: bool,
+    pub sent: LinkedList<Item>,
+    pub got: LinkedList<Item>,
+}
+
+pub struct LaneRule;
+
+impl Protocol<Item, View> for LaneRule {
+    ghost use Rattle.std.specs.Prelude.{true, []};
+    ghost use Rattle.unit_queue.specs.Rules.{view_of, IsKept};
+
+    ghost holds = { IsKept };
+
+    ghost first = { view_of true true [] [] };
+}
+
+// The two ends of a lane: its first pass is cut into one that sends and one that takes, and `settle` puts them
+// together again.
+pub struct Ends;
+
+impl Split<View> for Ends {
+    ghost use Rattle.unit_queue.specs.Rules.{sender, taker};
+
+    ghost left = { λ v. sender v.sent };
+
+    ghost right = { λ v. taker v.got };
+}
+
+impl Join<View> for Ends {
+    ghost use Rattle.std.specs.Prelude.{true, false, []};
+    ghost use Rattle.unit_queue.specs.Rules.{view_of};
+
+    ghost both = { λ v w. view_of true true w.sent v.got };
+
+    ghost spent = { view_of false false [] [] };
+}
+
+// A push, of a note or of `Closed`, adds its item to what was sent. Where the queue is full, the items that wait are
+// the last ones that were sent.
+pub struct Sends;
+
+impl Outcome<Item, View> for Sends {
+    ghost use Rattle.std.specs.Prelude.{◌≡◌, ◌++◌, ◌∷◌, []};
+    ghost use Rattle.unit_queue.specs.Rules.{view_of};
+
+    ghost then = { λ v x w. w ≡ view_of v.sends v.takes (v.sent ++ x ∷ []) v.got };
+}
+
+impl Lesson<Item, View> for Sends {
+    ghost use Rattle.unit_queue.specs.Lanes.{EndsWith};
+
+    ghost fact = { λ v items. EndsWith v.sent items };
+}
+
+// A pop adds its item to what was taken.
+pub struct Takes;
+
+impl Outcome<Item, View> for Takes {
+    ghost use Rattle.unit_queue.specs.Rules.{IsTaken};
+
+    ghost then = { IsTaken };
+}
+
+impl Lesson<Item, View> for Takes {
+    ghost fact = { λ v items. Unit {0} };
+}
+
+// A pop after `Closed` was taken finds nothing. With both ends in one pass it is then known that what waits comes
+// between what was taken and what was sent.
+pub struct Settles;
+
+impl Outcome<Item, View> for Settles {
+    ghost then = { λ v x w. ⊥ };
+}
+
+impl Lesson<Item, View> for Settles {
+    ghost use Rattle.std.specs.Prelude.{◌≡◌, ◌++◌};
+
+    ghost fact = { λ v items. v.sent ≡ v.got ++ items };
+}
