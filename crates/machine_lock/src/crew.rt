@@ -245,7 +245,7 @@ pub(crate) struct Schedule<'a> {
     pub(crate) log: &'a [Entry],
 }
 
-/// Makes the events one after another. It answers how many got their answer, and behind how many the
+/// Makes the events one after another. It answers how many got their answer, and after how many the
 /// machine was drained.
 fn make_all<R: Wait>(rt: &R, crew: &mut Crew, steps: &[(Event, Answer)]) -> (usize, usize) {
     let mut met = 0usize;

@@ -49,7 +49,7 @@ pub(crate) fn memory_of(alloc: Global, words: Words<'_>) -> Result<Storage, Refu
     filled(alloc, &area, words)
 }
 
-/// A memory behind an exchange: the package at 40 is that of a machine that was just booted, halted and all
+/// A memory after an exchange: the package at 40 is that of a machine that was just booted, halted and all
 /// else +0, and over that these words stand.
 pub(crate) fn memory_left(alloc: Global, words: Words<'_>) -> Result<Storage, Refusal> {
     filled(alloc, &[(0o47, "00000001000000000000")], words)

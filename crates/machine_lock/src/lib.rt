@@ -2,6 +2,7 @@
 //! unit's computing needs none.
 #![tactic(auto)]
 
+mod locked;
 mod seen;
 mod shared;
 

@@ -5,19 +5,10 @@ ghost use Rattle.machine.specs.Refusals.{may_refuse, is_stranger, is_nothing, is
 ghost use Rattle.machine.specs.Tokens.{new_seats, one_more};
 
 use crate::Seen;
+use crate::locked::Locked;
 use instruction_table::Refusal;
 use machine::{Computed, Done, Event, Finished, Loaded, Machine, Note, Reserved, Seat, Snapshot};
 use std::sync::{Mutex, Wait};
-
-/// What the lock keeps. Of a `Machine` it is always true that the effects made so far, with those still to
-/// come, are the replay of its log on the memory with which it was booted (`Machine::keeps_replay`); so
-/// this is true whenever the lock is got.
-#[derive(Drop)]
-struct Locked {
-    machine: Machine,
-    /// Whether its users were told to end.
-    is_ended: bool,
-}
 
 /// A machine that several threads drive: each call makes one event while it holds the lock.
 ///
@@ -44,10 +35,7 @@ impl Shared {
         let Some(seats) = machine.seats() else {
             return Err(Refusal::Nothing);
         };
-        let locked = Mutex::new(Locked {
-            machine,
-            is_ended: false,
-        });
+        let locked = Mutex::new(Locked::new(machine));
         Ok((Shared { locked }, seats, Seen::new()))
     }
 
@@ -60,7 +48,7 @@ impl Shared {
     pub fn issue<R: Wait>(&self, rt: &R, _seen: &mut Seen) -> Result<Option<Note>, Refusal>
         ensures { IfErr result (λ refusal. is_issue_refusal refusal ≡ true) }
     {
-        match self.locked.lock(rt).machine.apply(Event::Issue) {
+        match self.locked.lock(rt).apply(Event::Issue) {
             Ok(Done::Issued(note)) => Ok(note),
             Ok(Done::Made) => Ok(None),
             Err(refusal) => Err(refusal),
@@ -71,7 +59,7 @@ impl Shared {
     fn make<R: Wait>(&self, rt: &R, event: Event) -> Result<(), Refusal>
         ensures { IfErr result (λ refusal. may_refuse event refusal ≡ true) }
     {
-        match self.locked.lock(rt).machine.apply(event) {
+        match self.locked.lock(rt).apply(event) {
             Ok(_) => Ok(()),
             Err(refusal) => Err(refusal),
         }
@@ -112,7 +100,7 @@ impl Shared {
         ensures claimed { IfOk result (λ token. token ≡ record { seat = seat; number = note.number }) }
         ensures given_back { IfErr result (λ back. (back.1 ≡ seat) × (back.0 ≡ Stranger)) }
     {
-        self.locked.lock(rt).machine.claim(seat, note)
+        self.locked.lock(rt).claim(seat, note)
     }
 
     /// The unit reads its operands: the event `Read` for the token's reservation.
@@ -123,7 +111,7 @@ impl Shared {
         ensures loaded { IfOk result (λ loaded. (loaded.seat ≡ token.seat) × (loaded.number ≡ token.number)) }
         ensures given_back { IfErr result (λ back. (back.1 ≡ token) × ((is_stranger back.0 || is_read_refusal back.0) ≡ true)) }
     {
-        self.locked.lock(rt).machine.read(token)
+        self.locked.lock(rt).read(token)
     }
 
     /// The unit gets the token's value: the event `Finish` for the token's reservation.
@@ -134,7 +122,7 @@ impl Shared {
         ensures finished { IfOk result (λ finished. finished ≡ record { seat = token.seat; number = token.number }) }
         ensures given_back { IfErr result (λ back. (back.1 ≡ token) × (back.0 ≡ Stranger)) }
     {
-        self.locked.lock(rt).machine.finish(token)
+        self.locked.lock(rt).finish(token)
     }
 
     /// The unit stores its result and is released: the event `Store` for the token's reservation.
@@ -145,7 +133,7 @@ impl Shared {
         ensures seat { IfOk result (λ seat. seat ≡ one_more token) }
         ensures given_back { IfErr result (λ back. (back.1 ≡ token) × ((is_stranger back.0 || is_store_refusal back.0) ≡ true)) }
     {
-        self.locked.lock(rt).machine.store(token)
+        self.locked.lock(rt).store(token)
     }
 
     /// Memory takes the reference in a place of the hopper, 0 to 3: the event `Accept`.
@@ -190,21 +178,21 @@ impl Shared {
         ensures replay { IfOk result (λ snapshot. replay (boot snapshot.boot_memory) snapshot.log ≡ Some snapshot.state) }
         ensures named { IfErr result (λ refusal. (refusal ≡ NotDrained) ⊎ (refusal ≡ OutOfMemory)) }
     {
-        self.locked.lock(rt).machine.snapshot()
+        self.locked.lock(rt).snapshot()
     }
 
     /// Whether no issued instruction has an effect still to come.
     pub fn drained<R: Wait>(&self, rt: &R) -> bool {
-        self.locked.lock(rt).machine.drained()
+        self.locked.lock(rt).drained()
     }
 
     /// Tells those who use the machine to end.
     pub fn end<R: Wait>(&self, rt: &R) {
-        self.locked.lock(rt).is_ended = true;
+        self.locked.lock(rt).end();
     }
 
     /// Whether its users were told to end.
     pub fn ended<R: Wait>(&self, rt: &R) -> bool {
-        self.locked.lock(rt).is_ended
+        self.locked.lock(rt).ended()
     }
 }

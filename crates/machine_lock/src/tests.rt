@@ -7,7 +7,7 @@ use std::sync::Wait;
 use std::test::Fail;
 use std::thread::{Threads, join};
 
-/// SX1 B0+5, with stops behind it.
+/// SX1 B0+5, with stops after it.
 const FIVE: &str = "71100000050000000000";
 
 /// What an issue answers for an instruction that has a unit.
@@ -116,7 +116,7 @@ fn serve<R: Wait>(rt: &R, shared: &Shared, seat: Seat, note: Note) -> (Seat, boo
 }
 
 /// Whether a snapshot shows these words in X1 and X2, and in the log the exchange with so many
-/// instructions behind it.
+/// instructions after it.
 fn shows<R: Wait>(
     rt: &R,
     shared: &Shared,
