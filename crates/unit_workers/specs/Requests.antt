@@ -1,0 +1,19 @@
+-- The order in which a run makes its requests for exchanges, and which of them is due. A request is the absolute address
+-- of a package and the number of instructions after which it is made. Source: ours.
+use Rattle.std.specs.Prelude.{ℕ, ◌≤◌, ◌<◌, List, Option, Some, None, All}
+use Rattle.std.specs.Ordering.{nat_cmp}
+use Rattle.std.specs.List.Sorted.{IsNonDecreasingBy, IsStableByKey}
+
+-- those after fewer instructions come first
+abbrev pub IsInOrder : List (ℕ × ℕ) → Type 0
+IsInOrder asks = IsNonDecreasingBy (λ ask. ask.1) asks
+
+-- the same requests, where those after equally many instructions stand as they did before
+abbrev pub KeepsTies : List (ℕ × ℕ) → List (ℕ × ℕ) → Type 0
+KeepsTies before after = IsStableByKey (λ ask. ask.1) nat_cmp before after
+
+-- what is due of these once so many instructions were issued: a request after no more than that, than which none
+-- is after fewer; or nothing, where each is after more
+abbrev pub IsDue : List (ℕ × ℕ) → ℕ → Option (ℕ × ℕ) → Type 0
+IsDue asks issued None = All (λ ask. issued < ask.1) asks
+IsDue asks issued (Some due) = (due.1 ≤ issued) × All (λ ask. due.1 ≤ ask.1) asks

@@ -1,0 +1,206 @@
+//! The seats and the lanes of all seven units.
+
+use crate::gate::{Gate, Gates};
+use crate::lines::{Line, Pair};
+use crate::working::Tally;
+use instruction_table::Unit;
+use machine::{Note, Seat};
+use machine_lock::Shared;
+use std::sync::Wait;
+use std::thread::{Scope, Threads};
+
+/// Where the workers find their seats. A worker takes its seat out and leaves it at its end.
+pub struct Places {
+    branch: Option<Seat>,
+    boolean: Option<Seat>,
+    shift: Option<Seat>,
+    long_add: Option<Seat>,
+    divide: Option<Seat>,
+    increment1: Option<Seat>,
+    increment2: Option<Seat>,
+}
+
+/// Leaves the seat in a place.
+fn leave(seat: Option<Seat>) {
+    if let Some(seat) = seat {
+        seat.leave();
+    }
+}
+
+impl Places {
+    /// All seven are there.
+    pub fn of(seats: [Seat; 7]) -> Places {
+        let [
+            branch,
+            boolean,
+            shift,
+            long_add,
+            divide,
+            increment1,
+            increment2,
+        ] = seats;
+        Places {
+            branch: Some(branch),
+            boolean: Some(boolean),
+            shift: Some(shift),
+            long_add: Some(long_add),
+            divide: Some(divide),
+            increment1: Some(increment1),
+            increment2: Some(increment2),
+        }
+    }
+
+    /// Leaves the seats that no worker took.
+    pub fn leave(self) {
+        let Places {
+            branch,
+            boolean,
+            shift,
+            long_add,
+            divide,
+            increment1,
+            increment2,
+        } = self;
+        leave(branch);
+        leave(boolean);
+        leave(shift);
+        leave(long_add);
+        leave(divide);
+        leave(increment1);
+        leave(increment2);
+    }
+}
+
+/// The lanes with their ends.
+#[derive(Drop)]
+pub struct Pairs<'a> {
+    pub branch: Pair<'a>,
+    pub boolean: Pair<'a>,
+    pub shift: Pair<'a>,
+    pub long_add: Pair<'a>,
+    pub divide: Pair<'a>,
+    pub increment1: Pair<'a>,
+    pub increment2: Pair<'a>,
+}
+
+/// The lanes to send on, with their workers.
+#[derive(Drop)]
+pub struct Lines<'a> {
+    branch: Line<'a>,
+    boolean: Line<'a>,
+    shift: Line<'a>,
+    long_add: Line<'a>,
+    divide: Line<'a>,
+    increment1: Line<'a>,
+    increment2: Line<'a>,
+}
+
+impl<'a> Lines<'a> {
+    /// Starts the seven workers.
+    pub fn start<E, G: Gate + Send + 'a, R: Threads + Wait + Sync>(
+        scope: &Scope<'a, E>,
+        rt: &'a R,
+        shared: &'a Shared,
+        pairs: Pairs<'a>,
+        places: &'a mut Places,
+        gates: Gates<G>,
+    ) -> Lines<'a> {
+        Lines {
+            branch: pairs
+                .branch
+                .start(scope, rt, shared, &mut places.branch, gates.branch),
+            boolean: pairs
+                .boolean
+                .start(scope, rt, shared, &mut places.boolean, gates.boolean),
+            shift: pairs
+                .shift
+                .start(scope, rt, shared, &mut places.shift, gates.shift),
+            long_add: pairs
+                .long_add
+                .start(scope, rt, shared, &mut places.long_add, gates.long_add),
+            divide: pairs
+                .divide
+                .start(scope, rt, shared, &mut places.divide, gates.divide),
+            increment1: pairs.increment1.start(
+                scope,
+                rt,
+                shared,
+                &mut places.increment1,
+                gates.increment1,
+            ),
+            increment2: pairs.increment2.start(
+                scope,
+                rt,
+                shared,
+                &mut places.increment2,
+                gates.increment2,
+            ),
+        }
+    }
+
+    /// Whether each lane has its worker.
+    pub fn are_served(&self) -> bool {
+        self.branch.is_served()
+            && self.boolean.is_served()
+            && self.shift.is_served()
+            && self.long_add.is_served()
+            && self.divide.is_served()
+            && self.increment1.is_served()
+            && self.increment2.is_served()
+    }
+
+    /// Sends a note on the lane of its unit. A unit that is never reserved has none.
+    pub fn send<R: Wait>(&mut self, rt: &R, note: Note) {
+        match note.unit {
+            Unit::Branch => self.branch.send(rt, note),
+            Unit::Boolean => self.boolean.send(rt, note),
+            Unit::Shift => self.shift.send(rt, note),
+            Unit::LongAdd => self.long_add.send(rt, note),
+            Unit::Divide => self.divide.send(rt, note),
+            Unit::Increment1 => self.increment1.send(rt, note),
+            Unit::Increment2 => self.increment2.send(rt, note),
+            Unit::Add | Unit::Multiply1 | Unit::Multiply2 => {}
+        }
+    }
+
+    /// Closes all lanes.
+    pub fn close<R: Wait>(&mut self, rt: &R) {
+        self.branch.close(rt);
+        self.boolean.close(rt);
+        self.shift.close(rt);
+        self.long_add.close(rt);
+        self.divide.close(rt);
+        self.increment1.close(rt);
+        self.increment2.close(rt);
+    }
+
+    /// Waits for all workers, and settles their tallies, in the order of the units' numbers. None where a worker
+    /// couldn't be started.
+    pub fn end<R: Threads + Wait>(self, rt: &R) -> Option<[Tally; 7]> {
+        let Lines {
+            branch,
+            boolean,
+            shift,
+            long_add,
+            divide,
+            increment1,
+            increment2,
+        } = self;
+        let branch = branch.end(rt);
+        let boolean = boolean.end(rt);
+        let shift = shift.end(rt);
+        let long_add = long_add.end(rt);
+        let divide = divide.end(rt);
+        let increment1 = increment1.end(rt);
+        let increment2 = increment2.end(rt);
+        Some([
+            branch?,
+            boolean?,
+            shift?,
+            long_add?,
+            divide?,
+            increment1?,
+            increment2?,
+        ])
+    }
+}

@@ -1,0 +1,35 @@
+//! What a worker calls at two moments of each reservation.
+
+use instruction_table::Unit;
+
+/// Is called by a worker while no lock is held, so that it may wait for others. Both are told the reservation's unit
+/// and number.
+pub trait Gate: Drop {
+    /// Ahead of computing, after the operands were read.
+    fn before(&mut self, unit: Unit, number: u64);
+
+    /// After the result was stored.
+    fn stored(&mut self, unit: Unit, number: u64);
+}
+
+/// A gate that holds nobody.
+#[derive(Clone, Copy, Debug, Drop)]
+pub struct Open;
+
+impl Gate for Open {
+    fn before(&mut self, _unit: Unit, _number: u64) {}
+
+    fn stored(&mut self, _unit: Unit, _number: u64) {}
+}
+
+/// A gate for the worker of each unit.
+#[derive(Drop)]
+pub struct Gates<G: Gate> {
+    pub branch: G,
+    pub boolean: G,
+    pub shift: G,
+    pub long_add: G,
+    pub divide: G,
+    pub increment1: G,
+    pub increment2: G,
+}

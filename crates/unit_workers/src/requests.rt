@@ -1,0 +1,100 @@
+//! Which request for an exchange a run makes next, and so when a run ends.
+//!
+//! A request names a number of instructions. It is due once so many were issued, and it is made before
+//! the next one is issued. While another request waits for its exchange none is due: the next one is made as
+//! soon as that exchange was made. Of several that are due the one after the fewest instructions comes first, and
+//! of those after equally many the one that was given first. The request for the run's first
+//! package comes before all of them.
+//!
+//! A run ends where the machine is drained and either it is halted, faulted or out of budget, no request waits
+//! and none is due; or it is out of budget in the middle of a word, where the exchange that waits can't be made.
+//! A request after more instructions than are issued by then isn't made.
+
+ghost use Rattle.std.specs.Prelude.{◌≡◌, ◌<◌, ◌+◌, ◌^◌, ◌++◌, ◌∷◌, ◌||◌, true, false, None, is_some, option_to_list, IfOk};
+ghost use Rattle.unit_workers.specs.Requests.{IsInOrder, KeepsTies, IsDue};
+
+use std::alloc::{AllocError, Global};
+use std::collections::VecDeque;
+
+/// A request for an exchange: the absolute address of the package, and the number of instructions after which it is
+/// made.
+pub type Ask = (u32, u64);
+
+/// The requests that a run has still to make, and how far the run has come.
+#[derive(Drop)]
+pub struct Requests {
+    /// In the order in which they are made.
+    left: VecDeque<Ask>,
+    /// How many instructions were issued.
+    issued: u64,
+    /// Whether a request waits for its exchange.
+    is_waiting: bool,
+    ghost in_order: { IsInOrder left.items },
+}
+
+impl Requests {
+    /// The requests of a run before its first instruction: that for the first package, which comes after no
+    /// instruction and before all others, and the others.
+    ///
+    /// # Errors
+    /// No memory was to be had.
+    pub fn new(alloc: Global, start: u32, asks: &[Ask]) -> Result<Requests, AllocError>
+        ensures left { IfOk result (λ requests. KeepsTies ((start, 0) ∷ asks.now) requests.left.items) }
+        ensures issued { IfOk result (λ requests. requests.issued ≡ 0) }
+        ensures is_waiting { IfOk result (λ requests. requests.is_waiting ≡ false) }
+    {
+        let mut all = Vec::from_slice(alloc, &[(start, 0)])?;
+        all.extend_from_slice(asks)?;
+        all.sort_by_key(|ask| ask.1)?;
+        Ok(Requests {
+            left: VecDeque::from_vec(all),
+            issued: 0,
+            is_waiting: false,
+        })
+    }
+
+    /// Takes the request that is due, if one is; it waits for its exchange from then on.
+    pub fn take_due(&mut self) -> Option<Ask>
+        ensures due { self.old.is_waiting ≡ false → IsDue self.old.left.items self.old.issued result }
+        ensures none { self.old.is_waiting ≡ true → result ≡ None }
+        ensures left { self.old.left.items ≡ option_to_list result ++ self.new.left.items }
+        ensures is_waiting { self.new.is_waiting ≡ (self.old.is_waiting || is_some result) }
+        ensures issued { self.new.issued ≡ self.old.issued }
+    {
+        if self.is_waiting {
+            return None;
+        }
+        let next = self.left.front()?;
+        let after = next.1;
+        if after > self.issued {
+            return None;
+        }
+        self.is_waiting = true;
+        self.left.pop_front()
+    }
+
+    /// Whether a request waits for its exchange.
+    pub fn is_waiting(&self) -> bool
+        ensures { result ≡ self.now.is_waiting }
+    {
+        self.is_waiting
+    }
+
+    /// The exchange of the request that waits was made.
+    pub fn exchanged(&mut self)
+        ensures left { self.new.left.items ≡ self.old.left.items }
+        ensures is_waiting { self.new.is_waiting ≡ false }
+        ensures issued { self.new.issued ≡ self.old.issued }
+    {
+        self.is_waiting = false;
+    }
+
+    /// An instruction was issued.
+    pub fn issued(&mut self)
+        ensures left { self.new.left.items ≡ self.old.left.items }
+        ensures is_waiting { self.new.is_waiting ≡ self.old.is_waiting }
+        ensures issued { self.old.issued + 1 < 2 ^ 64 → self.new.issued ≡ self.old.issued + 1 }
+    {
+        self.issued = self.issued.saturating_add(1);
+    }
+}

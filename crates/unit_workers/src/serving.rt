@@ -1,0 +1,87 @@
+//! One reservation, from claim to store.
+ghost use Rattle.std.specs.Prelude.{◌≡◌, suc, IfOk, IfErr, MatchBool};
+ghost use Rattle.machine.specs.Tokens.{one_more};
+
+use crate::gate::Gate;
+use crossbeam_utils::Backoff;
+use instruction_table::Refusal;
+use machine::{Finished, Loaded, Note, Reserved, Seat};
+use machine_lock::Shared;
+use std::sync::Wait;
+
+/// Reads as soon as no operand is awaited, and yields between tries.
+///
+/// # Errors
+/// The token, where it is a stranger's.
+fn read_when_ready<R: Wait>(rt: &R, shared: &Shared, token: Reserved) -> Result<Loaded, Reserved>
+    ensures loaded { IfOk result (λ loaded. (loaded.seat ≡ token.seat) × (loaded.number ≡ token.number)) }
+    ensures given_back { IfErr result (λ back. back ≡ token) }
+{
+    let mut waiting = token;
+    let pause = Backoff::new();
+    for _ in rt.forever() {
+        match shared.read(rt, waiting) {
+            Ok(loaded) => return Ok(loaded),
+            Err((Refusal::Stranger, back)) => return Err(back),
+            Err((_, back)) => waiting = back,
+        }
+        pause.snooze();
+    }
+    unreachable!()
+}
+
+/// Stores as soon as the result isn't held, it is the reference's turn and the hopper has room, and yields between
+/// tries.
+///
+/// # Errors
+/// The token, where it is a stranger's.
+fn store_when_ready<R: Wait>(rt: &R, shared: &Shared, token: Finished) -> Result<Seat, Finished>
+    ensures seat { IfOk result (λ seat. seat ≡ one_more token) }
+    ensures given_back { IfErr result (λ back. back ≡ token) }
+{
+    let mut waiting = token;
+    let pause = Backoff::new();
+    for _ in rt.forever() {
+        match shared.store(rt, waiting) {
+            Ok(seat) => return Ok(seat),
+            Err((Refusal::Stranger, back)) => return Err(back),
+            Err((_, back)) => waiting = back,
+        }
+        pause.snooze();
+    }
+    unreachable!()
+}
+
+/// Takes a reservation through its unit, from claim to store, and gives the seat back. It answers whether it was
+/// stored, which it isn't only where the claim or a later step was refused as a stranger's; the reservation is given
+/// up then. The gate is called ahead of computing, which takes no lock, and after the store.
+pub fn serve<G: Gate, R: Wait>(
+    rt: &R,
+    shared: &Shared,
+    note: Note,
+    seat: Seat,
+    gate: &mut G,
+) -> (Seat, bool)
+    ensures { MatchBool result.1 (result.0 ≡ record seat { stored = suc seat.stored; last = note.number }) (result.0 ≡ seat) }
+{
+    let reserved = match shared.claim(rt, seat, note) {
+        Ok(reserved) => reserved,
+        Err((_, seat)) => return (seat, false),
+    };
+    let loaded = match read_when_ready(rt, shared, reserved) {
+        Ok(loaded) => loaded,
+        Err(reserved) => return (reserved.abandon(), false),
+    };
+    gate.before(note.unit, note.number);
+    let finished = match shared.finish(rt, loaded.compute()) {
+        Ok(finished) => finished,
+        Err((_, computed)) => return (computed.abandon(), false),
+    };
+    match store_when_ready(rt, shared, finished) {
+        Ok(seat) => {
+            gate.stored(note.unit, note.number);
+            (seat, true)
+        }
+        Err(finished) => (finished.abandon(), false),
+    }
+}
