@@ -41,7 +41,7 @@ fn accepted<'a>(alloc: Global) -> Result<Command<'a>, AllocError> {
         .arg(budget_option(alloc))?;
     let log = Arg::new(alloc, "LOG")
         .required(true)
-        .help("What the dump of a run has behind LOG, as one argument");
+        .help("What the dump of a run has after LOG, as one argument");
     let replay = Command::new(alloc, "replay")
         .about(
             "Goes through LOG on the deck on standard input, one instruction at a time, and prints the machine's dump",
@@ -50,7 +50,7 @@ fn accepted<'a>(alloc: Global) -> Result<Command<'a>, AllocError> {
         .arg(log)?;
     let events = Command::new(alloc, "events")
         .about(
-            "Makes the events of the schedule behind the deck on standard input, one a line, and answers each",
+            "Makes the events of the schedule after the deck on standard input, one a line, and answers each",
         )
         .override_usage("cdc6600 events [--budget N]")
         .arg(budget_option(alloc))?;

@@ -1,6 +1,12 @@
-use instruction_table::Refusal;
+use instruction_table::{Refusal, Unit};
 use machine_lock::Shared;
 use std::sync::Wait;
+
+/// Whether a unit takes instructions that make references: the Increment units load and store, and Branch stores for
+/// a return jump.
+pub fn makes_references(unit: Unit) -> bool {
+    matches!(unit, Unit::Branch | Unit::Increment1 | Unit::Increment2)
+}
 
 /// Hands the reference in the first place of the hopper to memory, and frees its bank before where an earlier
 /// reference left it busy. It does nothing where no reference waits.
@@ -19,7 +25,8 @@ fn accept_first<T: Wait>(rt: &T, shared: &Shared) -> Result<(), Refusal> {
 }
 
 /// Takes the only reference that waits through memory, if one does: it is accepted, and the word of a load is
-/// returned to its register. Without another reference it stands in the first place of the hopper.
+/// returned to its register. Without another reference it stands in the first place of the hopper, and no more than
+/// one load is to return.
 ///
 /// # Errors
 /// What was refused.
@@ -31,7 +38,8 @@ pub fn settle<T: Wait>(rt: &T, shared: &Shared) -> Result<(), Refusal> {
     // A load waits in the channel of its X register, X1 to X5.
     for channel in 1..6u8 {
         match shared.return_load(rt, channel) {
-            Ok(()) | Err(Refusal::Nothing) => {}
+            Ok(()) => return Ok(()),
+            Err(Refusal::Nothing) => {}
             Err(refusal) => return Err(refusal),
         }
     }

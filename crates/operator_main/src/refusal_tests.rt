@@ -230,7 +230,7 @@ const TOO_MANY_LINES: &str = "cdc6600: E20 line 10000001: lines\n";
 
 const ONE_LINE_LESS: &str = "cdc6600: E20 line 10000000: no end\n";
 
-/// A deck whose `end` is line 10,000,000 is taken, but no line of a schedule behind it.
+/// A deck whose `end` is line 10,000,000 is taken, but no line of a schedule after it.
 #[test]
 fn decks_of_most_lines(rt: HostRuntime) -> Result<(), Fail> {
     for (text, times, last, told) in [

@@ -67,7 +67,7 @@ fn waiting_request(rt: HostRuntime) -> Result<(), Fail> {
 const PACKAGES: &str =
     "core 256\nat 1\nword 200000000000000\nword 20000000000000\nat 21\nword 200000000000000\nword 20000000000000\nat 41\nword 200000000000000\nword 20000000000000\nat 61\nword 200000000000000\nword 20000000000000\nat 200\ncode NO; NO; NO; NO\ncode NO; PS\n";
 
-/// A deck with these lines behind the packages runs to this log and status, and the replay of the log prints the
+/// A deck with these lines after the packages runs to this log and status, and the replay of the log prints the
 /// same dump with the same status.
 fn expect_log(
     rt: &(impl Abort + AllocGlobal + Wait),
@@ -269,7 +269,7 @@ fn later_requests(rt: HostRuntime) -> Result<(), Fail> {
     expect_ran(&rt, deck.as_slice(), 0, dump)
 }
 
-/// The last package that a memory has room for, and the one behind it.
+/// The last package that a memory has room for, and the one after it.
 #[test]
 fn packages_at_the_end(rt: HostRuntime) -> Result<(), Fail> {
     expect_run(

@@ -1,7 +1,7 @@
 ghost use Rattle.std.specs.Prelude.{◌≡◌, ◌≤◌};
 ghost use Rattle.operator_main.specs.Status.{is_end};
 
-use super::references::settle;
+use super::references::{makes_references, settle};
 use super::requests::Requests;
 use super::seats::Seats;
 use instruction_table::Refusal;
@@ -74,7 +74,11 @@ impl Operation {
     /// What was refused.
     fn work<T: Wait>(&mut self, rt: &T, note: Note) -> Result<(), Refusal> {
         self.seats.serve(rt, &self.shared, note)?;
-        settle(rt, &self.shared)
+        if makes_references(note.unit) {
+            settle(rt, &self.shared)
+        } else {
+            Ok(())
+        }
     }
 
     /// Issues the next instruction and takes its reservation to its end. The run ends where the machine is
