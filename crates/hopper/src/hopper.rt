@@ -49,7 +49,7 @@ impl Hopper {
         free_place(&self.places).is_none()
     }
 
-    /// A reference enters, behind those that wait. It takes the lowest-numbered free place (this project's choice)
+    /// A reference enters, after those that wait. It takes the lowest-numbered free place (this project's choice)
     /// and answers its number, 0 to 3.
     ///
     /// # Errors
@@ -72,7 +72,7 @@ impl Hopper {
     }
 
     /// The memory takes the reference in a place, whose bank is busy from then on. It answers the reference; those
-    /// that entered behind it keep their order.
+    /// that entered after it keep their order.
     ///
     /// # Errors
     /// In this order, and then nothing changes: `Nothing` where nothing stands in the place or there is no such

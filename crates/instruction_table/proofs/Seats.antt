@@ -158,7 +158,7 @@ seat_taken seat_of (Some x ∷ os) k (suc i) v e s =
 
 -- ---- the one in a seat, in order ----
 
--- those before it, and those behind
+-- those before it, and those after
 abbrev pub before_seat : {K : Type 0} → (K → ℕ) → List (Option K) → ℕ → K → List K
 before_seat key os i x = below key (key x) (sort_by key (somes (set os i None)))
 

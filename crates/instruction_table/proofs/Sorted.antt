@@ -30,7 +30,7 @@ unfolding sort_by
 any_sort key f [] = refl
 any_sort key f (x ∷ xs) = any_insert key f x (sort_by key xs) ∙ ap (λ z. f x || z) (any_sort key f xs)
 
--- each element is before the ones behind it
+-- each element is before the ones after it
 abbrev pub IsIncreasing : {K : Type 0} → (K → ℕ) → List K → Type 0
 IsIncreasing key xs = Pairs (λ a b. key a < key b) xs
 
@@ -47,7 +47,7 @@ any_earlier key f (e ∷ es) m ls h =
 
 -- ---- the list in order, around one element ----
 
--- the front of a list in order, up to a number, and what is behind
+-- the front of a list in order, up to a number, and what is after
 unfoldable pub below : {K : Type 0} → (K → ℕ) → ℕ → List K → List K
 below key n [] = []
 below key n (y ∷ ys) = cond (ltb n (key y)) [] (y ∷ below key n ys)

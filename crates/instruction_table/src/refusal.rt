@@ -46,8 +46,8 @@ pub enum DeckFault {
     NoEnd,
 }
 
-/// Why something was refused. The numbers E1 to E25 are those that the program prints; where several
-/// apply, the lowest is answered.
+/// Why something was refused. The program prints the numbers of what an event of a schedule may be refused for, and
+/// for some faults of its own; where several apply, the lowest is answered.
 #[derive(Clone, Copy, Debug, Drop, PartialEq, Eq)]
 pub enum Refusal {
     /// E1, issue: the machine is halted.

@@ -18,7 +18,7 @@ put_twice : (before more : List LogStep) (found : Option (List LogStep)) → put
 put_twice before more None = refl
 put_twice before more (Some steps) = ap Some (sym (append_assoc before more steps))
 
--- an entry that may come goes behind the steps before
+-- an entry that may come goes after the steps before
 pub entry_on : (before now : List LogStep) (left : Allowance) (field : List ℕ) (entry : Entry) (more : List (List ℕ)) → entry_in left field ≡ Some entry → now ≡ before ++ steps_of (entry ∷ []) → put_steps before (steps_in left (field ∷ more)) ≡ put_steps now (steps_in (spent left entry) more)
 entry_on before now left field entry more found same =
     ap (λ e. put_steps before (with_entry e (λ f. steps_in (spent left f) more))) found

@@ -1,4 +1,4 @@
--- How many bytes are behind a deck of which not all was read.
+-- How many bytes are after a deck of which not all was read.
 use Rattle.std.proofs.Common.{◌≡◌, ◌≢◌, ℕ, suc, ◌+◌, ◌≤◌, true, false, cond, eqb, ltb, List, [], ◌∷◌, ◌++◌, length, Option, Err, refl, sym, subst, arith}
 use Rattle.std.proofs.lemmas.Bool.{ne_eqb}
 use Rattle.std.proofs.lemmas.List.Elements.{All-head, All-tail}
@@ -15,7 +15,7 @@ use Rattle.instruction_table.specs.declared.refusal.DeckFault.TheVariants as fau
 use Rattle.job_deck.proofs.DeckLines.{ReadsOn, Taken}
 use Rattle.job_deck.proofs.Moving.{Moves-trans, Moves-weaker}
 
--- behind each line are at most k bytes
+-- after each line are at most k bytes
 abbrev Behind : ℕ → List (List ℕ × List ℕ) → Type 0
 Behind k [] = Unit {0}
 Behind k (line ∷ lines) = (length line.1 ≤ k) × Behind k lines
@@ -53,7 +53,7 @@ all_within : (k : ℕ) (lines : List (List ℕ × List ℕ)) → Behind k lines 
 all_within k [] h = tt
 all_within k (line ∷ lines) h = on_within k 1 (judged_first line.0) line.1 (λ s. read_from 2 s lines) h.0 (λ s. from_within k 2 s lines h.1)
 
--- what is left is at most what is behind the deck
+-- what is left is at most what is after the deck
 abbrev pub Unread : List ℕ → List ℕ → Type 0
 Unread xs ys = EndsWithin (length ys) (deck xs)
 

@@ -26,7 +26,7 @@ fn put_item<O: Output>(output: &mut O, item: &Decoded) -> Result<(), WriteFailed
     }
 }
 
-/// The parcel behind an item; an opcode that is refused counts as one parcel.
+/// The parcel after an item; an opcode that is refused counts as one parcel.
 fn behind(parcel: u8, item: &Decoded) -> u8
     requires { parcel < 4 }
     ensures { result ≡ behind parcel item.now }

@@ -45,7 +45,7 @@ fn make<O: Output>(output: &mut O, machine: &mut Machine, event: Event) -> Resul
 }
 
 /// Answers the lines of a schedule that say events, each before the next is read, up to the last line.
-/// They come behind line `before`. Answers whether the machine is to be drained.
+/// They come after line `before`. Answers whether the machine is to be drained.
 ///
 /// # Errors
 /// A line and its fault, and a failed read or write.
@@ -85,7 +85,7 @@ fn converse<I: Input, O: Output>(
     })
 }
 
-/// Holds a session: answers the lines of a schedule that come behind line `before`, and does what the last
+/// Holds a session: answers the lines of a schedule that come after line `before`, and does what the last
 /// one says.
 ///
 /// # Errors

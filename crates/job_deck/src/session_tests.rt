@@ -78,7 +78,7 @@ fn ends_where_it_stands(rt: HostRuntime) -> Result<(), Fail> {
     Ok(())
 }
 
-/// A schedule that is refused at a line behind the deck's ten, after these answers.
+/// A schedule that is refused at a line after the deck's ten, after these answers.
 fn expect_fault(
     rt: &(impl Abort + AllocGlobal),
     schedule: &str,

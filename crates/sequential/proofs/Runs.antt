@@ -104,7 +104,7 @@ pub replay_on : (s t : State) (xs ys : List LogStep) → replay s xs ≡ Some t 
 unfolding then_replay
 replay_on s t xs ys h = replay-append s xs ys ∙ ap (λ o. then_replay o (λ u. replay u ys)) h
 
--- the steps of a list of entries are those before an entry, its own and those behind it
+-- the steps of a list of entries are those before an entry, its own and those after it
 split_steps : (es : List Entry) (i : ℕ) (d : Entry) → i < length es → steps_of es ≡ steps_of (take i es) ++ (steps_of (get_or es i d ∷ []) ++ steps_of (drop (suc i) es))
 unfolding steps_of
 split_steps [] i d h = absurd (omega (arith, h))

@@ -69,7 +69,7 @@ impl Place {
         }
     }
 
-    /// The place behind an instruction of the word at `p`: its parcel `next`, or from 4 on the beginning of
+    /// The place after an instruction of the word at `p`: its parcel `next`, or from 4 on the beginning of
     /// the next word. After the word at 777777 comes the one at 0.
     #[tactic(auto, unfolding(crate::specs::Place::moved_on))]
     #[inline(always)]

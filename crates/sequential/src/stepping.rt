@@ -62,7 +62,7 @@ fn write_any(registers: &mut RegisterFile, register: Option<Reg>, number: Word60
     }
 }
 
-/// The fault flag behind a reference; it stays once it is set.
+/// The fault flag after a reference; it stays once it is set.
 #[inline(always)]
 fn fault_after(fault: bool, area: &Area, size: u32, reference: &Option<ProgramReference>) -> bool
     ensures { result ≡ (fault || fault_of (record { area = area.now; size = size }) reference.now) }

@@ -460,7 +460,7 @@ fn replays_a_program(rt: HostRuntime) -> Result<(), Fail> {
     Ok(())
 }
 
-/// The second package has its last word behind the end of memory: what stands before it is done.
+/// The second package has its last word after the end of memory: what stands before it is done.
 #[test]
 #[tactic(auto, unfolding(crate::specs::Log::issued))]
 fn refuses_a_package_out_of_range(rt: HostRuntime) -> Result<(), Fail> {

@@ -102,7 +102,7 @@ fn word(value: &UnitValue) -> Word60
     }
 }
 
-/// The address that an instruction jumps to, if it does; RJ goes on behind its link word.
+/// The address that an instruction jumps to, if it does; RJ goes on after its link word.
 #[tactic(auto, unfolding(crate::specs::Work::jump_for))]
 #[inline(always)]
 pub fn jump(instr: &Instr, value: &UnitValue) -> Option<Word18>

@@ -246,7 +246,7 @@ pub fn value(instr: &Instr, operands: &Operands) -> UnitValue
 
 impl UnitValue {
     /// Where this answer of a unit sends the machine, and None where it stays in order. After a return jump that is
-    /// the word behind the one that it stores.
+    /// the word after the one that it stores.
     #[inline(always)]
     pub fn destination(self) -> Option<Word18>
         ensures { result ≡ destination self }

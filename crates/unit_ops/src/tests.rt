@@ -195,7 +195,7 @@ fn takes_branches(rt: HostRuntime) -> Result<(), Fail> {
     Ok(())
 }
 
-/// A return jump goes to the word behind the one that it stores; 0 comes after 777777.
+/// A return jump goes to the word after the one that it stores; 0 comes after 777777.
 #[test]
 fn goes_where_it_is_sent(rt: HostRuntime) -> Result<(), Fail> {
     let last = Word18::from_bits(0o777777);
