@@ -164,10 +164,11 @@ pub all_forgotten : (w : Writer) (units channels units' : List (Option Issued)) 
     → ((j : ℕ) (z : Issued) → get_or units' j None ≡ Some z → get_or units j None ≡ Some z)
     → AreForgotten w (units ++ channels) units' (forget_in_taken w units' producers)
 unfolding seated
-all_forgotten w units channels units' producers ws last right t =
-    (length_forgotten w units' producers ∙ right.all_producers,
-    λ j z h g k. subst (λ ps. AreProducers g (sources_of z.row.instr) ps) (sym (forgotten_at w units' producers j z h))
-    (producers_forget w (writer_before z.number (somes (units ++ channels))) g k (sources_of z.row.instr) (get_or producers j []) (right.produced j z (t j z h))))
+all_forgotten w units channels units' producers ws last right t = (
+  length_forgotten w units' producers ∙ right.all_producers,
+  λ j z h g k. subst (λ ps. AreProducers g (sources_of z.row.instr) ps) (sym (forgotten_at w units' producers j z h))
+      (producers_forget w (writer_before z.number (somes (units ++ channels))) g k (sources_of z.row.instr) (get_or producers j []) (right.produced j z (t j z h))),
+)
 
 pub written : (w : Writer) (units channels units' channels' l : List (Option Issued)) (producers pss : List (List (Option Writer))) (ws ws' : Writers) (last : ℕ) → IsRight units channels producers ws last → l ≡ units' ++ channels' → length units' ≡ 10 → length channels' ≡ 8 → AreSized ws'
     → IsSeated seat_of 0 l → Pairs IsOther (somes l) → Each (λ x. x.number ≤ last) (somes l) → Each IsOfKind (somes l) → ((n : ℕ) (r : Reg) → writer_before n (somes l) r ≡ forget w (writer_before n (somes (units ++ channels)) r))
@@ -263,14 +264,15 @@ last_forgotten : (w : Writer) (units channels units' : List (Option Issued)) (pr
     → ((j : ℕ) (z : Issued) → get_or units' j None ≡ Some z → get_or units j None ≡ Some z)
     → AreForgotten w (units ++ channels) units' producers
 unfolding seated
-last_forgotten w units channels units' producers ws last i x right here others k t =
-    (right.all_producers,
-    λ j z q g f.
-        let there = t j z q in
-        let up_to : z.number ≤ last = each_here (λ y. y.number ≤ last) (units ++ channels) j z (get_or_append_left units channels None j (within units j z there) ∙ there) right.counted in
-        producers_same (writer_before z.number (somes (units ++ channels))) g
-        (λ r. f r ∙ nobody_waits w (units ++ channels) i x z.number r here right.apart (others r) (omega (arith, up_to, k)))
-        (sources_of z.row.instr) (get_or producers j []) (right.produced j z there))
+last_forgotten w units channels units' producers ws last i x right here others k t = (
+  right.all_producers,
+  λ j z q g f.
+      let there = t j z q in
+      let up_to : z.number ≤ last = each_here (λ y. y.number ≤ last) (units ++ channels) j z (get_or_append_left units channels None j (within units j z there) ∙ there) right.counted in
+      producers_same (writer_before z.number (somes (units ++ channels))) g
+      (λ r. f r ∙ nobody_waits w (units ++ channels) i x z.number r here right.apart (others r) (omega (arith, up_to, k)))
+      (sources_of z.row.instr) (get_or producers j []) (right.produced j z there),
+)
 
 -- ---- a load has returned ----
 
