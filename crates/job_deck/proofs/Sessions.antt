@@ -8,10 +8,10 @@ use Rattle.std.specs.List.{flat_map}
 use Rattle.instruction_table.specs.declared.refusal.DeckFault.{DeckFault}
 use Rattle.instruction_table.specs.declared.refusal.DeckFault.TheVariants as faults
 use Rattle.instruction_table.specs.declared.refusal.Refusal.{Refusal}
-use Rattle.machine.specs.declared.event.Done.{Done}
-use Rattle.machine.specs.declared.event.Event.{Event}
-use Rattle.machine.specs.Run.{IsAnswer, IsAnswered, settled, settled_all}
-use Rattle.machine.specs.Whole.{Whole}
+use Rattle.program_order.specs.declared.event.Done.{Done}
+use Rattle.program_order.specs.declared.event.Event.{Event}
+use Rattle.program_order.specs.Run.{IsAnswer, IsAnswered, settled, settled_all}
+use Rattle.program_order.specs.Processor.{Whole}
 use Rattle.job_deck.specs.AnswerText.{answer_line}
 use Rattle.job_deck.specs.Device.{Moves, WritesFront}
 use Rattle.job_deck.specs.Line.{ReadsPart, lines_of}

@@ -4,8 +4,8 @@ use Rattle.std.specs.Prelude.{ℕ, List, [], ◌∷◌, codes, decimal, Some, No
 use Rattle.std.specs.List.{concat}
 use Rattle.instruction_table.specs.declared.refusal.Refusal.{Refusal}
 use Rattle.instruction_table.specs.declared.refusal.Refusal.TheVariants as refusals
-use Rattle.machine.specs.declared.event.Done.{Done}
-use Rattle.machine.specs.declared.event.Done.TheVariants.{Issued, Made}
+use Rattle.program_order.specs.declared.event.Done.{Done}
+use Rattle.program_order.specs.declared.event.Done.TheVariants.{Issued, Made}
 use Rattle.job_deck.specs.Names.{register_text, unit_text}
 use Rattle.job_deck.specs.Pieces.{reason_text}
 

@@ -4,10 +4,10 @@ use Rattle.std.specs.Prelude.{◌≡◌, ℕ, Bool, true, false, List, ◌++◌,
 use Rattle.std.specs.Io.KnownBytes.{Keeps, Appends}
 use Rattle.instruction_table.specs.declared.refusal.Refusal.{Refusal}
 use Rattle.instruction_table.specs.declared.refusal.Refusal.TheVariants as refusals
-use Rattle.machine.specs.declared.event.Done.{Done}
-use Rattle.machine.specs.declared.event.Event.{Event}
-use Rattle.machine.specs.Run.{IsAnswer, settled}
-use Rattle.machine.specs.Whole.{Whole}
+use Rattle.program_order.specs.declared.event.Done.{Done}
+use Rattle.program_order.specs.declared.event.Event.{Event}
+use Rattle.program_order.specs.Run.{IsAnswer, settled}
+use Rattle.program_order.specs.Processor.{Whole}
 use Rattle.job_deck.specs.AnswerText.{answer_line}
 use Rattle.job_deck.specs.Device.{Writes, WritesFront}
 use Rattle.job_deck.specs.Line.{IsText, lines_of}

@@ -4,8 +4,8 @@ use Rattle.std.specs.Prelude.{ℕ, List, [], ◌∷◌, length, Option, Some, No
 use Rattle.std.specs.Str.{bytes_eq}
 use Rattle.instruction_table.specs.declared.instr.Unit.{Unit as FunctionalUnit}
 use Rattle.instruction_table.specs.declared.refusal.DeckFault.TheVariants as faults
-use Rattle.machine.specs.declared.event.Event.{Event}
-use Rattle.machine.specs.declared.event.Event.TheVariants as events
+use Rattle.program_order.specs.declared.event.Event.{Event}
+use Rattle.program_order.specs.declared.event.Event.TheVariants as events
 use Rattle.job_deck.specs.Text.{fields_of, number_of}
 use Rattle.job_deck.specs.Names.{unit_named}
 use Rattle.job_deck.specs.declared.schedule.Spoken.{Spoken}

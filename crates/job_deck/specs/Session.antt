@@ -4,12 +4,12 @@ use Rattle.std.specs.Prelude.{◌≡◌, ◌⊎◌, ℕ, ◌+◌, true, false, L
 use Rattle.std.specs.List.{flat_map, concat}
 use Rattle.instruction_table.specs.declared.refusal.Refusal.{Refusal}
 use Rattle.sequential.specs.Log.{entries_of}
-use Rattle.machine.specs.declared.event.Done.{Done}
-use Rattle.machine.specs.declared.event.Event.{Event}
-use Rattle.machine.specs.Run.{IsAnswer, IsAnswered, settled_all}
+use Rattle.program_order.specs.declared.event.Done.{Done}
+use Rattle.program_order.specs.declared.event.Event.{Event}
+use Rattle.program_order.specs.Run.{IsAnswer, IsAnswered, settled_all}
 use Rattle.in_flight.specs.Lookup.{is_pending}
-use Rattle.machine.specs.Whole.{Whole, replayed}
-use Rattle.machine.specs.Working.{Works}
+use Rattle.program_order.specs.Processor.{Whole, replayed}
+use Rattle.program_order.specs.Working.{Works}
 use Rattle.job_deck.specs.AnswerText.{answer_line}
 use Rattle.job_deck.specs.Dump.{dump_text, log_line}
 use Rattle.job_deck.specs.Schedule.{heard}

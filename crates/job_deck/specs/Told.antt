@@ -4,7 +4,7 @@ use Rattle.std.specs.Prelude.{◌≡◌, ◌⊎◌, ℕ, ◌+◌, ◌≤◌, len
 use Rattle.std.specs.Io.KnownBytes.{Keeps, Appends}
 use Rattle.instruction_table.specs.declared.refusal.Refusal.{Refusal}
 use Rattle.instruction_table.specs.declared.refusal.Refusal.TheVariants as refusals
-use Rattle.machine.specs.Whole.{Whole, boot_whole}
+use Rattle.program_order.specs.Processor.{Whole, boot_whole}
 use Rattle.job_deck.specs.Deck.{Reading, Good, Bad}
 use Rattle.job_deck.specs.Line.{IsText, lines_of}
 use Rattle.job_deck.specs.Schedule.{heard}

@@ -10,7 +10,7 @@ use Rattle.sequential.specs.State.{Bounds, bounds_of, absolute}
 use Rattle.sequential.specs.Work.{address_in, word_in, reference_for, work_of}
 use Rattle.sequential.specs.declared.work.ProgramReference.{ProgramReference}
 use Rattle.unit_ops.specs.declared.UnitValue.{UnitValue}
-use Rattle.machine.specs.declared.event.Event.TheVariants.{Store as StoreResult}
+use Rattle.program_order.specs.declared.event.Event.TheVariants.{Store as StoreResult}
 use Rattle.in_flight.specs.declared.flight.Rest.{Rest}
 use Rattle.in_flight.specs.declared.member.Member.{Member}
 use Rattle.in_flight.specs.declared.member.Stage.{Stage}
@@ -20,7 +20,9 @@ use Rattle.in_flight.specs.Flight.{later_of, IsRestOf}
 use Rattle.in_flight.specs.Member.{returning}
 use Rattle.in_flight.specs.Lookup.{sought, enters, place_for, stage_at}
 use Rattle.instruction_table.specs.Finding.{Found, seek}
-use Rattle.machine.specs.Whole.{Whole, allowed, entering, rest_of, store_tests, tests_of}
+use Rattle.program_order.specs.Processor.{Whole}
+use Rattle.program_order.specs.Events.{allowed, tests_of}
+use Rattle.program_order.specs.Units.{entering, rest_of, store_tests}
 use Rattle.in_flight.specs.Tests.{refusal_of, tests_found}
 use Rattle.in_flight.proofs.Finding.{no_sought, refusal_none, sought_member, sought_what}
 use Rattle.machine.proofs.Making.{bounds_at}

@@ -2,12 +2,12 @@
 
 ghost use Rattle.std.specs.Prelude.{◌≡◌, ◌∷◌, [], IfOk, IfSome, List, Ok, Result, Some};
 ghost use Rattle.instruction_table.specs.declared.refusal.Refusal.{Refusal as SomeRefusal};
-ghost use Rattle.machine.specs.declared.event.Done.{Done as SomeDone};
-ghost use Rattle.machine.specs.declared.event.Done.TheVariants.{Made};
-ghost use Rattle.machine.specs.declared.event.Event.{Event as SomeEvent};
-ghost use Rattle.machine.specs.declared.event.Event.TheVariants.{Ask, Exchange, Finish, Issue, Read, Store};
-ghost use Rattle.machine.specs.Headline.{IsFaithful, IsFaultedRun, log_of};
-ghost use Rattle.machine.specs.Reached.{GoesOn};
+ghost use Rattle.program_order.specs.declared.event.Done.{Done as SomeDone};
+ghost use Rattle.program_order.specs.declared.event.Done.TheVariants.{Made};
+ghost use Rattle.program_order.specs.declared.event.Event.{Event as SomeEvent};
+ghost use Rattle.program_order.specs.declared.event.Event.TheVariants.{Ask, Exchange, Finish, Issue, Read, Store};
+ghost use Rattle.program_order.specs.Headline.{IsFaithful, IsFaultedRun, log_of};
+ghost use Rattle.program_order.specs.Reached.{GoesOn};
 ghost use Rattle.sequential.specs.Replay.{boot, replay};
 
 use crate::test_fixtures::{MADE, issued, meets, memory_of, shows, started, x};

@@ -1,6 +1,6 @@
 -- What the lock keeps. Source: ours.
 use Rattle.std.specs.Prelude.{◌≡◌, Bool, Some}
-use Rattle.machine.specs.Whole.{Whole, replayed, completed}
+use Rattle.program_order.specs.Processor.{Whole, replayed, completed}
 
 -- the machine under the lock, and whether its users were told to end
 pub record Kept : Type 0 where

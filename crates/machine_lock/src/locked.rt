@@ -1,11 +1,11 @@
 ghost use Rattle.std.specs.Prelude.{◌≡◌, ◌||◌, ◌⊎◌, true, false, Some, IfErr, IfOk, MatchResult};
 ghost use Rattle.instruction_table.specs.declared.refusal.Refusal.TheVariants.{NotDrained, OutOfMemory, Stranger};
 ghost use Rattle.sequential.specs.Replay.{boot, replay};
-ghost use Rattle.machine.specs.declared.event.Event.TheVariants.{Read, Finish, Store};
-ghost use Rattle.machine.specs.Refusals.{may_refuse, is_stranger, is_read_refusal, is_store_refusal};
-ghost use Rattle.machine.specs.Run.{IsAnswer, settled};
+ghost use Rattle.program_order.specs.declared.event.Event.TheVariants.{Read, Finish, Store};
+ghost use Rattle.program_order.specs.Refusals.{may_refuse, is_stranger, is_read_refusal, is_store_refusal};
+ghost use Rattle.program_order.specs.Run.{IsAnswer, settled};
 ghost use Rattle.machine.specs.Tokens.{one_more};
-ghost use Rattle.machine.specs.Whole.{after};
+ghost use Rattle.program_order.specs.Events.{after};
 ghost use Rattle.machine_lock.specs.Kept.{with_whole};
 
 use instruction_table::Refusal;

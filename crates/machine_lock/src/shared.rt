@@ -1,7 +1,7 @@
 ghost use Rattle.std.specs.Prelude.{◌≡◌, ◌||◌, ◌⊎◌, true, false, Some, IfErr, IfOk, MatchResult};
 ghost use Rattle.instruction_table.specs.declared.refusal.Refusal.TheVariants.{Nothing, NotDrained, OutOfMemory, Stranger};
 ghost use Rattle.sequential.specs.Replay.{boot, replay};
-ghost use Rattle.machine.specs.Refusals.{may_refuse, is_stranger, is_nothing, is_issue_refusal, is_read_refusal, is_store_refusal, is_accept_refusal, is_return_refusal, is_ask_refusal, is_exchange_refusal};
+ghost use Rattle.program_order.specs.Refusals.{may_refuse, is_stranger, is_nothing, is_issue_refusal, is_read_refusal, is_store_refusal, is_accept_refusal, is_return_refusal, is_ask_refusal, is_exchange_refusal};
 ghost use Rattle.machine.specs.Tokens.{new_seats, one_more};
 
 use crate::Seen;
@@ -44,7 +44,7 @@ impl Shared {
     ///
     /// # Errors
     /// What an issue may refuse.
-    #[tactic(auto, unfolding(machine::specs::Refusals::may_refuse))]
+    #[tactic(auto, unfolding(program_order::specs::Refusals::may_refuse))]
     pub fn issue<R: Wait>(&self, rt: &R, _seen: &mut Seen) -> Result<Option<Note>, Refusal>
         ensures { IfErr result (λ refusal. is_issue_refusal refusal ≡ true) }
     {
@@ -69,7 +69,7 @@ impl Shared {
     ///
     /// # Errors
     /// What a request may refuse.
-    #[tactic(auto, unfolding(machine::specs::Refusals::may_refuse))]
+    #[tactic(auto, unfolding(program_order::specs::Refusals::may_refuse))]
     pub fn ask<R: Wait>(&self, rt: &R, _seen: &mut Seen, at: u32) -> Result<(), Refusal>
         ensures { IfErr result (λ refusal. is_ask_refusal refusal ≡ true) }
     {
@@ -80,7 +80,7 @@ impl Shared {
     ///
     /// # Errors
     /// What an exchange may refuse.
-    #[tactic(auto, unfolding(machine::specs::Refusals::may_refuse))]
+    #[tactic(auto, unfolding(program_order::specs::Refusals::may_refuse))]
     pub fn exchange<R: Wait>(&self, rt: &R, _seen: &mut Seen) -> Result<(), Refusal>
         ensures { IfErr result (λ refusal. is_exchange_refusal refusal ≡ true) }
     {
@@ -140,7 +140,7 @@ impl Shared {
     ///
     /// # Errors
     /// `BankBusy` or `OlderInBank`, or `Nothing` where the place is empty.
-    #[tactic(auto, unfolding(machine::specs::Refusals::may_refuse))]
+    #[tactic(auto, unfolding(program_order::specs::Refusals::may_refuse))]
     pub fn accept<R: Wait>(&self, rt: &R, place: u8) -> Result<(), Refusal>
         ensures { IfErr result (λ refusal. (is_nothing refusal || is_accept_refusal refusal) ≡ true) }
     {
@@ -151,7 +151,7 @@ impl Shared {
     ///
     /// # Errors
     /// `ResultHeld`, or `Nothing` where the channel is empty.
-    #[tactic(auto, unfolding(machine::specs::Refusals::may_refuse))]
+    #[tactic(auto, unfolding(program_order::specs::Refusals::may_refuse))]
     pub fn return_load<R: Wait>(&self, rt: &R, channel: u8) -> Result<(), Refusal>
         ensures { IfErr result (λ refusal. (is_nothing refusal || is_return_refusal refusal) ≡ true) }
     {
@@ -162,7 +162,7 @@ impl Shared {
     ///
     /// # Errors
     /// `Nothing` where the bank isn't busy.
-    #[tactic(auto, unfolding(machine::specs::Refusals::may_refuse))]
+    #[tactic(auto, unfolding(program_order::specs::Refusals::may_refuse))]
     pub fn bank_free<R: Wait>(&self, rt: &R, bank: u8) -> Result<(), Refusal>
         ensures { IfErr result (λ refusal. is_nothing refusal ≡ true) }
     {

@@ -1,5 +1,5 @@
 use Rattle.std.proofs.Common.{[], drop, length, subst}
-use Rattle.machine.specs.Reached.{IsReached}
+use Rattle.program_order.specs.Reached.{IsReached}
 use Rattle.machine.proofs.reached_tests.ran.Goals as goal
 
 pub returns : goal.returns

@@ -3,13 +3,13 @@ use Rattle.std.specs.Prelude.{IfOk, MatchResult, Result, Ok, Err}
 use Rattle.instruction_table.specs.declared.refusal.Refusal.{Refusal}
 use Rattle.in_flight.specs.Lookup.{is_pending}
 use Rattle.sequential.specs.Replay.{boot, replay}
-use Rattle.machine.specs.declared.event.Done.{Done}
-use Rattle.machine.specs.declared.event.Done.TheVariants.{Made}
-use Rattle.machine.specs.declared.event.Event.{Event}
-use Rattle.machine.specs.declared.event.Event.TheVariants.{Ask, Exchange, Issue}
-use Rattle.machine.specs.Headline.{log_of}
+use Rattle.program_order.specs.declared.event.Done.{Done}
+use Rattle.program_order.specs.declared.event.Done.TheVariants.{Made}
+use Rattle.program_order.specs.declared.event.Event.{Event}
+use Rattle.program_order.specs.declared.event.Event.TheVariants.{Ask, Exchange, Issue}
+use Rattle.program_order.specs.Headline.{log_of}
 use Rattle.machine.specs.Snapped.{Snapped}
-use Rattle.machine.specs.Whole.{Whole}
+use Rattle.program_order.specs.Processor.{Whole}
 use Rattle.machine.proofs.reached_tests.shown.Goals as goal
 
 -- what a taken snapshot shows of a machine whose boot memory and log are known

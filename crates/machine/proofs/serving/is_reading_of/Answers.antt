@@ -1,5 +1,5 @@
 use Rattle.std.proofs.Common.{Some, ap, sym, ◌∙◌}
-use Rattle.machine.specs.declared.event.Note.{Note}
+use Rattle.program_order.specs.declared.event.Note.{Note}
 use Rattle.in_flight.specs.Lookup.{sought, stage_at}
 use Rattle.machine.specs.Tokens.{read_of}
 use Rattle.instruction_table.specs.Finding.{seek}

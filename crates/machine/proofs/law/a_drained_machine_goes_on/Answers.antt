@@ -1,8 +1,0 @@
-use Rattle.machine.proofs.GoingOn.{exchange_accepted, issue_accepted}
-use Rattle.machine.proofs.law.a_drained_machine_goes_on.Goals as goal
-
-pub returns-clause-issue : goal.returns-clause-issue
-returns-clause-issue c = issue_accepted
-
-pub returns-clause-exchange : goal.returns-clause-exchange
-returns-clause-exchange c = exchange_accepted

@@ -1,0 +1,39 @@
+-- The exchange: what a request and an exchange are refused for, and what an exchange leaves.
+-- Source: 60100000, exchange jump. The requests, their refusals and the order of these are ours.
+use Rattle.std.specs.Prelude.{ℕ, not, ◌&&◌, nat_le, List, [], ◌∷◌, ◌++◌, Option, Some, None, is_some, is_none}
+use Rattle.instruction_table.specs.declared.refusal.Refusal.TheVariants.{Budget, Nothing, ExchangeBusy, NotDrained, PackageRange, MidWord}
+use Rattle.exchange_package.specs.Package.{package_fits}
+use Rattle.sequential.specs.declared.state.State.{State}
+use Rattle.sequential.specs.Swap.{swap}
+use Rattle.sequential.specs.Replay.{Exchanged}
+use Rattle.in_flight.specs.declared.member.Member.{Member}
+use Rattle.in_flight.specs.Tests.{Test}
+use Rattle.in_flight.specs.Lookup.{is_pending}
+use Rattle.program_order.specs.Processor.{Whole}
+
+-- ---- what they are refused for ----
+
+-- E3, budget: 1,000,000 requests were accepted; E17, exchange busy: a request waits; E19, package range: the package
+-- does not lie in memory
+unfoldable pub ask_tests : ℕ → Option ℕ → ℕ → ℕ → List Test
+ask_tests asked request size n =
+    record { fails = nat_le 1000000 asked; refusal = Budget }
+    ∷ record { fails = is_some request; refusal = ExchangeBusy }
+    ∷ record { fails = not (package_fits n size); refusal = PackageRange }
+    ∷ []
+
+-- E15, nothing: no exchange was asked for; E18, not drained: an instruction is pending; E25, mid word: it runs
+-- without fault in the middle of a word
+unfoldable pub exchange_tests : Option ℕ → List Member → State → List Test
+exchange_tests request pending state =
+    record { fails = is_none request; refusal = Nothing }
+    ∷ record { fails = is_pending pending; refusal = NotDrained }
+    ∷ record { fails = is_none state.halt && (not state.fault && is_some state.place.held); refusal = MidWord }
+    ∷ []
+
+-- ---- what it leaves ----
+
+-- the state and the package change places, the log gains the exchange, and no request waits
+unfoldable pub after_exchange : Whole → Option ℕ → Whole
+after_exchange w None = w
+after_exchange w (Some n) = record w { state = swap n w.state; log = w.log ++ Exchanged n ∷ []; request = None }

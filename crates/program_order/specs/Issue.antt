@@ -1,0 +1,58 @@
+-- Issue: what it is refused for, and what it leaves.
+-- Source: Thornton, scoreboard; 60100000, unit and register conflicts. The order of the refusals and the fetch wait
+-- are ours. First order, the last of them, stands in in_flight/specs/Tests.antt.
+use Rattle.std.specs.Prelude.{ℕ, suc, Bool, false, ◌&&◌, nat_le, List, [], ◌∷◌, ◌++◌, Option, Some, None, is_some, is_none, unwrap_or}
+use Rattle.std.specs.List.{list_any}
+use Rattle.instruction_table.specs.declared.instr.Unit.TheVariants.{Branch}
+use Rattle.instruction_table.specs.declared.refusal.Halt.TheVariants.{Stop}
+use Rattle.instruction_table.specs.declared.refusal.Refusal.TheVariants.{Halted, Faulted, Budget, BranchPending, ExchangeWaiting, FetchWait}
+use Rattle.instruction_table.specs.Table.{row}
+use Rattle.sequential.specs.declared.fetching.Fetched.{Fetched}
+use Rattle.sequential.specs.declared.fetching.Fetched.TheVariants.{Halting, Passing, Taking}
+use Rattle.sequential.specs.declared.place.Place.{Place}
+use Rattle.sequential.specs.declared.state.State.{State}
+use Rattle.sequential.specs.State.{Bounds, bounds_of, absolute, move_to, halt_by}
+use Rattle.sequential.specs.Step.{fetch}
+use Rattle.sequential.specs.Replay.{Issued}
+use Rattle.in_flight.specs.declared.member.Stage.TheVariants.{Waiting}
+use Rattle.in_flight.specs.declared.member.Phase.TheVariants.{Before}
+use Rattle.in_flight.specs.declared.member.Member.{Member}
+use Rattle.in_flight.specs.Member.{is_branch, delays_fetch}
+use Rattle.in_flight.specs.Tests.{Test, unit_for, row_tests}
+use Rattle.program_order.specs.Processor.{Whole}
+
+-- ---- what an issue is refused for ----
+
+-- some pending instruction delays a fetch from this absolute address (none does where the address is out of range)
+unfoldable pub waits_at : Option ℕ → List Member → Bool
+waits_at None ms = false
+waits_at (Some a) ms = list_any (delays_fetch a) ms
+
+-- E6, fetch waits: no word is held, P is in range, and a store may still change the word
+unfoldable pub fetch_waits : Bounds → Place → List Member → Bool
+fetch_waits b place ms = is_none place.held && waits_at (absolute b place.p) ms
+
+-- E1, halted; E2, faulted; E3, budget: it is used up; E4, branch pending; E5, exchange waiting: one is asked for and
+-- no word is held; E6, fetch waits; then E7 and E8 by first order
+unfoldable pub issue_tests : State → List Member → Option ℕ → ℕ → ℕ → List Test
+issue_tests state pending request budget count =
+    record { fails = is_some state.halt; refusal = Halted (unwrap_or state.halt Stop) }
+    ∷ record { fails = state.fault; refusal = Faulted }
+    ∷ record { fails = nat_le budget count; refusal = Budget }
+    ∷ record { fails = list_any is_branch pending; refusal = BranchPending }
+    ∷ record { fails = is_some request && is_none state.place.held; refusal = ExchangeWaiting }
+    ∷ record { fails = fetch_waits (bounds_of state) state.place pending; refusal = FetchWait }
+    ∷ row_tests pending (fetch (bounds_of state) state.memory state.place)
+
+-- ---- what it leaves ----
+
+-- the machine halts, or the place moves on; the log gains an instruction, and one with a unit becomes pending
+unfoldable pub after_issue : Whole → Fetched → Whole
+after_issue w (Halting h place) = record w { state = halt_by (move_to w.state place) h; log = w.log ++ Issued ∷ [] }
+after_issue w (Passing place) = record w { state = move_to w.state place; log = w.log ++ Issued ∷ [] }
+after_issue w (Taking i place) = record w {
+  state = move_to w.state place;
+  pending = w.pending ++ record { instr = i; at = w.state.place.p; number = suc w.last; unit = unwrap_or (unit_for w.pending (row i).unit) Branch; phase = Before Waiting } ∷ [];
+  log = w.log ++ Issued ∷ [];
+  last = suc w.last;
+}

@@ -1,0 +1,16 @@
+-- The definitions of the machine with instructions in flight: its events, what each is refused for and what it leaves,
+-- and what every run promises.
+-- Source: Thornton; 60100000; what is ours is marked in each file.
+pub mod Complete
+pub mod Processor
+pub mod Issue
+pub mod Units
+pub mod Memory
+pub mod Exchange
+pub mod Events
+pub mod Sound
+pub mod Run
+pub mod Headline
+pub mod Working
+pub mod Reached
+pub mod Refusals

@@ -1,0 +1,29 @@
+-- The events of memory: what an acceptance and a return leave.
+-- Source: Thornton, stunt box; 60100000, central memory. What they are refused for stands in
+-- in_flight/specs/Tests.antt.
+use Rattle.std.specs.Prelude.{ℕ, true, [], ◌∷◌, slice_index_or, slice_set}
+use Rattle.instruction_table.specs.declared.instr.Reg.TheVariants.{X}
+use Rattle.instruction_table.specs.Finding.{Found, put_back}
+use Rattle.relocation.specs.declared.area.Access.{Access}
+use Rattle.relocation.specs.declared.area.Access.TheVariants.{Load, Store as StoreWord}
+use Rattle.hopper.specs.Hopper.{bank_of}
+use Rattle.sequential.specs.State.{write, poke}
+use Rattle.in_flight.specs.declared.member.Later.TheVariants.{Accepted}
+use Rattle.in_flight.specs.declared.member.Phase.TheVariants.{After}
+use Rattle.in_flight.specs.declared.member.Member.{Member}
+use Rattle.in_flight.specs.declared.member.Entry.{Entry}
+use Rattle.in_flight.specs.declared.member.Arrival.{Arrival}
+use Rattle.in_flight.specs.Lookup.{in_phase}
+use Rattle.program_order.specs.Processor.{Whole}
+
+-- the reference leaves its place and its bank is busy: a load has its word in its channel, a store has written memory
+unfoldable pub after_accept : Whole → Found Member Entry → ℕ → Access → Whole
+after_accept w f a (Load n) = record w {
+  pending = put_back f (in_phase f.member (After (Accepted n (slice_index_or w.state.memory a 0))) ∷ []);
+  busy = slice_set w.busy (bank_of a) true;
+}
+after_accept w f a (StoreWord v) = record w { state = poke w.state a v; pending = put_back f []; busy = slice_set w.busy (bank_of a) true }
+
+-- the loaded word is written to its X register
+unfoldable pub after_return : Whole → Found Member Arrival → Whole
+after_return w f = record w { state = write w.state (X f.what.channel) f.what.word; pending = put_back f [] }

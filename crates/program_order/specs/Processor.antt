@@ -1,0 +1,45 @@
+-- The machine with instructions in flight: what it has, how it boots, and which state its effects come to.
+-- Source: ours; the parts are Thornton's, scoreboard and stunt box.
+use Rattle.std.specs.Prelude.{ℕ, Bool, false, List, [], Option, None, replicate}
+use Rattle.sequential.specs.declared.state.State.{State}
+use Rattle.sequential.specs.State.{bounds_of}
+use Rattle.sequential.specs.Replay.{LogStep, replay, boot}
+use Rattle.in_flight.specs.declared.member.Member.{Member}
+use Rattle.program_order.specs.Complete.{complete}
+
+-- the machine with its pending instructions, busy banks, request, log and counts
+pub record Whole : Type 0 where
+  -- the state with the effects made so far
+  pub state : State
+  -- the instructions with an effect still to come, in issue order
+  pub pending : List Member
+  -- by the number of the bank, whether it is busy
+  pub busy : List Bool
+  -- the package address of the exchange that was asked for
+  pub request : Option ℕ
+  -- the instructions issued and the exchanges made since boot
+  pub log : List LogStep
+  -- how many instructions may be issued
+  pub budget : ℕ
+  -- how many requests were accepted
+  pub asked : ℕ
+  -- the number of the last reservation
+  pub last : ℕ
+  -- the memory with which it was booted
+  pub boot_memory : List ℕ
+  -- whether its seats were given out
+  pub seats_given : Bool
+
+-- ---- the whole at boot, and what it comes to ----
+
+-- the machine at boot: nothing is pending, no bank is busy, no exchange is asked for, and the log is empty
+unfoldable pub boot_whole : List ℕ → ℕ → Whole
+boot_whole memory budget = record { state = boot memory; pending = []; busy = replicate 32 false; request = None; log = []; budget = budget; asked = 0; last = 0; boot_memory = memory; seats_given = false }
+
+-- the effects so far with those still to come
+unfoldable pub completed : Whole → State
+completed w = complete (bounds_of w.state) w.state w.pending
+
+-- the state of the machine that does one instruction at a time, after the log
+unfoldable pub replayed : Whole → Option State
+replayed w = replay (boot w.boot_memory) w.log

@@ -1,0 +1,84 @@
+-- The events of a unit: read, finish and store.
+-- Source: Thornton, scoreboard; 60100000, unit and register conflicts. The turn of references is ours. What a read is
+-- refused for stands in in_flight/specs/Tests.antt.
+use Rattle.std.specs.Prelude.{ℕ, List, [], ◌∷◌, Option, Some, None, unwrap_or}
+use Rattle.instruction_table.specs.declared.instr.Instr.{Instr}
+use Rattle.instruction_table.specs.Finding.{Found, put_back}
+use Rattle.instruction_table.specs.Shape.{shape_of}
+use Rattle.registers.specs.declared.file.RegisterFile.{RegisterFile}
+use Rattle.relocation.specs.declared.area.Access.{Access}
+use Rattle.relocation.specs.declared.area.Access.TheVariants.{Load, Store as StoreWord}
+use Rattle.unit_ops.specs.Values.{value_of}
+use Rattle.sequential.specs.declared.work.ProgramReference.{ProgramReference}
+use Rattle.sequential.specs.State.{Bounds, bounds_of, absolute}
+use Rattle.sequential.specs.Work.{operands, Work, work_of, do_now}
+use Rattle.in_flight.specs.declared.member.Stage.{Stage}
+use Rattle.in_flight.specs.declared.member.Stage.TheVariants.{Waiting, Read as HasRead, Finished}
+use Rattle.in_flight.specs.declared.member.Later.{Later}
+use Rattle.in_flight.specs.declared.member.Later.TheVariants.{Entered, Accepted}
+use Rattle.in_flight.specs.declared.member.Phase.TheVariants.{Before}
+use Rattle.in_flight.specs.declared.member.Member.{Member}
+use Rattle.in_flight.specs.Tests.{store_conflicts, Test, nothing}
+use Rattle.in_flight.specs.Lookup.{in_phase, kept, place_for, enters}
+use Rattle.program_order.specs.Processor.{Whole}
+
+-- ---- what they are refused for ----
+
+-- E15, nothing: the unit has not read its operands, or has its value already
+unfoldable pub finish_tests : Stage → List Test
+finish_tests Waiting = nothing
+finish_tests (HasRead os) = []
+finish_tests (Finished v) = nothing
+
+-- a reference in range enters a place; out of range a load has +0 in its channel, and a store is gone
+unfoldable pub entering : ℕ → Option ℕ → Access → Option Later
+entering place (Some a) access = Some (Entered place a access)
+entering place None (Load n) = Some (Accepted n 0)
+entering place None (StoreWord word) = None
+
+-- what is left after the store event
+unfoldable pub rest_of : Bounds → ℕ → Option ProgramReference → Option Later
+rest_of b place None = None
+rest_of b place (Some r) = entering place (absolute b r.address) r.access
+
+-- E15, nothing, where the unit has not finished; then E10, result held, E11, hopper full, and E12, out of turn
+unfoldable pub store_tests : Bounds → List Member → Stage → List Member → Instr → List Test
+store_tests b ms Waiting earlier i = nothing
+store_tests b ms (HasRead os) earlier i = nothing
+store_tests b ms (Finished v) earlier i = store_conflicts ms earlier i (enters (rest_of b 0 (work_of (shape_of i) v).reference))
+
+-- ---- what they leave ----
+
+-- an instruction that waited has read its operands
+unfoldable pub stage_after_read : RegisterFile → Instr → ℕ → Stage → Stage
+stage_after_read g i at Waiting = HasRead (operands i at g)
+stage_after_read g i at (HasRead os) = HasRead os
+stage_after_read g i at (Finished v) = Finished v
+
+-- an instruction that had read its operands has its value
+unfoldable pub stage_after_finish : Instr → Stage → Stage
+stage_after_finish i Waiting = Waiting
+stage_after_finish i (HasRead os) = Finished (value_of i os)
+stage_after_finish i (Finished v) = Finished v
+
+-- all operands are read in one step
+unfoldable pub after_read : Whole → Found Member Stage → Whole
+after_read w f = record w { pending = put_back f (in_phase f.member (Before (stage_after_read w.state.registers f.member.instr f.member.at f.what)) ∷ []) }
+
+-- the unit has its value, that of the operands that were read
+unfoldable pub after_finish : Whole → Found Member Stage → Whole
+after_finish w f = record w { pending = put_back f (in_phase f.member (Before (stage_after_finish f.member.instr f.what)) ∷ []) }
+
+-- the result is written and the jump made, a reference in range enters the hopper, and the unit is released; a
+-- reference out of range may set the fault flag
+unfoldable pub after_work : Whole → Found Member Stage → Work → Whole
+after_work w f work = record w {
+  state = do_now (bounds_of w.state) w.state work;
+  pending = put_back f (kept f.member (rest_of (bounds_of w.state) (unwrap_or (place_for w.pending) 0) work.reference));
+}
+
+-- the store event, which only an instruction that has its value comes to
+unfoldable pub after_store : Whole → Found Member Stage → Stage → Whole
+after_store w f Waiting = w
+after_store w f (HasRead os) = w
+after_store w f (Finished v) = after_work w f (work_of (shape_of f.member.instr) v)

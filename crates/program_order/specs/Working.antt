@@ -1,0 +1,99 @@
+-- Runs of the events that work on what is pending, and how much of it is left. Source: ours.
+use Rattle.std.specs.Prelude.{◌≡◌, ◌≤◌, ◌+◌, ℕ, Bool, true, false, if◌then◌else◌, List, [], ◌∷◌, Option, Some, None, length, slice_index_or}
+use Rattle.instruction_table.specs.Shape.{Shape, Puts, Loads, Stores, Jumps, Links, shape_of}
+use Rattle.instruction_table.specs.declared.instr.Unit.{Unit as FunctionalUnit}
+use Rattle.relocation.specs.declared.area.Access.TheVariants.{Load as LoadInto, Store as StoreWord}
+use Rattle.hopper.specs.Hopper.{bank_of}
+use Rattle.program_order.specs.declared.event.Event.{Event}
+use Rattle.program_order.specs.declared.event.Event.TheVariants.{Issue, Read, Finish, Store, Accept, Return, BankFree, Ask, Exchange}
+use Rattle.in_flight.specs.declared.member.Stage.{Stage}
+use Rattle.in_flight.specs.declared.member.Stage.TheVariants.{Waiting, Read as HasRead, Finished}
+use Rattle.in_flight.specs.declared.member.Later.{Later}
+use Rattle.in_flight.specs.declared.member.Later.TheVariants.{Entered, Accepted}
+use Rattle.in_flight.specs.declared.member.Phase.{Phase}
+use Rattle.in_flight.specs.declared.member.Phase.TheVariants.{Before, After}
+use Rattle.in_flight.specs.declared.member.Member.{Member}
+use Rattle.program_order.specs.Processor.{Whole}
+use Rattle.program_order.specs.Events.{allowed, after}
+
+-- neither an issue nor about an exchange
+unfoldable pub is_work : Event → Bool
+is_work Issue = false
+is_work (Read u) = true
+is_work (Finish u) = true
+is_work (Store u) = true
+is_work (Accept p) = true
+is_work (Return c) = true
+is_work (BankFree k) = true
+is_work (Ask n) = false
+is_work Exchange = false
+
+-- the events are accepted one after another, and each works on what is pending
+abbrev pub Accepts : Whole → List Event → Type 0
+Accepts w [] = Unit {0}
+Accepts w (e ∷ events) = (allowed w e ≡ None) × (is_work e ≡ true) × Accepts (after w e) events
+
+-- the whole after these events
+unfoldable pub leads_to : Whole → List Event → Whole
+leads_to w [] = w
+leads_to w (e ∷ events) = leads_to (after w e) events
+
+-- so many such events, at most forty, lead from one whole to the other
+pub record Works (w v : Whole) (count : ℕ) : Type 0 where
+  pub events : List Event
+  pub accepted : Accepts w events
+  pub leads : v ≡ leads_to w events
+  pub counted : length events ≡ count
+  pub limit : count ≤ 40
+
+-- ---- what is next to be done ----
+
+-- the next event of an instruction that waits for no other: a busy bank is freed before its reference is accepted
+unfoldable pub next_in : FunctionalUnit → Phase → List Bool → Event
+next_in unit (Before Waiting) busy = Read unit
+next_in unit (Before (HasRead os)) busy = Finish unit
+next_in unit (Before (Finished v)) busy = Store unit
+next_in unit (After (Entered place a access)) busy =
+    if slice_index_or busy (bank_of a) false then BankFree (bank_of a) else Accept place
+next_in unit (After (Accepted n word)) busy = Return n
+
+-- the next event of the oldest pending instruction
+unfoldable pub next_of : List Member → List Bool → Option Event
+next_of [] busy = None
+next_of (m ∷ ms) busy = Some (next_in m.unit m.phase busy)
+
+-- ---- how much is left to be done ----
+
+-- the most events after the store event: the release of a bank and an acceptance, and for a load its return
+unfoldable pub reference_cost : Shape → ℕ
+reference_cost (Puts rs) = 0
+reference_cost (Loads n) = 3
+reference_cost (Stores n) = 2
+reference_cost Jumps = 0
+reference_cost Links = 2
+
+-- the events of the unit that are left: read, finish and store for an instruction that waits
+unfoldable pub stage_cost : Stage → ℕ
+stage_cost Waiting = 3
+stage_cost (HasRead os) = 2
+stage_cost (Finished v) = 1
+
+-- the most events of a reference that waits in the hopper, or of a load that waits in its channel
+unfoldable pub later_cost : Later → ℕ
+later_cost (Entered place a (LoadInto n)) = 3
+later_cost (Entered place a (StoreWord word)) = 2
+later_cost (Accepted n word) = 1
+
+-- the most events of an instruction of that shape in that phase
+unfoldable pub phase_cost : Shape → Phase → ℕ
+phase_cost shape (Before t) = stage_cost t + reference_cost shape
+phase_cost shape (After l) = later_cost l
+
+-- the most events that a pending instruction still takes
+unfoldable pub cost : Member → ℕ
+cost m = phase_cost (shape_of m.instr) m.phase
+
+-- the most events that all pending instructions still take
+unfoldable pub work_left : List Member → ℕ
+work_left [] = 0
+work_left (m ∷ ms) = cost m + work_left ms
