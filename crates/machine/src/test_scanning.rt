@@ -455,9 +455,7 @@ impl ScanningMachine {
 
     /// What a unit does at its store event to the registers, P and the fault flag.
     fn carry_out(&mut self, instr: &Instr, value: &UnitValue) {
-        let mut registers = self.state.registers;
-        write_registers(&mut registers, instr.puts().as_slice(), number(value));
-        self.state.registers = registers;
+        write_registers(&mut self.state, instr.puts().as_slice(), number(value));
         self.state.place = self.state.place.after_jump(jump(instr, value));
         let size = self.state.memory.size();
         if faults(&self.state.area, size, &reference(instr, value)) {
