@@ -17,6 +17,8 @@ mod hearing;
 mod image;
 mod input;
 mod judging;
+#[cfg(test)]
+mod led_tests;
 mod line;
 mod listing;
 mod logs;

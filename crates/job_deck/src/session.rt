@@ -1,5 +1,6 @@
-ghost use Rattle.std.specs.Prelude.{◌≡◌, ◌||◌, ◌≤◌, ◌+◌, MatchResult};
+ghost use Rattle.std.specs.Prelude.{◌≡◌, ◌||◌, ◌≤◌, ◌+◌, [], IfOk, MatchResult};
 ghost use Rattle.instruction_table.specs.declared.refusal.Refusal.TheVariants.{OutOfMemory};
+ghost use Rattle.machine.specs.Reached.{GoesOn, IsReached};
 ghost use Rattle.machine.specs.Whole.{boot_whole};
 ghost use Rattle.job_deck.specs.Deck.{deck};
 ghost use Rattle.job_deck.specs.Device.{Moves, failed_after};
@@ -98,7 +99,7 @@ fn hold<I: Input, O: Output>(
     before: u32,
 ) -> Result<(), SessionError>
     requires { before ≤ 10000000 }
-    ensures told { Moves (I.remaining input.old) (I.remaining input.new) (λ xs ys. Tells result machine.old (before + 1) (shown deck.now.shows.items) xs ys (O.contents output.old) (O.contents output.new)) }
+    ensures told { Moves (I.remaining input.old) (I.remaining input.new) (λ xs ys. Tells result (GoesOn machine.old) machine.old (before + 1) (shown deck.now.shows.items) xs ys (O.contents output.old) (O.contents output.new)) }
     ensures read { I.has_failed input.new ≡ (I.has_failed input.old || is_read_error result) }
     ensures write { O.has_failed output.new ≡ (O.has_failed output.old || is_write_error result) }
     ensures input { I.lender input.new ≡ I.lender input.old }
@@ -116,7 +117,8 @@ fn hold<I: Input, O: Output>(
 /// `OutOfMemory`.
 fn booted(alloc: Global, deck: &Deck, budget: u64) -> Result<Machine, Refusal>
     requires { budget ≤ 10000000 }
-    ensures { MatchResult result (λ machine. machine ≡ boot_whole deck.now.image.memory budget) (λ refusal. refusal ≡ OutOfMemory) }
+    ensures machine { MatchResult result (λ machine. machine ≡ boot_whole deck.now.image.memory budget) (λ refusal. refusal ≡ OutOfMemory) }
+    ensures reached { IfOk result (λ machine. IsReached deck.now.image.memory budget [] [] machine) }
 {
     match deck.image.memory().copy() {
         Ok(memory) => Machine::boot(alloc, memory, budget),
