@@ -8,13 +8,13 @@ use Rattle.in_flight.specs.Lookup.{is_pending}
 use Rattle.machine.specs.Reached.{GoesOn, IsReached}
 use Rattle.machine.specs.Whole.{Whole, boot_whole, replayed}
 use Rattle.instruction_table.specs.declared.refusal.Refusal.{Refusal}
-use Rattle.job_deck.specs.Deck.{Good, deck}
-use Rattle.job_deck.specs.Views.{plan, shown}
-use Rattle.job_deck.specs.declared.deck.Deck.{Deck}
+use Rattle.deck.specs.Deck.{Good, deck}
+use Rattle.deck.specs.Views.{plan, shown}
+use Rattle.deck.specs.declared.deck.Deck.{Deck}
 use Rattle.job_deck.specs.AnswerText.{answer_line}
-use Rattle.job_deck.specs.Device.{Moves}
+use Rattle.device_text.specs.Device.{Moves}
 use Rattle.job_deck.specs.Dump.{dump_text}
-use Rattle.job_deck.specs.Line.{lines_of}
+use Rattle.device_text.specs.Line.{lines_of}
 use Rattle.job_deck.specs.Schedule.{heard}
 use Rattle.job_deck.specs.Session.{IsDump, IsLast, IsReply, Session}
 use Rattle.job_deck.specs.Holding.{Closes, Converses, last_said, refusal_of}
@@ -22,7 +22,7 @@ use Rattle.job_deck.specs.Told.{Performs, Tells, TellsFromBoot}
 use Rattle.job_deck.specs.declared.schedule.Spoken.{Spoken}
 use Rattle.job_deck.specs.declared.session.SessionError.{SessionError}
 use Rattle.job_deck.specs.declared.session.SessionError.TheVariants as errors
-use Rattle.job_deck.proofs.Moving.{Moves-trans, Moves-weaker}
+use Rattle.device_text.proofs.Moving.{Moves-trans, Moves-weaker}
 
 -- the dump of what a snapshot shows
 pub is_dump : (w : Whole) (s state : State) (l log : List LogStep) (m : List ℕ) (shows : List (ℕ × ℕ)) → is_pending w.pending ≡ false → s ≡ w.state → l ≡ w.log → m ≡ w.boot_memory → replay (boot m) l ≡ Some s → state ≡ s → log ≡ l → IsDump w shows (dump_text state (entries_of log) shows)

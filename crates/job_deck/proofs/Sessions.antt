@@ -15,15 +15,15 @@ use Rattle.machine.specs.Run.{IsAnswer, IsAnswered, settled, settled_all}
 use Rattle.machine.specs.Whole.{Whole}
 use Rattle.machine.proofs.Reached.{goes_on_then}
 use Rattle.job_deck.specs.AnswerText.{answer_line}
-use Rattle.job_deck.specs.Device.{Moves, WritesFront}
-use Rattle.job_deck.specs.Line.{ReadsPart, lines_of}
+use Rattle.device_text.specs.Device.{Moves, WritesFront}
+use Rattle.device_text.specs.Line.{ReadsPart, lines_of}
 use Rattle.job_deck.specs.Schedule.{heard}
 use Rattle.job_deck.specs.Session.{Says, Session}
 use Rattle.job_deck.specs.Holding.{Converses, Hears}
 use Rattle.job_deck.specs.declared.schedule.Spoken.{Spoken}
 use Rattle.job_deck.specs.declared.schedule.Spoken.TheVariants.{Makes, Ends, Drains, Faulty}
 use Rattle.job_deck.specs.declared.session.SessionError.TheVariants as errors
-use Rattle.job_deck.proofs.Moving.{Moves-refl, Moves-trans, Moves-weaker}
+use Rattle.device_text.proofs.Moving.{Moves-refl, Moves-trans, Moves-weaker}
 
 -- ---- one more event
 

@@ -10,8 +10,8 @@ use Rattle.machine.specs.Reached.{GoesOn}
 use Rattle.machine.specs.Run.{IsAnswer, settled}
 use Rattle.machine.specs.Whole.{Whole}
 use Rattle.job_deck.specs.AnswerText.{answer_line}
-use Rattle.job_deck.specs.Device.{Writes, WritesFront}
-use Rattle.job_deck.specs.Line.{IsText, lines_of}
+use Rattle.device_text.specs.Device.{Writes, WritesFront}
+use Rattle.device_text.specs.Line.{IsText, lines_of}
 use Rattle.job_deck.specs.Schedule.{heard}
 use Rattle.job_deck.specs.Session.{IsDump, IsReply, Session}
 use Rattle.job_deck.specs.declared.schedule.Spoken.{Spoken}

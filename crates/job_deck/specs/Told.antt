@@ -8,8 +8,8 @@ use Rattle.machine.specs.declared.event.Done.{Done}
 use Rattle.machine.specs.declared.event.Event.{Event}
 use Rattle.machine.specs.Reached.{IsReached}
 use Rattle.machine.specs.Whole.{Whole, boot_whole}
-use Rattle.job_deck.specs.Deck.{Plan, Reading, Good, Bad}
-use Rattle.job_deck.specs.Line.{IsText, lines_of}
+use Rattle.deck.specs.Deck.{Plan, Reading, Good, Bad}
+use Rattle.device_text.specs.Line.{IsText, lines_of}
 use Rattle.job_deck.specs.Schedule.{heard}
 use Rattle.job_deck.specs.Session.{IsLast, IsReply, Session}
 use Rattle.job_deck.specs.declared.schedule.Spoken.TheVariants.{Faulty}

@@ -9,9 +9,9 @@ ghost use Rattle.machine.specs.declared.event.Event.{Event as SomeEvent};
 ghost use Rattle.machine.specs.Headline.{IsFaithful};
 ghost use Rattle.machine.specs.Whole.{Whole};
 ghost use Rattle.job_deck.specs.AnswerText.{answer_line};
-ghost use Rattle.job_deck.specs.Deck.{Good, Plan, deck};
-ghost use Rattle.job_deck.specs.Device.{Moves};
-ghost use Rattle.job_deck.specs.Line.{lines_of};
+ghost use Rattle.deck.specs.Deck.{Good, Plan, deck};
+ghost use Rattle.device_text.specs.Device.{Moves};
+ghost use Rattle.device_text.specs.Line.{lines_of};
 ghost use Rattle.job_deck.specs.Session.{Says};
 
 use crate::events;

@@ -2,21 +2,19 @@ ghost use Rattle.std.specs.Prelude.{◌≡◌, ◌||◌, ◌≤◌, ◌+◌, [],
 ghost use Rattle.instruction_table.specs.declared.refusal.Refusal.TheVariants.{OutOfMemory};
 ghost use Rattle.machine.specs.Reached.{GoesOn, IsReached};
 ghost use Rattle.machine.specs.Whole.{boot_whole};
-ghost use Rattle.job_deck.specs.Deck.{deck};
-ghost use Rattle.job_deck.specs.Device.{Moves, failed_after};
+ghost use Rattle.deck.specs.Deck.{deck};
+ghost use Rattle.device_text.specs.Device.{Moves, failed_after};
 ghost use Rattle.job_deck.specs.Listing.{is_read_refusal, is_write_refusal};
 ghost use Rattle.job_deck.specs.Holding.{Converses, IsMade, is_read_error, is_write_error, refusal_of};
 ghost use Rattle.job_deck.specs.Told.{Performs, Tells};
-ghost use Rattle.job_deck.specs.Views.{shown};
+ghost use Rattle.deck.specs.Views.{shown};
 
 use crate::answering::put_answer;
-use crate::deck::Deck;
 use crate::ending::finish;
 use crate::hearing::hear;
-use crate::input::{Input, Watched};
-use crate::output::{Output, Tracked, WriteFailed};
-use crate::reading::{read_deck_from, refusal};
 use crate::schedule::Spoken;
+use deck::{Deck, read_deck_from, refusal};
+use device_text::{Input, Output, Tracked, Watched, WriteFailed};
 use instruction_table::{DeckFault, Refusal};
 use machine::{Event, Machine};
 use std::alloc::Global;

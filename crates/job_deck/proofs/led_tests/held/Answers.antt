@@ -9,11 +9,11 @@ use Rattle.machine.specs.Headline.{IsFaithful}
 use Rattle.machine.specs.Reached.{IsReached}
 use Rattle.machine.specs.Whole.{Whole}
 use Rattle.job_deck.specs.AnswerText.{answer_line}
-use Rattle.job_deck.specs.Deck.{Good, Plan, Reading, deck}
-use Rattle.job_deck.specs.Line.{lines_of}
+use Rattle.deck.specs.Deck.{Good, Plan, Reading, deck}
+use Rattle.device_text.specs.Line.{lines_of}
 use Rattle.job_deck.specs.Session.{Says}
 use Rattle.job_deck.specs.Told.{Performs, TellsFromBoot}
-use Rattle.job_deck.proofs.Moving.{Moves-weaker}
+use Rattle.device_text.proofs.Moving.{Moves-weaker}
 use Rattle.job_deck.proofs.led_tests.held.Goals as goal
 
 -- what is said of a session that was held to its last line
