@@ -2,15 +2,15 @@
 use Rattle.std.proofs.Common.{◌≡◌, ℕ, ◌≤◌, true, false, ltb, List, [], ◌∷◌, length, Option, refl, sym, ap, ◌∙◌}
 use Rattle.std.proofs.lemmas.Bool.{lt-ltb, le-ltb}
 use Rattle.instruction_table.specs.declared.refusal.DeckFault.TheVariants as faults
-use Rattle.job_deck.specs.Device.{Moves}
-use Rattle.job_deck.specs.Line.{IsText, LineTaken, lines_of}
+use Rattle.device_text.specs.Device.{Moves}
+use Rattle.device_text.specs.Line.{IsText, LineTaken, lines_of}
 use Rattle.job_deck.specs.Schedule.{heard, spoken}
 use Rattle.job_deck.specs.Holding.{Hears}
-use Rattle.job_deck.specs.declared.line.Took.TheVariants.{Whole, Long}
+use Rattle.device_text.specs.declared.line.Took.TheVariants.{Whole, Long}
 use Rattle.job_deck.specs.declared.schedule.Spoken.{Spoken}
 use Rattle.job_deck.specs.declared.schedule.Spoken.TheVariants.{Makes, Ends, Drains, Faulty}
-use Rattle.job_deck.proofs.Lines.{FirstHas, lines_whole, lines_first_long}
-use Rattle.job_deck.proofs.Moving.{Moves-weaker}
+use Rattle.device_text.proofs.Lines.{FirstHas, lines_whole, lines_first_long}
+use Rattle.device_text.proofs.Moving.{Moves-weaker}
 
 whole_line : (n : ℕ) (text ys : List ℕ) → n ≤ 10000000 → length text ≤ 200 → heard n ((text, ys) ∷ lines_of ys) ≡ spoken text
 whole_line n text ys low short =

@@ -1,15 +1,7 @@
-pub mod Moving
-pub mod Fields
-pub mod Numbers
-pub mod Lines
-pub mod DeckLines
-pub mod Texts
 pub mod Ranges
 pub mod LogReading
-pub mod Codes
 pub mod Listings
 pub mod Speaking
 pub mod HeardLines
 pub mod Sessions
 pub mod Endings
-pub mod Unread

@@ -5,9 +5,9 @@ use Rattle.std.specs.Io.KnownBytes.{Appends}
 use Rattle.instruction_table.specs.declared.decoding.Decoded.{Decoded}
 use Rattle.instruction_table.specs.declared.decoding.Decoded.TheVariants.{Legal, Refused, Straddle}
 use Rattle.instruction_table.specs.Decoding.{reading_at, GoesOn}
-use Rattle.job_deck.specs.Device.{WritesAllBut, WritesFront}
+use Rattle.device_text.specs.Device.{WritesAllBut, WritesFront}
 use Rattle.job_deck.specs.Listing.{item_text, behind, separator, items_from}
-use Rattle.job_deck.proofs.Moving.{piece_written, piece_cut, all_written}
+use Rattle.device_text.proofs.Moving.{piece_written, piece_cut, all_written}
 
 -- an item takes a parcel at least
 pub goes_on : (parcel : ℕ) (item : Decoded) → GoesOn parcel item → parcel < behind parcel item
@@ -52,6 +52,3 @@ item_cut word parcel a b c d all range low left before cut =
 none_past : (most word parcel : ℕ) → 4 ≤ parcel → items_from most word parcel ≡ []
 none_past zero word parcel high = refl
 none_past (suc fewer) word parcel high = let past : ltb parcel 4 ≡ false = le-ltb _ _ high in rw past refl
-
-pub items_done : (word parcel : ℕ) (a b : Option (List ℕ)) (all : List ℕ) → 4 ≤ parcel → AllButItems word parcel a b all → Appends a b all
-items_done word parcel a b all high left = all_written a b all (subst (λ l. WritesAllBut l a b all) (none_past left.0 word parcel high) left.2)

@@ -2,8 +2,8 @@
 use Rattle.std.proofs.Common.{◌≡◌, ℕ, suc, ◌+◌, ◌-◌, ◌<◌, List, ◌++◌, Option, refl, subst, arith}
 use Rattle.std.specs.List.{flat_map}
 use Rattle.std.specs.Io.KnownBytes.{Appends}
-use Rattle.job_deck.specs.Device.{WritesAllBut, WritesFront}
-use Rattle.job_deck.proofs.Moving.{piece_written, piece_cut}
+use Rattle.device_text.specs.Device.{WritesAllBut, WritesFront}
+use Rattle.device_text.proofs.Moving.{piece_written, piece_cut}
 use Rattle.job_deck.specs.Dump.{addresses}
 
 one_address : (f : ℕ → List ℕ) (n m a : ℕ) → n ≡ suc m → flat_map f (addresses n a) ≡ f a ++ flat_map f (addresses m (a + 1))

@@ -1,5 +1,5 @@
 -- How far a session has come.
-use Rattle.std.proofs.Common.{◌≡◌, ℕ, ◌+◌, ◌<◌, true, false, ltb, List, [], ◌∷◌, ◌++◌, length, length-append, Option, Result, Ok, Err, refl, sym, ap, ◌∙◌, subst, arith}
+use Rattle.std.proofs.Common.{◌≡◌, ℕ, ◌+◌, ◌<◌, true, false, ltb, List, [], ◌∷◌, ◌++◌, append-nil, length, length-append, Option, Result, Ok, Err, refl, sym, ap, ◌∙◌, subst, subst₂, arith}
 use Rattle.std.proofs.lemmas.Bool.{lt-ltb}
 use Rattle.std.proofs.lemmas.List.{flat_map_more}
 use Rattle.std.proofs.KnownBytes.{Appends-trans, Appends-nil}
@@ -10,18 +10,20 @@ use Rattle.instruction_table.specs.declared.refusal.DeckFault.TheVariants as fau
 use Rattle.instruction_table.specs.declared.refusal.Refusal.{Refusal}
 use Rattle.program_order.specs.declared.event.Done.{Done}
 use Rattle.program_order.specs.declared.event.Event.{Event}
+use Rattle.program_order.specs.Reached.{GoesOn, IsReached}
 use Rattle.program_order.specs.Run.{IsAnswer, IsAnswered, settled, settled_all}
 use Rattle.program_order.specs.Processor.{Whole}
+use Rattle.program_order.proofs.Reached.{goes_on_then}
 use Rattle.job_deck.specs.AnswerText.{answer_line}
-use Rattle.job_deck.specs.Device.{Moves, WritesFront}
-use Rattle.job_deck.specs.Line.{ReadsPart, lines_of}
+use Rattle.device_text.specs.Device.{Moves, WritesFront}
+use Rattle.device_text.specs.Line.{ReadsPart, lines_of}
 use Rattle.job_deck.specs.Schedule.{heard}
 use Rattle.job_deck.specs.Session.{Says, Session}
 use Rattle.job_deck.specs.Holding.{Converses, Hears}
 use Rattle.job_deck.specs.declared.schedule.Spoken.{Spoken}
 use Rattle.job_deck.specs.declared.schedule.Spoken.TheVariants.{Makes, Ends, Drains, Faulty}
 use Rattle.job_deck.specs.declared.session.SessionError.TheVariants as errors
-use Rattle.job_deck.proofs.Moving.{Moves-refl, Moves-trans, Moves-weaker}
+use Rattle.device_text.proofs.Moving.{Moves-refl, Moves-trans, Moves-weaker}
 
 -- ---- one more event
 
@@ -50,17 +52,21 @@ settled_more w (y ∷ es) (x ∷ given) e a h = settled_more (settled w y x) es 
 one_more_line : (text : List ℕ) (given : List (Result Done Refusal)) (a : Result Done Refusal) → text ≡ flat_map answer_line given → text ++ answer_line a ≡ flat_map answer_line (given ++ a ∷ [])
 one_more_line text given a h = ap (λ t. t ++ answer_line a) h ∙ flat_map_more answer_line [] given a
 
+-- nothing more leads to a machine than what led to it
+stays : (w : Whole) → GoesOn w [] [] w
+stays w memory budget events answers r = subst₂ (λ xs ys. IsReached memory budget xs ys w) (sym (append-nil events)) (sym (append-nil answers)) r
+
 -- ---- the session from the bytes xs on, as far as the bytes ys
 
 module _ (w : Whole) (n : ℕ) (old : Option (List ℕ)) where
   -- it has come to line m, with the machine v, and the bytes ys are left
   abbrev pub Has : ℕ → Whole → Option (List ℕ) → List ℕ → List ℕ → Type 0
-  Has m v new xs ys = (s : Session w n (lines_of xs)) × (s.left ≡ lines_of ys) × (s.number ≡ m) × (s.machine ≡ v) × Appends old new s.text
+  Has m v new xs ys = (s : Session (GoesOn w) w n (lines_of xs)) × (s.left ≡ lines_of ys) × (s.number ≡ m) × (s.machine ≡ v) × Appends old new s.text
 
   begun : (xs : List ℕ) → Has n w old xs xs
   unfolding settled_all
   begun xs = (
-    record { events = []; left = lines_of xs; said = refl; answers = []; answered = tt; machine = w; leads = refl; number = n; numbered = omega arith; text = []; written = refl },
+    record { events = []; left = lines_of xs; said = refl; answers = []; answered = tt; machine = w; leads = refl; led = stays w; number = n; numbered = omega arith; text = []; written = refl },
     refl,
     refl,
     refl,
@@ -70,8 +76,8 @@ module _ (w : Whole) (n : ℕ) (old : Option (List ℕ)) where
   pub session_begun : (a : Option (List ℕ)) → Moves a a (Has n w old)
   session_begun a = Moves-refl a (Has n w old) begun
 
-  gone_on : (m : ℕ) (v x : Whole) (mid new : Option (List ℕ)) (xs ys zs : List ℕ) (e : Event) (a : Result Done Refusal) → Has m v mid xs ys → Hears m (Makes e) ys zs → IsAnswer v e a → x ≡ settled v e a → Appends mid new (answer_line a) → Has (m + 1) x new xs zs
-  gone_on m v x mid new xs ys zs e a h k answer left wrote =
+  gone_on : (m : ℕ) (v x : Whole) (mid new : Option (List ℕ)) (xs ys zs : List ℕ) (e : Event) (a : Result Done Refusal) → Has m v mid xs ys → Hears m (Makes e) ys zs → IsAnswer v e a → x ≡ settled v e a → GoesOn v (e ∷ []) (a ∷ []) x → Appends mid new (answer_line a) → Has (m + 1) x new xs zs
+  gone_on m v x mid new xs ys zs e a h k answer left on wrote =
       let s = h.0 in
       let same = h.3 in
       let at = h.2 in
@@ -87,6 +93,7 @@ module _ (w : Whole) (n : ℕ) (old : Option (List ℕ)) where
           answered = answered_more w s.events s.answers e a s.answered here;
           machine = x;
           leads = left ∙ ap (λ y. settled y e a) (sym same ∙ s.leads) ∙ settled_more w s.events s.answers e a s.answered;
+          led = goes_on_then w s.machine x s.events (e ∷ []) s.answers (a ∷ []) s.led (subst (λ y. GoesOn y (e ∷ []) (a ∷ []) x) (sym same) on);
           number = m + 1;
           numbered = omega (arith, at, number, more);
           text = s.text ++ answer_line a;
@@ -99,19 +106,19 @@ module _ (w : Whole) (n : ℕ) (old : Option (List ℕ)) where
       )
 
   pub session_on : (a b c mid new : Option (List ℕ)) (m : ℕ) (v x : Whole) (e : Event) → Moves a b (Has m v mid) → Moves b c (Hears m (Makes e))
-      → ((answer : Result Done Refusal) × IsAnswer v e answer × (x ≡ settled v e answer) × Appends mid new (answer_line answer)) → Moves a c (Has (m + 1) x new)
+      → ((answer : Result Done Refusal) × IsAnswer v e answer × (x ≡ settled v e answer) × GoesOn v (e ∷ []) (answer ∷ []) x × Appends mid new (answer_line answer)) → Moves a c (Has (m + 1) x new)
   session_on a b c mid new m v x e told taken made =
-      Moves-trans a b c (Has m v mid) (Hears m (Makes e)) (Has (m + 1) x new) (λ xs ys zs h k. gone_on m v x mid new xs ys zs e made.0 h k made.1 made.2 made.3) told taken
+      Moves-trans a b c (Has m v mid) (Hears m (Makes e)) (Has (m + 1) x new) (λ xs ys zs h k. gone_on m v x mid new xs ys zs e made.0 h k made.1 made.2 made.3 made.4) told taken
 
   -- what the line that comes next says
   says_next : (m : ℕ) (v : Whole) (new : Option (List ℕ)) (xs ys : List ℕ) (said : Spoken) (h : Has m v new xs ys) → heard m (lines_of ys) ≡ said → heard h.0.number h.0.left ≡ said
   says_next m v new xs ys said h k = ap (λ l. heard h.0.number l) h.1 ∙ ap (λ i. heard i (lines_of ys)) h.2 ∙ k
 
   pub session_cut : (a b c mid new : Option (List ℕ)) (m : ℕ) (v x : Whole) (e : Event) → Moves a b (Has m v mid) → Moves b c (Hears m (Makes e))
-      → ((answer : Result Done Refusal) × IsAnswer v e answer × (x ≡ settled v e answer) × WritesFront mid new (answer_line answer)) → Moves a c (λ xs zs. Converses (Err errors.Write) w x n xs zs old new)
+      → ((answer : Result Done Refusal) × IsAnswer v e answer × (x ≡ settled v e answer) × GoesOn v (e ∷ []) (answer ∷ []) x × WritesFront mid new (answer_line answer)) → Moves a c (λ xs zs. Converses (Err errors.Write) w x n xs zs old new)
   session_cut a b c mid new m v x e told taken made =
       Moves-trans a b c (Has m v mid) (Hears m (Makes e)) (λ xs zs. Converses (Err errors.Write) w x n xs zs old new) (λ xs ys zs h k.
-      let cut = made.3 in (
+      let cut = made.4 in (
         h.0,
         e,
         made.0,

@@ -1,7 +1,7 @@
 -- Lines of a schedule that have too many fields.
 use Rattle.std.proofs.Common.{◌≡◌, ℕ, true, false, cond, eqb, List, [], ◌∷◌, refl}
 use Rattle.std.specs.List.{onto_first}
-use Rattle.job_deck.specs.Text.{fields_of}
+use Rattle.device_text.specs.Text.{fields_of}
 use Rattle.job_deck.specs.Schedule.{spoken_of}
 use Rattle.job_deck.specs.declared.schedule.Spoken.TheVariants.{Faulty}
 use Rattle.instruction_table.specs.declared.refusal.DeckFault.TheVariants as faults

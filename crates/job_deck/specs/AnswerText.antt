@@ -6,8 +6,8 @@ use Rattle.instruction_table.specs.declared.refusal.Refusal.{Refusal}
 use Rattle.instruction_table.specs.declared.refusal.Refusal.TheVariants as refusals
 use Rattle.program_order.specs.declared.event.Done.{Done}
 use Rattle.program_order.specs.declared.event.Done.TheVariants.{Issued, Made}
-use Rattle.job_deck.specs.Names.{register_text, unit_text}
-use Rattle.job_deck.specs.Pieces.{reason_text}
+use Rattle.device_text.specs.Names.{register_text, unit_text}
+use Rattle.device_text.specs.Pieces.{reason_text}
 
 -- the number of a refusal, what it says and what it names; the others are no answers to events
 abbrev pub refusal_text : Refusal → List ℕ

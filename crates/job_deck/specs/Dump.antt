@@ -10,7 +10,7 @@ use Rattle.sequential.specs.declared.log.Entry.{Entry}
 use Rattle.sequential.specs.declared.log.Entry.TheVariants as entries
 use Rattle.sequential.specs.declared.place.Place.{Place}
 use Rattle.sequential.specs.declared.state.State.{State}
-use Rattle.job_deck.specs.Pieces.{reason_text, trimmed}
+use Rattle.device_text.specs.Pieces.{reason_text, trimmed}
 
 -- the held word in twenty digits, or `none` where it isn't fetched yet
 abbrev pub held_text : Option ℕ → List ℕ

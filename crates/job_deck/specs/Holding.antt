@@ -1,16 +1,17 @@
 -- What the parts of holding a session answer, read and write.
 -- Source: ours.
-use Rattle.std.specs.Prelude.{◌≡◌, ℕ, Bool, true, false, List, ◌++◌, Option, Result, Ok, Err}
+use Rattle.std.specs.Prelude.{◌≡◌, ℕ, Bool, true, false, List, [], ◌∷◌, ◌++◌, Option, Result, Ok, Err}
 use Rattle.std.specs.Io.KnownBytes.{Keeps, Appends}
 use Rattle.instruction_table.specs.declared.refusal.Refusal.{Refusal}
 use Rattle.instruction_table.specs.declared.refusal.Refusal.TheVariants as refusals
 use Rattle.program_order.specs.declared.event.Done.{Done}
 use Rattle.program_order.specs.declared.event.Event.{Event}
+use Rattle.program_order.specs.Reached.{GoesOn}
 use Rattle.program_order.specs.Run.{IsAnswer, settled}
 use Rattle.program_order.specs.Processor.{Whole}
 use Rattle.job_deck.specs.AnswerText.{answer_line}
-use Rattle.job_deck.specs.Device.{Writes, WritesFront}
-use Rattle.job_deck.specs.Line.{IsText, lines_of}
+use Rattle.device_text.specs.Device.{Writes, WritesFront}
+use Rattle.device_text.specs.Line.{IsText, lines_of}
 use Rattle.job_deck.specs.Schedule.{heard}
 use Rattle.job_deck.specs.Session.{IsDump, IsReply, Session}
 use Rattle.job_deck.specs.declared.schedule.Spoken.{Spoken}
@@ -49,24 +50,25 @@ Hears n Ends xs ys = (heard n (lines_of xs) ≡ Ends) × IsTaken (lines_of xs) y
 Hears n Drains xs ys = (heard n (lines_of xs) ≡ Drains) × IsTaken (lines_of xs) ys
 Hears n (Faulty fault) xs ys = heard n (lines_of xs) ≡ Faulty fault
 
--- the event was made or refused, and its answer's line written
+-- the event was made or refused, which led on from wherever the machine was reached, and its answer's line written
 abbrev pub IsMade : {E : Type 0} → Result (Unit {0}) E → Whole → Whole → Event → Option (List ℕ) → Option (List ℕ) → Type 0
-IsMade result w v event old new = (answer : Result Done Refusal) × IsAnswer w event answer × (v ≡ settled w event answer) × Writes result old new (answer_line answer)
+IsMade result w v event old new = (answer : Result Done Refusal) × IsAnswer w event answer × (v ≡ settled w event answer) × GoesOn w (event ∷ []) (answer ∷ []) v × Writes result old new (answer_line answer)
 
 -- what the last line says: whether the machine is drained first
 abbrev pub last_said : Bool → Spoken
 last_said true = Drains
 last_said false = Ends
 
--- the lines that say events were answered, up to the last line; or to a fault, a failed read or a failed write
+-- the lines that say events were answered, up to the last line; or to a fault, a failed read or a failed write.
+-- Whatever led to the first machine leads, with these events and their answers more, to the last
 abbrev pub Converses : Result Bool SessionError → Whole → Whole → ℕ → List ℕ → List ℕ → Option (List ℕ) → Option (List ℕ) → Type 0
 Converses (Ok drains) w v n xs rest old new =
-    (s : Session w n (lines_of xs)) × (s.machine ≡ v) × (heard s.number s.left ≡ last_said drains) × IsTaken s.left rest × Appends old new s.text
-Converses (Err (errors.Line m fault)) w v n xs rest old new = (s : Session w n (lines_of xs)) × (m ≡ s.number) × (heard s.number s.left ≡ Faulty fault) × Appends old new s.text
+    (s : Session (GoesOn w) w n (lines_of xs)) × (s.machine ≡ v) × (heard s.number s.left ≡ last_said drains) × IsTaken s.left rest × Appends old new s.text
+Converses (Err (errors.Line m fault)) w v n xs rest old new = (s : Session (GoesOn w) w n (lines_of xs)) × (m ≡ s.number) × (heard s.number s.left ≡ Faulty fault) × Appends old new s.text
 Converses (Err errors.OutOfMemory) w v n xs rest old new = ⊥
-Converses (Err errors.Read) w v n xs rest old new = (s : Session w n (lines_of xs)) × (part : List ℕ) × IsText part × (s.left ≡ lines_of (part ++ rest)) × Appends old new s.text
+Converses (Err errors.Read) w v n xs rest old new = (s : Session (GoesOn w) w n (lines_of xs)) × (part : List ℕ) × IsText part × (s.left ≡ lines_of (part ++ rest)) × Appends old new s.text
 Converses (Err errors.Write) w v n xs rest old new =
-    (s : Session w n (lines_of xs)) × (event : Event) × (answer : Result Done Refusal) × (heard s.number s.left ≡ Makes event) × IsAnswer s.machine event answer × IsTaken s.left rest × WritesCut old new s.text (answer_line answer)
+    (s : Session (GoesOn w) w n (lines_of xs)) × (event : Event) × (answer : Result Done Refusal) × (heard s.number s.left ≡ Makes event) × IsAnswer s.machine event answer × IsTaken s.left rest × WritesCut old new s.text (answer_line answer)
 
 -- the dump of a drained machine; where its state couldn't be copied nothing
 abbrev pub Dumps : Result (Unit {0}) SessionError → Whole → List (ℕ × ℕ) → Option (List ℕ) → Option (List ℕ) → Type 0

@@ -1,21 +1,10 @@
--- What the program reads and prints. Device, Said, Views, Reading, Told and Holding tie the answers of its parts to
--- that.
+-- What the program prints and answers, and what it reads besides decks. Told and Holding tie the answers of a session's
+-- parts to that.
 -- Source: ours.
-pub mod Device
-pub mod Image
-pub mod Line
-pub mod Text
-pub mod Code
-pub mod Deck
-pub mod Said
-pub mod Views
-pub mod Reading
-pub mod Pieces
 pub mod Dump
 pub mod Listing
 pub mod LogText
 pub mod Replaying
-pub mod Names
 pub mod Schedule
 pub mod AnswerText
 pub mod Session

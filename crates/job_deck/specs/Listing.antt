@@ -10,10 +10,10 @@ use Rattle.instruction_table.specs.Spelling.{spelling}
 use Rattle.std.specs.Io.KnownBytes.{Keeps, Appends}
 use Rattle.instruction_table.specs.declared.refusal.Refusal.{Refusal}
 use Rattle.instruction_table.specs.declared.refusal.Refusal.TheVariants as refusals
-use Rattle.job_deck.specs.Deck.{Reading, Good, Bad}
-use Rattle.job_deck.specs.Device.{WritesFront}
-use Rattle.job_deck.specs.Image.{Placed}
-use Rattle.job_deck.specs.Pieces.{code_text}
+use Rattle.deck.specs.Deck.{Reading, Good, Bad}
+use Rattle.device_text.specs.Device.{WritesFront}
+use Rattle.deck.specs.Image.{Placed}
+use Rattle.device_text.specs.Pieces.{code_text}
 use Rattle.job_deck.specs.Dump.{addresses}
 
 -- a legal instruction's text; or `?` and the code of an opcode that is refused; or `?straddle`

@@ -7,7 +7,7 @@ use Rattle.sequential.specs.declared.log.Entry.TheVariants.{Issued as Count, Exc
 use Rattle.sequential.specs.declared.log.Log.{Log}
 use Rattle.sequential.specs.Log.{steps_of}
 use Rattle.sequential.specs.Replay.{LogStep}
-use Rattle.job_deck.specs.Text.{fields_of, number_of}
+use Rattle.device_text.specs.Text.{fields_of, number_of}
 use Rattle.job_deck.specs.declared.logs.Allowance.{Allowance}
 
 -- at first: at most 10,000,000 instructions and 1,000,000 exchanges

@@ -7,8 +7,8 @@ use Rattle.instruction_table.specs.declared.refusal.Refusal.TheVariants as refus
 use Rattle.sequential.specs.declared.state.State.{State}
 use Rattle.sequential.specs.Log.{entries_of}
 use Rattle.sequential.specs.Replay.{LogStep, boot, replay}
-use Rattle.job_deck.specs.Deck.{Plan, Reading, Good, Bad}
-use Rattle.job_deck.specs.Device.{WritesFront}
+use Rattle.deck.specs.Deck.{Plan, Reading, Good, Bad}
+use Rattle.device_text.specs.Device.{WritesFront}
 use Rattle.job_deck.specs.Dump.{dump_text}
 use Rattle.job_deck.specs.LogText.{log_in}
 

@@ -6,8 +6,8 @@ use Rattle.instruction_table.specs.declared.instr.Unit.{Unit as FunctionalUnit}
 use Rattle.instruction_table.specs.declared.refusal.DeckFault.TheVariants as faults
 use Rattle.program_order.specs.declared.event.Event.{Event}
 use Rattle.program_order.specs.declared.event.Event.TheVariants as events
-use Rattle.job_deck.specs.Text.{fields_of, number_of}
-use Rattle.job_deck.specs.Names.{unit_named}
+use Rattle.device_text.specs.Text.{fields_of, number_of}
+use Rattle.device_text.specs.Names.{unit_named}
 use Rattle.job_deck.specs.declared.schedule.Spoken.{Spoken}
 use Rattle.job_deck.specs.declared.schedule.Spoken.TheVariants.{Makes, Ends, Drains, Faulty}
 

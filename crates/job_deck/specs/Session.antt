@@ -6,6 +6,7 @@ use Rattle.instruction_table.specs.declared.refusal.Refusal.{Refusal}
 use Rattle.sequential.specs.Log.{entries_of}
 use Rattle.program_order.specs.declared.event.Done.{Done}
 use Rattle.program_order.specs.declared.event.Event.{Event}
+use Rattle.program_order.specs.Reached.{GoesOnByWork}
 use Rattle.program_order.specs.Run.{IsAnswer, IsAnswered, settled_all}
 use Rattle.in_flight.specs.Lookup.{is_pending}
 use Rattle.program_order.specs.Processor.{Whole, replayed}
@@ -23,8 +24,10 @@ Says n (e ∷ events) [] left = ⊥
 Says n (e ∷ events) (line ∷ lines) left = (heard n (line ∷ lines) ≡ Makes e) × Says (n + 1) events lines left
 
 -- a session so far, with machine w and these lines from line n on: the first lines said events, and each event got an
--- answer that may be given
-pub record Session (w : Whole) (n : ℕ) (lines : List (List ℕ × List ℕ)) : Type 0 where
+-- answer that may be given. IsLed relates events and their answers with a machine to which they lead, from wherever it
+-- is told: from boot, where it is `IsReached memory budget`
+pub record Session (IsLed : List Event → List (Result Done Refusal) → Whole → Type 0) (w : Whole) (n : ℕ)
+    (lines : List (List ℕ × List ℕ)) : Type 0 where
   -- the events that the first lines say, one a line
   pub events : List Event
   -- the lines after those
@@ -36,6 +39,8 @@ pub record Session (w : Whole) (n : ℕ) (lines : List (List ℕ × List ℕ)) :
   -- the machine that the answers leave
   pub machine : Whole
   pub leads : machine ≡ settled_all w events answers
+  -- the events with the answers lead to it
+  pub led : IsLed events answers machine
   -- the number of the line that comes next
   pub number : ℕ
   pub numbered : number ≡ n + length events
@@ -58,11 +63,11 @@ not_drained_text w = concat (codes "NOT DRAINED\n" ∷ log_line (entries_of w.lo
 
 -- what may be written for what a line says: an answer's line; at `end` the dump, or that the machine isn't drained; at
 -- `drain` the dump of the machine to which at most forty accepted events lead, none of them an issue, a request or an
--- exchange
+-- exchange, and to which so many such events more lead from wherever the first machine was reached
 abbrev pub IsReply : Spoken → Whole → List (ℕ × ℕ) → List ℕ → Type 0
 IsReply (Makes e) w shows text = (answer : Result Done Refusal) × IsAnswer w e answer × (text ≡ answer_line answer)
 IsReply Ends w shows text = IsDump w shows text ⊎ ((is_pending w.pending ≡ true) × (text ≡ not_drained_text w))
-IsReply Drains w shows text = (v : Whole) × (count : ℕ) × Works w v count × IsDump v shows text
+IsReply Drains w shows text = (v : Whole) × (count : ℕ) × Works w v count × GoesOnByWork w count v × IsDump v shows text
 IsReply (Faulty fault) w shows text = ⊥
 
 -- the line ends the session: it says `end` or `drain`

@@ -4,9 +4,12 @@ use Rattle.std.specs.Prelude.{◌≡◌, ◌⊎◌, ℕ, ◌+◌, ◌≤◌, len
 use Rattle.std.specs.Io.KnownBytes.{Keeps, Appends}
 use Rattle.instruction_table.specs.declared.refusal.Refusal.{Refusal}
 use Rattle.instruction_table.specs.declared.refusal.Refusal.TheVariants as refusals
+use Rattle.program_order.specs.declared.event.Done.{Done}
+use Rattle.program_order.specs.declared.event.Event.{Event}
+use Rattle.program_order.specs.Reached.{IsReached}
 use Rattle.program_order.specs.Processor.{Whole, boot_whole}
-use Rattle.job_deck.specs.Deck.{Reading, Good, Bad}
-use Rattle.job_deck.specs.Line.{IsText, lines_of}
+use Rattle.deck.specs.Deck.{Plan, Reading, Good, Bad}
+use Rattle.device_text.specs.Line.{IsText, lines_of}
 use Rattle.job_deck.specs.Schedule.{heard}
 use Rattle.job_deck.specs.Session.{IsLast, IsReply, Session}
 use Rattle.job_deck.specs.declared.schedule.Spoken.TheVariants.{Faulty}
@@ -23,31 +26,49 @@ WritesCut old new text last = (front : List ℕ) × (rest : List ℕ) × (last �
 
 -- a session with machine w from line n on: an `Ok` has written it all, and leaves what follows its last line; at a
 -- fault, a failed read and want of memory for the dump each line before has its whole answer; a failed write has cut
--- the reply to the line that was read last
-abbrev pub Tells : Result (Unit {0}) SessionError → Whole → ℕ → List (ℕ × ℕ) → List ℕ → List ℕ → Option (List ℕ) → Option (List ℕ) → Type 0
-Tells (Ok x) w n shows xs rest old new =
-    (s : Session w n (lines_of xs)) × (text : List ℕ) × IsLast (heard s.number s.left) × IsReply (heard s.number s.left) s.machine shows text × IsTaken s.left rest × Appends old new (s.text ++ text)
-Tells (Err (errors.Line m fault)) w n shows xs rest old new = (s : Session w n (lines_of xs)) × (m ≡ s.number) × (heard s.number s.left ≡ Faulty fault) × Appends old new s.text
-Tells (Err errors.OutOfMemory) w n shows xs rest old new = (s : Session w n (lines_of xs)) × IsLast (heard s.number s.left) × IsTaken s.left rest × Appends old new s.text
-Tells (Err errors.Read) w n shows xs rest old new = (s : Session w n (lines_of xs)) × (part : List ℕ) × IsText part × (s.left ≡ lines_of (part ++ rest)) × Appends old new s.text
-Tells (Err errors.Write) w n shows xs rest old new =
-    (s : Session w n (lines_of xs)) × (text : List ℕ) × IsReply (heard s.number s.left) s.machine shows text × IsTaken s.left rest × WritesCut old new s.text text
+-- the reply to the line that was read last. IsLed is what holds of the events, the answers and the machine so far
+abbrev pub Tells : Result (Unit {0}) SessionError → (List Event → List (Result Done Refusal) → Whole → Type 0) → Whole
+    → ℕ → List (ℕ × ℕ) → List ℕ → List ℕ → Option (List ℕ) → Option (List ℕ) → Type 0
+Tells (Ok x) IsLed w n shows xs rest old new =
+    (s : Session IsLed w n (lines_of xs)) × (text : List ℕ) × IsLast (heard s.number s.left)
+    × IsReply (heard s.number s.left) s.machine shows text × IsTaken s.left rest × Appends old new (s.text ++ text)
+Tells (Err (errors.Line m fault)) IsLed w n shows xs rest old new =
+    (s : Session IsLed w n (lines_of xs)) × (m ≡ s.number) × (heard s.number s.left ≡ Faulty fault) × Appends old new s.text
+Tells (Err errors.OutOfMemory) IsLed w n shows xs rest old new =
+    (s : Session IsLed w n (lines_of xs)) × IsLast (heard s.number s.left) × IsTaken s.left rest × Appends old new s.text
+Tells (Err errors.Read) IsLed w n shows xs rest old new =
+    (s : Session IsLed w n (lines_of xs)) × (part : List ℕ) × IsText part × (s.left ≡ lines_of (part ++ rest))
+    × Appends old new s.text
+Tells (Err errors.Write) IsLed w n shows xs rest old new =
+    (s : Session IsLed w n (lines_of xs)) × (text : List ℕ) × IsReply (heard s.number s.left) s.machine shows text
+    × IsTaken s.left rest × WritesCut old new s.text text
 
 -- nothing was written, and nothing read of the bytes after the deck
 abbrev pub HasNotBegun : List ℕ → List ℕ → Option (List ℕ) → Option (List ℕ) → Type 0
 HasNotBegun after rest old new = (length after ≤ length rest) × Keeps old new
 
--- the same of a deck with its schedule: the session of a machine that was booted with the deck's memory, from the line
--- after the deck on; memory may run out and a read may fail before it begins
+-- the session of the machine that was booted with the deck's memory, from the line after the deck on: the events that
+-- its lines said, with the answers that were printed, lead from boot to its machine
+abbrev pub TellsFromBoot : Result (Unit {0}) SessionError → ℕ → Plan → ℕ → List ℕ → List ℕ → Option (List ℕ)
+    → Option (List ℕ) → Type 0
+TellsFromBoot result budget plan n after rest old new =
+    Tells result (IsReached plan.image.memory budget) (boot_whole plan.image.memory budget) (n + 1) plan.shows after rest
+    old new
+
+-- the same of a deck with its schedule; memory may run out and a read may fail before the session begins
 abbrev pub Performs : Result (Unit {0}) Refusal → ℕ → Reading → List ℕ → Option (List ℕ) → Option (List ℕ) → Type 0
-Performs (Ok x) budget (Good plan n after) rest old new = Tells (Ok x) (boot_whole plan.image.memory budget) (n + 1) plan.shows after rest old new
+Performs (Ok x) budget (Good plan n after) rest old new = TellsFromBoot (Ok x) budget plan n after rest old new
 Performs (Ok x) budget (Bad n fault) rest old new = ⊥
-Performs (Err (refusals.Deck m fault)) budget (Good plan n after) rest old new = Tells (Err (errors.Line m fault)) (boot_whole plan.image.memory budget) (n + 1) plan.shows after rest old new
+Performs (Err (refusals.Deck m fault)) budget (Good plan n after) rest old new =
+    TellsFromBoot (Err (errors.Line m fault)) budget plan n after rest old new
 Performs (Err (refusals.Deck m fault)) budget (Bad n other) rest old new = (m ≡ n) × (fault ≡ other) × Keeps old new
-Performs (Err refusals.OutOfMemory) budget (Good plan n after) rest old new = HasNotBegun after rest old new ⊎ Tells (Err errors.OutOfMemory) (boot_whole plan.image.memory budget) (n + 1) plan.shows after rest old new
+Performs (Err refusals.OutOfMemory) budget (Good plan n after) rest old new =
+    HasNotBegun after rest old new ⊎ TellsFromBoot (Err errors.OutOfMemory) budget plan n after rest old new
 Performs (Err refusals.OutOfMemory) budget (Bad n fault) rest old new = Keeps old new
-Performs (Err refusals.Read) budget (Good plan n after) rest old new = HasNotBegun after rest old new ⊎ Tells (Err errors.Read) (boot_whole plan.image.memory budget) (n + 1) plan.shows after rest old new
+Performs (Err refusals.Read) budget (Good plan n after) rest old new =
+    HasNotBegun after rest old new ⊎ TellsFromBoot (Err errors.Read) budget plan n after rest old new
 Performs (Err refusals.Read) budget (Bad n fault) rest old new = Keeps old new
-Performs (Err refusals.Write) budget (Good plan n after) rest old new = Tells (Err errors.Write) (boot_whole plan.image.memory budget) (n + 1) plan.shows after rest old new
+Performs (Err refusals.Write) budget (Good plan n after) rest old new =
+    TellsFromBoot (Err errors.Write) budget plan n after rest old new
 Performs (Err refusals.Write) budget (Bad n fault) rest old new = ⊥
 Performs (Err other) budget reading rest old new = ⊥

@@ -1,10 +1,9 @@
 ghost use Rattle.std.specs.Prelude.{◌≡◌, Err};
 ghost use Rattle.job_deck.specs.AnswerText.{answer_line, refusal_text};
-ghost use Rattle.job_deck.specs.Device.{Writes, failed_after};
-ghost use Rattle.job_deck.specs.Pieces.{text_of_all};
+ghost use Rattle.device_text.specs.Device.{Writes, failed_after};
+ghost use Rattle.device_text.specs.Pieces.{text_of_all};
 
-use crate::output::{Output, WriteFailed};
-use crate::piece::{Piece, put_pieces};
+use device_text::{Output, Piece, WriteFailed, put_pieces};
 use instruction_table::Refusal;
 use machine::{Answer, Done, Note};
 

@@ -1,15 +1,14 @@
 ghost use Rattle.std.specs.Prelude.{◌≡◌, ◌<◌, ◌≤◌, ◌∷◌, List, map, length, slice_index_or, OnErr, Err};
 ghost use Rattle.std.specs.List.{flat_map};
-ghost use Rattle.job_deck.specs.Device.{Writes, failed_after};
+ghost use Rattle.device_text.specs.Device.{Writes, failed_after};
 ghost use Rattle.job_deck.specs.Dump.{held_text, place_line, halt_text, fault_text, area_line, spaced_index, index_line, x_line, x_lines, state_lines, register_lines, word_line, show_lines, log_text, log_line, spaced_entry, dump_text};
-ghost use Rattle.job_deck.specs.Pieces.{text_of};
-ghost use Rattle.job_deck.specs.Views.{shown_of, shown};
+ghost use Rattle.device_text.specs.Pieces.{text_of};
+ghost use Rattle.deck.specs.Views.{shown_of, shown};
 ghost use Rattle.instruction_table.specs.declared.refusal.Refusal.TheVariants.{Write as WriteRefusal};
 ghost use Rattle.sequential.specs.Log.{entries_of};
 
-use crate::deck::{Deck, Show};
-use crate::output::{Output, Tracked, WriteFailed};
-use crate::piece::{Piece, put_pieces};
+use deck::{Deck, Show};
+use device_text::{Output, Piece, Tracked, WriteFailed, put_pieces};
 use instruction_table::{Halt, Refusal};
 use registers::RegisterFile;
 use relocation::{Area, Storage};

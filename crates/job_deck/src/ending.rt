@@ -1,16 +1,16 @@
 ghost use Rattle.std.specs.Prelude.{◌≡◌, ◌||◌, true, false};
 ghost use Rattle.in_flight.specs.Lookup.{is_pending};
 ghost use Rattle.sequential.specs.Log.{entries_of};
-ghost use Rattle.job_deck.specs.Device.{Writes, failed_after};
+ghost use Rattle.device_text.specs.Device.{Writes, failed_after};
 ghost use Rattle.job_deck.specs.Dump.{log_line};
 ghost use Rattle.job_deck.specs.Session.{IsReply, not_drained_text};
 ghost use Rattle.job_deck.specs.Holding.{Closes, Dumps, is_write_error, last_said};
-ghost use Rattle.job_deck.specs.Views.{shown};
+ghost use Rattle.deck.specs.Views.{shown};
 
-use crate::deck::Deck;
 use crate::dumping::{dump_to, put_log_line};
-use crate::output::{Output, WriteFailed};
 use crate::session::SessionError;
+use deck::Deck;
+use device_text::{Output, WriteFailed};
 use machine::Machine;
 
 /// Writes the dump of a drained machine and hands it on.

@@ -1,12 +1,11 @@
 ghost use Rattle.std.specs.Prelude.{◌≡◌, ◌≤◌, IfOk, OnErr};
-ghost use Rattle.job_deck.specs.Device.{Moves, failed_after};
-ghost use Rattle.job_deck.specs.Line.{ReadsPart};
+ghost use Rattle.device_text.specs.Device.{Moves, failed_after};
+ghost use Rattle.device_text.specs.Line.{ReadsPart};
 ghost use Rattle.job_deck.specs.Holding.{Hears};
 
-use crate::input::{Input, ReadFailed};
-use crate::line::{Took, read_line};
 use crate::schedule::{Spoken, spoken_in};
 use arrayvec::ArrayVec;
+use device_text::{Input, ReadFailed, Took, read_line};
 use instruction_table::DeckFault;
 
 /// Reads line `number` of a schedule, and nothing past it, and answers what it says or what is wrong

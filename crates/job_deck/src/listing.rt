@@ -1,13 +1,10 @@
 ghost use Rattle.std.specs.Prelude.{◌≡◌, ◌<◌, ◌≤◌, ◌^◌, ◌||◌, length};
-ghost use Rattle.job_deck.specs.Device.{Moves, Writes, failed_after};
-ghost use Rattle.job_deck.specs.Deck.{deck};
+ghost use Rattle.device_text.specs.Device.{Moves, Writes, failed_after};
+ghost use Rattle.deck.specs.Deck.{deck};
 ghost use Rattle.job_deck.specs.Listing.{item_text, behind, separator, items_text, listed_word, listed, listing, Lists, is_read_refusal, is_write_refusal};
 
-use crate::Image;
-use crate::input::{Input, Watched};
-use crate::output::{Output, Tracked, WriteFailed};
-use crate::piece::{Piece, put_pieces};
-use crate::reading::{read_deck_from, refusal};
+use deck::{Image, read_deck_from, refusal};
+use device_text::{Input, Output, Piece, Tracked, Watched, WriteFailed, put_pieces};
 use instruction_table::{Decoded, Refusal, decode, spell};
 use std::alloc::Global;
 use std::io::{Read, Write};

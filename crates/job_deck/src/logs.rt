@@ -1,11 +1,10 @@
 ghost use Rattle.std.specs.Prelude.{◌≡◌, ◌<◌, ◌≤◌, ◌+◌, ◌++◌, ◌^◌, [], ◌∷◌, MatchResult, IfSome};
 ghost use Rattle.instruction_table.specs.declared.refusal.Refusal.TheVariants.{OutOfMemory};
 ghost use Rattle.sequential.specs.Log.{steps_of, issued};
-ghost use Rattle.job_deck.specs.Text.{fields_of};
+ghost use Rattle.device_text.specs.Text.{fields_of};
 ghost use Rattle.job_deck.specs.LogText.{whole_allowance, has_nought_in_front, plain_number, exchange_in, count_in, entry_in, entry_count, spent, steps_in, log_in, LogHas};
 
-use crate::digits::number;
-use crate::parsing::first_part;
+use device_text::{first_part, number};
 use instruction_table::Refusal;
 use sequential::{Entry, Log};
 use std::alloc::Global;

@@ -1,16 +1,14 @@
 ghost use Rattle.std.specs.Prelude.{◌≡◌, ◌||◌};
-ghost use Rattle.job_deck.specs.Deck.{deck};
-ghost use Rattle.job_deck.specs.Device.{Moves, failed_after};
+ghost use Rattle.deck.specs.Deck.{deck};
+ghost use Rattle.device_text.specs.Device.{Moves, failed_after};
 ghost use Rattle.job_deck.specs.Listing.{is_read_refusal, is_write_refusal};
 ghost use Rattle.job_deck.specs.Replaying.{replayed, Prints, Replays};
-ghost use Rattle.job_deck.specs.Views.{plan, shown};
+ghost use Rattle.deck.specs.Views.{plan, shown};
 
-use crate::deck::Deck;
 use crate::dumping::dump_to;
-use crate::input::{Input, Watched};
 use crate::logs::read_log;
-use crate::output::{Output, Tracked};
-use crate::reading::{read_deck_from, refusal};
+use deck::{Deck, read_deck_from, refusal};
+use device_text::{Input, Output, Tracked, Watched};
 use instruction_table::Refusal;
 use sequential::State;
 use std::alloc::Global;

@@ -1,10 +1,8 @@
 ghost use Rattle.std.specs.Prelude.{◌≡◌, ◌∷◌};
-ghost use Rattle.job_deck.specs.Text.{number_of, other_parts};
+ghost use Rattle.device_text.specs.Text.{number_of, other_parts};
 ghost use Rattle.job_deck.specs.Schedule.{spoken, spoken_alone, spoken_number, spoken_of, spoken_with};
 
-use crate::digits::number;
-use crate::parsing::first_field;
-use crate::spelling::unit_named;
+use device_text::{first_field, number, unit_named};
 use instruction_table::DeckFault;
 use machine::Event;
 

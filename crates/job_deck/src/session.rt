@@ -1,21 +1,20 @@
-ghost use Rattle.std.specs.Prelude.{◌≡◌, ◌||◌, ◌≤◌, ◌+◌, MatchResult};
+ghost use Rattle.std.specs.Prelude.{◌≡◌, ◌||◌, ◌≤◌, ◌+◌, [], IfOk, MatchResult};
 ghost use Rattle.instruction_table.specs.declared.refusal.Refusal.TheVariants.{OutOfMemory};
+ghost use Rattle.program_order.specs.Reached.{GoesOn, IsReached};
 ghost use Rattle.program_order.specs.Processor.{boot_whole};
-ghost use Rattle.job_deck.specs.Deck.{deck};
-ghost use Rattle.job_deck.specs.Device.{Moves, failed_after};
+ghost use Rattle.deck.specs.Deck.{deck};
+ghost use Rattle.device_text.specs.Device.{Moves, failed_after};
 ghost use Rattle.job_deck.specs.Listing.{is_read_refusal, is_write_refusal};
 ghost use Rattle.job_deck.specs.Holding.{Converses, IsMade, is_read_error, is_write_error, refusal_of};
 ghost use Rattle.job_deck.specs.Told.{Performs, Tells};
-ghost use Rattle.job_deck.specs.Views.{shown};
+ghost use Rattle.deck.specs.Views.{shown};
 
 use crate::answering::put_answer;
-use crate::deck::Deck;
 use crate::ending::finish;
 use crate::hearing::hear;
-use crate::input::{Input, Watched};
-use crate::output::{Output, Tracked, WriteFailed};
-use crate::reading::{read_deck_from, refusal};
 use crate::schedule::Spoken;
+use deck::{Deck, read_deck_from, refusal};
+use device_text::{Input, Output, Tracked, Watched, WriteFailed};
 use instruction_table::{DeckFault, Refusal};
 use machine::{Event, Machine};
 use std::alloc::Global;
@@ -98,7 +97,7 @@ fn hold<I: Input, O: Output>(
     before: u32,
 ) -> Result<(), SessionError>
     requires { before ≤ 10000000 }
-    ensures told { Moves (I.remaining input.old) (I.remaining input.new) (λ xs ys. Tells result machine.old (before + 1) (shown deck.now.shows.items) xs ys (O.contents output.old) (O.contents output.new)) }
+    ensures told { Moves (I.remaining input.old) (I.remaining input.new) (λ xs ys. Tells result (GoesOn machine.old) machine.old (before + 1) (shown deck.now.shows.items) xs ys (O.contents output.old) (O.contents output.new)) }
     ensures read { I.has_failed input.new ≡ (I.has_failed input.old || is_read_error result) }
     ensures write { O.has_failed output.new ≡ (O.has_failed output.old || is_write_error result) }
     ensures input { I.lender input.new ≡ I.lender input.old }
@@ -116,7 +115,8 @@ fn hold<I: Input, O: Output>(
 /// `OutOfMemory`.
 fn booted(alloc: Global, deck: &Deck, budget: u64) -> Result<Machine, Refusal>
     requires { budget ≤ 10000000 }
-    ensures { MatchResult result (λ machine. machine ≡ boot_whole deck.now.image.memory budget) (λ refusal. refusal ≡ OutOfMemory) }
+    ensures machine { MatchResult result (λ machine. machine ≡ boot_whole deck.now.image.memory budget) (λ refusal. refusal ≡ OutOfMemory) }
+    ensures reached { IfOk result (λ machine. IsReached deck.now.image.memory budget [] [] machine) }
 {
     match deck.image.memory().copy() {
         Ok(memory) => Machine::boot(alloc, memory, budget),

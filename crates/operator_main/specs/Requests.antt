@@ -3,7 +3,7 @@
 use Rattle.std.specs.Prelude.{ℕ, ◌≤◌, ◌<◌, List, Option, Some, None, All}
 use Rattle.std.specs.Ordering.{nat_cmp}
 use Rattle.std.specs.List.Sorted.{IsNonDecreasingBy, IsStableByKey}
-use Rattle.job_deck.specs.declared.deck.Ask.{Ask}
+use Rattle.deck.specs.declared.deck.Ask.{Ask}
 
 -- those after fewer instructions come first
 abbrev pub IsInOrder : List Ask → Type 0

@@ -1,5 +1,5 @@
 use Rattle.std.proofs.lemmas.Result.{err_from_is_err_and}
-use Rattle.job_deck.proofs.Moving.{cut_in, writes_after}
+use Rattle.device_text.proofs.Moving.{cut_in, writes_after}
 use Rattle.job_deck.specs.AnswerText.{refusal_text}
 use Rattle.job_deck.proofs.answering.put_refusal.Goals as goal
 

@@ -1,6 +1,6 @@
 use Rattle.std.proofs.Common.{rules}
 use Rattle.std.proofs.lemmas.Result.{err_from_is_err_and}
-use Rattle.job_deck.proofs.Moving.{each_written, each_cut}
+use Rattle.device_text.proofs.Moving.{each_written, each_cut}
 use Rattle.job_deck.specs.Dump.{spaced_entry}
 use Rattle.job_deck.proofs.dumping.put_entries.Goals as goal
 

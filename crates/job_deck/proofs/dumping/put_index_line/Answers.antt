@@ -1,6 +1,6 @@
 use Rattle.std.specs.List.{flat_map}
 use Rattle.std.proofs.lemmas.Result.{err_from_is_err_and}
-use Rattle.job_deck.proofs.Moving.{cut_in, cut_after, writes_after}
+use Rattle.device_text.proofs.Moving.{cut_in, cut_after, writes_after}
 use Rattle.job_deck.specs.Dump.{spaced_index}
 use Rattle.job_deck.proofs.dumping.put_index_line.Goals as goal
 

@@ -1,6 +1,6 @@
 use Rattle.std.proofs.Common.{◌≡◌, drop}
 use Rattle.std.specs.List.{flat_map}
-use Rattle.job_deck.specs.Device.{WritesAllBut}
+use Rattle.device_text.specs.Device.{WritesAllBut}
 use Rattle.job_deck.specs.Dump.{spaced_index}
 use Rattle.job_deck.proofs.dumping.put_indexes.Given as goal
 

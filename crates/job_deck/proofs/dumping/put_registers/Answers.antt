@@ -1,6 +1,6 @@
 use Rattle.std.proofs.Common.{codes}
 use Rattle.std.proofs.lemmas.Result.{err_from_is_err_and}
-use Rattle.job_deck.proofs.Moving.{cut_in, cut_after, writes_after, writes_last}
+use Rattle.device_text.proofs.Moving.{cut_in, cut_after, writes_after, writes_last}
 use Rattle.job_deck.specs.Dump.{index_line, x_lines}
 use Rattle.job_deck.proofs.dumping.put_registers.Goals as goal
 

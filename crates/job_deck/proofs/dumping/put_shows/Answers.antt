@@ -1,8 +1,8 @@
 use Rattle.std.proofs.Common.{rules}
 use Rattle.std.proofs.lemmas.Result.{err_from_is_err_and}
-use Rattle.job_deck.proofs.Moving.{each_written, each_cut}
+use Rattle.device_text.proofs.Moving.{each_written, each_cut}
 use Rattle.job_deck.specs.Dump.{show_lines}
-use Rattle.job_deck.specs.Views.{shown_of}
+use Rattle.deck.specs.Views.{shown_of}
 use Rattle.job_deck.proofs.dumping.put_shows.Goals as goal
 
 pub returns-in_err-put_show-clause-written : goal.returns-in_err-put_show-clause-written

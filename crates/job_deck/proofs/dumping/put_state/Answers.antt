@@ -1,5 +1,5 @@
 use Rattle.std.proofs.lemmas.Result.{err_from_is_err_and}
-use Rattle.job_deck.proofs.Moving.{cut_in, cut_after, writes_after, writes_last}
+use Rattle.device_text.proofs.Moving.{cut_in, cut_after, writes_after, writes_last}
 use Rattle.job_deck.specs.Dump.{place_line, halt_text, fault_text, area_line}
 use Rattle.job_deck.proofs.dumping.put_state.Goals as goal
 

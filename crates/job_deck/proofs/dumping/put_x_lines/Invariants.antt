@@ -1,6 +1,6 @@
 use Rattle.std.proofs.Common.{◌≡◌, ◌-◌}
 use Rattle.std.specs.List.{flat_map}
-use Rattle.job_deck.specs.Device.{WritesAllBut}
+use Rattle.device_text.specs.Device.{WritesAllBut}
 use Rattle.job_deck.specs.Dump.{x_line, x_lines, addresses}
 use Rattle.job_deck.proofs.dumping.put_x_lines.Given as goal
 

@@ -1,4 +1,4 @@
-use Rattle.job_deck.specs.Views.{shown}
+use Rattle.deck.specs.Views.{shown}
 use Rattle.job_deck.proofs.Endings.{is_dump}
 use Rattle.job_deck.proofs.ending.put_drained.Goals as goal
 

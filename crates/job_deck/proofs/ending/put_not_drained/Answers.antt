@@ -2,7 +2,7 @@ use Rattle.std.proofs.Common.{codes}
 use Rattle.std.proofs.lemmas.Result.{err_from_is_err_and}
 use Rattle.sequential.specs.Log.{entries_of}
 use Rattle.job_deck.specs.Dump.{log_line}
-use Rattle.job_deck.proofs.Moving.{cut_in, writes_after, writes_last}
+use Rattle.device_text.proofs.Moving.{cut_in, writes_after, writes_last}
 use Rattle.job_deck.proofs.ending.put_not_drained.Goals as goal
 
 pub returns-in_err-put-clause-written : goal.returns-in_err-put-clause-written

@@ -1,4 +1,4 @@
-use Rattle.job_deck.proofs.Moving.{flushed}
+use Rattle.device_text.proofs.Moving.{flushed}
 use Rattle.job_deck.proofs.listing.print_listing.Goals as goal
 
 pub returns-clause-written : goal.returns-clause-written

@@ -1,5 +1,5 @@
 use Rattle.std.proofs.lemmas.Result.{err_from_is_err_and}
-use Rattle.job_deck.proofs.Moving.{cut_in, cut_after, writes_after}
+use Rattle.device_text.proofs.Moving.{cut_in, cut_after, writes_after}
 use Rattle.job_deck.specs.Listing.{placed_word, items_text}
 use Rattle.job_deck.proofs.listing.put_listed_word.Goals as goal
 

@@ -1,6 +1,6 @@
 use Rattle.std.proofs.Common.{◌≡◌, ◌-◌, ◌≤◌, length}
 use Rattle.std.specs.List.{flat_map}
-use Rattle.job_deck.specs.Device.{WritesAllBut}
+use Rattle.device_text.specs.Device.{WritesAllBut}
 use Rattle.job_deck.specs.Dump.{addresses}
 use Rattle.job_deck.specs.Listing.{listed, listing}
 use Rattle.job_deck.proofs.listing.put_listing.Given as goal

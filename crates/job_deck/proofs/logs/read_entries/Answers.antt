@@ -1,6 +1,6 @@
 use Rattle.std.proofs.Common.{◌≡◌, sym, ap, ◌∙◌, arith}
 use Rattle.sequential.specs.Log.{issued}
-use Rattle.job_deck.specs.Text.{fields_of}
+use Rattle.device_text.specs.Text.{fields_of}
 use Rattle.job_deck.specs.LogText.{whole_allowance, put_steps, steps_in}
 use Rattle.job_deck.specs.declared.logs.Allowance.{Allowance}
 use Rattle.job_deck.proofs.LogReading.{before_none, entry_on, count_on, added}

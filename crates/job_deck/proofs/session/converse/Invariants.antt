@@ -1,5 +1,5 @@
 use Rattle.std.proofs.Common.{◌≡◌, ◌+◌, ◌≤◌}
-use Rattle.job_deck.specs.Device.{Moves}
+use Rattle.device_text.specs.Device.{Moves}
 use Rattle.job_deck.proofs.Sessions.{Has}
 use Rattle.job_deck.proofs.session.converse.Given as goal
 

@@ -1,5 +1,5 @@
 use Rattle.std.proofs.Common.{◌+◌}
-use Rattle.job_deck.specs.Views.{shown}
+use Rattle.deck.specs.Views.{shown}
 use Rattle.job_deck.proofs.Endings.{session_closed, session_stopped}
 use Rattle.job_deck.proofs.session.hold.Goals as goal
 

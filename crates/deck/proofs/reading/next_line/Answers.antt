@@ -1,0 +1,14 @@
+use Rattle.deck.proofs.DeckLines.{taken_whole, taken_long}
+use Rattle.deck.proofs.reading.next_line.Goals as goal
+
+pub returns-in-Ok-Whole-clause-ok : goal.returns-in-Ok-Whole-clause-ok
+returns-in-Ok-Whole-clause-ok g c =
+    let text = rw c.in-Ok-Whole.field-0-is at c.in-Ok-Whole.ensures.text in
+    let taken = rw c.in-Ok-Whole.field-0-is at c.in-Ok-Whole.ensures.ok in
+    taken_whole _ _ c.read_line.new.line.items text.0 taken
+
+pub returns-in-Ok-Long-clause-err : goal.returns-in-Ok-Long-clause-err
+returns-in-Ok-Long-clause-err g c =
+    let text = rw c.in-Ok-Long.field-0-is at c.in-Ok-Long.ensures.text in
+    let taken = rw c.in-Ok-Long.field-0-is at c.in-Ok-Long.ensures.ok in
+    taken_long _ _ c.args.number c.read_line.new.line.items text.0 text.1 taken

@@ -1,0 +1,77 @@
+-- What reading a deck answers.
+-- Source: ours.
+use Rattle.std.specs.Prelude.{◌≡◌, ℕ, ◌<◌, ◌≤◌, List, [], ◌∷◌, length, Bool, true, false, Result, Ok, Err, ⊤}
+use Rattle.deck.specs.Deck.{Reading, Good, Bad, Judged, Goes, Ends, Faulty}
+use Rattle.deck.specs.Views.{plan, sketch}
+use Rattle.deck.specs.declared.deck.Deck.{Deck}
+use Rattle.deck.specs.declared.deck.Step.{Step}
+use Rattle.deck.specs.declared.deck.Step.TheVariants as steps
+use Rattle.instruction_table.specs.declared.refusal.DeckFault.TheVariants as faults
+use Rattle.instruction_table.specs.declared.refusal.Refusal.{Refusal}
+use Rattle.instruction_table.specs.declared.refusal.Refusal.TheVariants as refusals
+use Rattle.deck.specs.declared.deck.DeckError.{DeckError}
+use Rattle.deck.specs.declared.deck.DeckError.TheVariants as errors
+
+-- the answer is what the definition gives, unless memory ran out or a read failed
+abbrev pub GivesErr : DeckError → Reading → Type 0
+GivesErr (errors.Deck n fault) reading = reading ≡ Bad n fault
+GivesErr errors.OutOfMemory reading = ⊤
+GivesErr errors.Read reading = ⊤
+
+-- an `Ok` is the deck, with the number of its `end` line, and leaves the bytes after it
+abbrev pub Gives : Result (Deck × ℕ) DeckError → Reading → List ℕ → Type 0
+Gives (Ok found) reading rest = reading ≡ Good (plan found.0) found.1 rest
+Gives (Err e) reading rest = GivesErr e reading
+
+-- the same with a refusal in place of the error; of the refusals only these three come
+abbrev pub GivesDeck : Result Deck Refusal → Reading → List ℕ → Type 0
+GivesDeck (Ok deck) reading rest = (n : ℕ) × (reading ≡ Good (plan deck) n rest)
+GivesDeck (Err (refusals.Deck n fault)) reading rest = reading ≡ Bad n fault
+GivesDeck (Err refusals.OutOfMemory) reading rest = ⊤
+GivesDeck (Err refusals.Read) reading rest = ⊤
+GivesDeck (Err other) reading rest = ⊥
+
+-- the line that comes next, line n, is refused with this error: there is none (`no end`), or it is too long (`long`);
+-- of a failed read nothing is claimed
+abbrev pub Refuses : ℕ → DeckError → List (List ℕ × List ℕ) → Type 0
+Refuses n (errors.Deck m fault) [] = (m ≡ n) × (fault ≡ faults.NoEnd)
+Refuses n (errors.Deck m fault) (line ∷ more) = (m ≡ n) × (fault ≡ faults.Long) × (200 < length line.0)
+Refuses n errors.OutOfMemory lines = ⊥
+Refuses n errors.Read lines = ⊤
+
+-- what line n does to a deck, unless memory ran out
+abbrev pub FollowsErr : ℕ → DeckError → Judged → Type 0
+FollowsErr n (errors.Deck m fault) judged = (m ≡ n) × (judged ≡ Faulty fault)
+FollowsErr n errors.OutOfMemory judged = ⊤
+FollowsErr n errors.Read judged = ⊥
+
+-- the answer for line n is what the line does to a deck, unless memory ran out
+abbrev pub Follows : ℕ → Result Step DeckError → Judged → Type 0
+Follows n (Ok (steps.Goes d)) judged = judged ≡ Goes (sketch d)
+Follows n (Ok (steps.Ends d)) judged = judged ≡ Ends (plan d)
+Follows n (Err e) judged = FollowsErr n e judged
+
+-- the refusal says the same as the error
+abbrev pub GivesRefusal : DeckError → Refusal → Type 0
+GivesRefusal (errors.Deck n fault) refusal = refusal ≡ refusals.Deck n fault
+GivesRefusal errors.OutOfMemory refusal = refusal ≡ refusals.OutOfMemory
+GivesRefusal errors.Read refusal = refusal ≡ refusals.Read
+
+-- the bytes after the deck, where it has an end, are at most so many
+abbrev pub EndsWithin : ℕ → Reading → Type 0
+EndsWithin k (Good plan n after) = length after ≤ k
+EndsWithin k (Bad n fault) = ⊤
+
+-- whether neither the deck nor a fault of it was found
+abbrev pub is_cut : {T : Type 0} → Result T DeckError → Bool
+is_cut (Ok x) = false
+is_cut (Err (errors.Deck n fault)) = false
+is_cut (Err errors.OutOfMemory) = true
+is_cut (Err errors.Read) = true
+
+-- whether the error is that a read failed
+abbrev pub is_read : {T : Type 0} → Result T DeckError → Bool
+is_read (Ok x) = false
+is_read (Err (errors.Deck n fault)) = false
+is_read (Err errors.OutOfMemory) = false
+is_read (Err errors.Read) = true

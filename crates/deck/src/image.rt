@@ -1,0 +1,78 @@
+ghost use Rattle.std.specs.Prelude.{◌≡◌, ◌<◌, ◌≤◌, ◌+◌, ◌++◌, length, replicate, slice_index_or, slice_set, false, true, MatchResult, if◌then◌else◌};
+ghost use Rattle.instruction_table.specs.declared.refusal.Refusal.TheVariants.{OutOfMemory, MemorySize};
+ghost use Rattle.relocation.specs.Relocation.{IsMemorySize, is_memory_size};
+ghost use Rattle.deck.specs.Image.{placed_at, blank};
+
+use instruction_table::Refusal;
+use relocation::Storage;
+use std::alloc::Global;
+use std::marker::Model;
+use word60::Word60;
+
+/// The words of memory, and which of them a deck has placed.
+#[derive(Drop)]
+pub struct Image {
+    memory: Storage,
+    placed: Vec<bool>,
+}
+
+impl Model for Image {
+    ghost use Rattle.std.specs.Prelude.{◌≡◌, length};
+    ghost use Rattle.deck.specs.Image.{Placed};
+
+    ghost Value = { Placed };
+
+    ghost view = { λ i. record { memory = i.memory; placed = i.placed.items } };
+
+    ghost invariant = { λ i. length i.placed.items ≡ length i.memory };
+}
+
+impl Image {
+    /// A memory of so many words, all +0, none of them placed.
+    ///
+    /// # Errors
+    /// `MemorySize` where the size isn't 32 to 131,072, and `OutOfMemory`.
+    pub fn new(alloc: Global, words: u32) -> Result<Image, Refusal>
+        ensures { MatchResult result
+            (λ image. (is_memory_size words ≡ true) × (image ≡ blank words))
+            (λ refusal. refusal ≡ (if is_memory_size words then OutOfMemory else MemorySize)) }
+    {
+        let memory = Storage::new(alloc, words)?;
+        match vec![in alloc; false; words as usize] {
+            Ok(placed) => Ok(Image { memory, placed }),
+            Err(_) => Err(Refusal::OutOfMemory),
+        }
+    }
+
+    /// How many words memory has.
+    pub fn size(&self) -> u32
+        ensures value { result ≡ length self.now.memory }
+        ensures range { IsMemorySize result }
+    {
+        self.memory.size()
+    }
+
+    /// The words of memory.
+    pub fn memory(&self) -> &Storage
+        ensures { result.now ≡ self.now.memory }
+    {
+        &self.memory
+    }
+
+    /// Whether the deck has placed the word at an absolute address, which is below the size.
+    pub fn is_placed(&self, address: u32) -> bool
+        requires { address < length self.now.memory }
+        ensures { result ≡ slice_index_or self.now.placed address false }
+    {
+        self.placed.as_slice()[address as usize]
+    }
+
+    /// Places a word at an absolute address, which is below the size.
+    pub fn place(&mut self, address: u32, word: Word60)
+        requires { address < length self.old.memory }
+        ensures { self.new ≡ placed_at self.old address word }
+    {
+        self.memory.store(address, word);
+        self.placed[address as usize] = true;
+    }
+}

@@ -1,0 +1,241 @@
+ghost use Rattle.std.specs.Prelude.{◌≡◌, ◌≤◌, ℕ, List, [], length, vec_len};
+ghost use Rattle.deck.specs.Deck.{judged, judged_core, judged_first, judged_line, SaysCore, SaysAt, SaysWord, SaysCode, SaysStart, SaysShow, SaysAsk, SaysEnd};
+ghost use Rattle.deck.specs.Said.{said};
+ghost use Rattle.deck.specs.Views.{sketch, Answers};
+
+use crate::Image;
+use crate::coding::{parcels_in, word_of};
+use crate::deck::{Ask, Deck, Draft, LineError, Show, Step};
+use crate::parsing::{Line, parse_line};
+use device_text::{first_field, number};
+use instruction_table::DeckFault;
+use relocation::{LARGEST, SMALLEST};
+use std::alloc::Global;
+use word60::{Word18, Word60};
+
+/// How many `show` lines a deck has at most.
+const SHOWS: usize = 64;
+
+/// How many `ask` lines a deck has at most.
+const ASKS: usize = 64;
+
+/// How many instructions an `ask` line waits for at most.
+const MOST_ISSUES: u64 = 10_000_000;
+
+/// How many parcels a word has.
+const PARCELS: usize = 4;
+
+/// How many words an exchange package has.
+const PACKAGE: u32 = 16;
+
+/// A `core` line as the first line.
+fn core_line(alloc: Global, line: Line<'_>) -> Result<Step, LineError>
+    ensures { Answers result (judged_core (said line.entry)) }
+{
+    let Line::Core(size) = line else {
+        return Err(LineError::Faulty(DeckFault::Unknown));
+    };
+    let Some(size) = number(10, 6, size) else {
+        return Err(LineError::Faulty(DeckFault::Number));
+    };
+    let size = size as u32;
+    if size < SMALLEST || size > LARGEST {
+        return Err(LineError::Faulty(DeckFault::Size));
+    }
+    let Ok(image) = Image::new(alloc, size) else {
+        return Err(LineError::OutOfMemory);
+    };
+    Ok(Step::Goes(Draft {
+        image,
+        place: 0,
+        start: None,
+        asks: Vec::new(alloc),
+        shows: Vec::new(alloc),
+    }))
+}
+
+/// Another `core` line.
+fn core_again(draft: Draft, size: &[u8]) -> Result<Step, LineError>
+    ensures { Answers result (judged (sketch draft) (SaysCore size.now)) }
+{
+    Err(LineError::Faulty(match number(10, 6, size) {
+        None => DeckFault::Number,
+        Some(size) if size < u64::from(SMALLEST) || size > u64::from(LARGEST) => DeckFault::Size,
+        Some(_) => DeckFault::Repeated,
+    }))
+}
+
+/// An `at` line.
+fn at_line(mut draft: Draft, address: &[u8]) -> Result<Step, LineError>
+    ensures { Answers result (judged (sketch draft) (SaysAt address.now)) }
+{
+    let Some(address) = number(8, 6, address) else {
+        return Err(LineError::Faulty(DeckFault::Number));
+    };
+    let address = address as u32;
+    if address >= draft.image.size() {
+        return Err(LineError::Faulty(DeckFault::Range));
+    }
+    draft.place = address;
+    Ok(Step::Goes(draft))
+}
+
+/// A `word` line.
+fn word_line(mut draft: Draft, value: &[u8]) -> Result<Step, LineError>
+    ensures { Answers result (judged (sketch draft) (SaysWord value.now)) }
+{
+    let Some(word) = Word60::from_octal(value) else {
+        return Err(LineError::Faulty(DeckFault::Number));
+    };
+    if draft.place >= draft.image.size() {
+        return Err(LineError::Faulty(DeckFault::Range));
+    }
+    draft.image.place(draft.place, word);
+    draft.place += 1;
+    Ok(Step::Goes(draft))
+}
+
+/// A `code` line.
+fn code_line(mut draft: Draft, texts: &[u8]) -> Result<Step, LineError>
+    requires { length texts.now ≤ 200 }
+    ensures { Answers result (judged (sketch draft) (SaysCode texts.now)) }
+{
+    if draft.place >= draft.image.size() {
+        return Err(LineError::Faulty(DeckFault::Range));
+    }
+    let Some(parcels) = parcels_in(texts) else {
+        return Err(LineError::Faulty(DeckFault::Instruction));
+    };
+    if parcels.len() > PARCELS {
+        return Err(LineError::Faulty(DeckFault::Full));
+    }
+    draft.image.place(draft.place, word_of(parcels.as_slice()));
+    draft.place += 1;
+    Ok(Step::Goes(draft))
+}
+
+/// A `start` line.
+fn start_line(mut draft: Draft, address: &[u8]) -> Result<Step, LineError>
+    ensures { Answers result (judged (sketch draft) (SaysStart address.now)) }
+{
+    let Some(address) = number(8, 6, address) else {
+        return Err(LineError::Faulty(DeckFault::Number));
+    };
+    if draft.start.is_some() {
+        return Err(LineError::Faulty(DeckFault::Repeated));
+    }
+    let address = address as u32;
+    if draft.image.size() < address + PACKAGE {
+        return Err(LineError::Faulty(DeckFault::Package));
+    }
+    draft.start = Some(address);
+    Ok(Step::Goes(draft))
+}
+
+/// A `show` line.
+fn show_line(mut draft: Draft, first: &[u8], last: &[u8]) -> Result<Step, LineError>
+    ensures { Answers result (judged (sketch draft) (SaysShow first.now last.now)) }
+{
+    let Some(first) = number(8, 6, first) else {
+        return Err(LineError::Faulty(DeckFault::Number));
+    };
+    let Some(last) = number(8, 6, last) else {
+        return Err(LineError::Faulty(DeckFault::Number));
+    };
+    if draft.shows.len() >= SHOWS {
+        return Err(LineError::Faulty(DeckFault::Many));
+    }
+    if last as u32 >= draft.image.size() || last < first {
+        return Err(LineError::Faulty(DeckFault::Range));
+    }
+    let show = Show {
+        first: Word18::from_bits(first as u32),
+        last: Word18::from_bits(last as u32),
+    };
+    match draft.shows.push(show) {
+        Ok(()) => Ok(Step::Goes(draft)),
+        Err(_) => Err(LineError::OutOfMemory),
+    }
+}
+
+/// An `ask` line.
+fn ask_line(mut draft: Draft, address: &[u8], count: &[u8]) -> Result<Step, LineError>
+    ensures { Answers result (judged (sketch draft) (SaysAsk address.now count.now)) }
+{
+    let Some(address) = number(8, 6, address) else {
+        return Err(LineError::Faulty(DeckFault::Number));
+    };
+    let Some(count) = number(10, 8, count) else {
+        return Err(LineError::Faulty(DeckFault::Number));
+    };
+    if count > MOST_ISSUES {
+        return Err(LineError::Faulty(DeckFault::Number));
+    }
+    if draft.asks.len() >= ASKS {
+        return Err(LineError::Faulty(DeckFault::Many));
+    }
+    let at = address as u32;
+    if draft.image.size() < at + PACKAGE {
+        return Err(LineError::Faulty(DeckFault::Package));
+    }
+    let ask = Ask {
+        at,
+        after: count as u32,
+    };
+    match draft.asks.push(ask) {
+        Ok(()) => Ok(Step::Goes(draft)),
+        Err(_) => Err(LineError::OutOfMemory),
+    }
+}
+
+/// An `end` line.
+fn end_line(draft: Draft) -> Result<Step, LineError>
+    ensures { Answers result (judged (sketch draft) SaysEnd) }
+{
+    let Draft {
+        image,
+        place: _,
+        start,
+        asks,
+        shows,
+    } = draft;
+    match start {
+        None => Err(LineError::Faulty(DeckFault::NoStart)),
+        Some(start) => Ok(Step::Ends(Deck {
+            image,
+            start,
+            asks,
+            shows,
+        })),
+    }
+}
+
+/// What a later line of at most 200 bytes does to a deck.
+pub fn judge(draft: Draft, text: &[u8]) -> Result<Step, LineError>
+    requires { length text.now ≤ 200 }
+    ensures { Answers result (judged_line (sketch draft) text.now) }
+{
+    match parse_line(text) {
+        Line::Core(size) => core_again(draft, size),
+        Line::At(address) => at_line(draft, address),
+        Line::Word(value) => word_line(draft, value),
+        Line::Code(texts) => code_line(draft, texts),
+        Line::Start(address) => start_line(draft, address),
+        Line::Show(first, last) => show_line(draft, first, last),
+        Line::Ask(address, count) => ask_line(draft, address, count),
+        Line::End => end_line(draft),
+        Line::Unknown => Err(LineError::Faulty(DeckFault::Unknown)),
+    }
+}
+
+/// What the first line of at most 200 bytes begins.
+pub fn judge_first(alloc: Global, text: &[u8]) -> Result<Step, LineError>
+    requires { length text.now ≤ 200 }
+    ensures { Answers result (judged_first text.now) }
+{
+    let (word, _) = first_field(text);
+    if word != b"core".as_slice() {
+        return Err(LineError::Faulty(DeckFault::First));
+    }
+    core_line(alloc, parse_line(text))
+}

@@ -1,0 +1,97 @@
+ghost use Rattle.std.specs.Prelude.{◌≡◌, ◌==◌, ◌<◌, ◌≤◌, ◌+◌, position, ◌∷◌, [], List, ℕ, length, IfSome};
+ghost use Rattle.std.specs.List.{slice_split};
+ghost use Rattle.device_text.specs.Text.{fields_of, other_parts, from_space};
+ghost use Rattle.deck.specs.Deck.{said_of, said_in, said_code};
+ghost use Rattle.deck.specs.Said.{said};
+
+use device_text::{first_field, place_of};
+
+/// A line by its fields.
+#[derive(Clone, Copy)]
+pub enum Line<'a> {
+    Core(&'a [u8]),
+    At(&'a [u8]),
+    Word(&'a [u8]),
+    /// What follows the word `code`: instruction texts, each with the space before it.
+    Code(&'a [u8]),
+    Start(&'a [u8]),
+    Show(&'a [u8], &'a [u8]),
+    /// The address of the package, and how many instructions are issued before it is asked for.
+    Ask(&'a [u8], &'a [u8]),
+    End,
+    Unknown,
+}
+
+/// What a line says that begins with the word `code`.
+fn code_line(text: &[u8]) -> Line<'_>
+    ensures { said result ≡ said_code (from_space text.now) }
+{
+    match place_of(text, b' ') {
+        Some(at) if text.len() - at > 1 => Line::Code(&text[at..]),
+        _ => Line::Unknown,
+    }
+}
+
+/// What a line of four fields or more says.
+#[tactic(auto, using(crate::proofs::Fields::too_many))]
+fn line_of_four<'a>(word: &[u8], first: &'a [u8], second: &[u8], rest: &'a [u8]) -> Line<'a>
+    ensures { said result ≡ said_of (word.now ∷ first.now ∷ second.now ∷ fields_of rest.now) }
+{
+    let (third, rest) = first_field(rest);
+    let Some(_) = rest else {
+        return if word == b"ask".as_slice() && second == b"after".as_slice() {
+            Line::Ask(first, third)
+        } else {
+            Line::Unknown
+        };
+    };
+    Line::Unknown
+}
+
+/// What a line says that begins with another word.
+fn line_of_fields<'a>(word: &[u8], rest: Option<&'a [u8]>) -> Line<'a>
+    ensures { said result ≡ said_of (word.now ∷ other_parts 32 rest.entry) }
+{
+    let Some(rest) = rest else {
+        return if word == b"end".as_slice() {
+            Line::End
+        } else {
+            Line::Unknown
+        };
+    };
+    let (first, rest) = first_field(rest);
+    let Some(rest) = rest else {
+        return if word == b"core".as_slice() {
+            Line::Core(first)
+        } else if word == b"at".as_slice() {
+            Line::At(first)
+        } else if word == b"word".as_slice() {
+            Line::Word(first)
+        } else if word == b"start".as_slice() {
+            Line::Start(first)
+        } else {
+            Line::Unknown
+        };
+    };
+    let (second, rest) = first_field(rest);
+    let Some(rest) = rest else {
+        return if word == b"show".as_slice() {
+            Line::Show(first, second)
+        } else {
+            Line::Unknown
+        };
+    };
+    line_of_four(word, first, second, rest)
+}
+
+/// What a line says.
+pub fn parse_line(text: &[u8]) -> Line<'_>
+    ensures { said result ≡ said_in text.now }
+{
+    let (word, rest) = first_field(text);
+    if word == b"code".as_slice() {
+        code_line(text)
+    } else {
+        line_of_fields(word, rest)
+    }
+}

@@ -1,0 +1,5 @@
+pub mod Moving
+pub mod Separators
+pub mod Numbers
+pub mod Lines
+pub mod Texts

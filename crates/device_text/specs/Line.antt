@@ -1,0 +1,36 @@
+-- The lines of some bytes.
+-- Source: ours.
+use Rattle.std.specs.Prelude.{◌≡◌, ◌≢◌, ℕ, ◌≤◌, ◌<◌, List, [], ◌∷◌, ◌++◌, length, All, ◌⊎◌, ◌==◌, if◌then◌else◌}
+use Rattle.device_text.specs.declared.line.Took.{Took}
+use Rattle.device_text.specs.declared.line.Took.TheVariants.{Whole, Long, Nothing}
+
+-- a byte goes onto the first line
+abbrev pub onto : ℕ → List (List ℕ × List ℕ) → List (List ℕ × List ℕ)
+onto b [] = (b ∷ [], []) ∷ []
+onto b (line ∷ lines) = (b ∷ line.0, line.1) ∷ lines
+
+-- the lines of the bytes, without their line ends, each with the bytes after it: a byte 10 ends a line, and so does
+-- the end of the bytes where a line has begun
+abbrev pub lines_of : List ℕ → List (List ℕ × List ℕ)
+lines_of [] = []
+lines_of (b ∷ bytes) = if b == 10 then ([], bytes) ∷ lines_of bytes else onto b (lines_of bytes)
+
+-- no line end is among the bytes
+abbrev pub IsText : List ℕ → Type 0
+IsText text = All (λ b. b ≢ 10) text
+
+-- of the next line some bytes were read at most, and not its end
+abbrev pub ReadsPart : List ℕ → List ℕ → Type 0
+ReadsPart xs ys = (part : List ℕ) × IsText part × (xs ≡ part ++ ys)
+
+-- the text that a reading of a line leaves
+abbrev pub LineText : Took → List ℕ → Type 0
+LineText Whole text = IsText text × (length text ≤ 200)
+LineText Long text = IsText text × (length text ≡ 201)
+LineText Nothing text = text ≡ []
+
+-- what a reading of a line took from xs, and left as ys
+abbrev pub LineTaken : Took → List ℕ → List ℕ → List ℕ → Type 0
+LineTaken Whole text xs ys = (xs ≡ text ++ 10 ∷ ys) ⊎ ((0 < length text) × (xs ≡ text) × (ys ≡ []))
+LineTaken Long text xs ys = xs ≡ text ++ ys
+LineTaken Nothing text xs ys = (xs ≡ []) × (ys ≡ [])

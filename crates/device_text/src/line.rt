@@ -1,0 +1,46 @@
+ghost use Rattle.std.specs.Prelude.{◌≡◌, ℕ, List, IfOk, OnErr, OnOk, IsErr, ◌++◌};
+ghost use Rattle.device_text.specs.Device.{Moves, failed_after};
+ghost use Rattle.device_text.specs.Line.{IsText, LineTaken, LineText};
+
+use crate::input::{Input, ReadFailed};
+use arrayvec::ArrayVec;
+
+/// What a reading of a line found.
+#[derive(Clone, Copy, Debug, PartialEq, Eq)]
+pub enum Took {
+    /// A whole line of at most 200 bytes.
+    Whole,
+    /// 201 bytes of a longer line, and no more of it.
+    Long,
+    /// Nothing: the input has ended.
+    Nothing,
+}
+
+/// Reads the next line, without its line end, and nothing past it.
+///
+/// # Errors
+/// Where a read fails; the line then has the bytes that were read before.
+pub fn read_line<I: Input>(input: &mut I, line: &mut ArrayVec<u8, 201>) -> Result<Took, ReadFailed>
+    ensures text { IfOk result (λ took. LineText took line.new.items) }
+    ensures ok { IfOk result (λ took. Moves (I.remaining input.old) (I.remaining input.new) (LineTaken took line.new.items)) }
+    ensures err { OnErr result (Moves (I.remaining input.old) (I.remaining input.new) (λ xs ys. xs ≡ line.new.items ++ ys)) }
+    ensures part { OnErr result (IsText line.new.items) }
+    ensures failure { I.has_failed input.new ≡ failed_after (I.has_failed input.old) result }
+    ensures same { I.lender input.new ≡ I.lender input.old }
+{
+    line.clear();
+    for _ in 0..201u32 {
+        match input.next_byte()? {
+            None => {
+                return Ok(if line.is_empty() {
+                    Took::Nothing
+                } else {
+                    Took::Whole
+                });
+            }
+            Some(b'\n') => return Ok(Took::Whole),
+            Some(byte) => line.push(byte),
+        }
+    }
+    Ok(Took::Long)
+}

@@ -1,0 +1,96 @@
+ghost use Rattle.std.specs.Prelude.{◌≡◌, ℕ, Bool, List, Option, true, false, OnOk, OnErr, ◌++◌};
+ghost use Rattle.std.specs.Io.KnownBytes.{Keeps, Appends};
+ghost use Rattle.device_text.specs.Device.{Writes, failed_after};
+
+use std::io::Write;
+
+/// A write or a flush answered an error, or a write took no byte of some.
+#[derive(Clone, Copy, Debug, PartialEq, Eq)]
+pub struct WriteFailed;
+
+/// Bytes are written at the end, and it tells whether a write failed so far.
+pub trait Output {
+    /// The bytes that it holds, where they are known.
+    ghost contents: { Self → Option (List ℕ) };
+
+    /// Whether a write has failed.
+    ghost has_failed: { Self → Bool };
+
+    /// Which writer it borrows; 0 where it borrows none.
+    ghost lender: { Self → ℕ };
+
+    /// Writes all the bytes. At an error a beginning of them was written.
+    fn put(&mut self, bytes: &[u8]) -> Result<(), WriteFailed>
+        ensures written { Writes result (contents self.old) (contents self.new) bytes.now }
+        ensures failure { has_failed self.new ≡ failed_after (has_failed self.old) result }
+        ensures same { lender self.new ≡ lender self.old };
+
+    /// Hands on what was written.
+    fn flush(&mut self) -> Result<(), WriteFailed>
+        ensures bytes { Keeps (contents self.old) (contents self.new) }
+        ensures failure { has_failed self.new ≡ failed_after (has_failed self.old) result }
+        ensures same { lender self.new ≡ lender self.old };
+}
+
+/// Any writer, watched for failures.
+#[derive(Drop)]
+pub struct Tracked<'a, W> {
+    writer: &'a mut W,
+    failed: bool,
+}
+
+impl<'a, W: Write> Tracked<'a, W> {
+    pub fn new(writer: &'a mut W) -> Tracked<'a, W>
+        ensures writer { result.writer ≡ writer.entry }
+        ensures fresh { result.failed ≡ false }
+    {
+        Tracked {
+            writer,
+            failed: false,
+        }
+    }
+
+    /// The writer, whatever failed.
+    pub fn into_inner(self) -> &'a mut W
+        ensures { result ≡ self.entry.writer }
+    {
+        let Tracked { writer, failed: _ } = self;
+        writer
+    }
+}
+
+impl<'a, W: Write> Output for Tracked<'a, W> {
+    ghost contents = { λ w. W.contents w.writer.now };
+
+    ghost has_failed = { λ w. w.failed };
+
+    ghost lender = { λ w. w.writer.ghost_name };
+
+    fn put(&mut self, bytes: &[u8]) -> Result<(), WriteFailed> {
+        let mut written = 0;
+        while written < bytes.len() {
+            match self.writer.write(&bytes[written..]) {
+                Ok(0) => {
+                    self.failed = true;
+                    return Err(WriteFailed);
+                }
+                Ok(count) => written += count,
+                Err(_) => {
+                    self.failed = true;
+                    return Err(WriteFailed);
+                }
+            }
+        }
+        Ok(())
+    }
+
+    fn flush(&mut self) -> Result<(), WriteFailed> {
+        match self.writer.flush() {
+            Ok(()) => Ok(()),
+            Err(_) => {
+                self.failed = true;
+                Err(WriteFailed)
+            }
+        }
+    }
+}

@@ -1,0 +1,139 @@
+ghost use Rattle.std.specs.Prelude.{Some, vec_items};
+
+use crate::{
+    Output, Piece, ReadFailed, Took, Tracked, Watched, WatchedBuffer, WriteFailed, first_field,
+    number, put_pieces, read_line, unit_named,
+};
+use arrayvec::ArrayVec;
+use instruction_table::Unit;
+use std::io;
+use std::io::{ErrorKind, Write};
+use std::process::Abort;
+use std::test::Fail;
+
+/// Takes one byte a call, and fails once it holds so many.
+#[derive(Drop)]
+struct Dripping {
+    bytes: Vec<u8>,
+    most: usize,
+}
+
+impl Write for Dripping {
+    ghost contents = { λ d. Some d.bytes.items };
+
+    fn write(&mut self, buf: &[u8]) -> io::Result<usize> {
+        if self.bytes.len() >= self.most {
+            return Err(io::Error::from(ErrorKind::Other));
+        }
+        match buf.first() {
+            None => Ok(0),
+            Some(byte) => {
+                self.bytes.push(*byte)?;
+                Ok(1)
+            }
+        }
+    }
+
+    fn flush(&mut self) -> io::Result<()> {
+        Ok(())
+    }
+}
+
+#[test]
+fn numbers(rt: HostRuntime) -> Result<(), Fail> {
+    for (base, text, value) in [
+        (10, "0", Some(0)),
+        (10, "000256", Some(256)),
+        (8, "777777", Some(0o777777)),
+        (8, "", None),
+        (8, "8", None),
+        (8, "0000000", None),
+        (10, "-1", None),
+    ] {
+        assert_eq!(rt; number(base, 6, text.as_bytes()), value);
+    }
+    Ok(())
+}
+
+#[test]
+fn fields(rt: HostRuntime) -> Result<(), Fail> {
+    for (text, first, rest) in [
+        ("", "", None),
+        ("end", "end", None),
+        ("at 100", "at", Some("100")),
+        (" at", "", Some("at")),
+        ("at ", "at", Some("")),
+    ] {
+        let (field, more) = first_field(text.as_bytes());
+        assert_eq!(rt; field, first.as_bytes());
+        assert_eq!(rt; more, rest.map(|rest| rest.as_bytes()));
+    }
+    assert!(rt; unit_named(b"longadd") == Some(Unit::LongAdd));
+    assert!(rt; unit_named(b"LongAdd").is_none());
+    Ok(())
+}
+
+/// Lines by a reader and by a buffered one: an empty line, one without an end, and nothing after it.
+#[test]
+fn lines(rt: HostRuntime) -> Result<(), Fail> {
+    let mut bytes = b"one\n\nlast".as_slice();
+    let mut buffered = bytes;
+    let mut watched = Watched::new(&mut bytes);
+    let mut buffer = WatchedBuffer::new(&mut buffered);
+    let mut line = ArrayVec::new();
+    for (took, text) in [
+        (Took::Whole, "one"),
+        (Took::Whole, ""),
+        (Took::Whole, "last"),
+        (Took::Nothing, ""),
+    ] {
+        assert!(rt; read_line(&mut watched, &mut line) == Ok(took));
+        assert_eq!(rt; line.as_slice(), text.as_bytes());
+        assert!(rt; read_line(&mut buffer, &mut line) == Ok(took));
+        assert_eq!(rt; line.as_slice(), text.as_bytes());
+    }
+    Ok(())
+}
+
+/// A line of 200 bytes is whole, and of a longer one 201 bytes are taken.
+#[test]
+fn long_lines(rt: HostRuntime) -> Result<(), Fail> {
+    for (length, took) in [(200u32, Took::Whole), (201, Took::Long)] {
+        let mut text = Vec::new(rt.alloc());
+        for _ in 0..length {
+            text.push(b'7')?;
+        }
+        text.extend_from_slice(b"\nrest")?;
+        let mut bytes = text.as_slice();
+        let mut line = ArrayVec::new();
+        let read: Result<Took, ReadFailed> = read_line(&mut Watched::new(&mut bytes), &mut line);
+        assert!(rt; read == Ok(took));
+        assert_eq!(rt; line.len(), length as usize);
+    }
+    Ok(())
+}
+
+/// What a writer takes before it fails is a beginning of the pieces.
+#[test]
+fn pieces(rt: HostRuntime) -> Result<(), Fail> {
+    let line = b"longadd 100 18446744073709551615".as_slice();
+    for most in [0, 1, 8, 31, 32] {
+        let mut dripping = Dripping {
+            bytes: Vec::new(rt.alloc()),
+            most,
+        };
+        let mut output = Tracked::new(&mut dripping);
+        let pieces = [
+            Piece::UnitName(Unit::LongAdd),
+            Piece::Text(b" "),
+            Piece::Address(0o100),
+            Piece::Text(b" "),
+            Piece::Count(18_446_744_073_709_551_615),
+        ];
+        let put = put_pieces(&mut output, pieces.as_slice());
+        assert!(rt; put == if most < 32 { Err(WriteFailed) } else { Ok(()) });
+        assert!(rt; output.flush().is_ok());
+        assert_eq!(rt; dripping.bytes.as_slice(), &line[..most]);
+    }
+    Ok(())
+}

@@ -1,9 +1,0 @@
-use Rattle.std.proofs.Common.{sym}
-use Rattle.job_deck.proofs.Fields.{split_found, split_missing}
-use Rattle.job_deck.proofs.parsing.first_part.Goals as goal
-
-pub returns-in-Some-clause-parts : goal.returns-in-Some-clause-parts
-returns-in-Some-clause-parts c = split_found c.args.separator c.args.text.now c.in-Some.at (sym c.in-Some.ensures)
-
-pub returns-in-None-clause-parts : goal.returns-in-None-clause-parts
-returns-in-None-clause-parts c = split_missing c.args.separator c.args.text.now (sym c.in-None.ensures)
