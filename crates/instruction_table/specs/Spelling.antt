@@ -3,16 +3,16 @@
 use Rattle.std.specs.Prelude.{ℕ, if◌then◌else◌, List, take, drop, Option, Some, None}
 use Rattle.std.specs.Str.{bytes_eq}
 use Rattle.instruction_table.specs.Candidate.{candidate_in}
-use Rattle.instruction_table.specs.Table.{row}
-use Rattle.instruction_table.specs.declared.instr.Logic.{Logic}
-use Rattle.instruction_table.specs.declared.instr.Target.TheVariants.{A as TargetA}
-use Rattle.instruction_table.specs.declared.instr.Addends.{Addends}
-use Rattle.instruction_table.specs.declared.instr.Instr.{Instr}
-use Rattle.instruction_table.specs.declared.instr.Instr.TheVariants.{Logical, Increment}
+use Rattle.instruction_table.specs.Table.{form_of}
+use Rattle.instructions.specs.declared.instr.Logic.{Logic}
+use Rattle.instructions.specs.declared.instr.Target.TheVariants.{A as TargetA}
+use Rattle.instructions.specs.declared.instr.Addends.{Addends}
+use Rattle.instructions.specs.declared.instr.Instr.{Instr}
+use Rattle.instructions.specs.declared.instr.Instr.TheVariants.{Logical, Increment}
 
 -- the text of an instruction, as the table has it
 abbrev pub spelling : Instr → List ℕ
-spelling instr = (row instr).text
+spelling instr = (form_of instr).text
 
 -- The instruction whose spelling a text is, none for any other text. The candidate is only how it is found: what counts
 -- is that its spelling is the text.

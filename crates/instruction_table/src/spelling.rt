@@ -1,11 +1,11 @@
 ghost use Rattle.std.specs.Prelude.{◌≡◌, ◌<◌, ◌≤◌, ◌+◌, ◌++◌, codes, length, MatchResult};
 ghost use Rattle.std.specs.String.{string_bytes};
 ghost use Rattle.arrayvec.specs.ArrayString.{array_string_len};
-ghost use Rattle.instruction_table.specs.declared.refusal.Refusal.TheVariants.{OutOfMemory};
+ghost use Rattle.instructions.specs.declared.refusal.Refusal.TheVariants.{OutOfMemory};
 ghost use Rattle.instruction_table.specs.Octal.{octal};
 ghost use Rattle.instruction_table.specs.Spelling.{name_of, logic_text, addends_text, spelling};
 ghost use Rattle.instruction_table.specs.Table.{digit};
-ghost use Rattle.instruction_table.specs.declared.instr.Addends.TheVariants.{Registers};
+ghost use Rattle.instructions.specs.declared.instr.Addends.TheVariants.{Registers};
 
 use crate::{
     Addends, Addition, BTest, Base, Digit, Direction, Instr, Logic, Pair, Refusal, SixBits, Target,

@@ -6,7 +6,7 @@ use Rattle.sequential.specs.Replay.{LogStep, replay, boot}
 use Rattle.sequential.specs.declared.state.State.{State}
 use Rattle.in_flight.specs.Lookup.{is_pending}
 use Rattle.machine.specs.Whole.{Whole, boot_whole, replayed}
-use Rattle.instruction_table.specs.declared.refusal.Refusal.{Refusal}
+use Rattle.instructions.specs.declared.refusal.Refusal.{Refusal}
 use Rattle.job_deck.specs.Deck.{Good, deck}
 use Rattle.job_deck.specs.Views.{plan, shown}
 use Rattle.job_deck.specs.declared.deck.Deck.{Deck}

@@ -11,7 +11,7 @@ use Rattle.job_deck.specs.declared.deck.Deck.{Deck}
 use Rattle.job_deck.specs.declared.deck.Draft.{Draft}
 use Rattle.job_deck.specs.declared.deck.DeckError.{DeckError}
 use Rattle.job_deck.specs.declared.deck.DeckError.TheVariants as errors
-use Rattle.instruction_table.specs.declared.refusal.DeckFault.TheVariants as faults
+use Rattle.instructions.specs.declared.refusal.DeckFault.TheVariants as faults
 use Rattle.job_deck.proofs.DeckLines.{ReadsOn, Taken}
 use Rattle.job_deck.proofs.Moving.{Moves-trans, Moves-weaker}
 

@@ -2,8 +2,8 @@
 -- Source: ours.
 use Rattle.std.specs.Prelude.{ℕ, List, [], ◌∷◌, codes, decimal, Some, None, Result, Ok, Err}
 use Rattle.std.specs.List.{concat}
-use Rattle.instruction_table.specs.declared.refusal.Refusal.{Refusal}
-use Rattle.instruction_table.specs.declared.refusal.Refusal.TheVariants as refusals
+use Rattle.instructions.specs.declared.refusal.Refusal.{Refusal}
+use Rattle.instructions.specs.declared.refusal.Refusal.TheVariants as refusals
 use Rattle.machine.specs.declared.event.Done.{Done}
 use Rattle.machine.specs.declared.event.Done.TheVariants.{Issued, Made}
 use Rattle.job_deck.specs.Names.{register_text, unit_text}

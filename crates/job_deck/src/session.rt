@@ -1,5 +1,5 @@
 ghost use Rattle.std.specs.Prelude.{◌≡◌, ◌||◌, ◌≤◌, ◌+◌, MatchResult};
-ghost use Rattle.instruction_table.specs.declared.refusal.Refusal.TheVariants.{OutOfMemory};
+ghost use Rattle.instructions.specs.declared.refusal.Refusal.TheVariants.{OutOfMemory};
 ghost use Rattle.machine.specs.Whole.{boot_whole};
 ghost use Rattle.job_deck.specs.Deck.{deck};
 ghost use Rattle.job_deck.specs.Device.{Moves, failed_after};

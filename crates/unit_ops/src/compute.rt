@@ -1,10 +1,10 @@
 ghost use Rattle.std.specs.Prelude.{◌≡◌, ◌+◌, ◌%◌, ◌^◌, ◌==◌, IsSome};
-ghost use Rattle.instruction_table.specs.Table.{row};
+ghost use Rattle.instructions.specs.Operands.{row};
 ghost use Rattle.unit_ops.specs.Values.{x_holds, is_zero, is_out_of_range, is_indefinite, b_holds, rank, logic, is_negative, magnitude, shifted_out, shifted_nominally, pair_value, addends_value, increment_value, branch_to, value_of, destination, branch_of};
 ghost use Rattle.word60.specs.Words.{bit};
 
 use crate::{Operands, UnitValue};
-use instruction_table::{
+use instructions::{
     Addends, Addition, BTest, Digit, Direction, Instr, Logic, Pair, Target, XTest,
 };
 use word60::{Word18, Word60};

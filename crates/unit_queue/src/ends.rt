@@ -1,6 +1,6 @@
 //! A lane and its two ends.
 ghost use Rattle.std.specs.Prelude.{◌≡◌, ◌⊎◌, ◌++◌, ◌∷◌, [], true, false, OnOk, OnErr, MatchResult, OnSome, IfSome, MatchOption, MatchBool, ◌&&◌, IsTrue};
-ghost use Rattle.instruction_table.specs.declared.refusal.Refusal.TheVariants.{OutOfMemory};
+ghost use Rattle.instructions.specs.declared.refusal.Refusal.TheVariants.{OutOfMemory};
 ghost use Rattle.unit_queue.specs.Lanes.{LaneName, SendEnd, TakeEnd, send_end, take_end, is_closed, is_closing, IsOrderly, IsFull};
 
 use crate::item::Item;
@@ -27,10 +27,10 @@ pub struct Lane {
 }
 
 impl Model for Lane {
-    ghost use Rattle.std.specs.Prelude.{◌≡◌};
+    ghost use Rattle.std.specs.Prelude.{◌≡◌, true, []};
     ghost use Rattle.crossbeam_queue.specs.Passes.{ruled_capacity};
-    ghost use Rattle.instruction_table.specs.declared.refusal.Refusal.TheVariants.{OutOfMemory};
-    ghost use Rattle.unit_queue.specs.Lanes.{LaneName};
+    ghost use Rattle.instructions.specs.declared.refusal.Refusal.TheVariants.{OutOfMemory};
+    ghost use Rattle.unit_queue.specs.Lanes.{LaneName, SendEnd, send_end, is_closed, IsOrderly, TakeEnd, take_end};
 
     ghost Value = { LaneName };
 
@@ -49,8 +49,6 @@ pub struct SendPass {
 }
 
 impl Model for SendPass {
-    ghost use Rattle.std.specs.Prelude.{◌≡◌, true, []};
-    ghost use Rattle.unit_queue.specs.Lanes.{SendEnd, send_end, is_closed, IsOrderly};
 
     ghost Value = { SendEnd };
 
@@ -77,8 +75,6 @@ pub struct TakePass {
 }
 
 impl Model for TakePass {
-    ghost use Rattle.std.specs.Prelude.{◌≡◌, true, []};
-    ghost use Rattle.unit_queue.specs.Lanes.{TakeEnd, take_end, IsOrderly};
 
     ghost Value = { TakeEnd };
 
