@@ -27,10 +27,10 @@ pub struct Lane {
 }
 
 impl Model for Lane {
-    ghost use Rattle.std.specs.Prelude.{◌≡◌, true, []};
+    ghost use Rattle.std.specs.Prelude.{◌≡◌};
     ghost use Rattle.crossbeam_queue.specs.Passes.{ruled_capacity};
     ghost use Rattle.instructions.specs.declared.refusal.Refusal.TheVariants.{OutOfMemory};
-    ghost use Rattle.unit_queue.specs.Lanes.{LaneName, SendEnd, send_end, is_closed, IsOrderly, TakeEnd, take_end};
+    ghost use Rattle.unit_queue.specs.Lanes.{LaneName};
 
     ghost Value = { LaneName };
 
@@ -49,6 +49,8 @@ pub struct SendPass {
 }
 
 impl Model for SendPass {
+    ghost use Rattle.std.specs.Prelude.{◌≡◌, true, []};
+    ghost use Rattle.unit_queue.specs.Lanes.{SendEnd, send_end, is_closed, IsOrderly};
 
     ghost Value = { SendEnd };
 
@@ -75,6 +77,8 @@ pub struct TakePass {
 }
 
 impl Model for TakePass {
+    ghost use Rattle.std.specs.Prelude.{◌≡◌, true, []};
+    ghost use Rattle.unit_queue.specs.Lanes.{TakeEnd, take_end, IsOrderly};
 
     ghost Value = { TakeEnd };
 
