@@ -10,7 +10,7 @@ use Rattle.deck.specs.Views.{sketch, plan}
 use Rattle.deck.specs.Reading.{Refuses, GivesErr, FollowsErr}
 use Rattle.deck.specs.declared.deck.Draft.{Draft}
 use Rattle.deck.specs.declared.deck.Deck.{Deck}
-use Rattle.instruction_table.specs.declared.refusal.DeckFault.TheVariants as faults
+use Rattle.instructions.specs.declared.refusal.DeckFault.TheVariants as faults
 use Rattle.deck.specs.declared.deck.DeckError.{DeckError}
 use Rattle.deck.specs.declared.deck.DeckError.TheVariants as errors
 use Rattle.device_text.proofs.Lines.{FirstHas, lines_whole, lines_first_long}

@@ -11,7 +11,7 @@ use Rattle.deck.specs.declared.deck.Deck.{Deck}
 use Rattle.deck.specs.declared.deck.Draft.{Draft}
 use Rattle.deck.specs.declared.deck.DeckError.{DeckError}
 use Rattle.deck.specs.declared.deck.DeckError.TheVariants as errors
-use Rattle.instruction_table.specs.declared.refusal.DeckFault.TheVariants as faults
+use Rattle.instructions.specs.declared.refusal.DeckFault.TheVariants as faults
 use Rattle.deck.proofs.DeckLines.{ReadsOn, Taken}
 use Rattle.device_text.proofs.Moving.{Moves-trans, Moves-weaker}
 

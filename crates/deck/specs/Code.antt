@@ -3,8 +3,8 @@
 use Rattle.std.specs.Prelude.{◌≡◌, ℕ, Bool, true, false, List, [], ◌∷◌, ◌++◌, Option, Some, None, ◌==◌, if◌then◌else◌, slice_index, slice_index_or}
 use Rattle.std.specs.List.{slice_split}
 use Rattle.parcel.specs.Parcels.{joined}
-use Rattle.instruction_table.specs.declared.instr.Instr.{Instr}
-use Rattle.instruction_table.specs.declared.instr.Instr.TheVariants.{Pass}
+use Rattle.instructions.specs.declared.instr.Instr.{Instr}
+use Rattle.instructions.specs.declared.instr.Instr.TheVariants.{Pass}
 use Rattle.instruction_table.specs.Table.{parcels_of}
 use Rattle.instruction_table.specs.Spelling.{instr_of}
 

@@ -7,8 +7,8 @@ use Rattle.device_text.specs.Line.{lines_of}
 use Rattle.word60.specs.Words.{from_octal}
 use Rattle.device_text.specs.Text.{fields_of, from_space, number_of}
 use Rattle.deck.specs.Code.{items_of, parcels_in, word_of}
-use Rattle.instruction_table.specs.declared.refusal.DeckFault.{DeckFault}
-use Rattle.instruction_table.specs.declared.refusal.DeckFault.TheVariants as faults
+use Rattle.instructions.specs.declared.refusal.DeckFault.{DeckFault}
+use Rattle.instructions.specs.declared.refusal.DeckFault.TheVariants as faults
 
 -- a line by its fields
 pub data Said : Type 0 where

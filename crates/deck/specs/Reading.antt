@@ -6,9 +6,9 @@ use Rattle.deck.specs.Views.{plan, sketch}
 use Rattle.deck.specs.declared.deck.Deck.{Deck}
 use Rattle.deck.specs.declared.deck.Step.{Step}
 use Rattle.deck.specs.declared.deck.Step.TheVariants as steps
-use Rattle.instruction_table.specs.declared.refusal.DeckFault.TheVariants as faults
-use Rattle.instruction_table.specs.declared.refusal.Refusal.{Refusal}
-use Rattle.instruction_table.specs.declared.refusal.Refusal.TheVariants as refusals
+use Rattle.instructions.specs.declared.refusal.DeckFault.TheVariants as faults
+use Rattle.instructions.specs.declared.refusal.Refusal.{Refusal}
+use Rattle.instructions.specs.declared.refusal.Refusal.TheVariants as refusals
 use Rattle.deck.specs.declared.deck.DeckError.{DeckError}
 use Rattle.deck.specs.declared.deck.DeckError.TheVariants as errors
 

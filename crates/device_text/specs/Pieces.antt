@@ -3,10 +3,10 @@
 use Rattle.std.specs.Prelude.{ℕ, ◌+◌, List, [], ◌∷◌, codes, decimal, ◌==◌, if◌then◌else◌}
 use Rattle.std.specs.List.{flat_map, concat}
 use Rattle.word60.specs.Words.{octal_text}
-use Rattle.instruction_table.specs.declared.instr.Op.{Op}
-use Rattle.instruction_table.specs.declared.instr.Op.TheVariants.{Plain, Extended}
-use Rattle.instruction_table.specs.declared.refusal.Halt.{Halt}
-use Rattle.instruction_table.specs.declared.refusal.Halt.TheVariants.{Stop, Illegal, Straddle, FetchRange}
+use Rattle.instructions.specs.declared.instr.Op.{Op}
+use Rattle.instructions.specs.declared.instr.Op.TheVariants.{Plain, Extended}
+use Rattle.instructions.specs.declared.refusal.Halt.{Halt}
+use Rattle.instructions.specs.declared.refusal.Halt.TheVariants.{Stop, Illegal, Straddle, FetchRange}
 use Rattle.device_text.specs.Names.{unit_text, register_text}
 use Rattle.device_text.specs.declared.piece.Piece.{Piece}
 use Rattle.device_text.specs.declared.piece.Piece.TheVariants.{Text, Opcode, Reason, UnitName, Register, Parcel, Index, Word, Address, Count}

@@ -3,15 +3,15 @@ use Rattle.std.proofs.Common.{◌≡◌, ◌≢◌, ◌<◌, ℕ, Bool, true, fa
 use Rattle.std.specs.Prelude.{is_some, is_none, Result, Ok, Err}
 use Rattle.std.specs.List.{list_any}
 use Rattle.std.proofs.lemmas.List.{length-map, length-set, map-append}
-use Rattle.instruction_table.specs.declared.refusal.Refusal.{Refusal}
-use Rattle.instruction_table.specs.declared.refusal.Refusal.TheVariants.{BankBusy, OlderInBank}
-use Rattle.instruction_table.specs.Each.{Each, Pairs}
-use Rattle.instruction_table.specs.Finding.{Found, seek, put_back}
-use Rattle.instruction_table.specs.Order.{sort_by, somes}
-use Rattle.instruction_table.proofs.Finding.{seek_around, seek_nobody}
-use Rattle.instruction_table.proofs.Lists.{any_map, each_map}
-use Rattle.instruction_table.proofs.Sorted.{any_sort, any_earlier, any_somes, sort_each, sort_increasing, IsIncreasing}
-use Rattle.instruction_table.proofs.Seats.{before_seat, after_seat, each_before, others_differ, own_taken, own_put, taken_with, taken_without, sort_new, seated_others, seated_nobody, seated_here, seated_empty, seated_fill, seat_taken, each_put, length_put, each_taken, each_at, length_taken}
+use Rattle.instructions.specs.declared.refusal.Refusal.{Refusal}
+use Rattle.instructions.specs.declared.refusal.Refusal.TheVariants.{BankBusy, OlderInBank}
+use Rattle.instructions.specs.Each.{Each, Pairs}
+use Rattle.instructions.specs.Finding.{Found, seek, put_back}
+use Rattle.instructions.specs.Order.{sort_by, somes}
+use Rattle.instructions.proofs.Finding.{seek_around, seek_nobody}
+use Rattle.instructions.proofs.Lists.{any_map, each_map}
+use Rattle.instructions.proofs.Sorted.{any_sort, any_earlier, any_somes, sort_each, sort_increasing, IsIncreasing}
+use Rattle.instructions.proofs.Seats.{before_seat, after_seat, each_before, others_differ, own_taken, own_put, taken_with, taken_without, sort_new, seated_others, seated_nobody, seated_here, seated_empty, seated_fill, seat_taken, each_put, length_put, each_taken, each_at, length_taken}
 use Rattle.hopper.specs.declared.entered.Entered.{Entered}
 use Rattle.hopper.specs.declared.reference.Reference.{Reference}
 use Rattle.hopper.specs.declared.waiting.Waiting.{Waiting}

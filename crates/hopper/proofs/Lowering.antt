@@ -1,9 +1,9 @@
 -- The numbers when one leaves: their order is kept, and no two become one.
 use Rattle.std.proofs.Common.{◌≡◌, ◌≢◌, ◌<◌, ◌≤◌, ◌-◌, ℕ, suc, Bool, true, false, cond, List, [], ◌∷◌, Option, Some, None, refl, ap, ◌∙◌, ltb, map, arith}
 use Rattle.std.proofs.lemmas.Bool.{ltb-true, ltb-false, lt-ltb, le-ltb}
-use Rattle.instruction_table.specs.Each.{Each, Pairs}
-use Rattle.instruction_table.specs.Order.{insert_by, sort_by, somes, IsSeated}
-use Rattle.instruction_table.proofs.Sorted.{sort_each}
+use Rattle.instructions.specs.Each.{Each, Pairs}
+use Rattle.instructions.specs.Order.{insert_by, sort_by, somes, IsSeated}
+use Rattle.instructions.proofs.Sorted.{sort_each}
 use Rattle.hopper.specs.declared.waiting.Waiting.{Waiting}
 use Rattle.hopper.specs.View.{entered_in, before, low, lower, lowered, place_of}
 

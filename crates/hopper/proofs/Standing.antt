@@ -1,8 +1,8 @@
 -- Who stands in a place, which is free, and how many are taken.
 use Rattle.std.proofs.Common.{◌≡◌, ◌≢◌, ◌+◌, ℕ, Bool, true, false, cond, List, [], ◌∷◌, Option, Some, None, refl, ap, ◌∙◌, subst, get_or, length, map, arith}
 use Rattle.std.proofs.lemmas.Bool.{eq-eqb, ne_eqb}
-use Rattle.instruction_table.specs.Each.{Each}
-use Rattle.instruction_table.specs.Order.{somes}
+use Rattle.instructions.specs.Each.{Each}
+use Rattle.instructions.specs.Order.{somes}
 use Rattle.hopper.specs.declared.waiting.Waiting.{Waiting}
 use Rattle.hopper.specs.Hopper.{first_place}
 use Rattle.hopper.specs.Queue.{reference_at}

@@ -2,9 +2,9 @@
 -- Source: Thornton, stunt box; 60100000, central memory.
 use Rattle.std.specs.Prelude.{ℕ, Bool, true, false, ◌==◌, if◌then◌else◌, List, [], Option, Some, None, Result, Ok, Err, slice_index_or, slice_set}
 use Rattle.std.specs.List.{list_any}
-use Rattle.instruction_table.specs.declared.refusal.Refusal.{Refusal}
-use Rattle.instruction_table.specs.declared.refusal.Refusal.TheVariants.{HopperFull, BankBusy, OlderInBank, Nothing}
-use Rattle.instruction_table.specs.Finding.{Found, put_back}
+use Rattle.instructions.specs.declared.refusal.Refusal.{Refusal}
+use Rattle.instructions.specs.declared.refusal.Refusal.TheVariants.{HopperFull, BankBusy, OlderInBank, Nothing}
+use Rattle.instructions.specs.Finding.{Found, put_back}
 use Rattle.hopper.specs.declared.entered.Entered.{Entered}
 use Rattle.hopper.specs.declared.reference.Reference.{Reference}
 use Rattle.hopper.specs.Hopper.{bank_of, stores_to, free_place}

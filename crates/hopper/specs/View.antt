@@ -2,10 +2,10 @@
 -- Source: Thornton, stunt box, for places and banks; the list that they stand for is ours.
 use Rattle.std.specs.Prelude.{◌≡◌, ◌≢◌, ◌<◌, ◌&&◌, ◌-◌, ℕ, Bool, false, nat_lt, if◌then◌else◌, List, Option, Some, None, Result, Ok, Err, is_some, length, map, slice_index_or}
 use Rattle.std.specs.List.{list_any}
-use Rattle.instruction_table.specs.declared.refusal.Refusal.{Refusal}
-use Rattle.instruction_table.specs.declared.refusal.Refusal.TheVariants.{BankBusy, OlderInBank, Nothing}
-use Rattle.instruction_table.specs.Each.{Each, Pairs}
-use Rattle.instruction_table.specs.Order.{sort_by, somes, IsSeated}
+use Rattle.instructions.specs.declared.refusal.Refusal.{Refusal}
+use Rattle.instructions.specs.declared.refusal.Refusal.TheVariants.{BankBusy, OlderInBank, Nothing}
+use Rattle.instructions.specs.Each.{Each, Pairs}
+use Rattle.instructions.specs.Order.{sort_by, somes, IsSeated}
 use Rattle.hopper.specs.declared.entered.Entered.{Entered}
 use Rattle.hopper.specs.declared.waiting.Waiting.{Waiting}
 use Rattle.hopper.specs.Hopper.{bank_of}

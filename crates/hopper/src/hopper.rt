@@ -1,12 +1,12 @@
 ghost use Rattle.std.specs.Prelude.{◌≡◌, ◌∷◌, ◌++◌, [], false, replicate, is_none, slice_index_or, slice_set, MatchResult};
 ghost use Rattle.std.specs.List.{list_any};
-ghost use Rattle.instruction_table.specs.Finding.{seek};
+ghost use Rattle.instructions.specs.Finding.{seek};
 ghost use Rattle.hopper.specs.Queue.{reference_at, place_for, enter_answer, accept_answer, accepted, free_answer, stores_here};
 
 use crate::places::{acceptance, all_lowered, any_store, free_place, how_many, is_busy};
 use crate::waiting::Waiting;
 use crate::{Entered, Reference, bank_of};
-use instruction_table::Refusal;
+use instructions::Refusal;
 use std::marker::Model;
 
 /// The four places in which references wait for their bank, and which of the 32 banks are busy (Thornton, stunt

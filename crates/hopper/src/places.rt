@@ -1,12 +1,12 @@
 ghost use Rattle.std.specs.Prelude.{◌≡◌, ◌≤◌, None, false, length, map, slice_index_or};
 ghost use Rattle.std.specs.List.{list_any};
-ghost use Rattle.instruction_table.specs.Order.{somes};
+ghost use Rattle.instructions.specs.Order.{somes};
 ghost use Rattle.hopper.specs.Hopper.{free_place};
 ghost use Rattle.hopper.specs.View.{holds_older, holds_store, lowered, acceptance, holds, one_if_taken};
 
 use crate::bank_of;
 use crate::waiting::{Waiting, holds_older, holds_store, lowered};
-use instruction_table::Refusal;
+use instructions::Refusal;
 
 /// The lowest-numbered place that holds nothing.
 #[tactic(auto, unfolding(crate::specs::Hopper::free_place, crate::specs::Hopper::first_place))]

@@ -1,6 +1,6 @@
 use crate::{Hopper, PLACES, Reference, bank_of};
 use Step::{Accept, Free, Load, Store};
-use instruction_table::{Digit, Refusal};
+use instructions::{Digit, Refusal};
 use relocation::Access;
 use word60::Word60;
 

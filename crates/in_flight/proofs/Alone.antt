@@ -1,13 +1,13 @@
 -- One instruction in flight, which was reserved at boot.
 use Rattle.std.proofs.Common.{◌≡◌, ℕ, false, [], Option, Some, None, refl, sym, ap, ◌∙◌, subst}
 use Rattle.std.specs.Prelude.{is_none, replicate, IfSome}
-use Rattle.instruction_table.specs.declared.instr.Instr.{Instr}
-use Rattle.instruction_table.specs.declared.instr.Addends.{Addends}
-use Rattle.instruction_table.specs.declared.instr.Instr.TheVariants.{Increment}
-use Rattle.instruction_table.specs.declared.instr.Target.TheVariants.{A as TargetA, X as TargetX}
-use Rattle.instruction_table.specs.declared.instr.Unit.{Unit as FunctionalUnit}
-use Rattle.instruction_table.specs.Finding.{seek, found_here, found_behind}
-use Rattle.instruction_table.specs.Shape.{shape_of, has_reference}
+use Rattle.instructions.specs.declared.instr.Instr.{Instr}
+use Rattle.instructions.specs.declared.instr.Addends.{Addends}
+use Rattle.instructions.specs.declared.instr.Instr.TheVariants.{Increment}
+use Rattle.instructions.specs.declared.instr.Target.TheVariants.{A as TargetA, X as TargetX}
+use Rattle.instructions.specs.declared.instr.Unit.{Unit as FunctionalUnit}
+use Rattle.instructions.specs.Finding.{seek, found_here, found_behind}
+use Rattle.instructions.specs.Shape.{shape_of, has_reference}
 use Rattle.hopper.specs.Hopper.{free_place, first_place}
 use Rattle.relocation.specs.declared.area.Access.TheVariants.{Store}
 use Rattle.scoreboard.specs.Issued.{channel_of}

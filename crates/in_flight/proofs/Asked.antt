@@ -1,7 +1,7 @@
 -- What the board answers of an instruction's row, asked of the instruction itself.
 use Rattle.std.specs.Prelude.{Bool, List}
-use Rattle.instruction_table.specs.declared.instr.Reg.{Reg}
-use Rattle.instruction_table.specs.declared.instr.Unit.{Unit as FunctionalUnit}
+use Rattle.instructions.specs.declared.instr.Reg.{Reg}
+use Rattle.instructions.specs.declared.instr.Unit.{Unit as FunctionalUnit}
 use Rattle.scoreboard.specs.Rows as row
 use Rattle.in_flight.specs.declared.member.Member.{Member}
 use Rattle.in_flight.specs.Member.{row_of}

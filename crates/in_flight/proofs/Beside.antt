@@ -3,19 +3,19 @@ use Rattle.std.proofs.Common.{◌≡◌, ◌<◌, ◌≤◌, ℕ, suc, Bool, tru
 use Rattle.std.specs.Prelude.{◌&&◌, ◌||◌, not, is_none, is_some, Result, Ok, Err, IfSome, replicate, unwrap_or}
 use Rattle.std.specs.List.{list_any}
 use Rattle.std.proofs.lemmas.Bool.{or_parts, eqb-true}
-use Rattle.instruction_table.specs.declared.instr.Instr.{Instr}
-use Rattle.instruction_table.specs.declared.instr.Reg.{Reg}
-use Rattle.instruction_table.specs.declared.instr.Reg.TheVariants.{X, B}
-use Rattle.instruction_table.specs.declared.instr.Unit.TheVariants.{Branch}
-use Rattle.instruction_table.specs.declared.instr.UnitKind.{UnitKind}
-use Rattle.instruction_table.specs.Table.{row}
-use Rattle.instruction_table.specs.declared.instr.Unit.{Unit as FunctionalUnit}
-use Rattle.instruction_table.specs.declared.refusal.Refusal.{Refusal}
-use Rattle.instruction_table.specs.declared.refusal.Refusal.TheVariants.{Nothing, HopperFull, UnitBusy, ResultReserved, ResultHeld}
-use Rattle.instruction_table.specs.Each.{Each, Pairs}
-use Rattle.instruction_table.specs.RegisterLists.{is_in, overlap}
-use Rattle.instruction_table.specs.Shape.{shape_of, results, is_branch_shape, has_store}
-use Rattle.instruction_table.proofs.Lists.{each_left, each_right, each_append, each_map, each_of_any, pairs_before}
+use Rattle.instructions.specs.declared.instr.Instr.{Instr}
+use Rattle.instructions.specs.declared.instr.Reg.{Reg}
+use Rattle.instructions.specs.declared.instr.Reg.TheVariants.{X, B}
+use Rattle.instructions.specs.declared.instr.Unit.TheVariants.{Branch}
+use Rattle.instructions.specs.declared.instr.UnitKind.{UnitKind}
+use Rattle.instructions.specs.Operands.{row}
+use Rattle.instructions.specs.declared.instr.Unit.{Unit as FunctionalUnit}
+use Rattle.instructions.specs.declared.refusal.Refusal.{Refusal}
+use Rattle.instructions.specs.declared.refusal.Refusal.TheVariants.{Nothing, HopperFull, UnitBusy, ResultReserved, ResultHeld}
+use Rattle.instructions.specs.Each.{Each, Pairs}
+use Rattle.instructions.specs.RegisterLists.{is_in, overlap}
+use Rattle.instructions.specs.Shape.{shape_of, results, is_branch_shape, has_store}
+use Rattle.instructions.proofs.Lists.{each_left, each_right, each_append, each_map, each_of_any, pairs_before}
 use Rattle.hopper.specs.Hopper.{free_place, stores_to}
 use Rattle.hopper.specs.Queue.{Queue, stands_at, stores_here, place_for as free_in, is_taken as taken_in, free_answer}
 use Rattle.hopper.proofs.Standing.{first_same}
@@ -25,9 +25,8 @@ use Rattle.scoreboard.specs.declared.row.Row.{Row}
 use Rattle.scoreboard.specs.Rows as board
 use Rattle.scoreboard.specs.Rows.{is_reserved, returning_to, has_store_turn}
 use Rattle.scoreboard.specs.Conflicts as conflict
-use Rattle.scoreboard.specs.Units.{first_unit}
+use Rattle.scoreboard.specs.Units.{first_unit, same_unit, units_of}
 use Rattle.scoreboard.specs.Conflicts.{first_free, free_unit, is_held}
-use Rattle.scoreboard.specs.Units.{same_unit, units_of}
 use Rattle.scoreboard.specs.Issued.{row_of as row_of_issued}
 use Rattle.scoreboard.specs.Answers.{Standing, held_in, returning_by, unless, read_answer, store_answer, return_answer, turn_answer, read, gone, with_issued, reserve_answer, reserved, new_issued}
 use Rattle.unit_ops.specs.declared.Operands.{Operands}
@@ -49,10 +48,10 @@ use Rattle.in_flight.specs.Flight.{Flight, flight_of, waiting_in, waiting, IsTie
 use Rattle.in_flight.specs.Member.{has_read, row_of, progress_of, returning, to_come, awaited, is_branch, has_turn, stores_in, delays_fetch}
 use Rattle.in_flight.proofs.Asked.{comes}
 use Rattle.in_flight.specs.Lookup.{sought, stage_at, stage_in, arrival_at, arrival_in, entry_at, entry_in, in_place, is_taken, place_for, is_pending, in_phase}
-use Rattle.instruction_table.specs.Finding.{replaced, Found, seek, put_back}
+use Rattle.instructions.specs.Finding.{replaced, Found, seek, put_back}
 use Rattle.in_flight.specs.Seats.{has_none}
 use Rattle.in_flight.specs.Apart.{IsApart}
-use Rattle.instruction_table.proofs.Finding.{seek_splits, seek_nobody}
+use Rattle.instructions.proofs.Finding.{seek_splits, seek_nobody}
 use Rattle.in_flight.proofs.Finding.{stage_found}
 use Rattle.in_flight.proofs.Boarding.{arrival_in_there, board_any, read_of_all, store_of_all, turn_of_all, return_of_all, read_follows, stage_follows, return_follows, issue_follows, same_free, same_awaited, any_same, find_same}
 

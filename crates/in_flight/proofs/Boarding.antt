@@ -3,16 +3,16 @@ use Rattle.std.proofs.Common.{◌≡◌, ℕ, Bool, true, false, cond, List, [],
 use Rattle.std.specs.Prelude.{◌&&◌, ◌||◌, unwrap_or, find}
 use Rattle.std.specs.List.{list_any}
 use Rattle.std.proofs.lemmas.Bool.{eqb-true, eq-eqb, ne_eqb, or_parts}
-use Rattle.instruction_table.specs.declared.instr.Instr.{Instr}
-use Rattle.instruction_table.specs.declared.instr.Reg.{Reg}
-use Rattle.instruction_table.specs.declared.instr.Reg.TheVariants.{X, B}
-use Rattle.instruction_table.specs.declared.instr.Unit.{Unit as FunctionalUnit}
-use Rattle.instruction_table.specs.declared.instr.UnitKind.{UnitKind}
-use Rattle.instruction_table.specs.declared.refusal.Refusal.{Refusal}
-use Rattle.instruction_table.specs.declared.refusal.Refusal.TheVariants.{OperandAwaited, ResultHeld, OutOfTurn}
-use Rattle.instruction_table.specs.RegisterLists.{is_in}
-use Rattle.instruction_table.specs.Shape.{shape_of, puts_of, has_reference}
-use Rattle.instruction_table.specs.Table.{sources_of}
+use Rattle.instructions.specs.declared.instr.Instr.{Instr}
+use Rattle.instructions.specs.declared.instr.Reg.{Reg}
+use Rattle.instructions.specs.declared.instr.Reg.TheVariants.{X, B}
+use Rattle.instructions.specs.declared.instr.Unit.{Unit as FunctionalUnit}
+use Rattle.instructions.specs.declared.instr.UnitKind.{UnitKind}
+use Rattle.instructions.specs.declared.refusal.Refusal.{Refusal}
+use Rattle.instructions.specs.declared.refusal.Refusal.TheVariants.{OperandAwaited, ResultHeld, OutOfTurn}
+use Rattle.instructions.specs.RegisterLists.{is_in}
+use Rattle.instructions.specs.Shape.{shape_of, puts_of, has_reference}
+use Rattle.instructions.specs.Operands.{sources_of}
 use Rattle.relocation.specs.declared.area.Access.TheVariants.{Load, Store}
 use Rattle.scoreboard.specs.declared.row.Progress.{Progress}
 use Rattle.scoreboard.specs.declared.row.Progress.TheVariants.{Reserved, Left}
@@ -25,7 +25,7 @@ use Rattle.unit_ops.specs.declared.UnitValue.{UnitValue}
 use Rattle.scoreboard.specs.declared.issued.Issued.{Issued}
 use Rattle.scoreboard.specs.Answers.{held_in, returns_in, returning_by, new_issued, unless, read_answer, store_answer, return_answer, turn_answer, in_progress, read, left, left_with, gone}
 use Rattle.scoreboard.specs.Issued.{row_of as row_of_issued, channel_of}
-use Rattle.instruction_table.specs.Each.{Each}
+use Rattle.instructions.specs.Each.{Each}
 use Rattle.in_flight.specs.declared.member.Arrival.{Arrival}
 use Rattle.in_flight.specs.declared.member.Entry.{Entry}
 use Rattle.in_flight.specs.declared.member.Later.{Later}
@@ -36,10 +36,10 @@ use Rattle.in_flight.specs.declared.member.Phase.TheVariants.{Before, After}
 use Rattle.in_flight.specs.declared.member.Stage.{Stage}
 use Rattle.in_flight.specs.declared.member.Stage.TheVariants.{Waiting, Read, Finished}
 use Rattle.in_flight.specs.Member.{has_read, returning, progress_of, row_of}
-use Rattle.instruction_table.specs.Finding.{Found, found_behind, found_here, seek, put_back, replaced}
+use Rattle.instructions.specs.Finding.{Found, found_behind, found_here, seek, put_back, replaced}
 use Rattle.in_flight.specs.Lookup.{arrival_in, stage_in, stage_at, entry_at, arrival_at, in_phase, kept}
 use Rattle.in_flight.specs.Board.{issued_of, kept_on, on_board, left_to_return}
-use Rattle.instruction_table.proofs.Finding.{some_inj, seek_splits, seek_around}
+use Rattle.instructions.proofs.Finding.{some_inj, seek_splits, seek_around}
 use Rattle.in_flight.proofs.Finding.{stage_found, entry_in_found}
 
 -- the one that was found, as it is found on the board

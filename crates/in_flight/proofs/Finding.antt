@@ -1,10 +1,10 @@
 -- The member that an event names, and the tests that its answer passed.
 use Rattle.std.proofs.Common.{◌≡◌, ℕ, Bool, true, false, cond, List, [], ◌∷◌, Some, None, refl, ap, eqb}
-use Rattle.instruction_table.specs.Each.{Each}
-use Rattle.instruction_table.specs.Finding.{Found}
+use Rattle.instructions.specs.Each.{Each}
+use Rattle.instructions.specs.Finding.{Found}
 use Rattle.in_flight.specs.Tests.{Test, nothing, refusal_of}
 use Rattle.in_flight.specs.Lookup.{arrival_at, arrival_in, entry_at, entry_in, stage_at, stage_in, sought}
-use Rattle.instruction_table.specs.declared.instr.Unit.{Unit as FunctionalUnit}
+use Rattle.instructions.specs.declared.instr.Unit.{Unit as FunctionalUnit}
 use Rattle.scoreboard.specs.Units.{same_unit}
 use Rattle.in_flight.specs.declared.member.Arrival.{Arrival}
 use Rattle.in_flight.specs.declared.member.Entry.{Entry}
@@ -14,7 +14,7 @@ use Rattle.in_flight.specs.declared.member.Phase.{Phase}
 use Rattle.in_flight.specs.declared.member.Phase.TheVariants.{After, Before}
 use Rattle.in_flight.specs.declared.member.Stage.{Stage}
 use Rattle.in_flight.specs.declared.slots.Sought.{Sought}
-use Rattle.instruction_table.proofs.Finding.{some_inj}
+use Rattle.instructions.proofs.Finding.{some_inj}
 
 -- no refusal: no test failed
 pub refusal_none : (ts : List Test) → refusal_of ts ≡ None → Each (λ t. t.fails ≡ false) ts

@@ -4,12 +4,12 @@ use Rattle.std.specs.Prelude.{◌&&◌, is_none}
 use Rattle.std.specs.List.{list_all}
 use Rattle.std.proofs.lemmas.Bool.{eq-eqb, ne_eqb, lt-ltb, ltb-true, ltb-false}
 use Rattle.std.proofs.lemmas.List.{length-set, set-set, set-append_left, get_or_append_left, get_or-set_same}
-use Rattle.instruction_table.specs.declared.instr.Unit.{Unit as FunctionalUnit}
+use Rattle.instructions.specs.declared.instr.Unit.{Unit as FunctionalUnit}
 use Rattle.scoreboard.specs.Units.{unit_number, same_unit}
-use Rattle.instruction_table.specs.Each.{Each, Pairs}
-use Rattle.instruction_table.specs.Order.{insert_by, sort_by, somes, IsSeated}
-use Rattle.instruction_table.proofs.Lists.{each_map}
-use Rattle.instruction_table.proofs.Seats.{seated_others, seated_nobody, seated_here, seated_empty, seated_fill, seat_empty, seats_below, before_seat, after_seat, found_there, found_nobody, within, others_differ, own_taken, own_put, taken_without, moved_with, sort_new}
+use Rattle.instructions.specs.Each.{Each, Pairs}
+use Rattle.instructions.specs.Order.{insert_by, sort_by, somes, IsSeated}
+use Rattle.instructions.proofs.Lists.{each_map}
+use Rattle.instructions.proofs.Seats.{seated_others, seated_nobody, seated_here, seated_empty, seated_fill, seat_empty, seats_below, before_seat, after_seat, found_there, found_nobody, within, others_differ, own_taken, own_put, taken_without, moved_with, sort_new}
 use Rattle.scoreboard.proofs.Seating.{get_back, set_back, unit_below}
 use Rattle.in_flight.specs.declared.member.Arrival.{Arrival}
 use Rattle.in_flight.specs.declared.member.Entry.{Entry}
@@ -19,10 +19,10 @@ use Rattle.in_flight.specs.declared.member.Member.{Member}
 use Rattle.in_flight.specs.declared.member.Phase.{Phase}
 use Rattle.in_flight.specs.declared.member.Phase.TheVariants.{Before, After}
 use Rattle.in_flight.specs.declared.member.Stage.{Stage}
-use Rattle.instruction_table.specs.Finding.{seek, put_back, replaced}
+use Rattle.instructions.specs.Finding.{seek, put_back, replaced}
 use Rattle.in_flight.specs.Lookup.{stage_in, stage_at, entry_in, entry_at, arrival_in, arrival_at, in_phase, kept, sought}
 use Rattle.in_flight.specs.Seats.{number_of, seat_in, seat_of, seats, in_order, IsRight, AreElsewhere, HasRoom, places_with, channels_with, has_none}
-use Rattle.instruction_table.proofs.Sorted.{each_sorted}
+use Rattle.instructions.proofs.Sorted.{each_sorted}
 
 -- ---- in order ----
 

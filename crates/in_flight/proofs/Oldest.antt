@@ -1,7 +1,7 @@
 -- The pending member with the lowest number, from the seats.
 use Rattle.std.proofs.Common.{◌≡◌, ◌<◌, ◌≤◌, ◌+◌, ℕ, zero, suc, Bool, true, false, cond, List, [], ◌∷◌, ◌++◌, Option, Some, None, refl, sym, ap, ◌∙◌, ltb, drop, get_or, length, add-one, arith}
 use Rattle.std.proofs.lemmas.Bool.{ltb-true, ltb-false}
-use Rattle.instruction_table.specs.Order.{insert_by, sort_by, somes}
+use Rattle.instructions.specs.Order.{insert_by, sort_by, somes}
 use Rattle.in_flight.specs.declared.member.Member.{Member}
 use Rattle.in_flight.specs.Seats.{number_of, seats, in_order, lower_of, lowest_of}
 use Rattle.in_flight.specs.Lookup.{first_of}

@@ -1,8 +1,8 @@
 -- What a phase says of the member in it, for any instruction.
 use Rattle.std.proofs.Common.{◌≡◌, ℕ, Bool, true, false, List, [], Option, Some, None, refl}
 use Rattle.std.specs.Prelude.{◌+◌, ◌&&◌, ◌||◌, ◌==◌, not}
-use Rattle.instruction_table.specs.declared.instr.Reg.{Reg}
-use Rattle.instruction_table.specs.Shape.{Shape, shape_of, is_branch_shape, has_store}
+use Rattle.instructions.specs.declared.instr.Reg.{Reg}
+use Rattle.instructions.specs.Shape.{Shape, shape_of, is_branch_shape, has_store}
 use Rattle.relocation.specs.declared.area.Access.TheVariants.{Load as LoadInto, Store as StoreWord}
 use Rattle.hopper.specs.Hopper.{stores_to}
 use Rattle.scoreboard.specs.Rows as row
@@ -14,7 +14,7 @@ use Rattle.in_flight.specs.declared.member.Phase.TheVariants.{Before, After}
 use Rattle.in_flight.specs.declared.member.Member.{Member}
 use Rattle.in_flight.specs.Member.{returning, progress_of, row_of, is_branch, stores_in, delays_fetch}
 use Rattle.in_flight.specs.Slots.{unit_slot}
-use Rattle.instruction_table.specs.declared.instr.Unit.{Unit as FunctionalUnit}
+use Rattle.instructions.specs.declared.instr.Unit.{Unit as FunctionalUnit}
 
 unfoldable pub to_come_in : Shape → Phase → List Reg
 to_come_in h p = row.to_come_in h (progress_of p)

@@ -3,17 +3,17 @@ use Rattle.std.proofs.Common.{◌≡◌, ◌≢◌, ◌<◌, ◌≤◌, ◌+◌,
 use Rattle.std.specs.Prelude.{◌&&◌, ◌||◌, is_none, is_some, Result, Ok, Err, IfSome, unwrap_or}
 use Rattle.std.specs.List.{list_any}
 use Rattle.std.proofs.lemmas.Bool.{or_parts, eqb-true, eqb-false, eq-eqb, lt-ltb}
-use Rattle.instruction_table.specs.declared.instr.Reg.{Reg}
-use Rattle.instruction_table.specs.declared.instr.Reg.TheVariants.{X, A}
-use Rattle.instruction_table.specs.declared.instr.Unit.{Unit as FunctionalUnit}
-use Rattle.instruction_table.specs.declared.refusal.Refusal.{Refusal}
-use Rattle.instruction_table.specs.declared.refusal.Refusal.TheVariants.{BankBusy, OlderInBank}
-use Rattle.instruction_table.specs.Each.{Each, Pairs}
-use Rattle.instruction_table.specs.Finding.{Found as FoundIn, seek as seek_in, put_back as put_back_of, replaced, Found, seek, found_here, found_behind, put_back}
-use Rattle.instruction_table.specs.RegisterLists.{is_in, overlap}
-use Rattle.instruction_table.specs.Shape.{Shape, Puts, Loads, Stores, Jumps, Links, shape_of, results, puts_of, loads_of, has_reference}
-use Rattle.instruction_table.specs.Table.{reg_eq}
-use Rattle.instruction_table.proofs.Lists.{any_right, each_append, each_map, each_of_any, pairs_before, pairs_right}
+use Rattle.instructions.specs.declared.instr.Reg.{Reg}
+use Rattle.instructions.specs.declared.instr.Reg.TheVariants.{X, A}
+use Rattle.instructions.specs.declared.instr.Unit.{Unit as FunctionalUnit}
+use Rattle.instructions.specs.declared.refusal.Refusal.{Refusal}
+use Rattle.instructions.specs.declared.refusal.Refusal.TheVariants.{BankBusy, OlderInBank}
+use Rattle.instructions.specs.Each.{Each, Pairs}
+use Rattle.instructions.specs.Finding.{Found as FoundIn, seek as seek_in, put_back as put_back_of, replaced, Found, seek, found_here, found_behind, put_back}
+use Rattle.instructions.specs.RegisterLists.{is_in, overlap}
+use Rattle.instructions.specs.Shape.{Shape, Puts, Loads, Stores, Jumps, Links, shape_of, results, puts_of, loads_of, has_reference}
+use Rattle.instructions.specs.Operands.{reg_eq}
+use Rattle.instructions.proofs.Lists.{any_right, each_append, each_map, each_of_any, pairs_before, pairs_right}
 use Rattle.relocation.specs.declared.area.Access.{Access}
 use Rattle.relocation.specs.declared.area.Access.TheVariants.{Load, Store}
 use Rattle.hopper.specs.Hopper.{bank_of}
@@ -44,7 +44,7 @@ use Rattle.in_flight.specs.Seats.{seat_in, seat_of, AreElsewhere, HasRoom}
 use Rattle.in_flight.specs.Lookup.{sought, stage_at, entry_at, entry_in, in_place, place_for, enters, in_phase, kept}
 use Rattle.in_flight.specs.Apart.{IsApart}
 use Rattle.in_flight.proofs.Beside.{append-nil, any-append, waiting_put, waiting_around, waiting_one, each_put, same_place, arrival_phase}
-use Rattle.instruction_table.proofs.Finding.{seek_splits, seek_around, seek_nobody}
+use Rattle.instructions.proofs.Finding.{seek_splits, seek_around, seek_nobody}
 use Rattle.in_flight.proofs.Finding.{stage_found}
 use Rattle.in_flight.proofs.Boarding.{store_follows, load_follows, stored_follows}
 use Rattle.in_flight.proofs.Moving.{arrival_is, entry_is}

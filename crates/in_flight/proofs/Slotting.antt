@@ -2,12 +2,12 @@
 use Rattle.std.proofs.Common.{◌≡◌, ◌≢◌, ◌<◌, ◌≤◌, ℕ, false, List, [], ◌∷◌, ◌++◌, refl, sym, ap, ◌∙◌, subst, eqb, get_or, arith, ◌+◌, Bool, true, cond, Some, None}
 use Rattle.std.proofs.lemmas.Bool.{eqb-false, ne_eqb, or_parts}
 use Rattle.std.specs.List.{list_any}
-use Rattle.instruction_table.specs.declared.instr.Reg.TheVariants.{X, A}
-use Rattle.instruction_table.specs.declared.instr.Unit.{Unit as FunctionalUnit}
-use Rattle.instruction_table.specs.declared.instr.Unit.TheVariants.{Branch, Boolean, Shift, Add, LongAdd, Multiply1, Multiply2, Divide, Increment1, Increment2}
-use Rattle.instruction_table.specs.RegisterLists.{is_in, overlap}
-use Rattle.instruction_table.specs.Shape.{Shape, shape_of, Puts, Loads, Stores}
-use Rattle.instruction_table.specs.Table.{reg_eq}
+use Rattle.instructions.specs.declared.instr.Reg.TheVariants.{X, A}
+use Rattle.instructions.specs.declared.instr.Unit.{Unit as FunctionalUnit}
+use Rattle.instructions.specs.declared.instr.Unit.TheVariants.{Branch, Boolean, Shift, Add, LongAdd, Multiply1, Multiply2, Divide, Increment1, Increment2}
+use Rattle.instructions.specs.RegisterLists.{is_in, overlap}
+use Rattle.instructions.specs.Shape.{Shape, shape_of, Puts, Loads, Stores}
+use Rattle.instructions.specs.Operands.{reg_eq}
 use Rattle.scoreboard.specs.Rows as board
 use Rattle.scoreboard.specs.Rows.{returning_to}
 use Rattle.scoreboard.specs.Units.{unit_number, same_unit}
@@ -15,17 +15,17 @@ use Rattle.in_flight.specs.declared.member.Later.TheVariants.{Entered, Accepted}
 use Rattle.in_flight.specs.declared.member.Phase.{Phase}
 use Rattle.in_flight.specs.declared.member.Phase.TheVariants.{Before, After}
 use Rattle.in_flight.specs.declared.member.Member.{Member}
-use Rattle.instruction_table.specs.Each.{Each, Pairs}
+use Rattle.instructions.specs.Each.{Each, Pairs}
 use Rattle.in_flight.specs.Member.{progress_of, returning, row_of, to_come}
 use Rattle.in_flight.specs.Slots.{unit_slot, clash_in, clash, IsPlaced, IsProper, IsSlotted, IsChannel}
 use Rattle.in_flight.specs.Apart.{IsApart}
-use Rattle.instruction_table.proofs.Lists.{each_left, each_right, each_append, each_map, each_both, pairs_without, each_of_any, pairs_before, pairs_right}
+use Rattle.instructions.proofs.Lists.{each_left, each_right, each_append, each_map, each_both, pairs_without, each_of_any, pairs_before, pairs_right}
 use Rattle.in_flight.proofs.Phases.{to_come_in, slot_in, slot_of}
 use Rattle.std.proofs.lemmas.Bool.Decides.{nat_tests}
 use Rattle.std.specs.Prelude.{◌&&◌, nat_le, is_some}
-use Rattle.instruction_table.specs.declared.instr.Instr.{Instr}
-use Rattle.instruction_table.specs.declared.instr.Instr.TheVariants.{Stop, Pass, ReturnJump, Jump, BranchX, BranchB, Copy, Invert, Logical, ShiftBy, ShiftNominal, LongAdd as LongSum, Mask, CountOnes, Increment}
-use Rattle.instruction_table.specs.declared.instr.Target.TheVariants.{A as TargetA, B as TargetB, X as TargetX}
+use Rattle.instructions.specs.declared.instr.Instr.{Instr}
+use Rattle.instructions.specs.declared.instr.Instr.TheVariants.{Stop, Pass, ReturnJump, Jump, BranchX, BranchB, Copy, Invert, Logical, ShiftBy, ShiftNominal, LongAdd as LongSum, Mask, CountOnes, Increment}
+use Rattle.instructions.specs.declared.instr.Target.TheVariants.{A as TargetA, B as TargetB, X as TargetX}
 use Rattle.relocation.specs.declared.area.Access.{Access}
 use Rattle.hopper.specs.Hopper.{first_place, free_place}
 use Rattle.scoreboard.specs.Rows as board

@@ -1,6 +1,6 @@
 -- What holds between two instructions in flight. Source: ours.
 use Rattle.std.specs.Prelude.{◌≡◌, false, ◌&&◌}
-use Rattle.instruction_table.specs.RegisterLists.{overlap}
+use Rattle.instructions.specs.RegisterLists.{overlap}
 use Rattle.in_flight.specs.declared.member.Member.{Member}
 use Rattle.in_flight.specs.Member.{to_come, is_branch, has_turn, is_entered}
 

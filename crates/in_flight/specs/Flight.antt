@@ -1,12 +1,12 @@
 -- The instructions in flight: the pending instructions beside the board and the hopper that answer for them.
 -- Source: ours.
 use Rattle.std.specs.Prelude.{◌≡◌, ◌≤◌, ℕ, suc, Bool, true, List, [], ◌∷◌, ◌++◌, Option, Some, None, unwrap_or, slice_index_or}
-use Rattle.instruction_table.specs.declared.instr.Instr.{Instr}
-use Rattle.instruction_table.specs.declared.instr.Unit.{Unit as FunctionalUnit}
-use Rattle.instruction_table.specs.declared.instr.Unit.TheVariants.{Branch}
-use Rattle.instruction_table.specs.Each.{Each}
-use Rattle.instruction_table.specs.Shape.{Shape, has_reference}
-use Rattle.instruction_table.specs.Table.{row}
+use Rattle.instructions.specs.declared.instr.Instr.{Instr}
+use Rattle.instructions.specs.declared.instr.Unit.{Unit as FunctionalUnit}
+use Rattle.instructions.specs.declared.instr.Unit.TheVariants.{Branch}
+use Rattle.instructions.specs.Each.{Each}
+use Rattle.instructions.specs.Shape.{Shape, has_reference}
+use Rattle.instructions.specs.Operands.{row}
 use Rattle.relocation.specs.declared.area.Access.{Access}
 use Rattle.relocation.specs.declared.area.Access.TheVariants.{Load, Store}
 use Rattle.scoreboard.specs.Answers.{Standing}

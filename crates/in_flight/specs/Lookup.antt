@@ -1,8 +1,8 @@
 -- Which of the instructions in flight an event names, and what is put in its place. Source: ours.
 use Rattle.std.specs.Prelude.{ℕ, Bool, true, false, ◌==◌, if◌then◌else◌, List, [], ◌∷◌, Option, Some, None, is_some}
 use Rattle.std.specs.List.{list_any}
-use Rattle.instruction_table.specs.declared.instr.Unit.{Unit as FunctionalUnit}
-use Rattle.instruction_table.specs.Finding.{Found}
+use Rattle.instructions.specs.declared.instr.Unit.{Unit as FunctionalUnit}
+use Rattle.instructions.specs.Finding.{Found}
 use Rattle.hopper.specs.Hopper.{free_place}
 use Rattle.scoreboard.specs.Units.{same_unit}
 use Rattle.in_flight.specs.declared.member.Arrival.{Arrival}

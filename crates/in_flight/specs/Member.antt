@@ -1,6 +1,6 @@
 -- Pending: the instructions in issue order that have an effect still to come. Source: ours.
 use Rattle.std.specs.Prelude.{ℕ, Bool, true, false, ◌||◌, ◌==◌, List, Option, Some, None}
-use Rattle.instruction_table.specs.declared.instr.Reg.{Reg}
+use Rattle.instructions.specs.declared.instr.Reg.{Reg}
 use Rattle.relocation.specs.declared.area.Access.TheVariants.{Load, Store}
 use Rattle.hopper.specs.Hopper.{bank_of, stores_to}
 use Rattle.scoreboard.specs.declared.row.Progress.{Progress}

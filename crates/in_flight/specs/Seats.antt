@@ -1,9 +1,9 @@
 -- Pending instructions in seats, and the list that they stand for. Source: ours.
 use Rattle.std.specs.Prelude.{◌≡◌, ◌≢◌, ◌<◌, ◌+◌, ℕ, Bool, true, false, nat_lt, if◌then◌else◌, List, [], ◌∷◌, ◌++◌, Option, Some, None, length, slice_set}
-use Rattle.instruction_table.specs.declared.instr.Unit.{Unit as FunctionalUnit}
+use Rattle.instructions.specs.declared.instr.Unit.{Unit as FunctionalUnit}
 use Rattle.scoreboard.specs.Units.{unit_number}
-use Rattle.instruction_table.specs.Each.{Each, Pairs}
-use Rattle.instruction_table.specs.Order.{sort_by, somes, IsSeated}
+use Rattle.instructions.specs.Each.{Each, Pairs}
+use Rattle.instructions.specs.Order.{sort_by, somes, IsSeated}
 use Rattle.in_flight.specs.declared.member.Later.{Later}
 use Rattle.in_flight.specs.declared.member.Later.TheVariants.{Entered, Accepted}
 use Rattle.in_flight.specs.declared.member.Phase.{Phase}

@@ -3,15 +3,15 @@
 -- the tests and the turn of references are ours.
 use Rattle.std.specs.Prelude.{ℕ, Bool, true, false, not, ◌&&◌, if◌then◌else◌, List, [], ◌∷◌, Option, Some, None, is_none, Result, Ok, Err, slice_index_or}
 use Rattle.std.specs.List.{list_any}
-use Rattle.instruction_table.specs.declared.instr.Instr.{Instr}
-use Rattle.instruction_table.specs.declared.instr.Reg.TheVariants.{X}
-use Rattle.instruction_table.specs.declared.instr.Unit.{Unit as FunctionalUnit}
-use Rattle.instruction_table.specs.declared.instr.UnitKind.{UnitKind}
-use Rattle.instruction_table.specs.declared.refusal.Refusal.{Refusal}
-use Rattle.instruction_table.specs.declared.refusal.Refusal.TheVariants.{UnitBusy, ResultReserved, OperandAwaited, ResultHeld, HopperFull, OutOfTurn, BankBusy, OlderInBank, Nothing}
-use Rattle.instruction_table.specs.Finding.{Found}
-use Rattle.instruction_table.specs.Shape.{shape_of, puts_of, results, has_reference}
-use Rattle.instruction_table.specs.Table.{row, sources_of}
+use Rattle.instructions.specs.declared.instr.Instr.{Instr}
+use Rattle.instructions.specs.declared.instr.Reg.TheVariants.{X}
+use Rattle.instructions.specs.declared.instr.Unit.{Unit as FunctionalUnit}
+use Rattle.instructions.specs.declared.instr.UnitKind.{UnitKind}
+use Rattle.instructions.specs.declared.refusal.Refusal.{Refusal}
+use Rattle.instructions.specs.declared.refusal.Refusal.TheVariants.{UnitBusy, ResultReserved, OperandAwaited, ResultHeld, HopperFull, OutOfTurn, BankBusy, OlderInBank, Nothing}
+use Rattle.instructions.specs.Finding.{Found}
+use Rattle.instructions.specs.Shape.{shape_of, puts_of, results, has_reference}
+use Rattle.instructions.specs.Operands.{row, sources_of}
 use Rattle.hopper.specs.Hopper.{bank_of}
 use Rattle.scoreboard.specs.Conflicts as conflict
 use Rattle.scoreboard.specs.Conflicts.{first_such, result_reserved, operand_awaited, result_held, out_of_turn}

@@ -1,7 +1,7 @@
 ghost use Rattle.std.specs.Prelude.{◌≡◌, ◌<◌, ◌+◌, ◌^◌, suc, [], ◌∷◌, true, false, not, is_none, slice_index_or, slice_set, replicate, length, IfOk, IfSome, MatchResult, unwrap_or, Some, None};
 ghost use Rattle.std.specs.List.{list_any};
-ghost use Rattle.instruction_table.specs.Each.{Pairs};
-ghost use Rattle.instruction_table.specs.Shape.{shape_of};
+ghost use Rattle.instructions.specs.Each.{Pairs};
+ghost use Rattle.instructions.specs.Shape.{shape_of};
 ghost use Rattle.hopper.specs.Hopper.{bank_of};
 ghost use Rattle.hopper.specs.Queue.{place_for as free_in};
 ghost use Rattle.sequential.specs.declared.fetching.Fetched.TheVariants.{Taking};
@@ -14,7 +14,7 @@ ghost use Rattle.in_flight.specs.Tests.{refusal_in, store_conflicts, refusal_of,
 ghost use Rattle.in_flight.specs.Flight.{left_by, later_of, IsRestOf, unit_taken, reserved_in, with_pending, entered_at, rest_at, queue_with, queue_behind};
 ghost use Rattle.in_flight.specs.Member.{has_read, is_branch, delays_fetch};
 ghost use Rattle.in_flight.specs.Lookup.{first_of, sought, stage_at, entry_at, arrival_at, in_phase, kept, enters, place_for, is_pending};
-ghost use Rattle.instruction_table.specs.Finding.{replaced, Found, seek};
+ghost use Rattle.instructions.specs.Finding.{replaced, Found, seek};
 ghost use Rattle.in_flight.specs.Slots.{IsSlotted};
 ghost use Rattle.in_flight.specs.Apart.{IsApart};
 

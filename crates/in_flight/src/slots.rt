@@ -1,10 +1,10 @@
 ghost use Rattle.std.specs.Prelude.{◌≡◌, ◌<◌, ◌∷◌, ◌++◌, [], length, Some, None, is_none, slice_index_or, IfSome};
 ghost use Rattle.std.specs.List.{list_all};
 ghost use Rattle.scoreboard.specs.Units.{unit_number};
-ghost use Rattle.instruction_table.specs.Each.{Each};
+ghost use Rattle.instructions.specs.Each.{Each};
 ghost use Rattle.in_flight.specs.declared.member.Phase.TheVariants.{Before, After};
 ghost use Rattle.in_flight.specs.declared.member.Stage.TheVariants.{Waiting};
-ghost use Rattle.instruction_table.specs.Finding.{seek, replaced};
+ghost use Rattle.instructions.specs.Finding.{seek, replaced};
 ghost use Rattle.in_flight.specs.Lookup.{stage_at, entry_at, arrival_at, in_phase, kept, sought, first_of};
 ghost use Rattle.in_flight.specs.Seats.{HasRoom, places_with, channels_with, has_none, lower_of, lowest_of};
 

@@ -1,7 +1,7 @@
 //! For the tests: calls to what is in flight, with the answer of each.
 
 ghost use Rattle.std.specs.Prelude.{◌≡◌};
-ghost use Rattle.instruction_table.specs.Shape.{shape_of};
+ghost use Rattle.instructions.specs.Shape.{shape_of};
 ghost use Rattle.in_flight.specs.Flight.{IsRestOf};
 
 use crate::{Arrival, InFlight, Member, Phase, Rest, Stage};
@@ -111,7 +111,7 @@ pub(crate) fn return_at_boot(channel: u8) -> Result<Arrival, Refusal> {
 }
 
 /// Whether nothing is in flight after a unit that is free was left.
-#[tactic(auto, unfolding(crate::specs::Lookup::sought, crate::specs::Lookup::enters, crate::specs::Flight::later_of, instruction_table::specs::Finding::seek))]
+#[tactic(auto, unfolding(crate::specs::Lookup::sought, crate::specs::Lookup::enters, crate::specs::Flight::later_of, instructions::specs::Finding::seek))]
 pub(crate) fn is_empty_after_leave(unit: Unit) -> bool {
     let mut flight = InFlight::new();
     flight.leave(unit, &None);

@@ -3,10 +3,10 @@ use Rattle.std.proofs.Common.{ℕ, zero, suc, ◌≡◌, ◌≢◌, ◌+◌, ◌
 use Rattle.std.specs.Prelude.{nat_lt, ⊤}
 use Rattle.std.proofs.lemmas.Bool.{ltb-false, ne_eqb}
 use Rattle.parcel.specs.Parcels.{parcel_at}
-use Rattle.instruction_table.specs.declared.instr.Instr.{Instr}
-use Rattle.instruction_table.specs.declared.instr.Instr.TheVariants.{BranchX}
-use Rattle.instruction_table.specs.declared.instr.Op.TheVariants.{Plain, Extended}
-use Rattle.instruction_table.specs.declared.instr.Target.TheVariants.{A as TargetA, B as TargetB, X as TargetX}
+use Rattle.instructions.specs.declared.instr.Instr.{Instr}
+use Rattle.instructions.specs.declared.instr.Instr.TheVariants.{BranchX}
+use Rattle.instructions.specs.declared.instr.Op.TheVariants.{Plain, Extended}
+use Rattle.instructions.specs.declared.instr.Target.TheVariants.{A as TargetA, B as TargetB, X as TargetX}
 use Rattle.instruction_table.specs.declared.decoding.Decoded.TheVariants.{Legal, Straddle}
 use Rattle.instruction_table.specs.declared.decoding.Entry.{Entry}
 use Rattle.instruction_table.specs.declared.decoding.Entry.TheVariants.{Short, Long, Refused}

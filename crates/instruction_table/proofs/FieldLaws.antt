@@ -1,25 +1,25 @@
 -- The fields of a candidate are in their ranges.
 use Rattle.std.proofs.Common.{ℕ, ◌-◌, ◌*◌, ◌+◌, ◌%◌, ◌^◌, ◌<◌, ◌==◌, Bool, true, false, if◌then◌else◌, List, [], ◌∷◌, drop, slice_index, arith}
-use Rattle.instruction_table.specs.declared.instr.Instr.{Instr}
-use Rattle.instruction_table.specs.declared.instr.Instr.TheVariants.{Stop, Pass, ReturnJump, Copy, Invert, Logical, ShiftBy, ShiftNominal, LongAdd, CountOnes}
-use Rattle.instruction_table.specs.declared.instr.Addends.{Addends}
-use Rattle.instruction_table.specs.declared.instr.XTest.TheVariants.{Zero, NonZero, Positive, Negative, InRange, OutOfRange, Definite, Indefinite}
-use Rattle.instruction_table.specs.declared.instr.XTest.{XTest}
-use Rattle.instruction_table.specs.declared.instr.BTest.TheVariants.{Equal, NotEqual, GreaterOrEqual, Less}
-use Rattle.instruction_table.specs.declared.instr.BTest.{BTest}
-use Rattle.instruction_table.specs.declared.instr.Logic.{Logic}
-use Rattle.instruction_table.specs.declared.instr.Logic.TheVariants.{And, Or, Xor, AndNot, OrNot, XorNot}
-use Rattle.instruction_table.specs.declared.instr.Addition.{Addition}
-use Rattle.instruction_table.specs.declared.instr.Addition.TheVariants.{Sum, Difference}
-use Rattle.instruction_table.specs.declared.instr.Pair.{Pair}
-use Rattle.instruction_table.specs.declared.instr.Pair.TheVariants.{XPlusB, APlusB, AMinusB, BPlusB, BMinusB}
-use Rattle.instruction_table.specs.declared.instr.Base.{Base}
-use Rattle.instruction_table.specs.declared.instr.Base.TheVariants.{A as BaseA, B as BaseB, X as BaseX}
-use Rattle.instruction_table.specs.declared.instr.Addends.TheVariants.{Address, Registers}
-use Rattle.instruction_table.specs.declared.instr.Direction.{Direction}
-use Rattle.instruction_table.specs.declared.instr.Direction.TheVariants.{Left, Right}
-use Rattle.instruction_table.specs.declared.instr.Target.{Target}
-use Rattle.instruction_table.specs.declared.instr.Target.TheVariants.{A as TargetA, B as TargetB, X as TargetX}
+use Rattle.instructions.specs.declared.instr.Instr.{Instr}
+use Rattle.instructions.specs.declared.instr.Instr.TheVariants.{Stop, Pass, ReturnJump, Copy, Invert, Logical, ShiftBy, ShiftNominal, LongAdd, CountOnes}
+use Rattle.instructions.specs.declared.instr.Addends.{Addends}
+use Rattle.instructions.specs.declared.instr.XTest.TheVariants.{Zero, NonZero, Positive, Negative, InRange, OutOfRange, Definite, Indefinite}
+use Rattle.instructions.specs.declared.instr.XTest.{XTest}
+use Rattle.instructions.specs.declared.instr.BTest.TheVariants.{Equal, NotEqual, GreaterOrEqual, Less}
+use Rattle.instructions.specs.declared.instr.BTest.{BTest}
+use Rattle.instructions.specs.declared.instr.Logic.{Logic}
+use Rattle.instructions.specs.declared.instr.Logic.TheVariants.{And, Or, Xor, AndNot, OrNot, XorNot}
+use Rattle.instructions.specs.declared.instr.Addition.{Addition}
+use Rattle.instructions.specs.declared.instr.Addition.TheVariants.{Sum, Difference}
+use Rattle.instructions.specs.declared.instr.Pair.{Pair}
+use Rattle.instructions.specs.declared.instr.Pair.TheVariants.{XPlusB, APlusB, AMinusB, BPlusB, BMinusB}
+use Rattle.instructions.specs.declared.instr.Base.{Base}
+use Rattle.instructions.specs.declared.instr.Base.TheVariants.{A as BaseA, B as BaseB, X as BaseX}
+use Rattle.instructions.specs.declared.instr.Addends.TheVariants.{Address, Registers}
+use Rattle.instructions.specs.declared.instr.Direction.{Direction}
+use Rattle.instructions.specs.declared.instr.Direction.TheVariants.{Left, Right}
+use Rattle.instructions.specs.declared.instr.Target.{Target}
+use Rattle.instructions.specs.declared.instr.Target.TheVariants.{A as TargetA, B as TargetB, X as TargetX}
 use Rattle.instruction_table.specs.Candidate.{digit_of, number_after, number_of, jump_in, branch_x_in, branch_b_in, shift_in, boolean_in, mask_in, addends_in, increment_in, after_i, after_l, after_n, after_p, after_s, candidate_in}
 use Rattle.instruction_table.specs.Table.{IsInstr, IsAddends}
 

@@ -6,7 +6,3 @@ pub mod OctalLaws
 pub mod ReadingLaws
 pub mod FieldLaws
 pub mod TextLaws
-pub mod Lists
-pub mod Sorted
-pub mod Finding
-pub mod Seats

@@ -2,9 +2,9 @@
 use Rattle.std.proofs.Common.{ℕ, zero, suc, ◌≡◌, ◌/◌, ◌%◌, ◌^◌, Bool, true, false, cond, eqb, List, [], ◌∷◌, Option, Some, None, refl, sym, ap, ◌∙◌, get_or, map, drop, arith}
 use Rattle.std.specs.Prelude.{◌||◌}
 use Rattle.std.proofs.lemmas.Bool.{eqb-false, or_parts}
-use Rattle.instruction_table.specs.declared.instr.Op.{Op}
-use Rattle.instruction_table.specs.declared.instr.Op.TheVariants.{Plain, Extended}
-use Rattle.instruction_table.specs.declared.instr.Target.TheVariants.{A as TargetA, B as TargetB, X as TargetX}
+use Rattle.instructions.specs.declared.instr.Op.{Op}
+use Rattle.instructions.specs.declared.instr.Op.TheVariants.{Plain, Extended}
+use Rattle.instructions.specs.declared.instr.Target.TheVariants.{A as TargetA, B as TargetB, X as TargetX}
 use Rattle.instruction_table.specs.declared.decoding.Entry.{Entry}
 use Rattle.instruction_table.specs.declared.decoding.Entry.TheVariants.{Short, Long, Refused}
 use Rattle.instruction_table.specs.Decoding.{entry, rows_01, branches, logicals, shifts, additions, others, increments, rows, entry_of}

@@ -3,7 +3,7 @@ use Rattle.std.proofs.Common.{ℕ, ◌≡◌, List, Some, refl, sym, ◌∙◌, 
 use Rattle.std.specs.Str.{bytes_eq}
 use Rattle.std.proofs.lemmas.Option.{cond_some}
 use Rattle.std.proofs.lemmas.Slice.Eq.{bytes_eq-Decides}
-use Rattle.instruction_table.specs.declared.instr.Instr.{Instr}
+use Rattle.instructions.specs.declared.instr.Instr.{Instr}
 use Rattle.instruction_table.specs.Candidate.{candidate_in}
 use Rattle.instruction_table.specs.Spelling.{spelling, instr_of}
 use Rattle.instruction_table.specs.Table.{IsInstr}

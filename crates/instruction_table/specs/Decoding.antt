@@ -3,19 +3,19 @@
 -- looked at, and that an instruction across the end of its word halts the machine.
 use Rattle.std.specs.Prelude.{ℕ, ◌+◌, ◌*◌, ◌/◌, ◌%◌, ◌^◌, ◌<◌, ◌≤◌, ⊤, nat_lt, if◌then◌else◌, List, [], ◌∷◌, get_or}
 use Rattle.parcel.specs.Parcels.{parcel_at}
-use Rattle.instruction_table.specs.declared.instr.Instr.TheVariants.{Stop, Pass, ReturnJump, Jump, BranchX, BranchB, Copy, Invert, Logical, ShiftBy, ShiftNominal, LongAdd, Mask, CountOnes, Increment}
-use Rattle.instruction_table.specs.declared.instr.Op.TheVariants.{Plain, Extended}
-use Rattle.instruction_table.specs.declared.instr.XTest.{XTest}
-use Rattle.instruction_table.specs.declared.instr.XTest.TheVariants.{Zero, NonZero, Positive, Negative, InRange, OutOfRange, Definite, Indefinite}
-use Rattle.instruction_table.specs.declared.instr.BTest.TheVariants.{Equal, NotEqual, GreaterOrEqual, Less}
-use Rattle.instruction_table.specs.declared.instr.Logic.TheVariants.{And, Or, Xor, AndNot, OrNot, XorNot}
-use Rattle.instruction_table.specs.declared.instr.Direction.TheVariants.{Left, Right}
-use Rattle.instruction_table.specs.declared.instr.Addition.TheVariants.{Sum, Difference}
-use Rattle.instruction_table.specs.declared.instr.Target.{Target}
-use Rattle.instruction_table.specs.declared.instr.Target.TheVariants.{A as TargetA, B as TargetB, X as TargetX}
-use Rattle.instruction_table.specs.declared.instr.Base.TheVariants.{A, B, X}
-use Rattle.instruction_table.specs.declared.instr.Pair.TheVariants.{XPlusB, APlusB, AMinusB, BPlusB, BMinusB}
-use Rattle.instruction_table.specs.declared.instr.Addends.TheVariants.{Address, Registers}
+use Rattle.instructions.specs.declared.instr.Instr.TheVariants.{Stop, Pass, ReturnJump, Jump, BranchX, BranchB, Copy, Invert, Logical, ShiftBy, ShiftNominal, LongAdd, Mask, CountOnes, Increment}
+use Rattle.instructions.specs.declared.instr.Op.TheVariants.{Plain, Extended}
+use Rattle.instructions.specs.declared.instr.XTest.{XTest}
+use Rattle.instructions.specs.declared.instr.XTest.TheVariants.{Zero, NonZero, Positive, Negative, InRange, OutOfRange, Definite, Indefinite}
+use Rattle.instructions.specs.declared.instr.BTest.TheVariants.{Equal, NotEqual, GreaterOrEqual, Less}
+use Rattle.instructions.specs.declared.instr.Logic.TheVariants.{And, Or, Xor, AndNot, OrNot, XorNot}
+use Rattle.instructions.specs.declared.instr.Direction.TheVariants.{Left, Right}
+use Rattle.instructions.specs.declared.instr.Addition.TheVariants.{Sum, Difference}
+use Rattle.instructions.specs.declared.instr.Target.{Target}
+use Rattle.instructions.specs.declared.instr.Target.TheVariants.{A as TargetA, B as TargetB, X as TargetX}
+use Rattle.instructions.specs.declared.instr.Base.TheVariants.{A, B, X}
+use Rattle.instructions.specs.declared.instr.Pair.TheVariants.{XPlusB, APlusB, AMinusB, BPlusB, BMinusB}
+use Rattle.instructions.specs.declared.instr.Addends.TheVariants.{Address, Registers}
 use Rattle.instruction_table.specs.declared.decoding.Decoded.{Decoded}
 use Rattle.instruction_table.specs.declared.decoding.Decoded.TheVariants.{Legal, Refused as RefusedOp, Straddle}
 use Rattle.instruction_table.specs.declared.decoding.Entry.{Entry}

@@ -1,9 +1,9 @@
 -- The opcode of an instruction, which its first parcel begins with.
 -- Source: 60100000, the descriptions of the instructions; that a refused opcode is named by these digits is ours.
 use Rattle.std.specs.Prelude.{ℕ, ◌/◌, ◌%◌, ◌^◌, ◌||◌, ◌==◌, if◌then◌else◌, List, [], ◌∷◌}
-use Rattle.instruction_table.specs.declared.instr.Op.{Op}
-use Rattle.instruction_table.specs.declared.instr.Op.TheVariants.{Plain, Extended}
-use Rattle.instruction_table.specs.declared.instr.Instr.{Instr}
+use Rattle.instructions.specs.declared.instr.Op.{Op}
+use Rattle.instructions.specs.declared.instr.Op.TheVariants.{Plain, Extended}
+use Rattle.instructions.specs.declared.instr.Instr.{Instr}
 use Rattle.instruction_table.specs.Table.{parcels_of}
 
 -- the opcode of a parcel: its digits f and m, and after 01 and 03 the digit i

@@ -2,9 +2,9 @@
 -- Source: 60100000, the descriptions of the instructions; that unused fields are ignored is ours.
 use Rattle.std.specs.Prelude.{◌≡◌, ◌≢◌, ℕ, zero, suc, ◌+◌, ◌-◌, ◌*◌, ◌/◌, ◌%◌, ◌^◌, List, [], ◌∷◌}
 use Rattle.parcel.specs.Parcels.{parcel_at}
-use Rattle.instruction_table.specs.declared.instr.Instr.{Instr}
-use Rattle.instruction_table.specs.declared.instr.Instr.TheVariants.{Stop, Pass, ReturnJump, Jump, Copy, Invert, CountOnes}
-use Rattle.instruction_table.specs.declared.instr.Op.{Op}
+use Rattle.instructions.specs.declared.instr.Instr.{Instr}
+use Rattle.instructions.specs.declared.instr.Instr.TheVariants.{Stop, Pass, ReturnJump, Jump, Copy, Invert, CountOnes}
+use Rattle.instructions.specs.declared.instr.Op.{Op}
 use Rattle.instruction_table.specs.declared.decoding.Decoded.{Decoded}
 use Rattle.instruction_table.specs.declared.decoding.Decoded.TheVariants.{Legal, Refused, Straddle}
 use Rattle.instruction_table.specs.Table.{parcels_of, IsInstr}

@@ -3,16 +3,19 @@
 use Rattle.std.specs.Prelude.{ℕ, if◌then◌else◌, List, take, drop, Option, Some, None}
 use Rattle.std.specs.Str.{bytes_eq}
 use Rattle.instruction_table.specs.Candidate.{candidate_in}
-use Rattle.instruction_table.specs.Table.{row}
-use Rattle.instruction_table.specs.declared.instr.Logic.{Logic}
-use Rattle.instruction_table.specs.declared.instr.Target.TheVariants.{A as TargetA}
-use Rattle.instruction_table.specs.declared.instr.Addends.{Addends}
-use Rattle.instruction_table.specs.declared.instr.Instr.{Instr}
-use Rattle.instruction_table.specs.declared.instr.Instr.TheVariants.{Logical, Increment}
+use Rattle.instruction_table.specs.Table.{form_of}
+use Rattle.instructions.specs.declared.instr.XTest.TheVariants.{Zero}
+use Rattle.instructions.specs.declared.instr.BTest.TheVariants.{Equal}
+use Rattle.instructions.specs.declared.instr.Logic.{Logic}
+use Rattle.instructions.specs.declared.instr.Addition.{Addition}
+use Rattle.instructions.specs.declared.instr.Target.TheVariants.{A as TargetA}
+use Rattle.instructions.specs.declared.instr.Addends.{Addends}
+use Rattle.instructions.specs.declared.instr.Instr.{Instr}
+use Rattle.instructions.specs.declared.instr.Instr.TheVariants.{Jump, BranchX, BranchB, Logical, LongAdd, Increment}
 
 -- the text of an instruction, as the table has it
 abbrev pub spelling : Instr → List ℕ
-spelling instr = (row instr).text
+spelling instr = (form_of instr).text
 
 -- The instruction whose spelling a text is, none for any other text. The candidate is only how it is found: what counts
 -- is that its spelling is the text.
@@ -23,9 +26,25 @@ instr_of t = if bytes_eq (spelling (candidate_in t)) t then Some (candidate_in t
 abbrev pub name_of : Instr → List ℕ
 name_of instr = take 2 (spelling instr)
 
+-- what follows `JP`
+abbrev pub jump_text : ℕ → ℕ → List ℕ
+jump_text i K = drop 2 (spelling (Jump i K))
+
+-- what follows `ZR` and the others that test an X register
+abbrev pub branch_x_text : ℕ → ℕ → List ℕ
+branch_x_text j K = drop 2 (spelling (BranchX Zero j K))
+
+-- what follows `EQ` and the others that compare two B registers
+abbrev pub branch_b_text : ℕ → ℕ → ℕ → List ℕ
+branch_b_text i j K = drop 2 (spelling (BranchB Equal i j K))
+
 -- what follows `BXi`
 abbrev pub logic_text : Logic → ℕ → ℕ → List ℕ
 logic_text op j k = drop 3 (spelling (Logical op 0 j k))
+
+-- what follows `IXi`
+abbrev pub addition_text : Addition → ℕ → ℕ → List ℕ
+addition_text op j k = drop 3 (spelling (LongAdd op 0 j k))
 
 -- what follows `SAi`
 abbrev pub addends_text : Addends → List ℕ

@@ -2,7 +2,7 @@ ghost use Rattle.std.specs.Prelude.{◌≡◌, ◌<◌, ◌-◌, ◌%◌, ◌^�
 ghost use Rattle.instruction_table.specs.Candidate.{digit_of, number_of, jump_in, branch_x_in, branch_b_in, shift_in, boolean_in, mask_in, addition_in, addends_in, increment_in, candidate_in};
 ghost use Rattle.instruction_table.specs.Spelling.{spelling, instr_of};
 ghost use Rattle.instruction_table.specs.Table.{IsInstr};
-ghost use Rattle.instruction_table.specs.declared.instr.Instr.{Instr};
+ghost use Rattle.instructions.specs.declared.instr.Instr.{Instr};
 
 use crate::spelling::spell;
 use crate::{

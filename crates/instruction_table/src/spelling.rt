@@ -1,11 +1,11 @@
 ghost use Rattle.std.specs.Prelude.{◌≡◌, ◌<◌, ◌≤◌, ◌+◌, ◌++◌, codes, length, MatchResult};
 ghost use Rattle.std.specs.String.{string_bytes};
 ghost use Rattle.arrayvec.specs.ArrayString.{array_string_len};
-ghost use Rattle.instruction_table.specs.declared.refusal.Refusal.TheVariants.{OutOfMemory};
+ghost use Rattle.instructions.specs.declared.refusal.Refusal.TheVariants.{OutOfMemory};
 ghost use Rattle.instruction_table.specs.Octal.{octal};
-ghost use Rattle.instruction_table.specs.Spelling.{name_of, logic_text, addends_text, spelling};
+ghost use Rattle.instruction_table.specs.Spelling.{name_of, jump_text, branch_x_text, branch_b_text, logic_text, addition_text, addends_text, spelling};
 ghost use Rattle.instruction_table.specs.Table.{digit};
-ghost use Rattle.instruction_table.specs.declared.instr.Addends.TheVariants.{Registers};
+ghost use Rattle.instructions.specs.declared.instr.Addends.TheVariants.{Registers};
 
 use crate::{
     Addends, Addition, BTest, Base, Digit, Direction, Instr, Logic, Pair, Refusal, SixBits, Target,
@@ -115,6 +115,47 @@ fn put_count(text: &mut InstrText, count: SixBits)
     put_octal(text, u32::from(count.get()));
 }
 
+/// Adds a register and the address of a jump.
+fn put_jump(text: &mut InstrText, i: Digit, to: Word18)
+    requires { array_string_len text.old ≤ 2 }
+    ensures { text.new.bytes ≡ text.old.bytes ++ jump_text i to }
+{
+    put(text, " B", i);
+    put_address(text, "+", to);
+}
+
+/// Adds a register and the address of a branch on it.
+fn put_branch_x(text: &mut InstrText, j: Digit, to: Word18)
+    requires { array_string_len text.old ≤ 2 }
+    ensures { text.new.bytes ≡ text.old.bytes ++ branch_x_text j to }
+{
+    put(text, " X", j);
+    put_address(text, ",", to);
+}
+
+/// Adds two registers and the address of a branch on them.
+fn put_branch_b(text: &mut InstrText, i: Digit, j: Digit, to: Word18)
+    requires { array_string_len text.old ≤ 2 }
+    ensures { text.new.bytes ≡ text.old.bytes ++ branch_b_text i j to }
+{
+    put(text, " B", i);
+    put(text, ",B", j);
+    put_address(text, ",", to);
+}
+
+/// Adds two registers and the sign between them.
+fn put_addition(text: &mut InstrText, op: Addition, j: Digit, k: Digit)
+    requires { array_string_len text.old < 10 }
+    ensures { text.new.bytes ≡ text.old.bytes ++ addition_text op j k }
+{
+    let sign = match op {
+        Addition::Sum => "+X",
+        Addition::Difference => "-X",
+    };
+    put(text, " X", j);
+    put(text, sign, k);
+}
+
 /// Adds two registers and the operation on them.
 fn put_logic(text: &mut InstrText, op: Logic, j: Digit, k: Digit)
     requires { array_string_len text.old < 10 }
@@ -176,19 +217,9 @@ pub fn spell(instr: &Instr) -> InstrText
     match *instr {
         Instr::Stop | Instr::Pass => {}
         Instr::ReturnJump { to } => put_address(&mut text, " ", to),
-        Instr::Jump { i, to } => {
-            put(&mut text, " B", i);
-            put_address(&mut text, "+", to);
-        }
-        Instr::BranchX { j, to, .. } => {
-            put(&mut text, " X", j);
-            put_address(&mut text, ",", to);
-        }
-        Instr::BranchB { i, j, to, .. } => {
-            put(&mut text, " B", i);
-            put(&mut text, ",B", j);
-            put_address(&mut text, ",", to);
-        }
+        Instr::Jump { i, to } => put_jump(&mut text, i, to),
+        Instr::BranchX { j, to, .. } => put_branch_x(&mut text, j, to),
+        Instr::BranchB { i, j, to, .. } => put_branch_b(&mut text, i, j, to),
         Instr::Copy { i, j: x } | Instr::CountOnes { i, k: x } => {
             put(&mut text, "", i);
             put(&mut text, " X", x);
@@ -212,12 +243,7 @@ pub fn spell(instr: &Instr) -> InstrText
         }
         Instr::LongAdd { op, i, j, k } => {
             put(&mut text, "", i);
-            put(&mut text, " X", j);
-            let sign = match op {
-                Addition::Sum => "+X",
-                Addition::Difference => "-X",
-            };
-            put(&mut text, sign, k);
+            put_addition(&mut text, op, j, k);
         }
         Instr::Increment { i, addends, .. } => {
             put(&mut text, "", i);

@@ -7,7 +7,7 @@ use Rattle.sequential.specs.declared.state.State.{State}
 use Rattle.in_flight.specs.Lookup.{is_pending}
 use Rattle.program_order.specs.Reached.{GoesOn, IsReached}
 use Rattle.program_order.specs.Processor.{Whole, boot_whole, replayed}
-use Rattle.instruction_table.specs.declared.refusal.Refusal.{Refusal}
+use Rattle.instructions.specs.declared.refusal.Refusal.{Refusal}
 use Rattle.deck.specs.Deck.{Good, deck}
 use Rattle.deck.specs.Views.{plan, shown}
 use Rattle.deck.specs.declared.deck.Deck.{Deck}

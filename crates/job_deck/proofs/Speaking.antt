@@ -4,7 +4,7 @@ use Rattle.std.specs.List.{onto_first}
 use Rattle.device_text.specs.Text.{fields_of}
 use Rattle.job_deck.specs.Schedule.{spoken_of}
 use Rattle.job_deck.specs.declared.schedule.Spoken.TheVariants.{Faulty}
-use Rattle.instruction_table.specs.declared.refusal.DeckFault.TheVariants as faults
+use Rattle.instructions.specs.declared.refusal.DeckFault.TheVariants as faults
 
 three_onto : (w a : List ℕ) (x : ℕ) (parts : List (List ℕ)) → spoken_of (w ∷ a ∷ onto_first x parts) ≡ Faulty faults.Unknown
 three_onto w a x [] = refl

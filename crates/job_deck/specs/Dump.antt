@@ -3,7 +3,7 @@
 use Rattle.std.specs.Prelude.{ℕ, zero, suc, ◌+◌, ◌-◌, Bool, true, false, List, [], ◌∷◌, Option, Some, None, codes, decimal, slice_index, slice_index_or}
 use Rattle.std.specs.List.{flat_map, concat}
 use Rattle.word60.specs.Words.{octal_text}
-use Rattle.instruction_table.specs.declared.refusal.Halt.{Halt}
+use Rattle.instructions.specs.declared.refusal.Halt.{Halt}
 use Rattle.registers.specs.declared.file.RegisterFile.{RegisterFile}
 use Rattle.relocation.specs.declared.area.Area.{Area}
 use Rattle.sequential.specs.declared.log.Entry.{Entry}

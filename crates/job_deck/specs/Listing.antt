@@ -8,8 +8,8 @@ use Rattle.instruction_table.specs.declared.decoding.Decoded.TheVariants.{Legal,
 use Rattle.instruction_table.specs.Decoding.{reading_at}
 use Rattle.instruction_table.specs.Spelling.{spelling}
 use Rattle.std.specs.Io.KnownBytes.{Keeps, Appends}
-use Rattle.instruction_table.specs.declared.refusal.Refusal.{Refusal}
-use Rattle.instruction_table.specs.declared.refusal.Refusal.TheVariants as refusals
+use Rattle.instructions.specs.declared.refusal.Refusal.{Refusal}
+use Rattle.instructions.specs.declared.refusal.Refusal.TheVariants as refusals
 use Rattle.deck.specs.Deck.{Reading, Good, Bad}
 use Rattle.device_text.specs.Device.{WritesFront}
 use Rattle.deck.specs.Image.{Placed}

@@ -2,8 +2,8 @@
 -- Source: ours.
 use Rattle.std.specs.Prelude.{◌≡◌, ℕ, List, Option, Some, None, Result, Ok, Err}
 use Rattle.std.specs.Io.KnownBytes.{Keeps, Appends}
-use Rattle.instruction_table.specs.declared.refusal.Refusal.{Refusal}
-use Rattle.instruction_table.specs.declared.refusal.Refusal.TheVariants as refusals
+use Rattle.instructions.specs.declared.refusal.Refusal.{Refusal}
+use Rattle.instructions.specs.declared.refusal.Refusal.TheVariants as refusals
 use Rattle.sequential.specs.declared.state.State.{State}
 use Rattle.sequential.specs.Log.{entries_of}
 use Rattle.sequential.specs.Replay.{LogStep, boot, replay}

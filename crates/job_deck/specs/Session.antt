@@ -2,7 +2,7 @@
 -- Source: ours.
 use Rattle.std.specs.Prelude.{◌≡◌, ◌⊎◌, ℕ, ◌+◌, true, false, List, [], ◌∷◌, length, codes, Some, Result}
 use Rattle.std.specs.List.{flat_map, concat}
-use Rattle.instruction_table.specs.declared.refusal.Refusal.{Refusal}
+use Rattle.instructions.specs.declared.refusal.Refusal.{Refusal}
 use Rattle.sequential.specs.Log.{entries_of}
 use Rattle.program_order.specs.declared.event.Done.{Done}
 use Rattle.program_order.specs.declared.event.Event.{Event}

@@ -3,7 +3,7 @@
 ghost use Rattle.std.specs.Prelude.{◌≡◌, ◌≤◌, ◌+◌, ◌++◌, ℕ, List, OnOk, Result};
 ghost use Rattle.std.specs.Io.KnownBytes.{Appends};
 ghost use Rattle.std.specs.List.{flat_map};
-ghost use Rattle.instruction_table.specs.declared.refusal.Refusal.{Refusal as SomeRefusal};
+ghost use Rattle.instructions.specs.declared.refusal.Refusal.{Refusal as SomeRefusal};
 ghost use Rattle.program_order.specs.declared.event.Done.{Done as SomeDone};
 ghost use Rattle.program_order.specs.declared.event.Event.{Event as SomeEvent};
 ghost use Rattle.program_order.specs.Headline.{IsFaithful};

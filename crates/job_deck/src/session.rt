@@ -1,5 +1,5 @@
 ghost use Rattle.std.specs.Prelude.{◌≡◌, ◌||◌, ◌≤◌, ◌+◌, [], IfOk, MatchResult};
-ghost use Rattle.instruction_table.specs.declared.refusal.Refusal.TheVariants.{OutOfMemory};
+ghost use Rattle.instructions.specs.declared.refusal.Refusal.TheVariants.{OutOfMemory};
 ghost use Rattle.program_order.specs.Reached.{GoesOn, IsReached};
 ghost use Rattle.program_order.specs.Processor.{boot_whole};
 ghost use Rattle.deck.specs.Deck.{deck};

@@ -1,9 +1,9 @@
 -- What an instruction leaves after its store event: what its shape says of it, and that there is room for it.
 use Rattle.std.proofs.Common.{◌≡◌, ℕ, Bool, true, false, ◌&&◌, Option, Some, None, length, refl, sym, ap, ◌∙◌, subst}
 use Rattle.std.specs.Prelude.{IfSome, is_none}
-use Rattle.instruction_table.specs.declared.instr.Unit.{Unit as FunctionalUnit}
-use Rattle.instruction_table.specs.Each.{Each}
-use Rattle.instruction_table.specs.Shape.{Shape, Puts, Loads, Stores, Jumps, Links, shape_of, has_reference}
+use Rattle.instructions.specs.declared.instr.Unit.{Unit as FunctionalUnit}
+use Rattle.instructions.specs.Each.{Each}
+use Rattle.instructions.specs.Shape.{Shape, Puts, Loads, Stores, Jumps, Links, shape_of, has_reference}
 use Rattle.relocation.specs.declared.area.Access.TheVariants.{Load as LoadInto, Store as StoreWord}
 use Rattle.scoreboard.specs.Issued.{channel_of}
 use Rattle.sequential.specs.State.{Bounds, bounds_of, absolute}
@@ -19,7 +19,7 @@ use Rattle.in_flight.specs.Board.{left_to_return}
 use Rattle.in_flight.specs.Flight.{later_of, IsRestOf}
 use Rattle.in_flight.specs.Member.{returning}
 use Rattle.in_flight.specs.Lookup.{sought, enters, place_for, stage_at}
-use Rattle.instruction_table.specs.Finding.{Found, seek}
+use Rattle.instructions.specs.Finding.{Found, seek}
 use Rattle.program_order.specs.Processor.{Whole}
 use Rattle.program_order.specs.Events.{allowed, tests_of}
 use Rattle.program_order.specs.Units.{entering, rest_of, store_tests}

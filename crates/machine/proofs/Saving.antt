@@ -3,8 +3,8 @@
 use Rattle.std.proofs.Common.{◌≡◌, ◌≤◌, ◌<◌, ◌+◌, ℕ, true, false, List, Option, None, length, replicate, sym, ap, ◌∙◌}
 use Rattle.std.specs.Prelude.{MatchResult, Result, Ok, Err}
 use Rattle.std.proofs.lemmas.Bool.{false≢true}
-use Rattle.instruction_table.specs.declared.refusal.Refusal.{Refusal}
-use Rattle.instruction_table.specs.declared.refusal.Refusal.TheVariants.{PackageRange}
+use Rattle.instructions.specs.declared.refusal.Refusal.{Refusal}
+use Rattle.instructions.specs.declared.refusal.Refusal.TheVariants.{PackageRange}
 use Rattle.exchange_package.specs.Package.{package_fits, words_of}
 use Rattle.relocation.specs.Saved.{original, IsSaved}
 use Rattle.relocation.proofs.Restoring.{original_unsaved, original-overwritten}

@@ -1,8 +1,8 @@
 -- Each refusal of a token's call is a stranger's, or one of those that its event may have.
 use Rattle.std.proofs.Common.{◌≡◌, ℕ, Bool, true, false, ◌||◌, ◌&&◌, List, Option, Some, None, refl, sym, ap, ◌∙◌, eqb}
 use Rattle.std.specs.Prelude.{Err}
-use Rattle.instruction_table.specs.declared.refusal.Refusal.{Refusal}
-use Rattle.instruction_table.specs.declared.instr.Unit.{Unit as FunctionalUnit}
+use Rattle.instructions.specs.declared.refusal.Refusal.{Refusal}
+use Rattle.instructions.specs.declared.instr.Unit.{Unit as FunctionalUnit}
 use Rattle.program_order.specs.declared.event.Note.{Note}
 use Rattle.program_order.specs.declared.event.Event.TheVariants.{Read, Store}
 use Rattle.in_flight.specs.declared.member.Member.{Member}
@@ -12,7 +12,7 @@ use Rattle.program_order.specs.Refusals.{is_read_refusal, is_store_refusal, is_s
 use Rattle.program_order.specs.Run.{answer_of}
 use Rattle.machine.specs.Tokens.{finished_in, slot, waits_in}
 use Rattle.in_flight.specs.Member.{is_finished, is_waiting}
-use Rattle.instruction_table.specs.Finding.{Found, seek}
+use Rattle.instructions.specs.Finding.{Found, seek}
 use Rattle.in_flight.specs.Tests.{nothing, read_tests, refusal_of, tests_found}
 use Rattle.program_order.specs.Processor.{Whole}
 use Rattle.program_order.specs.Events.{allowed, tests_of}

@@ -1,7 +1,7 @@
 //! Callers that know from contracts alone what led to their machine, and so what it is.
 
 ghost use Rattle.std.specs.Prelude.{◌≡◌, ◌∷◌, [], IfOk, IfSome, List, Ok, Result, Some};
-ghost use Rattle.instruction_table.specs.declared.refusal.Refusal.{Refusal as SomeRefusal};
+ghost use Rattle.instructions.specs.declared.refusal.Refusal.{Refusal as SomeRefusal};
 ghost use Rattle.program_order.specs.declared.event.Done.{Done as SomeDone};
 ghost use Rattle.program_order.specs.declared.event.Done.TheVariants.{Made};
 ghost use Rattle.program_order.specs.declared.event.Event.{Event as SomeEvent};

@@ -1,10 +1,10 @@
 -- How the program ends: its exit status, and why it ends without its whole output.
 -- Source: ours.
 use Rattle.std.specs.Prelude.{ℕ, Bool, true, false, Option, Some, None}
-use Rattle.instruction_table.specs.declared.refusal.Halt.{Halt}
-use Rattle.instruction_table.specs.declared.refusal.Halt.TheVariants.{Stop, Illegal, Straddle, FetchRange}
-use Rattle.instruction_table.specs.declared.refusal.Refusal.{Refusal}
-use Rattle.instruction_table.specs.declared.refusal.Refusal.TheVariants as refusals
+use Rattle.instructions.specs.declared.refusal.Halt.{Halt}
+use Rattle.instructions.specs.declared.refusal.Halt.TheVariants.{Stop, Illegal, Straddle, FetchRange}
+use Rattle.instructions.specs.declared.refusal.Refusal.{Refusal}
+use Rattle.instructions.specs.declared.refusal.Refusal.TheVariants as refusals
 use Rattle.operator_main.specs.declared.fault.ProgramFault.{ProgramFault}
 use Rattle.operator_main.specs.declared.fault.ProgramFault.TheVariants as faults
 use Rattle.operator_main.specs.declared.status.Status.{Status}

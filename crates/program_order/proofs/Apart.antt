@@ -9,17 +9,17 @@ use Rattle.std.proofs.Common.{◌≡◌, ℕ, Bool, true, false, List, [], ◌�
 use Rattle.std.specs.Prelude.{◌&&◌}
 use Rattle.std.proofs.lemmas.Bool.{eqb-false, ne_eqb}
 use Rattle.std.specs.List.{list_any}
-use Rattle.instruction_table.proofs.Lists.{any_left, any_right, each_of_any, any_of_each, each_map, each_both, pairs_before, pairs_with}
+use Rattle.instructions.proofs.Lists.{any_left, any_right, each_of_any, any_of_each, each_map, each_both, pairs_before, pairs_with}
 use Rattle.program_order.proofs.Effects.{later_touches, no_reference}
 use Rattle.program_order.proofs.Members.{touches_in, touches}
 use Rattle.program_order.proofs.Completing.{IsFree, IsNoBranch}
 use Rattle.hopper.specs.Hopper.{bank_of}
-use Rattle.instruction_table.specs.RegisterLists.{is_in, overlap}
-use Rattle.instruction_table.specs.Shape.{Jumps, Links, Loads, Puts, Shape, Stores, has_reference, has_store, is_branch_shape, loads_of, puts_of, results, shape_of}
-use Rattle.instruction_table.specs.Table.{reg_eq}
-use Rattle.instruction_table.specs.declared.instr.Reg.{Reg}
-use Rattle.instruction_table.specs.declared.instr.Reg.TheVariants.{X}
-use Rattle.instruction_table.specs.Each.{Each, Pairs}
+use Rattle.instructions.specs.RegisterLists.{is_in, overlap}
+use Rattle.instructions.specs.Shape.{Jumps, Links, Loads, Puts, Shape, Stores, has_reference, has_store, is_branch_shape, loads_of, puts_of, results, shape_of}
+use Rattle.instructions.specs.Operands.{reg_eq}
+use Rattle.instructions.specs.declared.instr.Reg.{Reg}
+use Rattle.instructions.specs.declared.instr.Reg.TheVariants.{X}
+use Rattle.instructions.specs.Each.{Each, Pairs}
 use Rattle.in_flight.specs.Apart.{IsApart}
 use Rattle.in_flight.specs.Lookup.{in_phase}
 use Rattle.program_order.specs.Units.{rest_of}

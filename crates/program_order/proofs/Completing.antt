@@ -9,11 +9,11 @@ use Rattle.std.proofs.Common.{◌≡◌, ℕ, false, List, [], ◌∷◌, ◌++�
 use Rattle.std.proofs.lemmas.Bool.{or_parts}
 use Rattle.std.specs.List.{list_any}
 use Rattle.program_order.proofs.Members.{run-write, run-move, run-halt, run-mark, touches, run-poke, run-get, run-word, run-halted, run-bounds, run-place}
-use Rattle.instruction_table.specs.RegisterLists.{is_in}
-use Rattle.instruction_table.specs.Shape.{Shape, puts_of}
-use Rattle.instruction_table.specs.declared.instr.Reg.{Reg}
-use Rattle.instruction_table.specs.declared.refusal.Halt.{Halt}
-use Rattle.instruction_table.specs.Each.{Each}
+use Rattle.instructions.specs.RegisterLists.{is_in}
+use Rattle.instructions.specs.Shape.{Shape, puts_of}
+use Rattle.instructions.specs.declared.instr.Reg.{Reg}
+use Rattle.instructions.specs.declared.refusal.Halt.{Halt}
+use Rattle.instructions.specs.Each.{Each}
 use Rattle.program_order.specs.Complete.{complete, run}
 use Rattle.in_flight.specs.declared.member.Member.{Member}
 use Rattle.registers.specs.Registers.{get}

@@ -4,21 +4,21 @@ use Rattle.std.proofs.Common.{◌≡◌, ◌≢◌, ◌<◌, ◌≤◌, ◌+◌,
 use Rattle.std.specs.Prelude.{◌&&◌, ◌||◌}
 use Rattle.std.proofs.lemmas.Bool.{or_parts, eq-eqb, eqb-true}
 use Rattle.std.specs.List.{list_any}
-use Rattle.instruction_table.specs.declared.instr.Addends.{Addends}
-use Rattle.instruction_table.specs.declared.instr.Addends.TheVariants.{Address, Registers}
-use Rattle.instruction_table.specs.declared.instr.Base.TheVariants.{A as BaseA, B as BaseB, X as BaseX}
-use Rattle.instruction_table.specs.declared.instr.Pair.TheVariants.{XPlusB, APlusB, AMinusB, BPlusB, BMinusB}
-use Rattle.instruction_table.specs.declared.instr.Instr.{Instr}
-use Rattle.instruction_table.specs.declared.instr.Instr.TheVariants.{Stop, Pass, ReturnJump, Jump, BranchX, BranchB, Copy, Invert, Logical, ShiftBy, ShiftNominal, LongAdd as LongSum, Mask, CountOnes, Increment}
-use Rattle.instruction_table.specs.declared.instr.Reg.{Reg}
-use Rattle.instruction_table.specs.declared.instr.Reg.TheVariants.{X, A, B}
-use Rattle.instruction_table.specs.declared.instr.Target.TheVariants.{A as TargetA, B as TargetB, X as TargetX}
-use Rattle.instruction_table.specs.declared.instr.Unit.{Unit as FunctionalUnit}
-use Rattle.instruction_table.specs.declared.instr.Unit.TheVariants.{Branch, Boolean, Shift, Add, LongAdd, Multiply1, Multiply2, Divide, Increment1, Increment2}
-use Rattle.instruction_table.specs.declared.instr.UnitKind.TheVariants.{Branch as BranchKind, Increment as IncrementKind}
-use Rattle.instruction_table.specs.RegisterLists.{is_in, overlap}
-use Rattle.instruction_table.specs.Shape.{Shape, Puts, Loads, Stores, Jumps, Links, shape_of, puts_of, loads_of, results, has_reference}
-use Rattle.instruction_table.specs.Table.{row}
+use Rattle.instructions.specs.declared.instr.Addends.{Addends}
+use Rattle.instructions.specs.declared.instr.Addends.TheVariants.{Address, Registers}
+use Rattle.instructions.specs.declared.instr.Base.TheVariants.{A as BaseA, B as BaseB, X as BaseX}
+use Rattle.instructions.specs.declared.instr.Pair.TheVariants.{XPlusB, APlusB, AMinusB, BPlusB, BMinusB}
+use Rattle.instructions.specs.declared.instr.Instr.{Instr}
+use Rattle.instructions.specs.declared.instr.Instr.TheVariants.{Stop, Pass, ReturnJump, Jump, BranchX, BranchB, Copy, Invert, Logical, ShiftBy, ShiftNominal, LongAdd as LongSum, Mask, CountOnes, Increment}
+use Rattle.instructions.specs.declared.instr.Reg.{Reg}
+use Rattle.instructions.specs.declared.instr.Reg.TheVariants.{X, A, B}
+use Rattle.instructions.specs.declared.instr.Target.TheVariants.{A as TargetA, B as TargetB, X as TargetX}
+use Rattle.instructions.specs.declared.instr.Unit.{Unit as FunctionalUnit}
+use Rattle.instructions.specs.declared.instr.Unit.TheVariants.{Branch, Boolean, Shift, Add, LongAdd, Multiply1, Multiply2, Divide, Increment1, Increment2}
+use Rattle.instructions.specs.declared.instr.UnitKind.TheVariants.{Branch as BranchKind, Increment as IncrementKind}
+use Rattle.instructions.specs.RegisterLists.{is_in, overlap}
+use Rattle.instructions.specs.Shape.{Shape, Puts, Loads, Stores, Jumps, Links, shape_of, puts_of, loads_of, results, has_reference}
+use Rattle.instructions.specs.Operands.{row}
 use Rattle.relocation.specs.declared.area.Access.TheVariants.{Load as LoadInto, Store as StoreWord}
 use Rattle.scoreboard.specs.Rows as board
 use Rattle.scoreboard.specs.Rows.{is_reserved, returning_to}
@@ -29,7 +29,7 @@ use Rattle.in_flight.specs.declared.member.Phase.{Phase}
 use Rattle.in_flight.specs.declared.member.Phase.TheVariants.{Before, After}
 use Rattle.in_flight.specs.declared.member.Stage.{Stage}
 use Rattle.in_flight.specs.declared.member.Stage.TheVariants.{Waiting, Read as HasRead, Finished}
-use Rattle.instruction_table.specs.Each.{Each, Pairs}
+use Rattle.instructions.specs.Each.{Each, Pairs}
 use Rattle.in_flight.specs.Member.{progress_of, returning, row_of, entered_in, is_entered, has_turn}
 use Rattle.in_flight.specs.Slots.{unit_slot, IsChannel, IsPlaced, is_of_kind, IsProper, IsSlotted}
 use Rattle.in_flight.specs.Apart.{IsApart}

@@ -3,9 +3,9 @@ use Rattle.std.proofs.Common.{◌≡◌, ◌≤◌, ◌+◌, ℕ, zero, suc, Boo
 use Rattle.std.specs.Prelude.{◌&&◌, not, is_some, is_none, IfSome}
 use Rattle.std.proofs.lemmas.Bool.{or_from, and_left, and_right, eq-eqb}
 use Rattle.std.specs.List.{list_any}
-use Rattle.instruction_table.specs.Shape.{Shape, Puts, Loads, Stores, Jumps, Links, shape_of, puts_of, has_reference}
-use Rattle.instruction_table.specs.Table.{sources_of}
-use Rattle.instruction_table.specs.declared.instr.Unit.{Unit as FunctionalUnit}
+use Rattle.instructions.specs.Shape.{Shape, Puts, Loads, Stores, Jumps, Links, shape_of, puts_of, has_reference}
+use Rattle.instructions.specs.Operands.{sources_of}
+use Rattle.instructions.specs.declared.instr.Unit.{Unit as FunctionalUnit}
 use Rattle.relocation.specs.declared.area.Access.{Access}
 use Rattle.relocation.specs.declared.area.Access.TheVariants.{Load as LoadInto, Store as StoreWord}
 use Rattle.hopper.specs.Hopper.{bank_of, first_place, free_place}
@@ -26,11 +26,11 @@ use Rattle.in_flight.specs.declared.member.Phase.{Phase}
 use Rattle.in_flight.specs.declared.member.Phase.TheVariants.{Before, After}
 use Rattle.in_flight.specs.declared.member.Stage.{Stage}
 use Rattle.in_flight.specs.declared.member.Stage.TheVariants.{Waiting, Read as HasRead, Finished}
-use Rattle.instruction_table.specs.Each.{Each, Pairs}
+use Rattle.instructions.specs.Each.{Each, Pairs}
 use Rattle.in_flight.specs.Member.{progress_of, row_of, is_entered, entered_in, has_turn}
 use Rattle.in_flight.specs.Apart.{IsApart}
 use Rattle.program_order.specs.Sound.{IsSound}
-use Rattle.instruction_table.specs.Finding.{Found, seek, put_back}
+use Rattle.instructions.specs.Finding.{Found, seek, put_back}
 use Rattle.program_order.specs.Processor.{Whole}
 use Rattle.program_order.specs.Units.{finish_tests, entering, rest_of, store_tests, stage_after_read, stage_after_finish, after_read, after_finish, after_work, after_store}
 use Rattle.program_order.specs.Events.{tests_of, allowed, after_found, after}
@@ -39,7 +39,7 @@ use Rattle.in_flight.specs.Tests.{Test, refusal_of, tests_found, read_tests, acc
 use Rattle.in_flight.specs.Lookup.{stage_in, stage_at, entry_in, entry_at, arrival_in, arrival_at, enters, in_place, is_taken, place_for, is_pending, in_phase, kept}
 use Rattle.program_order.specs.Working.{is_work, next_in, next_of, reference_cost, stage_cost, later_cost, phase_cost, cost, work_left}
 use Rattle.program_order.proofs.Effects.{no_reference}
-use Rattle.instruction_table.proofs.Finding.{seek_around}
+use Rattle.instructions.proofs.Finding.{seek_around}
 
 -- ---- it is allowed ----
 

@@ -8,12 +8,12 @@ use Rattle.std.proofs.lemmas.Bool.{eqb-false, or_parts}
 use Rattle.std.proofs.lemmas.List.{get_or-set_other, set_comm, length-set}
 use Rattle.std.specs.List.{list_any}
 use Rattle.program_order.proofs.RegisterLaws.{put_comm, get-put_other}
-use Rattle.instruction_table.specs.RegisterLists.{is_in}
-use Rattle.instruction_table.specs.Shape.{Jumps, Links, Loads, Puts, Shape, Stores, has_reference, has_store, is_branch_shape, loads_of, puts_of}
-use Rattle.instruction_table.specs.Table.{reg_eq}
-use Rattle.instruction_table.specs.declared.instr.Reg.{Reg}
-use Rattle.instruction_table.specs.declared.instr.Reg.TheVariants.{X}
-use Rattle.instruction_table.specs.declared.refusal.Halt.{Halt}
+use Rattle.instructions.specs.RegisterLists.{is_in}
+use Rattle.instructions.specs.Shape.{Jumps, Links, Loads, Puts, Shape, Stores, has_reference, has_store, is_branch_shape, loads_of, puts_of}
+use Rattle.instructions.specs.Operands.{reg_eq}
+use Rattle.instructions.specs.declared.instr.Reg.{Reg}
+use Rattle.instructions.specs.declared.instr.Reg.TheVariants.{X}
+use Rattle.instructions.specs.declared.refusal.Halt.{Halt}
 use Rattle.in_flight.proofs.Phases.{target_of, targets_left}
 use Rattle.program_order.specs.Complete.{do_later}
 use Rattle.program_order.specs.Units.{entering, rest_of}

@@ -4,7 +4,7 @@ use Rattle.std.proofs.Common.{◌≡◌, ℕ, false, List, [], ◌∷◌, ◌++�
 use Rattle.std.specs.Prelude.{◌&&◌}
 use Rattle.std.proofs.lemmas.Bool.{and_right}
 use Rattle.std.specs.List.{list_any}
-use Rattle.instruction_table.proofs.Lists.{each_map, pairs_before, pairs_without}
+use Rattle.instructions.proofs.Lists.{each_map, pairs_before, pairs_without}
 use Rattle.program_order.proofs.Effects.{rest_targets}
 use Rattle.in_flight.proofs.Phases.{targets_left}
 use Rattle.program_order.proofs.Members.{operands-agree}
@@ -12,10 +12,10 @@ use Rattle.program_order.proofs.Completing.{complete-get, complete-now, complete
 use Rattle.program_order.proofs.Moves.{complete-put_back, run-read, run-finish, run-store, run-accept_load, run-accept_store, run-return}
 use Rattle.program_order.proofs.Apart.{not_awaited, free_to_put, free_to_return, turns_past, untouched, unstored, no_branches, pairs_less, less_before, less_after, less_accepted, turns_at_store}
 use Rattle.hopper.specs.Hopper.{bank_of}
-use Rattle.instruction_table.specs.Shape.{has_reference, puts_of, shape_of}
-use Rattle.instruction_table.specs.Table.{sources_of}
-use Rattle.instruction_table.specs.declared.instr.Reg.TheVariants.{X}
-use Rattle.instruction_table.specs.Each.{Each, Pairs}
+use Rattle.instructions.specs.Shape.{has_reference, puts_of, shape_of}
+use Rattle.instructions.specs.Operands.{sources_of}
+use Rattle.instructions.specs.declared.instr.Reg.TheVariants.{X}
+use Rattle.instructions.specs.Each.{Each, Pairs}
 use Rattle.in_flight.specs.Member.{awaited, entered_in, has_turn, in_bank, is_entered, to_be_read}
 use Rattle.in_flight.proofs.Asked.{comes}
 use Rattle.program_order.specs.Complete.{complete}

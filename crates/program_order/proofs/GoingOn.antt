@@ -2,23 +2,23 @@
 use Rattle.std.proofs.Common.{◌≡◌, ◌<◌, ◌≤◌, ℕ, Bool, true, false, cond, leb-true, List, [], ◌∷◌, Option, Some, None, refl, ap, ◌∙◌, arith}
 use Rattle.std.specs.Prelude.{◌&&◌, ◌||◌, IsSome, is_none, is_some, nat_le, not}
 use Rattle.std.specs.List.{list_any}
-use Rattle.instruction_table.specs.declared.instr.Reg.{Reg}
-use Rattle.instruction_table.specs.declared.instr.UnitKind.{UnitKind}
-use Rattle.instruction_table.specs.declared.instr.UnitKind.TheVariants.{Branch, Boolean, Shift, LongAdd as LongAddKind, Divide, Increment as IncrementKind}
-use Rattle.instruction_table.specs.declared.instr.Target.TheVariants.{A as TargetA, B as TargetB, X as TargetX}
-use Rattle.instruction_table.specs.declared.instr.Base.TheVariants.{A as BaseA, B as BaseB, X as BaseX}
-use Rattle.instruction_table.specs.declared.instr.Pair.TheVariants.{XPlusB, APlusB, AMinusB, BPlusB, BMinusB}
-use Rattle.instruction_table.specs.declared.instr.Instr.{Instr}
-use Rattle.instruction_table.specs.declared.instr.XTest.TheVariants.{Zero, NonZero, Positive, Negative, InRange, OutOfRange, Definite, Indefinite}
-use Rattle.instruction_table.specs.declared.instr.BTest.TheVariants.{Equal, NotEqual, GreaterOrEqual, Less}
-use Rattle.instruction_table.specs.declared.instr.Logic.TheVariants.{And, Or, Xor, AndNot, OrNot, XorNot}
-use Rattle.instruction_table.specs.declared.instr.Direction.TheVariants.{Left, Right}
-use Rattle.instruction_table.specs.declared.instr.Addition.TheVariants.{Sum, Difference}
-use Rattle.instruction_table.specs.declared.instr.Instr.TheVariants.{Stop, Pass, ReturnJump, Jump, BranchX, BranchB, Copy, Invert, Logical, ShiftBy, ShiftNominal, LongAdd, Mask, CountOnes, Increment}
-use Rattle.instruction_table.specs.declared.instr.Addends.TheVariants.{Address, Registers}
-use Rattle.instruction_table.specs.Each.{Each}
-use Rattle.instruction_table.specs.Shape.{shape_of, results}
-use Rattle.instruction_table.specs.Table.{row}
+use Rattle.instructions.specs.declared.instr.Reg.{Reg}
+use Rattle.instructions.specs.declared.instr.UnitKind.{UnitKind}
+use Rattle.instructions.specs.declared.instr.UnitKind.TheVariants.{Branch, Boolean, Shift, LongAdd as LongAddKind, Divide, Increment as IncrementKind}
+use Rattle.instructions.specs.declared.instr.Target.TheVariants.{A as TargetA, B as TargetB, X as TargetX}
+use Rattle.instructions.specs.declared.instr.Base.TheVariants.{A as BaseA, B as BaseB, X as BaseX}
+use Rattle.instructions.specs.declared.instr.Pair.TheVariants.{XPlusB, APlusB, AMinusB, BPlusB, BMinusB}
+use Rattle.instructions.specs.declared.instr.Instr.{Instr}
+use Rattle.instructions.specs.declared.instr.XTest.TheVariants.{Zero, NonZero, Positive, Negative, InRange, OutOfRange, Definite, Indefinite}
+use Rattle.instructions.specs.declared.instr.BTest.TheVariants.{Equal, NotEqual, GreaterOrEqual, Less}
+use Rattle.instructions.specs.declared.instr.Logic.TheVariants.{And, Or, Xor, AndNot, OrNot, XorNot}
+use Rattle.instructions.specs.declared.instr.Direction.TheVariants.{Left, Right}
+use Rattle.instructions.specs.declared.instr.Addition.TheVariants.{Sum, Difference}
+use Rattle.instructions.specs.declared.instr.Instr.TheVariants.{Stop, Pass, ReturnJump, Jump, BranchX, BranchB, Copy, Invert, Logical, ShiftBy, ShiftNominal, LongAdd, Mask, CountOnes, Increment}
+use Rattle.instructions.specs.declared.instr.Addends.TheVariants.{Address, Registers}
+use Rattle.instructions.specs.Each.{Each}
+use Rattle.instructions.specs.Shape.{shape_of, results}
+use Rattle.instructions.specs.Operands.{row}
 use Rattle.instruction_table.specs.declared.decoding.Decoded.{Decoded}
 use Rattle.instruction_table.specs.declared.decoding.Decoded.TheVariants.{Legal, Refused, Straddle}
 use Rattle.scoreboard.specs.Conflicts as conflict

@@ -6,11 +6,11 @@ use Rattle.in_flight.specs.declared.member.Member.{Member}
 use Rattle.program_order.proofs.Effects.{write_all_rest, do_option, do_parts, do_work-is}
 use Rattle.program_order.proofs.Theorem.{IsRight, run_kept, boot_right, drained_replay, made_allowed}
 use Rattle.exchange_package.specs.Package.{package_fits}
-use Rattle.instruction_table.specs.declared.instr.Reg.{Reg}
-use Rattle.instruction_table.specs.declared.refusal.Halt.{Halt}
-use Rattle.instruction_table.specs.declared.refusal.Halt.TheVariants.{Stop}
-use Rattle.instruction_table.specs.declared.refusal.Refusal.{Refusal}
-use Rattle.instruction_table.specs.declared.refusal.Refusal.TheVariants.{Faulted, Halted}
+use Rattle.instructions.specs.declared.instr.Reg.{Reg}
+use Rattle.instructions.specs.declared.refusal.Halt.{Halt}
+use Rattle.instructions.specs.declared.refusal.Halt.TheVariants.{Stop}
+use Rattle.instructions.specs.declared.refusal.Refusal.{Refusal}
+use Rattle.instructions.specs.declared.refusal.Refusal.TheVariants.{Faulted, Halted}
 use Rattle.in_flight.specs.Tests.{Test, refusal_of}
 use Rattle.program_order.specs.Headline.{Course, IsFaithful, IsFaultedRun, course_after, course_of, exchange_step, exchanges, is_exchange, item, log_of, logged, made_request, made_steps, makes_no_exchange, refusal_at_fault, request_by, steps, steps_by, then_course}
 use Rattle.program_order.specs.Reached.{IsReached, without_seats}
@@ -19,7 +19,7 @@ use Rattle.program_order.specs.declared.event.Done.{Done}
 use Rattle.program_order.specs.Run.{settled, IsAnswer, IsAnswered, settled_all}
 use Rattle.sequential.specs.Swap.{begun, swap}
 use Rattle.std.specs.Prelude.{not, is_some, unwrap_or, Result, Ok, Err}
-use Rattle.instruction_table.specs.Finding.{Found}
+use Rattle.instructions.specs.Finding.{Found}
 use Rattle.program_order.specs.Processor.{Whole, boot_whole}
 use Rattle.program_order.specs.Events.{after, after_found, allowed, tests_of}
 use Rattle.program_order.specs.Memory.{after_accept, after_return}

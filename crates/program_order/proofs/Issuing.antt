@@ -6,14 +6,14 @@ use Rattle.scoreboard.specs.Rows.{returning_to}
 use Rattle.std.proofs.Common.{◌≡◌, ℕ, false, List, [], ◌∷◌, ◌++◌, Option, Some, None, refl, ap, ◌∙◌}
 use Rattle.std.specs.Prelude.{◌&&◌, is_none}
 use Rattle.std.specs.List.{list_any}
-use Rattle.instruction_table.proofs.Lists.{each_of_any, any_of_each, each_both, pairs_push}
+use Rattle.instructions.proofs.Lists.{each_of_any, any_of_each, each_both, pairs_push}
 use Rattle.program_order.proofs.Completing.{IsNoBranch, each_no_branch, complete-append, complete-bounds, complete-halted, complete-place, complete-move, complete-halt, complete-word}
 use Rattle.program_order.proofs.Apart.{each_swap, not_awaited}
-use Rattle.instruction_table.specs.RegisterLists.{is_in, overlap}
-use Rattle.instruction_table.specs.Shape.{results, shape_of}
-use Rattle.instruction_table.specs.declared.refusal.Halt.{Halt}
+use Rattle.instructions.specs.RegisterLists.{is_in, overlap}
+use Rattle.instructions.specs.Shape.{results, shape_of}
+use Rattle.instructions.specs.declared.refusal.Halt.{Halt}
 use Rattle.in_flight.proofs.Phases.{stores_nothing, may_store, to_come_in}
-use Rattle.instruction_table.specs.Each.{Each, Pairs}
+use Rattle.instructions.specs.Each.{Each, Pairs}
 use Rattle.program_order.specs.Complete.{complete, run, run_phase, value_at}
 use Rattle.in_flight.specs.Apart.{IsApart}
 use Rattle.program_order.specs.Issue.{fetch_waits, waits_at}

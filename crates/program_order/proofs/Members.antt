@@ -7,18 +7,18 @@ use Rattle.std.specs.Prelude.{◌||◌}
 use Rattle.std.proofs.lemmas.Bool.{eqb-true, or_parts}
 use Rattle.std.proofs.Common.{◌≡◌, ℕ, Bool, true, false, cond, sym, subst, List, [], ◌∷◌, ◌++◌, Option, Some, None, refl, ap, ◌∙◌, get_or}
 use Rattle.std.specs.List.{list_any}
-use Rattle.instruction_table.proofs.Lists.{any_left, any_right, each_left, each_right}
+use Rattle.instructions.proofs.Lists.{any_left, any_right, each_left, each_right}
 use Rattle.program_order.proofs.RegisterLaws.{get-put_other, same_reg_flip}
 use Rattle.program_order.proofs.Effects.{later_touches, later_stores, do_later-write, do_work-write, do_later-move, do_work-move, do_later-halt, do_work-halt, do_later-mark, do_work-mark, do_later-poke, do_work-poke, do_later-get, do_work-get, do_later-word, do_work-word, do_later-halted, do_work-halted, do_later-bounds, do_work-bounds, do_later-place, do_work-place}
-use Rattle.instruction_table.specs.RegisterLists.{is_in}
-use Rattle.instruction_table.specs.Shape.{Shape, has_reference, has_store, is_branch_shape, loads_of, puts_of, results, shape_of}
-use Rattle.instruction_table.specs.Table.{reg_eq, sources_of, row, with_source}
-use Rattle.instruction_table.specs.declared.instr.Instr.{Instr}
-use Rattle.instruction_table.specs.declared.instr.Reg.{Reg}
-use Rattle.instruction_table.specs.declared.instr.Reg.TheVariants.{A, B, X}
-use Rattle.instruction_table.specs.declared.refusal.Halt.{Halt}
+use Rattle.instructions.specs.RegisterLists.{is_in}
+use Rattle.instructions.specs.Shape.{Shape, has_reference, has_store, is_branch_shape, loads_of, puts_of, results, shape_of}
+use Rattle.instructions.specs.Operands.{reg_eq, sources_of, row, with_source}
+use Rattle.instructions.specs.declared.instr.Instr.{Instr}
+use Rattle.instructions.specs.declared.instr.Reg.{Reg}
+use Rattle.instructions.specs.declared.instr.Reg.TheVariants.{A, B, X}
+use Rattle.instructions.specs.declared.refusal.Halt.{Halt}
 use Rattle.in_flight.proofs.Phases.{target_of, before_and, may_store, may_store_in, reads_in, to_come_in}
-use Rattle.instruction_table.specs.Each.{Each}
+use Rattle.instructions.specs.Each.{Each}
 use Rattle.program_order.specs.Complete.{run, run_phase, value_at}
 use Rattle.in_flight.specs.declared.member.Later.TheVariants.{Accepted, Entered}
 use Rattle.in_flight.specs.declared.member.Member.{Member}

@@ -2,9 +2,9 @@
 use Rattle.std.proofs.Common.{◌≡◌, ℕ, List, [], ◌∷◌, ◌++◌, Option, Some, None, refl, sym, ap, ◌∙◌, get_or}
 use Rattle.program_order.proofs.Effects.{do_parts, do_work-is, do_option}
 use Rattle.program_order.proofs.Completing.{complete-append}
-use Rattle.instruction_table.specs.Shape.{shape_of}
-use Rattle.instruction_table.specs.declared.instr.Instr.{Instr}
-use Rattle.instruction_table.specs.declared.instr.Reg.TheVariants.{X}
+use Rattle.instructions.specs.Shape.{shape_of}
+use Rattle.instructions.specs.declared.instr.Instr.{Instr}
+use Rattle.instructions.specs.declared.instr.Reg.TheVariants.{X}
 use Rattle.program_order.specs.Complete.{complete, do_later, run, run_phase, value_at}
 use Rattle.program_order.specs.Units.{entering, rest_of, stage_after_finish, stage_after_read}
 use Rattle.in_flight.specs.Lookup.{in_phase, kept}

@@ -1,8 +1,8 @@
 -- Each refusal is one of those that its event may have.
 use Rattle.std.proofs.Common.{◌≡◌, Bool, true, false, ◌||◌, List, [], ◌∷◌, Option, Some, None, refl, sym, ap, ◌∙◌, subst, cond, inl, inr}
 use Rattle.std.specs.Prelude.{Result, Ok, Err, IfErr}
-use Rattle.instruction_table.specs.declared.refusal.Refusal.{Refusal}
-use Rattle.instruction_table.specs.declared.refusal.Refusal.TheVariants.{OutOfMemory}
+use Rattle.instructions.specs.declared.refusal.Refusal.{Refusal}
+use Rattle.instructions.specs.declared.refusal.Refusal.TheVariants.{OutOfMemory}
 use Rattle.sequential.specs.declared.fetching.Fetched.{Fetched}
 use Rattle.sequential.specs.declared.fetching.Fetched.TheVariants.{Halting, Passing, Taking}
 use Rattle.program_order.specs.declared.event.Done.{Done}
@@ -11,10 +11,10 @@ use Rattle.program_order.specs.declared.event.Event.TheVariants.{Issue, Read, Fi
 use Rattle.in_flight.specs.declared.member.Member.{Member}
 use Rattle.in_flight.specs.declared.member.Stage.{Stage}
 use Rattle.in_flight.specs.declared.member.Stage.TheVariants.{Waiting, Read as HasRead, Finished}
-use Rattle.instruction_table.specs.Each.{Each}
+use Rattle.instructions.specs.Each.{Each}
 use Rattle.program_order.specs.Refusals.{is_accept_refusal, is_ask_refusal, is_exchange_refusal, is_issue_refusal, is_nothing, is_read_refusal, is_return_refusal, is_store_refusal, may_refuse}
 use Rattle.program_order.specs.Run.{IsAnswer, answer_by, answer_of, is_ask}
-use Rattle.instruction_table.specs.Finding.{Found, seek}
+use Rattle.instructions.specs.Finding.{Found, seek}
 use Rattle.in_flight.specs.Tests.{Test, accept_tests, free_tests, nothing, read_tests, refusal_of, return_tests, row_tests, tests_found}
 use Rattle.program_order.specs.Processor.{Whole}
 use Rattle.program_order.specs.Events.{allowed, tests_of}

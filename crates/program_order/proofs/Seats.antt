@@ -1,7 +1,7 @@
 -- Whether the seats were given out changes neither an answer nor what an event leaves.
 use Rattle.std.proofs.Common.{◌≡◌, ℕ, Bool, List, [], ◌∷◌, Option, Some, None, refl, sym, ap, ◌∙◌, subst, inl, inr}
 use Rattle.std.specs.Prelude.{Result, Ok, Err}
-use Rattle.instruction_table.specs.declared.refusal.Refusal.{Refusal}
+use Rattle.instructions.specs.declared.refusal.Refusal.{Refusal}
 use Rattle.relocation.specs.declared.area.Access.{Access}
 use Rattle.relocation.specs.declared.area.Access.TheVariants.{Load as LoadInto, Store as StoreWord}
 use Rattle.sequential.specs.declared.fetching.Fetched.{Fetched}
@@ -15,7 +15,7 @@ use Rattle.in_flight.specs.declared.member.Stage.{Stage}
 use Rattle.in_flight.specs.declared.member.Stage.TheVariants.{Waiting, Read as HasRead, Finished}
 use Rattle.in_flight.specs.declared.member.Entry.{Entry}
 use Rattle.program_order.specs.Run.{IsAnswer, IsAnswered, answer_by, answer_of, done_by, note_by, settled, settled_all}
-use Rattle.instruction_table.specs.Finding.{Found}
+use Rattle.instructions.specs.Finding.{Found}
 use Rattle.program_order.specs.Processor.{Whole}
 use Rattle.program_order.specs.Events.{after, after_found, allowed, tests_of}
 use Rattle.program_order.specs.Memory.{after_accept, after_return}

@@ -2,7 +2,7 @@
 use Rattle.std.proofs.Common.{◌≡◌, ◌≤◌, ◌+◌, ℕ, Bool, true, false, List, [], ◌∷◌, Option, Some, None, cond, length, refl, sym, ap, ◌∙◌, subst}
 use Rattle.std.specs.Prelude.{is_some, unwrap_or}
 use Rattle.std.proofs.lemmas.Bool.{false≢true, leb-true}
-use Rattle.instruction_table.specs.declared.refusal.Halt.{Halt}
+use Rattle.instructions.specs.declared.refusal.Halt.{Halt}
 use Rattle.exchange_package.specs.Package.{package_fits, words_of}
 use Rattle.relocation.proofs.Overwriting.{length-overwritten}
 use Rattle.sequential.specs.declared.fetching.Fetched.{Fetched}

@@ -4,12 +4,12 @@ use Rattle.std.proofs.lemmas.Bool.Decides.{nat_tests}
 use Rattle.std.proofs.lemmas.List.{length-set}
 use Rattle.std.specs.Prelude.{◌&&◌, nat_lt, is_none, unwrap_or}
 use Rattle.std.specs.List.{list_any}
-use Rattle.instruction_table.specs.declared.instr.Unit.{Unit as FunctionalUnit}
-use Rattle.instruction_table.specs.declared.instr.Unit.TheVariants.{Branch}
-use Rattle.instruction_table.specs.declared.instr.UnitKind.{UnitKind}
-use Rattle.instruction_table.specs.declared.instr.UnitKind.TheVariants.{Branch as BranchKind, Boolean as BooleanKind, Shift as ShiftKind, LongAdd as LongAddKind, Divide as DivideKind, Increment as IncrementKind}
-use Rattle.instruction_table.specs.Shape.{Shape, Puts, Loads, Stores, Jumps, Links, shape_of}
-use Rattle.instruction_table.specs.Table.{row}
+use Rattle.instructions.specs.declared.instr.Unit.{Unit as FunctionalUnit}
+use Rattle.instructions.specs.declared.instr.Unit.TheVariants.{Branch}
+use Rattle.instructions.specs.declared.instr.UnitKind.{UnitKind}
+use Rattle.instructions.specs.declared.instr.UnitKind.TheVariants.{Branch as BranchKind, Boolean as BooleanKind, Shift as ShiftKind, LongAdd as LongAddKind, Divide as DivideKind, Increment as IncrementKind}
+use Rattle.instructions.specs.Shape.{Shape, Puts, Loads, Stores, Jumps, Links, shape_of}
+use Rattle.instructions.specs.Operands.{row}
 use Rattle.relocation.specs.declared.area.Access.{Access}
 use Rattle.relocation.specs.declared.area.Access.TheVariants.{Load as LoadInto, Store as StoreWord}
 use Rattle.relocation.specs.Relocation.{relocate}
@@ -34,11 +34,11 @@ use Rattle.in_flight.specs.declared.member.Phase.TheVariants.{Before, After}
 use Rattle.in_flight.specs.declared.member.Member.{Member}
 use Rattle.in_flight.specs.declared.member.Stage.{Stage}
 use Rattle.in_flight.specs.declared.member.Stage.TheVariants.{Waiting, Read as HasRead, Finished}
-use Rattle.instruction_table.specs.Each.{Each}
+use Rattle.instructions.specs.Each.{Each}
 use Rattle.in_flight.specs.Member.{progress_of, row_of}
 use Rattle.in_flight.proofs.Asked.{holds}
 use Rattle.in_flight.specs.Slots.{unit_slot, clash_in, clash, IsChannel, IsLoadable, IsPlaced, is_of_kind, IsProper, IsSlotted}
-use Rattle.instruction_table.specs.Finding.{Found, seek, put_back}
+use Rattle.instructions.specs.Finding.{Found, seek, put_back}
 use Rattle.program_order.specs.Processor.{Whole}
 use Rattle.program_order.specs.Issue.{issue_tests, after_issue}
 use Rattle.program_order.specs.Units.{store_tests, entering, rest_of, after_read, after_finish, after_work, after_store}
@@ -49,8 +49,8 @@ use Rattle.in_flight.specs.Tests.{refusal_of, tests_found, unit_for, row_tests}
 use Rattle.in_flight.specs.Lookup.{stage_at, entry_at, arrival_at, in_place, place_for, enters, kept}
 use Rattle.program_order.proofs.Effects.{do_now-bounds}
 use Rattle.in_flight.proofs.Finding.{refusal_none, stage_found, entry_found}
-use Rattle.instruction_table.proofs.Finding.{seek_splits}
-use Rattle.instruction_table.proofs.Lists.{each_of_any, each_append, each_both, pairs_push}
+use Rattle.instructions.proofs.Finding.{seek_splits}
+use Rattle.instructions.proofs.Lists.{each_of_any, each_append, each_both, pairs_push}
 use Rattle.in_flight.proofs.Slotting.{other_slot, slotted_without, proper_there, placed_in, loads_channel, place_found, slotted_after, slotted_stage, taken_by, accepted_free, entered_free}
 use Rattle.program_order.proofs.Theorem.{not_pending}
 

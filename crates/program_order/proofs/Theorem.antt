@@ -7,24 +7,24 @@ use Rattle.std.proofs.lemmas.Bool.{not-false}
 use Rattle.program_order.proofs.Effects.{do_now-bounds}
 use Rattle.program_order.proofs.Completing.{each_no_branch, complete-move}
 use Rattle.in_flight.proofs.Finding.{refusal_none, not_nothing, stage_found, entry_found, arrival_found}
-use Rattle.instruction_table.proofs.Finding.{seek_splits}
+use Rattle.instructions.proofs.Finding.{seek_splits}
 use Rattle.program_order.proofs.Events.{IsKept, read_event, finish_event, store_event, accept_load_event, accept_store_event, return_event}
 use Rattle.program_order.proofs.Issuing.{step-complete, issue_halting, issue_taking, new_apart, replay_more}
-use Rattle.instruction_table.specs.Shape.{shape_of}
-use Rattle.instruction_table.specs.Table.{sources_of}
-use Rattle.instruction_table.specs.declared.instr.Instr.{Instr}
-use Rattle.instruction_table.specs.declared.refusal.Refusal.{Refusal}
-use Rattle.instruction_table.specs.Each.{Each, Pairs}
+use Rattle.instructions.specs.Shape.{shape_of}
+use Rattle.instructions.specs.Operands.{sources_of}
+use Rattle.instructions.specs.declared.instr.Instr.{Instr}
+use Rattle.instructions.specs.declared.refusal.Refusal.{Refusal}
+use Rattle.instructions.specs.Each.{Each, Pairs}
 use Rattle.in_flight.specs.Member.{awaited, has_turn, is_branch}
 use Rattle.program_order.specs.Complete.{complete}
 use Rattle.program_order.specs.Sound.{Fits, IsReplay, IsSound}
 use Rattle.in_flight.specs.Apart.{IsApart}
-use Rattle.instruction_table.specs.declared.instr.Unit.{Unit as FunctionalUnit}
+use Rattle.instructions.specs.declared.instr.Unit.{Unit as FunctionalUnit}
 use Rattle.in_flight.specs.declared.member.Arrival.{Arrival}
 use Rattle.program_order.specs.declared.event.Done.{Done}
 use Rattle.program_order.specs.Run.{answer_by, done_by, answer_of, IsAnswer, settled, IsAnswered, settled_all}
 use Rattle.sequential.specs.Log.{issued}
-use Rattle.instruction_table.specs.Finding.{Found, put_back, seek}
+use Rattle.instructions.specs.Finding.{Found, put_back, seek}
 use Rattle.program_order.specs.Exchange.{ask_tests, exchange_tests, after_exchange}
 use Rattle.program_order.specs.Processor.{Whole, boot_whole, completed, replayed}
 use Rattle.program_order.specs.Events.{after, after_found, allowed, tests_of}

@@ -1,9 +1,9 @@
 -- What the slots say of the member that was found.
 use Rattle.std.proofs.Common.{◌≡◌, ◌<◌, ℕ, true, Option, Some, None, List, length, refl, subst}
 use Rattle.std.specs.Prelude.{IsSome, IfSome}
-use Rattle.instruction_table.specs.Table.{row}
-use Rattle.instruction_table.specs.declared.instr.Unit.{Unit as FunctionalUnit}
-use Rattle.instruction_table.specs.declared.instr.UnitKind.{UnitKind}
+use Rattle.instructions.specs.Operands.{row}
+use Rattle.instructions.specs.declared.instr.Unit.{Unit as FunctionalUnit}
+use Rattle.instructions.specs.declared.instr.UnitKind.{UnitKind}
 use Rattle.hopper.specs.declared.reference.Reference.{Reference}
 use Rattle.program_order.specs.declared.event.Event.TheVariants.{Accept}
 use Rattle.in_flight.specs.declared.member.Entry.{Entry}
@@ -12,11 +12,11 @@ use Rattle.in_flight.specs.declared.member.Member.{Member}
 use Rattle.in_flight.specs.declared.member.Phase.TheVariants.{After}
 use Rattle.in_flight.specs.Lookup.{sought, entry_at}
 use Rattle.in_flight.specs.Slots.{IsSlotted, is_of_kind, IsProper}
-use Rattle.instruction_table.specs.Finding.{Found, seek}
+use Rattle.instructions.specs.Finding.{Found, seek}
 use Rattle.program_order.specs.Processor.{Whole}
 use Rattle.program_order.specs.Events.{allowed, tests_of}
 use Rattle.in_flight.specs.Tests.{accept_tests, refusal_of, tests_found}
-use Rattle.instruction_table.proofs.Finding.{seek_splits}
+use Rattle.instructions.proofs.Finding.{seek_splits}
 use Rattle.in_flight.proofs.Finding.{entry_found, no_sought, not_nothing, sought_member}
 use Rattle.in_flight.proofs.Slotting.{proper_there, placed_in}
 

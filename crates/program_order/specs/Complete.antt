@@ -1,8 +1,8 @@
 -- Complete: the effects that instructions in flight have still to make. Source: ours.
 use Rattle.std.specs.Prelude.{ℕ, List, [], ◌∷◌}
-use Rattle.instruction_table.specs.declared.instr.Instr.{Instr}
-use Rattle.instruction_table.specs.declared.instr.Reg.TheVariants.{X}
-use Rattle.instruction_table.specs.Shape.{shape_of}
+use Rattle.instructions.specs.declared.instr.Instr.{Instr}
+use Rattle.instructions.specs.declared.instr.Reg.TheVariants.{X}
+use Rattle.instructions.specs.Shape.{shape_of}
 use Rattle.registers.specs.declared.file.RegisterFile.{RegisterFile}
 use Rattle.unit_ops.specs.declared.UnitValue.{UnitValue}
 use Rattle.unit_ops.specs.Values.{value_of}

@@ -1,8 +1,8 @@
 -- All events: which the machine allows, and what each leaves.
 -- Source: ours, over Thornton's events in the other files.
 use Rattle.std.specs.Prelude.{suc, false, List, Option, Some, None, length, slice_set}
-use Rattle.instruction_table.specs.declared.refusal.Refusal.{Refusal}
-use Rattle.instruction_table.specs.Finding.{Found, seek}
+use Rattle.instructions.specs.declared.refusal.Refusal.{Refusal}
+use Rattle.instructions.specs.Finding.{Found, seek}
 use Rattle.sequential.specs.State.{bounds_of}
 use Rattle.sequential.specs.Step.{fetch}
 use Rattle.sequential.specs.Log.{issued}

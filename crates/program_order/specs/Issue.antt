@@ -3,10 +3,10 @@
 -- are ours. First order, the last of them, stands in in_flight/specs/Tests.antt.
 use Rattle.std.specs.Prelude.{ℕ, suc, Bool, false, ◌&&◌, nat_le, List, [], ◌∷◌, ◌++◌, Option, Some, None, is_some, is_none, unwrap_or}
 use Rattle.std.specs.List.{list_any}
-use Rattle.instruction_table.specs.declared.instr.Unit.TheVariants.{Branch}
-use Rattle.instruction_table.specs.declared.refusal.Halt.TheVariants.{Stop}
-use Rattle.instruction_table.specs.declared.refusal.Refusal.TheVariants.{Halted, Faulted, Budget, BranchPending, ExchangeWaiting, FetchWait}
-use Rattle.instruction_table.specs.Table.{row}
+use Rattle.instructions.specs.declared.instr.Unit.TheVariants.{Branch}
+use Rattle.instructions.specs.declared.refusal.Halt.TheVariants.{Stop}
+use Rattle.instructions.specs.declared.refusal.Refusal.TheVariants.{Halted, Faulted, Budget, BranchPending, ExchangeWaiting, FetchWait}
+use Rattle.instructions.specs.Operands.{row}
 use Rattle.sequential.specs.declared.fetching.Fetched.{Fetched}
 use Rattle.sequential.specs.declared.fetching.Fetched.TheVariants.{Halting, Passing, Taking}
 use Rattle.sequential.specs.declared.place.Place.{Place}

@@ -2,8 +2,8 @@
 -- Source: Thornton, stunt box; 60100000, central memory. What they are refused for stands in
 -- in_flight/specs/Tests.antt.
 use Rattle.std.specs.Prelude.{ℕ, true, [], ◌∷◌, slice_index_or, slice_set}
-use Rattle.instruction_table.specs.declared.instr.Reg.TheVariants.{X}
-use Rattle.instruction_table.specs.Finding.{Found, put_back}
+use Rattle.instructions.specs.declared.instr.Reg.TheVariants.{X}
+use Rattle.instructions.specs.Finding.{Found, put_back}
 use Rattle.relocation.specs.declared.area.Access.{Access}
 use Rattle.relocation.specs.declared.area.Access.TheVariants.{Load, Store as StoreWord}
 use Rattle.hopper.specs.Hopper.{bank_of}

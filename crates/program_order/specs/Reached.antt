@@ -1,7 +1,7 @@
 -- What leads to a machine: the events since boot with their answers, by whichever calls they came. Source: ours.
 use Rattle.std.specs.Prelude.{◌≡◌, ℕ, true, false, List, ◌++◌, Result, Ok, length, replicate}
-use Rattle.instruction_table.specs.declared.refusal.Refusal.{Refusal}
-use Rattle.instruction_table.specs.Each.{Each}
+use Rattle.instructions.specs.declared.refusal.Refusal.{Refusal}
+use Rattle.instructions.specs.Each.{Each}
 use Rattle.program_order.specs.declared.event.Done.{Done}
 use Rattle.program_order.specs.declared.event.Done.TheVariants.{Made}
 use Rattle.program_order.specs.declared.event.Event.{Event}

@@ -1,7 +1,7 @@
 -- Which refusals an event, and a token's call, may have. Source: ours.
 use Rattle.std.specs.Prelude.{Bool, true, false, ◌||◌}
-use Rattle.instruction_table.specs.declared.refusal.Refusal.{Refusal}
-use Rattle.instruction_table.specs.declared.refusal.Refusal.TheVariants.{Halted, Faulted, Budget, BranchPending, ExchangeWaiting, FetchWait, UnitBusy, ResultReserved, OperandAwaited, ResultHeld, HopperFull, OutOfTurn, BankBusy, OlderInBank, Nothing, Stranger, ExchangeBusy, NotDrained, PackageRange, OutOfMemory, MidWord}
+use Rattle.instructions.specs.declared.refusal.Refusal.{Refusal}
+use Rattle.instructions.specs.declared.refusal.Refusal.TheVariants.{Halted, Faulted, Budget, BranchPending, ExchangeWaiting, FetchWait, UnitBusy, ResultReserved, OperandAwaited, ResultHeld, HopperFull, OutOfTurn, BankBusy, OlderInBank, Nothing, Stranger, ExchangeBusy, NotDrained, PackageRange, OutOfMemory, MidWord}
 use Rattle.program_order.specs.declared.event.Event.{Event}
 use Rattle.program_order.specs.declared.event.Event.TheVariants.{Issue, Read, Finish, Store, Accept, Return, BankFree, Ask, Exchange}
 

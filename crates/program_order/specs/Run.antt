@@ -1,9 +1,9 @@
 -- The answers to events, and runs of events with the answers that were given. Source: ours.
 use Rattle.std.specs.Prelude.{◌≡◌, ◌⊎◌, suc, Bool, true, false, List, [], ◌∷◌, ◌++◌, Option, Some, None, Result, Ok, Err, unwrap_or}
-use Rattle.instruction_table.specs.declared.instr.Unit.TheVariants.{Branch}
-use Rattle.instruction_table.specs.declared.refusal.Refusal.{Refusal}
-use Rattle.instruction_table.specs.declared.refusal.Refusal.TheVariants.{OutOfMemory}
-use Rattle.instruction_table.specs.Table.{row}
+use Rattle.instructions.specs.declared.instr.Unit.TheVariants.{Branch}
+use Rattle.instructions.specs.declared.refusal.Refusal.{Refusal}
+use Rattle.instructions.specs.declared.refusal.Refusal.TheVariants.{OutOfMemory}
+use Rattle.instructions.specs.Operands.{row}
 use Rattle.sequential.specs.declared.fetching.Fetched.{Fetched}
 use Rattle.sequential.specs.declared.fetching.Fetched.TheVariants.{Halting, Passing, Taking}
 use Rattle.sequential.specs.State.{bounds_of}

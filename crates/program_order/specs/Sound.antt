@@ -1,7 +1,7 @@
 -- What holds of the pending instructions at every moment. Source: ours.
 use Rattle.std.specs.Prelude.{◌≡◌, true, ℕ, Option, Some, None, length}
 use Rattle.exchange_package.specs.Package.{package_fits}
-use Rattle.instruction_table.specs.Each.{Pairs}
+use Rattle.instructions.specs.Each.{Pairs}
 use Rattle.program_order.specs.Processor.{Whole, completed, replayed}
 use Rattle.in_flight.specs.Apart.{IsApart}
 

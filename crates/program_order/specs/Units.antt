@@ -2,9 +2,9 @@
 -- Source: Thornton, scoreboard; 60100000, unit and register conflicts. The turn of references is ours. What a read is
 -- refused for stands in in_flight/specs/Tests.antt.
 use Rattle.std.specs.Prelude.{ℕ, List, [], ◌∷◌, Option, Some, None, unwrap_or}
-use Rattle.instruction_table.specs.declared.instr.Instr.{Instr}
-use Rattle.instruction_table.specs.Finding.{Found, put_back}
-use Rattle.instruction_table.specs.Shape.{shape_of}
+use Rattle.instructions.specs.declared.instr.Instr.{Instr}
+use Rattle.instructions.specs.Finding.{Found, put_back}
+use Rattle.instructions.specs.Shape.{shape_of}
 use Rattle.registers.specs.declared.file.RegisterFile.{RegisterFile}
 use Rattle.relocation.specs.declared.area.Access.{Access}
 use Rattle.relocation.specs.declared.area.Access.TheVariants.{Load, Store as StoreWord}

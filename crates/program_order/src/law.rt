@@ -1,5 +1,5 @@
 ghost use Rattle.std.specs.Prelude.{ℕ, List, ◌++◌, Result, ◌≡◌, ◌≤◌, ◌<◌, ◌&&◌, ◌||◌, true, false, not, is_none, is_some, Some, None};
-ghost use Rattle.instruction_table.specs.declared.refusal.Refusal.{Refusal};
+ghost use Rattle.instructions.specs.declared.refusal.Refusal.{Refusal};
 ghost use Rattle.program_order.specs.declared.event.Event.{Event as SomeEvent};
 ghost use Rattle.program_order.specs.declared.event.Done.{Done as SomeDone};
 ghost use Rattle.sequential.specs.Log.{issued};

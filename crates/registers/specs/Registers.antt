@@ -2,8 +2,8 @@
 -- Source: 60100000, operating registers.
 use Rattle.std.specs.Prelude.{ℕ, zero, suc, slice_index_or, slice_set}
 use Rattle.word60.specs.Words.{low18}
-use Rattle.instruction_table.specs.declared.instr.Reg.{Reg}
-use Rattle.instruction_table.specs.declared.instr.Reg.TheVariants.{X, A, B}
+use Rattle.instructions.specs.declared.instr.Reg.{Reg}
+use Rattle.instructions.specs.declared.instr.Reg.TheVariants.{X, A, B}
 use Rattle.registers.specs.declared.file.RegisterFile.{RegisterFile}
 
 -- what a register holds

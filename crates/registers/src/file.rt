@@ -1,7 +1,7 @@
 ghost use Rattle.std.specs.Prelude.{◌≡◌, ◌<◌, ◌%◌, ◌^◌, length, slice_index_or, slice_set};
 ghost use Rattle.registers.specs.Registers.{get, put};
 
-use instruction_table::Reg;
+use instructions::Reg;
 use word60::{Word18, Word60};
 
 /// The registers of the central processor (Control Data 60100000, operating registers).

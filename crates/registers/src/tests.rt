@@ -1,5 +1,5 @@
 use crate::RegisterFile;
-use instruction_table::{Digit, Reg};
+use instructions::{Digit, Reg};
 use std::test::Fail;
 use word60::{Word18, Word60};
 

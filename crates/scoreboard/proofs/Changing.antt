@@ -2,9 +2,9 @@
 use Rattle.std.proofs.Common.{◌≡◌, ◌<◌, ◌+◌, ℕ, Bool, true, List, ◌++◌, Option, Some, None, refl, sym, ap, ◌∙◌, get_or, set, length, arith}
 use Rattle.std.specs.Prelude.{IfSome}
 use Rattle.std.proofs.lemmas.List.{length-set, length-append, set-set, set-append_left, get_or-set_same}
-use Rattle.instruction_table.specs.declared.instr.Unit.{Unit as FunctionalUnit}
-use Rattle.instruction_table.specs.Finding.{seek, replaced}
-use Rattle.instruction_table.specs.Shape.{shape_of}
+use Rattle.instructions.specs.declared.instr.Unit.{Unit as FunctionalUnit}
+use Rattle.instructions.specs.Finding.{seek, replaced}
+use Rattle.instructions.specs.Shape.{shape_of}
 use Rattle.scoreboard.specs.declared.row.Progress.TheVariants.{Reserved, Left}
 use Rattle.scoreboard.specs.Units.{unit_number, same_unit}
 use Rattle.scoreboard.specs.declared.issued.Issued.{Issued}
@@ -13,9 +13,9 @@ use Rattle.scoreboard.specs.declared.writers.Writers.{Writers}
 use Rattle.scoreboard.specs.Answers.{Standing, held_in, returning_by, in_progress, read, left, left_with, gone, with_issued}
 use Rattle.scoreboard.specs.Fields.{channels_with}
 use Rattle.scoreboard.specs.Issued.{number_of, channel_of}
-use Rattle.instruction_table.specs.Order.{sort_by, somes}
+use Rattle.instructions.specs.Order.{sort_by, somes}
 use Rattle.scoreboard.specs.View.{standing_of, seated, seat_of, IsRight}
-use Rattle.instruction_table.proofs.Seats.{within, moved_with, taken_without, seated_here, before_seat, after_seat}
+use Rattle.instructions.proofs.Seats.{within, moved_with, taken_without, seated_here, before_seat, after_seat}
 use Rattle.scoreboard.proofs.Seating.{set_back, own_keys, sits_reserved}
 use Rattle.scoreboard.proofs.Standing.{changed, nobody_changed, nobody_held, nobody_returns, unit_seat, channel_seat, others_free, here_held, others_not_returning, here_returns}
 use Rattle.scoreboard.proofs.Right.{channel_empty}

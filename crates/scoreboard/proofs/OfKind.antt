@@ -4,38 +4,38 @@ use Rattle.std.specs.Prelude.{not, ◌&&◌, ◌||◌}
 use Rattle.std.specs.List.{list_any}
 use Rattle.std.proofs.lemmas.Bool.{eq-eqb, eqb-true, eqb-false}
 use Rattle.std.proofs.lemmas.List.{get_or-set_other}
-use Rattle.instruction_table.specs.declared.instr.Addends.{Addends}
-use Rattle.instruction_table.specs.declared.instr.Addends.TheVariants.{Address, Registers}
-use Rattle.instruction_table.specs.declared.instr.Addition.{Addition}
-use Rattle.instruction_table.specs.declared.instr.Addition.TheVariants.{Sum, Difference}
-use Rattle.instruction_table.specs.declared.instr.Base.TheVariants.{A as BaseA, B as BaseB, X as BaseX}
-use Rattle.instruction_table.specs.declared.instr.BTest.{BTest}
-use Rattle.instruction_table.specs.declared.instr.BTest.TheVariants.{Equal, NotEqual, GreaterOrEqual, Less}
-use Rattle.instruction_table.specs.declared.instr.Direction.{Direction}
-use Rattle.instruction_table.specs.declared.instr.Direction.TheVariants.{Left as ToLeft, Right as ToRight}
-use Rattle.instruction_table.specs.declared.instr.Instr.{Instr}
-use Rattle.instruction_table.specs.declared.instr.Instr.TheVariants.{Stop, Pass, ReturnJump, Jump, BranchX, BranchB, Copy, Invert, Logical, ShiftBy, ShiftNominal, LongAdd as LongSum, Mask, CountOnes, Increment}
-use Rattle.instruction_table.specs.declared.instr.Logic.{Logic}
-use Rattle.instruction_table.specs.declared.instr.Logic.TheVariants.{And, Or, Xor, AndNot, OrNot, XorNot}
-use Rattle.instruction_table.specs.declared.instr.Pair.TheVariants.{XPlusB, APlusB, AMinusB, BPlusB, BMinusB}
-use Rattle.instruction_table.specs.declared.instr.Reg.TheVariants.{A}
-use Rattle.instruction_table.specs.declared.instr.Target.{Target}
-use Rattle.instruction_table.specs.declared.instr.Target.TheVariants.{A as TargetA, B as TargetB, X as TargetX}
-use Rattle.instruction_table.specs.declared.instr.Unit.{Unit as FunctionalUnit}
-use Rattle.instruction_table.specs.declared.instr.Unit.TheVariants.{Branch, Boolean, Shift, Add, LongAdd, Multiply1, Multiply2, Divide, Increment1, Increment2}
-use Rattle.instruction_table.specs.declared.instr.UnitKind.{UnitKind}
-use Rattle.instruction_table.specs.declared.instr.UnitKind.TheVariants.{Branch as BranchKind, Boolean as BooleanKind, Shift as ShiftKind, LongAdd as LongAddKind, Divide as DivideKind, Increment as IncrementKind}
-use Rattle.instruction_table.specs.declared.instr.XTest.{XTest}
-use Rattle.instruction_table.specs.declared.instr.XTest.TheVariants.{Zero, NonZero, Positive, Negative, InRange, OutOfRange, Definite, Indefinite}
-use Rattle.instruction_table.specs.declared.refusal.Refusal.TheVariants.{OutOfTurn}
-use Rattle.instruction_table.specs.Each.{Each}
-use Rattle.instruction_table.specs.Finding.{seek}
-use Rattle.instruction_table.specs.Order.{sort_by, somes, IsSeated}
-use Rattle.instruction_table.specs.Shape.{Puts, Loads, Stores, shape_of, is_branch_shape, has_reference, has_store}
-use Rattle.instruction_table.specs.Table.{row}
-use Rattle.instruction_table.proofs.Lists.{each_map, each_both}
-use Rattle.instruction_table.proofs.Seats.{seated_others, seated_empty, found_there}
-use Rattle.instruction_table.proofs.Sorted.{any_sort}
+use Rattle.instructions.specs.declared.instr.Addends.{Addends}
+use Rattle.instructions.specs.declared.instr.Addends.TheVariants.{Address, Registers}
+use Rattle.instructions.specs.declared.instr.Addition.{Addition}
+use Rattle.instructions.specs.declared.instr.Addition.TheVariants.{Sum, Difference}
+use Rattle.instructions.specs.declared.instr.Base.TheVariants.{A as BaseA, B as BaseB, X as BaseX}
+use Rattle.instructions.specs.declared.instr.BTest.{BTest}
+use Rattle.instructions.specs.declared.instr.BTest.TheVariants.{Equal, NotEqual, GreaterOrEqual, Less}
+use Rattle.instructions.specs.declared.instr.Direction.{Direction}
+use Rattle.instructions.specs.declared.instr.Direction.TheVariants.{Left as ToLeft, Right as ToRight}
+use Rattle.instructions.specs.declared.instr.Instr.{Instr}
+use Rattle.instructions.specs.declared.instr.Instr.TheVariants.{Stop, Pass, ReturnJump, Jump, BranchX, BranchB, Copy, Invert, Logical, ShiftBy, ShiftNominal, LongAdd as LongSum, Mask, CountOnes, Increment}
+use Rattle.instructions.specs.declared.instr.Logic.{Logic}
+use Rattle.instructions.specs.declared.instr.Logic.TheVariants.{And, Or, Xor, AndNot, OrNot, XorNot}
+use Rattle.instructions.specs.declared.instr.Pair.TheVariants.{XPlusB, APlusB, AMinusB, BPlusB, BMinusB}
+use Rattle.instructions.specs.declared.instr.Reg.TheVariants.{A}
+use Rattle.instructions.specs.declared.instr.Target.{Target}
+use Rattle.instructions.specs.declared.instr.Target.TheVariants.{A as TargetA, B as TargetB, X as TargetX}
+use Rattle.instructions.specs.declared.instr.Unit.{Unit as FunctionalUnit}
+use Rattle.instructions.specs.declared.instr.Unit.TheVariants.{Branch, Boolean, Shift, Add, LongAdd, Multiply1, Multiply2, Divide, Increment1, Increment2}
+use Rattle.instructions.specs.declared.instr.UnitKind.{UnitKind}
+use Rattle.instructions.specs.declared.instr.UnitKind.TheVariants.{Branch as BranchKind, Boolean as BooleanKind, Shift as ShiftKind, LongAdd as LongAddKind, Divide as DivideKind, Increment as IncrementKind}
+use Rattle.instructions.specs.declared.instr.XTest.{XTest}
+use Rattle.instructions.specs.declared.instr.XTest.TheVariants.{Zero, NonZero, Positive, Negative, InRange, OutOfRange, Definite, Indefinite}
+use Rattle.instructions.specs.declared.refusal.Refusal.TheVariants.{OutOfTurn}
+use Rattle.instructions.specs.Each.{Each}
+use Rattle.instructions.specs.Finding.{seek}
+use Rattle.instructions.specs.Order.{sort_by, somes, IsSeated}
+use Rattle.instructions.specs.Shape.{Puts, Loads, Stores, shape_of, is_branch_shape, has_reference, has_store}
+use Rattle.instructions.specs.Operands.{row}
+use Rattle.instructions.proofs.Lists.{each_map, each_both}
+use Rattle.instructions.proofs.Seats.{seated_others, seated_empty, found_there}
+use Rattle.instructions.proofs.Sorted.{any_sort}
 use Rattle.scoreboard.specs.declared.issued.Issued.{Issued}
 use Rattle.scoreboard.specs.declared.row.Progress.{Progress}
 use Rattle.scoreboard.specs.declared.row.Progress.TheVariants.{Reserved, Left}

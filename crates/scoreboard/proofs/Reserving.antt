@@ -5,16 +5,16 @@ use Rattle.std.specs.List.{list_any}
 use Rattle.std.proofs.lemmas.Bool.{eq-eqb, eqb-true, eqb-false, le-ltb, lt-ltb, or_parts}
 use Rattle.std.proofs.lemmas.List.{length-set, length-append, set-append_left, get_or_append_left, get_or-set_same, get_or-set_other}
 use Rattle.std.proofs.lemmas.List.Folds.{list_any-append}
-use Rattle.instruction_table.specs.declared.instr.Instr.{Instr}
-use Rattle.instruction_table.specs.declared.instr.Reg.{Reg}
-use Rattle.instruction_table.specs.declared.instr.Reg.TheVariants.{X, A, B}
-use Rattle.instruction_table.specs.declared.instr.Unit.{Unit as FunctionalUnit}
-use Rattle.instruction_table.specs.declared.instr.UnitKind.{UnitKind}
-use Rattle.instruction_table.specs.declared.refusal.Refusal.{Refusal}
-use Rattle.instruction_table.specs.declared.refusal.Refusal.TheVariants.{UnitBusy, ResultReserved}
-use Rattle.instruction_table.specs.RegisterLists.{is_in}
-use Rattle.instruction_table.specs.Shape.{shape_of, puts_of, results}
-use Rattle.instruction_table.specs.Table.{row, sources_of, reg_eq}
+use Rattle.instructions.specs.declared.instr.Instr.{Instr}
+use Rattle.instructions.specs.declared.instr.Reg.{Reg}
+use Rattle.instructions.specs.declared.instr.Reg.TheVariants.{X, A, B}
+use Rattle.instructions.specs.declared.instr.Unit.{Unit as FunctionalUnit}
+use Rattle.instructions.specs.declared.instr.UnitKind.{UnitKind}
+use Rattle.instructions.specs.declared.refusal.Refusal.{Refusal}
+use Rattle.instructions.specs.declared.refusal.Refusal.TheVariants.{UnitBusy, ResultReserved}
+use Rattle.instructions.specs.RegisterLists.{is_in}
+use Rattle.instructions.specs.Shape.{shape_of, puts_of, results}
+use Rattle.instructions.specs.Operands.{row, sources_of, reg_eq}
 use Rattle.scoreboard.specs.Conflicts.{awaited, is_held, first_free, free_unit, unit_for, first_such}
 use Rattle.scoreboard.specs.Rows.{comes, to_come, to_come_in, holds}
 use Rattle.scoreboard.specs.Units.{unit_number, same_unit, units_of, may_take, first_unit}
@@ -23,15 +23,15 @@ use Rattle.scoreboard.specs.declared.writer.Writer.{Writer}
 use Rattle.scoreboard.specs.declared.writer.Writer.TheVariants.{OfUnit, OfChannel}
 use Rattle.scoreboard.specs.declared.writers.Writers.{Writers}
 use Rattle.scoreboard.specs.Answers.{Standing, new_issued, reserve_answer, reserved}
-use Rattle.instruction_table.specs.Each.{Each, Pairs}
+use Rattle.instructions.specs.Each.{Each, Pairs}
 use Rattle.scoreboard.specs.Fields.{writers_with, is_taken, free_for}
 use Rattle.scoreboard.specs.Issued.{row_of, number_of, channel_of, written_by_channel, written_in, written_by, or_else, first_some, if_earlier, writer_of, writer_before}
-use Rattle.instruction_table.specs.Order.{sort_by, somes, IsSeated}
+use Rattle.instructions.specs.Order.{sort_by, somes, IsSeated}
 use Rattle.scoreboard.specs.View.{standing_of, seated, seat_in, seat_of, IsOther, IsOfKind, AreProducers, first_produced, IsRight}
 use Rattle.scoreboard.specs.Writers.{IsRegister, writer_at, set_writer}
-use Rattle.instruction_table.proofs.Lists.{each_map}
-use Rattle.instruction_table.proofs.Seats.{within, seated_fill, sort_new}
-use Rattle.instruction_table.proofs.Sorted.{any_sort, before_place, behind_place, somes-at}
+use Rattle.instructions.proofs.Lists.{each_map}
+use Rattle.instructions.proofs.Seats.{within, seated_fill, sort_new}
+use Rattle.instructions.proofs.Sorted.{any_sort, before_place, behind_place, somes-at}
 use Rattle.scoreboard.proofs.Registers.{AreSized, reg_eq_same, set_gives, set_sized, each_sized, each_gives}
 use Rattle.scoreboard.proofs.Writing.{some_any, any_same, some_written, all_earlier}
 use Rattle.scoreboard.proofs.Seating.{pairs_put, each_here, each_put, writer_put, unit_below}

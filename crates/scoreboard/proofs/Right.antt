@@ -3,12 +3,12 @@ use Rattle.std.proofs.Common.{◌≡◌, ◌≢◌, ◌<◌, ◌≤◌, ◌+◌,
 use Rattle.std.specs.Prelude.{◌&&◌, ◌||◌, IfSome}
 use Rattle.std.proofs.lemmas.Bool.{eq-eqb, eqb-true, eqb-false, le-ltb}
 use Rattle.std.proofs.lemmas.List.{length-set, length-append, set-set, set-append_left, get_or_append_left, get_or-set_same, get_or-set_other}
-use Rattle.instruction_table.specs.declared.instr.Reg.{Reg}
-use Rattle.instruction_table.specs.declared.instr.Reg.TheVariants.{X}
-use Rattle.instruction_table.specs.declared.instr.Unit.{Unit as FunctionalUnit}
-use Rattle.instruction_table.specs.RegisterLists.{is_in}
-use Rattle.instruction_table.specs.Shape.{Shape, Puts, Loads, Stores, Jumps, Links, shape_of, puts_of, loads_of, results}
-use Rattle.instruction_table.specs.Table.{sources_of, reg_eq}
+use Rattle.instructions.specs.declared.instr.Reg.{Reg}
+use Rattle.instructions.specs.declared.instr.Reg.TheVariants.{X}
+use Rattle.instructions.specs.declared.instr.Unit.{Unit as FunctionalUnit}
+use Rattle.instructions.specs.RegisterLists.{is_in}
+use Rattle.instructions.specs.Shape.{Shape, Puts, Loads, Stores, Jumps, Links, shape_of, puts_of, loads_of, results}
+use Rattle.instructions.specs.Operands.{sources_of, reg_eq}
 use Rattle.scoreboard.specs.declared.row.Progress.TheVariants.{Reserved, Left}
 use Rattle.scoreboard.specs.Rows.{comes, to_come, to_come_in, returning_to}
 use Rattle.scoreboard.specs.Units.{unit_number, same_unit}
@@ -17,14 +17,14 @@ use Rattle.scoreboard.specs.declared.writer.Writer.{Writer}
 use Rattle.scoreboard.specs.declared.writer.Writer.TheVariants.{OfUnit, OfChannel}
 use Rattle.scoreboard.specs.declared.writers.Writers.{Writers}
 use Rattle.scoreboard.specs.Answers.{in_progress}
-use Rattle.instruction_table.specs.Each.{Each, Pairs}
+use Rattle.instructions.specs.Each.{Each, Pairs}
 use Rattle.scoreboard.specs.Fields.{channels_with, forget_in_taken}
 use Rattle.scoreboard.specs.Issued.{number_of, channel_of, written_by_channel, written_in, written_by, or_else, first_some, if_earlier, writer_of, writer_before}
-use Rattle.instruction_table.specs.Order.{somes, IsSeated}
+use Rattle.instructions.specs.Order.{somes, IsSeated}
 use Rattle.scoreboard.specs.View.{seated, seat_in, seat_of, IsOther, IsOfKind, AreProducers, IsRight}
 use Rattle.scoreboard.specs.Writers.{IsRegister, writer_at, set_writer, set_each, same_writer, forget}
-use Rattle.instruction_table.proofs.Lists.{each_map}
-use Rattle.instruction_table.proofs.Seats.{within, seated_others, seated_here, seated_empty, seated_fill}
+use Rattle.instructions.proofs.Lists.{each_map}
+use Rattle.instructions.proofs.Seats.{within, seated_others, seated_here, seated_empty, seated_fill}
 use Rattle.scoreboard.proofs.Registers.{AreSized, reg_eq_same, set_gives, set_sized, each_sized, each_gives}
 use Rattle.scoreboard.proofs.Writing.{all_earlier, producers_forget, forget_first, earlier_forget, earlier_at, channel_no_unit, unit_kept, channel_kept, left_written, returned_written}
 use Rattle.scoreboard.proofs.Seating.{set_back, sits_reserved, sits_returning, others_of, pairs_taken, pairs_put, each_taken, each_here, each_put, writer_put, writer_taken, writer_gone, writer_same}

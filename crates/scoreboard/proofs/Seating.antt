@@ -2,9 +2,9 @@
 use Rattle.std.proofs.Common.{◌≡◌, ◌≢◌, ◌<◌, ◌+◌, ℕ, zero, suc, Bool, true, false, cond, List, [], ◌∷◌, ◌++◌, Option, Some, None, refl, sym, ap, ◌∙◌, subst, ltb, get_or, set, length, arith}
 use Rattle.std.specs.Prelude.{◌&&◌}
 use Rattle.std.proofs.lemmas.Bool.{eq-eqb, ne_eqb}
-use Rattle.instruction_table.specs.declared.instr.Reg.{Reg}
-use Rattle.instruction_table.specs.declared.instr.Unit.{Unit as FunctionalUnit}
-use Rattle.instruction_table.specs.declared.instr.Unit.TheVariants.{Branch, Boolean, Shift, Add, LongAdd, Multiply1, Multiply2, Divide, Increment1, Increment2}
+use Rattle.instructions.specs.declared.instr.Reg.{Reg}
+use Rattle.instructions.specs.declared.instr.Unit.{Unit as FunctionalUnit}
+use Rattle.instructions.specs.declared.instr.Unit.TheVariants.{Branch, Boolean, Shift, Add, LongAdd, Multiply1, Multiply2, Divide, Increment1, Increment2}
 use Rattle.scoreboard.specs.declared.row.Progress.{Progress}
 use Rattle.scoreboard.specs.declared.row.Progress.TheVariants.{Reserved, Left}
 use Rattle.scoreboard.specs.Rows.{comes, holds, is_reserved}
@@ -12,14 +12,14 @@ use Rattle.scoreboard.specs.Units.{unit_number, same_unit}
 use Rattle.scoreboard.specs.declared.issued.Issued.{Issued}
 use Rattle.scoreboard.specs.declared.writer.Writer.{Writer}
 use Rattle.scoreboard.specs.Answers.{held_in, returns_in, returning_by}
-use Rattle.instruction_table.specs.Each.{Each, Pairs}
+use Rattle.instructions.specs.Each.{Each, Pairs}
 use Rattle.scoreboard.specs.Issued.{number_of, written_by, or_else, first_some, if_earlier, writer_before}
-use Rattle.instruction_table.specs.Order.{somes}
+use Rattle.instructions.specs.Order.{somes}
 use Rattle.scoreboard.specs.View.{IsOther, seat_in, seat_of}
 use Rattle.scoreboard.specs.Writers.{forget}
-use Rattle.instruction_table.proofs.Lists.{each_left, each_right, each_append, each_map, pairs_before, pairs_right, pairs_without}
-use Rattle.instruction_table.proofs.Sorted.{before_place, behind_place, somes-at, somes-set_some, somes-set_none, somes-empty}
-use Rattle.instruction_table.proofs.Seats.{within, HasOwnKeys}
+use Rattle.instructions.proofs.Lists.{each_left, each_right, each_append, each_map, pairs_before, pairs_right, pairs_without}
+use Rattle.instructions.proofs.Sorted.{before_place, behind_place, somes-at, somes-set_some, somes-set_none, somes-empty}
+use Rattle.instructions.proofs.Seats.{within, HasOwnKeys}
 use Rattle.scoreboard.proofs.Writing.{IsAlone, first_at, first_none, first_replaced, forget_first, forgotten_rest, earlier_alone, earlier_forget}
 
 -- ---- two lists of seats as one ----

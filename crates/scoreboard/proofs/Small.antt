@@ -3,12 +3,12 @@ use Rattle.std.proofs.Common.{◌≡◌, ◌<◌, ◌≤◌, ◌+◌, ℕ, zero,
 use Rattle.std.specs.Prelude.{◌&&◌, ◌||◌, find, is_some, slice_get, IfSome}
 use Rattle.std.specs.List.{list_any}
 use Rattle.std.proofs.lemmas.List.{set-get_or}
-use Rattle.instruction_table.specs.declared.instr.Reg.{Reg}
+use Rattle.instructions.specs.declared.instr.Reg.{Reg}
 use Rattle.scoreboard.specs.declared.writer.Writer.{Writer}
 use Rattle.scoreboard.specs.declared.issued.Issued.{Issued}
-use Rattle.instruction_table.specs.Each.{Each}
-use Rattle.instruction_table.specs.RegisterLists.{is_in}
-use Rattle.instruction_table.specs.Table.{sources_of}
+use Rattle.instructions.specs.Each.{Each}
+use Rattle.instructions.specs.RegisterLists.{is_in}
+use Rattle.instructions.specs.Operands.{sources_of}
 use Rattle.scoreboard.specs.declared.row.Progress.{Progress}
 use Rattle.scoreboard.specs.declared.row.Progress.TheVariants.{Reserved, Left}
 use Rattle.scoreboard.specs.Fields.{forget_in_taken, seat_waits, seat_reads}

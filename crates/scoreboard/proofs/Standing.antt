@@ -4,34 +4,34 @@ use Rattle.std.specs.Prelude.{is_some, ◌&&◌, ◌||◌, unwrap_or, find, Resu
 use Rattle.std.specs.List.{list_any}
 use Rattle.std.proofs.lemmas.List.{get_or_append_left}
 use Rattle.std.proofs.lemmas.List.Folds.{list_any-append}
-use Rattle.instruction_table.specs.declared.instr.Reg.{Reg}
-use Rattle.instruction_table.specs.declared.instr.Reg.TheVariants.{X, B}
-use Rattle.instruction_table.specs.declared.instr.Unit.{Unit as FunctionalUnit}
-use Rattle.instruction_table.specs.declared.refusal.Refusal.{Refusal}
-use Rattle.instruction_table.specs.declared.refusal.Refusal.TheVariants.{OperandAwaited, ResultHeld}
-use Rattle.instruction_table.specs.declared.instr.Instr.{Instr}
-use Rattle.instruction_table.specs.Finding.{seek, replaced}
-use Rattle.instruction_table.specs.Shape.{shape_of, puts_of}
-use Rattle.instruction_table.specs.Table.{sources_of}
+use Rattle.instructions.specs.declared.instr.Reg.{Reg}
+use Rattle.instructions.specs.declared.instr.Reg.TheVariants.{X, B}
+use Rattle.instructions.specs.declared.instr.Unit.{Unit as FunctionalUnit}
+use Rattle.instructions.specs.declared.refusal.Refusal.{Refusal}
+use Rattle.instructions.specs.declared.refusal.Refusal.TheVariants.{OperandAwaited, ResultHeld}
+use Rattle.instructions.specs.declared.instr.Instr.{Instr}
+use Rattle.instructions.specs.Finding.{seek, replaced}
+use Rattle.instructions.specs.Shape.{shape_of, puts_of}
+use Rattle.instructions.specs.Operands.{sources_of}
 use Rattle.scoreboard.specs.declared.row.Progress.{Progress}
 use Rattle.scoreboard.specs.declared.row.Progress.TheVariants.{Reserved, Left}
 use Rattle.scoreboard.specs.Rows.{comes, holds, reads, reads_in, reads_it, is_reserved}
 use Rattle.scoreboard.specs.Units.{unit_number}
 use Rattle.scoreboard.specs.Conflicts.{awaited, to_be_read, first_such}
-use Rattle.instruction_table.specs.RegisterLists.{is_in}
+use Rattle.instructions.specs.RegisterLists.{is_in}
 use Rattle.scoreboard.specs.declared.issued.Issued.{Issued}
 use Rattle.scoreboard.specs.declared.writer.Writer.{Writer}
 use Rattle.scoreboard.specs.declared.writers.Writers.{Writers}
 use Rattle.scoreboard.specs.Answers.{held_in, returning_by, unless, read_answer, store_answer, return_answer}
-use Rattle.instruction_table.specs.Each.{Each, Pairs}
+use Rattle.instructions.specs.Each.{Each, Pairs}
 use Rattle.scoreboard.specs.Fields.{seat_reads}
 use Rattle.scoreboard.specs.Issued.{row_of, number_of, written_by, if_earlier, writer_before}
-use Rattle.instruction_table.specs.Order.{sort_by, somes, IsSeated}
+use Rattle.instructions.specs.Order.{sort_by, somes, IsSeated}
 use Rattle.scoreboard.specs.View.{seated, IsOther, seat_in, seat_of, AreProducers, first_produced, IsRight}
-use Rattle.instruction_table.proofs.Lists.{each_map}
-use Rattle.instruction_table.proofs.Sorted.{any_sort, any_earlier, any_somes, IsIncreasing, sort_increasing, sort_each}
-use Rattle.instruction_table.proofs.Seats.{taken_with, seated_others, seated_nobody, seated_here, before_seat, after_seat, each_before, found_there, found_nobody}
-use Rattle.instruction_table.proofs.Finding.{replaced_around, replaced_nobody}
+use Rattle.instructions.proofs.Lists.{each_map}
+use Rattle.instructions.proofs.Sorted.{any_sort, any_earlier, any_somes, IsIncreasing, sort_increasing, sort_each}
+use Rattle.instructions.proofs.Seats.{taken_with, seated_others, seated_nobody, seated_here, before_seat, after_seat, each_before, found_there, found_nobody}
+use Rattle.instructions.proofs.Finding.{replaced_around, replaced_nobody}
 use Rattle.scoreboard.proofs.Writing.{some_any, any_same, earlier_some}
 use Rattle.scoreboard.proofs.Seating.{get_back, own_keys, sits_holds, sits_not, sits_held, sits_not_held, sits_returns, sits_not_returning, unit_below}
 

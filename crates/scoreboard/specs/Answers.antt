@@ -1,14 +1,14 @@
 -- What a board answers, and what it is after a change: of the issued instructions in the order of their numbers.
 -- Source: Thornton, scoreboard; 60100000, unit and register conflicts.
 use Rattle.std.specs.Prelude.{ℕ, suc, Bool, true, false, ◌&&◌, ◌==◌, if◌then◌else◌, List, [], ◌∷◌, ◌++◌, Option, Some, None, Result, Ok, Err}
-use Rattle.instruction_table.specs.declared.instr.Instr.{Instr}
-use Rattle.instruction_table.specs.declared.instr.Reg.TheVariants.{X}
-use Rattle.instruction_table.specs.declared.instr.Unit.{Unit as FunctionalUnit}
-use Rattle.instruction_table.specs.declared.refusal.Refusal.{Refusal}
-use Rattle.instruction_table.specs.declared.refusal.Refusal.TheVariants.{UnitBusy, ResultReserved, OperandAwaited, ResultHeld, OutOfTurn}
-use Rattle.instruction_table.specs.Finding.{Found}
-use Rattle.instruction_table.specs.Shape.{shape_of, puts_of, results, has_reference}
-use Rattle.instruction_table.specs.Table.{row, sources_of}
+use Rattle.instructions.specs.declared.instr.Instr.{Instr}
+use Rattle.instructions.specs.declared.instr.Reg.TheVariants.{X}
+use Rattle.instructions.specs.declared.instr.Unit.{Unit as FunctionalUnit}
+use Rattle.instructions.specs.declared.refusal.Refusal.{Refusal}
+use Rattle.instructions.specs.declared.refusal.Refusal.TheVariants.{UnitBusy, ResultReserved, OperandAwaited, ResultHeld, OutOfTurn}
+use Rattle.instructions.specs.Finding.{Found}
+use Rattle.instructions.specs.Shape.{shape_of, puts_of, results, has_reference}
+use Rattle.instructions.specs.Operands.{row, sources_of}
 use Rattle.scoreboard.specs.declared.row.Progress.{Progress}
 use Rattle.scoreboard.specs.declared.row.Progress.TheVariants.{Reserved, Left}
 use Rattle.scoreboard.specs.Rows.{holds}

@@ -4,10 +4,10 @@
 -- lower-numbered free unit is taken, are ours.
 use Rattle.std.specs.Prelude.{Bool, if◌then◌else◌, List, [], ◌∷◌, Option, Some, None, find, unwrap_or}
 use Rattle.std.specs.List.{list_any}
-use Rattle.instruction_table.specs.declared.instr.Reg.{Reg}
-use Rattle.instruction_table.specs.declared.instr.Reg.TheVariants.{B}
-use Rattle.instruction_table.specs.declared.instr.Unit.{Unit}
-use Rattle.instruction_table.specs.declared.instr.UnitKind.{UnitKind}
+use Rattle.instructions.specs.declared.instr.Reg.{Reg}
+use Rattle.instructions.specs.declared.instr.Reg.TheVariants.{B}
+use Rattle.instructions.specs.declared.instr.Unit.{Unit}
+use Rattle.instructions.specs.declared.instr.UnitKind.{UnitKind}
 use Rattle.scoreboard.specs.declared.row.Row.{Row}
 use Rattle.scoreboard.specs.Rows.{comes, reads_it, holds, has_turn}
 use Rattle.scoreboard.specs.Units.{units_of}

@@ -2,22 +2,21 @@
 -- one unit or of one load channel.
 -- Source: Thornton, scoreboard; docs/scoreboard.md sets the fields beside his.
 use Rattle.std.specs.Prelude.{ℕ, Bool, false, ◌&&◌, ◌||◌, nat_lt, List, [], ◌∷◌, Option, Some, None, is_some, map, slice_index_or, slice_set}
-use Rattle.instruction_table.specs.declared.instr.Reg.TheVariants.{X}
-use Rattle.instruction_table.specs.declared.instr.Unit.TheVariants.{Increment1, Increment2}
-use Rattle.instruction_table.specs.declared.instr.UnitKind.{UnitKind}
+use Rattle.instructions.specs.declared.instr.Reg.TheVariants.{X}
+use Rattle.instructions.specs.declared.instr.Unit.TheVariants.{Increment1, Increment2}
+use Rattle.instructions.specs.declared.instr.UnitKind.{UnitKind}
 use Rattle.scoreboard.specs.declared.row.Progress.TheVariants.{Left}
 use Rattle.scoreboard.specs.declared.row.Row.{Row}
 use Rattle.scoreboard.specs.Conflicts.{first_free}
-use Rattle.scoreboard.specs.Units.{units_of}
+use Rattle.scoreboard.specs.Units.{units_of, unit_number}
 use Rattle.scoreboard.specs.declared.writer.Writer.{Writer}
 use Rattle.scoreboard.specs.declared.writer.Writer.TheVariants.{OfUnit, OfChannel}
 use Rattle.scoreboard.specs.declared.writers.Writers.{Writers}
 use Rattle.scoreboard.specs.Answers.{in_progress}
 use Rattle.scoreboard.specs.Writers.{set_each, set_writer, forget}
-use Rattle.instruction_table.specs.declared.instr.Reg.{Reg}
-use Rattle.instruction_table.specs.declared.instr.Unit.{Unit as FunctionalUnit}
+use Rattle.instructions.specs.declared.instr.Reg.{Reg}
+use Rattle.instructions.specs.declared.instr.Unit.{Unit as FunctionalUnit}
 use Rattle.scoreboard.specs.Rows.{is_unread, reads_it, has_turn}
-use Rattle.scoreboard.specs.Units.{unit_number}
 use Rattle.scoreboard.specs.declared.issued.Issued.{Issued}
 
 -- an instruction sits there, and it passes the test

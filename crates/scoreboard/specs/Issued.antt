@@ -1,12 +1,12 @@
 -- An issued instruction with its number, and the writer of a register among such.
 -- Source: Thornton, scoreboard (result designators). The numbers, and that a load channel is a writer, are ours.
 use Rattle.std.specs.Prelude.{ℕ, nat_lt, if◌then◌else◌, List, [], ◌∷◌, Option, Some, None}
-use Rattle.instruction_table.specs.declared.instr.Reg.{Reg}
-use Rattle.instruction_table.specs.declared.instr.Reg.TheVariants.{X}
-use Rattle.instruction_table.specs.declared.instr.Unit.{Unit as FunctionalUnit}
-use Rattle.instruction_table.specs.RegisterLists.{is_in}
-use Rattle.instruction_table.specs.Shape.{Shape, Puts, Loads, Stores, Jumps, Links, shape_of, puts_of}
-use Rattle.instruction_table.specs.Table.{reg_eq}
+use Rattle.instructions.specs.declared.instr.Reg.{Reg}
+use Rattle.instructions.specs.declared.instr.Reg.TheVariants.{X}
+use Rattle.instructions.specs.declared.instr.Unit.{Unit as FunctionalUnit}
+use Rattle.instructions.specs.RegisterLists.{is_in}
+use Rattle.instructions.specs.Shape.{Shape, Puts, Loads, Stores, Jumps, Links, shape_of, puts_of}
+use Rattle.instructions.specs.Operands.{reg_eq}
 use Rattle.scoreboard.specs.declared.row.Progress.{Progress}
 use Rattle.scoreboard.specs.declared.row.Progress.TheVariants.{Reserved, Left}
 use Rattle.scoreboard.specs.declared.row.Row.{Row}

@@ -1,15 +1,15 @@
 -- One issued instruction: what it has still to write and to read, and what it holds.
 -- Source: Thornton, scoreboard; 60100000, unit and register conflicts.
 use Rattle.std.specs.Prelude.{ℕ, Bool, true, false, not, ◌&&◌, List, [], ◌∷◌, Option, Some, None}
-use Rattle.instruction_table.specs.declared.instr.Reg.{Reg}
-use Rattle.instruction_table.specs.declared.instr.Reg.TheVariants.{X}
-use Rattle.instruction_table.specs.declared.instr.Unit.{Unit}
-use Rattle.instruction_table.specs.Shape.{Shape, shape_of, results, is_branch_shape, has_reference, has_store}
-use Rattle.instruction_table.specs.Table.{sources_of}
+use Rattle.instructions.specs.declared.instr.Reg.{Reg}
+use Rattle.instructions.specs.declared.instr.Reg.TheVariants.{X}
+use Rattle.instructions.specs.declared.instr.Unit.{Unit}
+use Rattle.instructions.specs.Shape.{Shape, shape_of, results, is_branch_shape, has_reference, has_store}
+use Rattle.instructions.specs.Operands.{sources_of}
 use Rattle.scoreboard.specs.declared.row.Progress.{Progress}
 use Rattle.scoreboard.specs.declared.row.Progress.TheVariants.{Reserved, Left}
 use Rattle.scoreboard.specs.declared.row.Row.{Row}
-use Rattle.instruction_table.specs.RegisterLists.{is_in}
+use Rattle.instructions.specs.RegisterLists.{is_in}
 use Rattle.scoreboard.specs.Units.{same_unit}
 
 -- it holds its unit

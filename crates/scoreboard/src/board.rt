@@ -2,8 +2,8 @@
 
 ghost use Rattle.std.specs.Prelude.{◌≡◌, ◌<◌, ◌+◌, ◌^◌, [], IsSome};
 ghost use Rattle.std.specs.List.{list_any};
-ghost use Rattle.instruction_table.specs.Finding.{seek, replaced};
-ghost use Rattle.instruction_table.specs.Table.{row};
+ghost use Rattle.instructions.specs.Finding.{seek, replaced};
+ghost use Rattle.instructions.specs.Operands.{row};
 ghost use Rattle.scoreboard.specs.Rows.{is_branch, has_store_turn};
 ghost use Rattle.scoreboard.specs.Units.{unit_number};
 ghost use Rattle.scoreboard.specs.Issued.{row_of};
@@ -15,7 +15,7 @@ use crate::fields::{
     forget_in_taken, free_unit_for, is_taken, is_to_be_read, put_left,
 };
 use crate::{Issued, Progress, Writer, Writers, unit_number};
-use instruction_table::{Digit, Instr, Refusal, Reg, Unit, results, sources};
+use instructions::{Digit, Instr, Refusal, Reg, Unit, results, sources};
 use std::marker::Model;
 
 /// Which instructions hold a unit or have a load still to return, and who will write which register (Thornton,

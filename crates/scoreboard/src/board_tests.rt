@@ -2,7 +2,8 @@
 
 use crate::Board;
 use crate::fixtures::{a, b, x};
-use instruction_table::{Refusal, Reg, Unit, read_text, unit_kind};
+use instruction_table::read_text;
+use instructions::{Refusal, Reg, Unit, unit_kind};
 
 /// A call to a board. Instructions are given as texts.
 #[derive(Clone, Copy, Drop)]

@@ -3,14 +3,14 @@
 
 ghost use Rattle.std.specs.Prelude.{IfSome, ◌≡◌, ◌≤◌, ◌<◌, ◌||◌, ◌∷◌, [], length, find, is_some};
 ghost use Rattle.std.specs.List.{list_any};
-ghost use Rattle.instruction_table.specs.declared.instr.Unit.TheVariants.{Branch};
-ghost use Rattle.instruction_table.specs.Table.{row};
+ghost use Rattle.instructions.specs.declared.instr.Unit.TheVariants.{Branch};
+ghost use Rattle.instructions.specs.Operands.{row};
 ghost use Rattle.scoreboard.specs.Conflicts.{first_free};
 ghost use Rattle.scoreboard.specs.Units.{units_of, first_unit};
 ghost use Rattle.scoreboard.specs.Rows.{has_store_turn};
 ghost use Rattle.scoreboard.specs.Fields.{seat_at, in_increment, is_taken, seat_is, seat_waits, seat_reads, seat_has_turn, free_for, channels_with, writers_with, forget_in_taken};
-ghost use Rattle.instruction_table.specs.Shape.{shape_of, puts_of};
-ghost use Rattle.instruction_table.specs.Each.{Each};
+ghost use Rattle.instructions.specs.Shape.{shape_of, puts_of};
+ghost use Rattle.instructions.specs.Each.{Each};
 ghost use Rattle.scoreboard.specs.Issued.{channel_of};
 ghost use Rattle.scoreboard.specs.Writers.{IsRegister};
 ghost use Rattle.scoreboard.specs.View.{first_produced};
@@ -18,7 +18,7 @@ ghost use Rattle.scoreboard.specs.View.{first_produced};
 use crate::issued::channel;
 use crate::writer::forget_in;
 use crate::{Issued, Progress, Writer, Writers, unit_number};
-use instruction_table::{Instr, Reg, Unit, UnitKind, unit_kind};
+use instructions::{Instr, Reg, Unit, UnitKind, unit_kind};
 
 /// Whether there is a writer among the three.
 pub(crate) fn any_writer(producers: &[Option<Writer>; 3]) -> bool

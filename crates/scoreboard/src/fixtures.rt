@@ -1,6 +1,6 @@
 //! For the tests: registers by their numbers, 0 to 7.
 
-use instruction_table::{Digit, Reg};
+use instructions::{Digit, Reg};
 
 pub(crate) fn a(number: u16) -> Reg {
     Reg::A(Digit::low(number))

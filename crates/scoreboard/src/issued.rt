@@ -1,10 +1,10 @@
 ghost use Rattle.std.specs.Prelude.{◌≡◌};
-ghost use Rattle.instruction_table.specs.Shape.{shape_of};
+ghost use Rattle.instructions.specs.Shape.{shape_of};
 ghost use Rattle.scoreboard.specs.Issued.{channel_of};
 ghost use Rattle.scoreboard.specs.Answers.{new_issued, in_progress};
 
 use crate::{Progress, Row};
-use instruction_table::{Digit, Instr, Target, Unit};
+use instructions::{Digit, Instr, Target, Unit};
 
 /// An issued instruction with the number of its reservation.
 #[derive(Clone, Copy, Debug, Drop, PartialEq, Eq)]
@@ -16,7 +16,7 @@ pub struct Issued {
 }
 
 /// The channel of a load, SA1 to SA5: the number of the X register that it writes at its return.
-#[tactic(auto, unfolding(crate::specs::Issued::channel_of, instruction_table::specs::Shape::shape_of))]
+#[tactic(auto, unfolding(crate::specs::Issued::channel_of, instructions::specs::Shape::shape_of))]
 pub(crate) fn channel(instr: &Instr) -> Option<Digit>
     ensures { result ≡ channel_of (shape_of instr.now) }
 {

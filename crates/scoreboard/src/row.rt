@@ -1,11 +1,11 @@
 ghost use Rattle.std.specs.Prelude.{◌≡◌};
 ghost use Rattle.scoreboard.specs.Rows.{is_unread, returning_to, to_come, reads, comes, reads_it, holds, is_branch, has_turn, has_store_turn, is_reserved};
-ghost use Rattle.instruction_table.specs.Table.{reg_eq};
-ghost use Rattle.instruction_table.specs.RegisterLists.{is_in};
+ghost use Rattle.instructions.specs.Operands.{reg_eq};
+ghost use Rattle.instructions.specs.RegisterLists.{is_in};
 
 use crate::is_same_unit;
 use arrayvec::ArrayVec;
-use instruction_table::{Digit, Instr, Reg, Unit, results, sources};
+use instructions::{Digit, Instr, Reg, Unit, results, sources};
 
 /// How far the scoreboard has seen an issued instruction come.
 #[derive(Clone, Copy, Debug, Drop, PartialEq, Eq)]
@@ -53,7 +53,7 @@ fn returning_to(number: Option<Digit>) -> ArrayVec<Reg, 2>
 }
 
 /// Whether the register is among those.
-#[tactic(auto, unfolding(instruction_table::specs::RegisterLists::is_in))]
+#[tactic(auto, unfolding(instructions::specs::RegisterLists::is_in))]
 fn is_among(registers: &[Reg], register: &Reg) -> bool
     ensures { result ≡ is_in registers.now register.now }
 {

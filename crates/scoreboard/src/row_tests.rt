@@ -2,7 +2,8 @@
 
 use crate::fixtures::{a, b, x};
 use crate::{Progress, Row, is_same_unit, unit_number};
-use instruction_table::{Digit, Reg, Unit, read_text};
+use instruction_table::read_text;
+use instructions::{Digit, Reg, Unit};
 
 /// A question to a row.
 #[derive(Clone, Copy, Drop)]

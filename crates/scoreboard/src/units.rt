@@ -1,7 +1,7 @@
 ghost use Rattle.std.specs.Prelude.{◌≡◌, ◌<◌};
 ghost use Rattle.scoreboard.specs.Units.{unit_number, same_unit};
 
-use instruction_table::Unit;
+use instructions::Unit;
 
 /// The number of a unit, from 0 for Branch to 9 for Increment2 (this project's choice).
 pub fn unit_number(unit: Unit) -> u8

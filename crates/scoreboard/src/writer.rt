@@ -2,7 +2,7 @@ ghost use Rattle.std.specs.Prelude.{◌≡◌, map};
 ghost use Rattle.scoreboard.specs.Writers.{same_writer, is_expected, forget};
 
 use crate::is_same_unit;
-use instruction_table::{Digit, Unit};
+use instructions::{Digit, Unit};
 
 /// Who is to write a register (Thornton's result designators; that a load channel is one is this project's choice).
 #[derive(Clone, Copy, Debug, Drop, PartialEq, Eq)]

@@ -1,10 +1,10 @@
 ghost use Rattle.std.specs.Prelude.{◌≡◌, ◌≤◌, None, length, slice_get, IfSome, replicate};
 ghost use Rattle.scoreboard.specs.Writers.{IsRegister, writer_at, set_writer, writer_if, set_each};
-ghost use Rattle.instruction_table.specs.Each.{Each};
+ghost use Rattle.instructions.specs.Each.{Each};
 ghost use Rattle.scoreboard.specs.View.{AreProducers};
 
 use crate::Writer;
-use instruction_table::Reg;
+use instructions::Reg;
 
 /// Who is to write each register, None where nobody is (Thornton, result register designators).
 #[derive(Clone, Copy, Debug, Drop, PartialEq, Eq)]

@@ -2,9 +2,9 @@
 use Rattle.std.proofs.Common.{◌≡◌, ◌<◌, ◌≤◌, ◌+◌, ◌-◌, ℕ, zero, suc, true, false, cond, List, [], ◌∷◌, ◌++◌, Option, Some, None, length, take, drop, get_or, is_some, refl, sym, ap, ◌∙◌, append_assoc, append-nil, subst, add-one, arith}
 use Rattle.std.specs.Prelude.{replicate, Result, Ok, Err, MatchResult, OnOk, IfErr}
 use Rattle.exchange_package.specs.Package.{package_fits}
-use Rattle.instruction_table.specs.declared.refusal.Halt.{Halt}
-use Rattle.instruction_table.specs.declared.refusal.Refusal.{Refusal}
-use Rattle.instruction_table.specs.declared.refusal.Refusal.TheVariants.{PackageRange}
+use Rattle.instructions.specs.declared.refusal.Halt.{Halt}
+use Rattle.instructions.specs.declared.refusal.Refusal.{Refusal}
+use Rattle.instructions.specs.declared.refusal.Refusal.TheVariants.{PackageRange}
 use Rattle.sequential.specs.declared.log.Entry.{Entry}
 use Rattle.sequential.specs.declared.log.Entry.TheVariants.{Issued as Count, Exchange}
 use Rattle.sequential.specs.declared.state.State.{State}

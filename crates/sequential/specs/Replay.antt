@@ -1,7 +1,7 @@
 -- The log, and the machine that goes through it step by step.
 -- Source: ours.
 use Rattle.std.specs.Prelude.{ℕ, ◌≡◌, false, if◌then◌else◌, List, [], ◌∷◌, ◌++◌, Option, Some, None, length, replicate}
-use Rattle.instruction_table.specs.declared.refusal.Halt.TheVariants.{Stop}
+use Rattle.instructions.specs.declared.refusal.Halt.TheVariants.{Stop}
 use Rattle.exchange_package.specs.Package.{package_fits}
 use Rattle.sequential.specs.declared.state.State.{State}
 use Rattle.sequential.specs.Place.{beginning}

@@ -2,9 +2,9 @@
 -- Source: 60100000, registers, RA and FL, exit mode; what is out of range is ours.
 use Rattle.std.specs.Prelude.{ℕ, Bool, ◌||◌, ◌==◌, List, [], ◌∷◌, Option, Some, length, slice_index_or, slice_set}
 use Rattle.word60.specs.Words.{bit}
-use Rattle.instruction_table.specs.declared.instr.Reg.{Reg}
-use Rattle.instruction_table.specs.declared.instr.Reg.TheVariants.{X}
-use Rattle.instruction_table.specs.declared.refusal.Halt.{Halt}
+use Rattle.instructions.specs.declared.instr.Reg.{Reg}
+use Rattle.instructions.specs.declared.instr.Reg.TheVariants.{X}
+use Rattle.instructions.specs.declared.refusal.Halt.{Halt}
 use Rattle.registers.specs.Registers.{put}
 use Rattle.relocation.specs.declared.area.Area.{Area}
 use Rattle.relocation.specs.declared.area.Access.{Access}

@@ -2,14 +2,14 @@
 -- Source: 60100000, the descriptions of the instructions; ours: how a stop, a refused opcode, an instruction across
 -- the end of its word and a fetch out of range halt.
 use Rattle.std.specs.Prelude.{ℕ, List, Option, Some, None, slice_index_or}
-use Rattle.instruction_table.specs.declared.instr.Instr.{Instr}
-use Rattle.instruction_table.specs.declared.instr.Instr.TheVariants.{Stop, Pass}
+use Rattle.instructions.specs.declared.instr.Instr.{Instr}
+use Rattle.instructions.specs.declared.instr.Instr.TheVariants.{Stop, Pass}
 use Rattle.instruction_table.specs.declared.decoding.Decoded.{Decoded}
 use Rattle.instruction_table.specs.declared.decoding.Decoded.TheVariants.{Legal, Refused, Straddle}
-use Rattle.instruction_table.specs.declared.refusal.Halt.{Halt}
-use Rattle.instruction_table.specs.declared.refusal.Halt.TheVariants.{Stop as StopHalt, Illegal, Straddle as StraddleHalt, FetchRange}
+use Rattle.instructions.specs.declared.refusal.Halt.{Halt}
+use Rattle.instructions.specs.declared.refusal.Halt.TheVariants.{Stop as StopHalt, Illegal, Straddle as StraddleHalt, FetchRange}
 use Rattle.instruction_table.specs.Decoding.{reading_at}
-use Rattle.instruction_table.specs.Shape.{shape_of}
+use Rattle.instructions.specs.Shape.{shape_of}
 use Rattle.unit_ops.specs.Values.{value_of}
 use Rattle.sequential.specs.declared.fetching.Fetched.{Fetched}
 use Rattle.sequential.specs.declared.fetching.Fetched.TheVariants.{Halting, Passing, Taking}

@@ -1,11 +1,11 @@
 -- What an instruction does with its value: the registers that it writes, its jump and its reference.
 -- Source: 60100000, the descriptions of the instructions, exit mode; what is out of range is ours.
 use Rattle.std.specs.Prelude.{ℕ, ◌+◌, ◌*◌, ◌^◌, Bool, false, ◌&&◌, is_none, if◌then◌else◌, List, [], ◌∷◌, Option, Some, None}
-use Rattle.instruction_table.specs.declared.instr.Instr.{Instr}
-use Rattle.instruction_table.specs.declared.instr.Reg.{Reg}
-use Rattle.instruction_table.specs.declared.instr.Reg.TheVariants.{X}
-use Rattle.instruction_table.specs.Shape.{Shape, Puts, Loads, Stores, Jumps, Links, puts_of, is_branch_shape}
-use Rattle.instruction_table.specs.Table.{row}
+use Rattle.instructions.specs.declared.instr.Instr.{Instr}
+use Rattle.instructions.specs.declared.instr.Reg.{Reg}
+use Rattle.instructions.specs.declared.instr.Reg.TheVariants.{X}
+use Rattle.instructions.specs.Shape.{Shape, Puts, Loads, Stores, Jumps, Links, puts_of, is_branch_shape}
+use Rattle.instructions.specs.Operands.{row}
 use Rattle.registers.specs.declared.file.RegisterFile.{RegisterFile}
 use Rattle.registers.specs.Registers.{get, put}
 use Rattle.relocation.specs.declared.area.Access.{Access}

@@ -1,6 +1,6 @@
 ghost use Rattle.std.specs.Prelude.{◌≡◌, MatchResult, true, false, length};
 ghost use Rattle.exchange_package.specs.Package.{package_fits};
-ghost use Rattle.instruction_table.specs.declared.refusal.Refusal.TheVariants.{OutOfMemory, PackageRange};
+ghost use Rattle.instructions.specs.declared.refusal.Refusal.TheVariants.{OutOfMemory, PackageRange};
 ghost use Rattle.sequential.specs.Replay.{boot};
 ghost use Rattle.sequential.specs.Swap.{swap, package_of};
 

@@ -1,5 +1,5 @@
 ghost use Rattle.std.specs.Prelude.{◌≡◌, ◌<◌, ◌||◌, IfSome, length};
-ghost use Rattle.instruction_table.specs.Shape.{shape_of, puts_of};
+ghost use Rattle.instructions.specs.Shape.{shape_of, puts_of};
 ghost use Rattle.unit_ops.specs.Values.{value_of};
 ghost use Rattle.sequential.specs.State.{bounds_of};
 ghost use Rattle.instruction_table.specs.Decoding.{digits_at, reading_at};
@@ -26,7 +26,7 @@ fn computed(instr: &Instr, operands: &Operands) -> UnitValue
 }
 
 /// The register that an instruction writes besides the X register of a load, if there is one.
-#[tactic(auto, unfolding(instruction_table::specs::Shape::shape_of, instruction_table::specs::Shape::puts_of))]
+#[tactic(auto, unfolding(instructions::specs::Shape::shape_of, instructions::specs::Shape::puts_of))]
 #[inline(always)]
 fn written(instr: &Instr) -> Option<Reg>
     ensures { puts_of (shape_of instr.now) ≡ listed result }

@@ -1,6 +1,6 @@
 ghost use Rattle.std.specs.Prelude.{◌≡◌, ◌<◌, IfSome};
 ghost use Rattle.sequential.specs.State.{absolute};
-ghost use Rattle.instruction_table.specs.Shape.{shape_of};
+ghost use Rattle.instructions.specs.Shape.{shape_of};
 ghost use Rattle.sequential.specs.Work.{operand_at, operands, number_in, address_in, link_word, word_in, jump_for, reference_for, fault_of};
 
 use instruction_table::{Instr, Reg, Target, operand_registers};
@@ -117,7 +117,7 @@ pub fn jump(instr: &Instr, value: &UnitValue) -> Option<Word18>
 
 /// The reference that an instruction makes: SA1 to SA5 load, SA6 and SA7 store, RJ stores its link word
 /// (Control Data 60100000), and all others make none.
-#[tactic(auto, unfolding(crate::specs::Work::reference_for, instruction_table::specs::Shape::shape_of))]
+#[tactic(auto, unfolding(crate::specs::Work::reference_for, instructions::specs::Shape::shape_of))]
 #[inline(always)]
 pub fn reference(instr: &Instr, value: &UnitValue) -> Option<ProgramReference>
     ensures { result ≡ reference_for (shape_of instr.now) value.now }

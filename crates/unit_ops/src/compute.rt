@@ -1,11 +1,11 @@
 ghost use Rattle.std.specs.Prelude.{◌≡◌, ◌+◌, ◌%◌, ◌^◌, ◌==◌, IsSome};
-ghost use Rattle.instruction_table.specs.Table.{row};
-ghost use Rattle.unit_ops.specs.Values.{x_holds, is_zero, is_out_of_range, is_indefinite, b_holds, rank, logic, is_negative, magnitude, shifted_out, shifted_nominally, pair_value, addends_value, increment_value, branch_to, value_of, destination, branch_of};
+ghost use Rattle.instructions.specs.Operands.{row};
+ghost use Rattle.unit_ops.specs.Values.{x_holds, is_zero, is_out_of_range, is_indefinite, b_holds, rank, logic, is_negative, magnitude, shifted_out, shifted_nominally, shifted, added, pair_value, addends_value, increment_value, branch_to, value_of, destination, branch_of};
 ghost use Rattle.word60.specs.Words.{bit};
 
 use crate::{Operands, UnitValue};
-use instruction_table::{
-    Addends, Addition, BTest, Digit, Direction, Instr, Logic, Pair, Target, XTest,
+use instructions::{
+    Addends, Addition, BTest, Digit, Direction, Instr, Logic, Pair, SixBits, Target, XTest,
 };
 use word60::{Word18, Word60};
 
@@ -145,6 +145,28 @@ fn shifted_nominally(direction: Direction, b: Word18, x: Word60) -> Word60
     }
 }
 
+/// Shifted by the instruction's own count, 0 to 63.
+#[inline(always)]
+fn shifted(direction: Direction, x: Word60, count: SixBits) -> Word60
+    ensures { result ≡ shifted direction x count }
+{
+    match direction {
+        Direction::Left => x.rotate_left(u32::from(count.get())),
+        Direction::Right => x.shift_right(u32::from(count.get())),
+    }
+}
+
+/// The sum or the difference of two words.
+#[inline(always)]
+fn added(op: Addition, x: Word60, y: Word60) -> Word60
+    ensures { result ≡ added op x y }
+{
+    match op {
+        Addition::Sum => x.add(y),
+        Addition::Difference => x.sub(y),
+    }
+}
+
 /// The 18 bits of two registers that are added or subtracted.
 #[inline(always)]
 fn pair_value(pair: Pair, x: Word60, y: Word60) -> Word18
@@ -214,28 +236,16 @@ pub fn value(instr: &Instr, operands: &Operands) -> UnitValue
         Instr::Invert { .. } => UnitValue::Word(x.complement()),
         Instr::Logical { op, .. } => UnitValue::Word(logic(op, x, y)),
         Instr::ShiftBy {
-            direction: Direction::Left,
+            direction,
             count,
             ..
-        } => { UnitValue::Word(x.rotate_left(u32::from(count.get()))) }
-        Instr::ShiftBy {
-            direction: Direction::Right,
-            count,
-            ..
-        } => { UnitValue::Word(x.shift_right(u32::from(count.get()))) }
+        } => UnitValue::Word(shifted(direction, x, count)),
         Instr::ShiftNominal { direction, .. } => UnitValue::Word(shifted_nominally(
             direction,
             x.low18(),
             y,
         )),
-        Instr::LongAdd {
-            op: Addition::Sum,
-            ..
-        } => UnitValue::Word(x.add(y)),
-        Instr::LongAdd {
-            op: Addition::Difference,
-            ..
-        } => UnitValue::Word(x.sub(y)),
+        Instr::LongAdd { op, .. } => UnitValue::Word(added(op, x, y)),
         Instr::Mask { count, .. } => UnitValue::Word(Word60::mask(u32::from(count.get()))),
         Instr::CountOnes { .. } => UnitValue::Word(Word60::from_bits(u64::from(x.ones()))),
         Instr::Increment { target, i, addends } => {

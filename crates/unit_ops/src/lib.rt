@@ -3,7 +3,7 @@
 //!
 //! The operations are the machine's (Control Data 6400/6600 Reference Manual, publication 60100000). This
 //! project's choice are: the order of `GE` and `LT` and the equality of `EQ` and `NE` (`BTest` of
-//! `instruction_table`); that a nominal shift to the right by more than 63 places leaves +0; and the zeros of
+//! `instructions`); that a nominal shift to the right by more than 63 places leaves +0; and the zeros of
 //! sums and the long shifts and masks (`word60`).
 #![tactic(auto)]
 

@@ -1,9 +1,10 @@
 ghost use Rattle.std.specs.Prelude.{IsSome};
-ghost use Rattle.instruction_table.specs.Table.{row};
+ghost use Rattle.instructions.specs.Operands.{row};
 
 use crate::{Operands, UnitValue, branch_taken, value};
-use instruction_table::{
-    Addends, Addition, BTest, Base, Digit, Direction, Instr, SixBits, Target, XTest, read_text,
+use instruction_table::read_text;
+use instructions::{
+    Addends, Addition, BTest, Base, Digit, Direction, Instr, SixBits, Target, XTest,
 };
 use std::test::Fail;
 use word60::{Word18, Word60};

@@ -3,7 +3,7 @@ use Rattle.std.specs.Prelude.{◌≡◌, Bool, true, false, ◌||◌, List, [], 
 use Rattle.atomic_table.specs.Seated.{TableId}
 use Rattle.unit_queue.specs.declared.item.Item.{Item}
 use Rattle.unit_queue.specs.declared.item.Item.TheVariants.{Work, Closed}
-use Rattle.instruction_table.specs.declared.instr.Unit.{Unit as FunctionalUnit}
+use Rattle.instructions.specs.declared.instr.Unit.{Unit as FunctionalUnit}
 
 -- which lane it is, and whose
 pub record LaneName : Type 0 where

@@ -1,6 +1,6 @@
 //! A lane and its two ends.
 ghost use Rattle.std.specs.Prelude.{◌≡◌, ◌⊎◌, ◌++◌, ◌∷◌, [], true, false, OnOk, OnErr, MatchResult, OnSome, IfSome, MatchOption, MatchBool, ◌&&◌, IsTrue};
-ghost use Rattle.instruction_table.specs.declared.refusal.Refusal.TheVariants.{OutOfMemory};
+ghost use Rattle.instructions.specs.declared.refusal.Refusal.TheVariants.{OutOfMemory};
 ghost use Rattle.unit_queue.specs.Lanes.{LaneName, SendEnd, TakeEnd, send_end, take_end, is_closed, is_closing, IsOrderly, IsFull};
 
 use crate::item::Item;
@@ -29,7 +29,7 @@ pub struct Lane {
 impl Model for Lane {
     ghost use Rattle.std.specs.Prelude.{◌≡◌};
     ghost use Rattle.crossbeam_queue.specs.Passes.{ruled_capacity};
-    ghost use Rattle.instruction_table.specs.declared.refusal.Refusal.TheVariants.{OutOfMemory};
+    ghost use Rattle.instructions.specs.declared.refusal.Refusal.TheVariants.{OutOfMemory};
     ghost use Rattle.unit_queue.specs.Lanes.{LaneName};
 
     ghost Value = { LaneName };

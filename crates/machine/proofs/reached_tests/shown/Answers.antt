@@ -1,6 +1,6 @@
 use Rattle.std.proofs.Common.{◌≡◌, ℕ, false, List, ◌∷◌, [], Some, ap, replicate, sym, ◌∙◌}
 use Rattle.std.specs.Prelude.{IfOk, MatchResult, Result, Ok, Err}
-use Rattle.instruction_table.specs.declared.refusal.Refusal.{Refusal}
+use Rattle.instructions.specs.declared.refusal.Refusal.{Refusal}
 use Rattle.in_flight.specs.Lookup.{is_pending}
 use Rattle.sequential.specs.Replay.{boot, replay}
 use Rattle.program_order.specs.declared.event.Done.{Done}

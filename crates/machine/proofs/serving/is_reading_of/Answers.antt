@@ -2,7 +2,7 @@ use Rattle.std.proofs.Common.{Some, ap, sym, ◌∙◌}
 use Rattle.program_order.specs.declared.event.Note.{Note}
 use Rattle.in_flight.specs.Lookup.{sought, stage_at}
 use Rattle.machine.specs.Tokens.{read_of}
-use Rattle.instruction_table.specs.Finding.{seek}
+use Rattle.instructions.specs.Finding.{seek}
 use Rattle.machine.proofs.SlotLaws.{reads_finished, reads_nothing, reads_same, reads_waiting}
 use Rattle.machine.proofs.serving.is_reading_of.Goals as goal
 

@@ -1,4 +1,4 @@
-use Rattle.instruction_table.specs.Finding.{seek}
+use Rattle.instructions.specs.Finding.{seek}
 use Rattle.in_flight.specs.Lookup.{stage_at}
 use Rattle.machine.proofs.SlotLaws.{waits_then, waits_else, waits_none}
 use Rattle.machine.proofs.serving.waits.Goals as goal

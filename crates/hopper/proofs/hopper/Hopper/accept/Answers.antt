@@ -1,9 +1,9 @@
 -- A reference is accepted: what was in its place leaves, the others keep their order, and its bank is busy.
 use Rattle.std.proofs.Common.{true, None, sym, ap, ◌∙◌, subst, set, map, arith}
-use Rattle.instruction_table.specs.Finding.{seek}
+use Rattle.instructions.specs.Finding.{seek}
 use Rattle.hopper.specs.Queue.{Queue, reference_at, accept_answer, accepted}
 use Rattle.hopper.specs.View.{queue_of, IsRight, lowered}
-use Rattle.instruction_table.proofs.Seats.{within}
+use Rattle.instructions.proofs.Seats.{within}
 use Rattle.hopper.proofs.Laws.{reference_of, acceptance_is, leaves, accepted_view, accepted_right}
 use Rattle.hopper.proofs.hopper.Hopper.accept.Goals as goal
 

@@ -1,8 +1,8 @@
 -- A bank that is busy is freed, another is refused.
 use Rattle.std.proofs.Common.{Bool, sym, ap, ◌∙◌, cond}
 use Rattle.std.specs.Prelude.{Result, Ok, Err}
-use Rattle.instruction_table.specs.declared.refusal.Refusal.{Refusal}
-use Rattle.instruction_table.specs.declared.refusal.Refusal.TheVariants.{Nothing}
+use Rattle.instructions.specs.declared.refusal.Refusal.{Refusal}
+use Rattle.instructions.specs.declared.refusal.Refusal.TheVariants.{Nothing}
 use Rattle.hopper.specs.Queue.{Queue, free_answer}
 use Rattle.hopper.proofs.hopper.Hopper.bank_free.Goals as goal
 

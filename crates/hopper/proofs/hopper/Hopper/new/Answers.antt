@@ -1,6 +1,6 @@
 -- A new hopper: nothing waits, no bank is busy.
 use Rattle.std.proofs.Common.{refl}
-use Rattle.instruction_table.specs.Order.{sort_by, somes}
+use Rattle.instructions.specs.Order.{sort_by, somes}
 use Rattle.hopper.proofs.hopper.Hopper.new.Goals as goal
 
 pub invariant_of-result : goal.invariant_of-result

@@ -1,12 +1,12 @@
 use Rattle.std.proofs.Common.{◌≡◌, ◌<◌, sym, ap, ◌∙◌, subst, length}
 use Rattle.std.specs.Prelude.{IfSome}
-use Rattle.instruction_table.specs.Each.{Pairs}
+use Rattle.instructions.specs.Each.{Pairs}
 use Rattle.hopper.specs.declared.reference.Reference.{Reference}
 use Rattle.in_flight.specs.Tests.{refusal_in, refusal_of, tests_found, accept_tests}
 use Rattle.in_flight.specs.Flight.{Flight}
 use Rattle.in_flight.specs.Slots.{IsSlotted}
 use Rattle.in_flight.specs.Apart.{IsApart}
-use Rattle.instruction_table.specs.Finding.{seek}
+use Rattle.instructions.specs.Finding.{seek}
 use Rattle.in_flight.specs.Lookup.{entry_at}
 use Rattle.in_flight.proofs.Referring.{accept_answered, accept_found, entry_answered, entry_placed, room_for_word, accept_tied, accept_flight}
 use Rattle.in_flight.proofs.flight.InFlight.accept.Goals as goal

@@ -3,7 +3,7 @@ use Rattle.std.specs.Prelude.{IfSome}
 use Rattle.in_flight.specs.Flight.{Flight}
 use Rattle.in_flight.specs.Member.{has_read}
 use Rattle.in_flight.specs.Lookup.{sought, stage_at}
-use Rattle.instruction_table.specs.Finding.{seek}
+use Rattle.instructions.specs.Finding.{seek}
 use Rattle.in_flight.proofs.Beside.{finish_tied}
 use Rattle.in_flight.proofs.flight.InFlight.finish.Goals as goal
 

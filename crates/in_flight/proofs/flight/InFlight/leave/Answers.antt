@@ -1,11 +1,11 @@
 use Rattle.std.proofs.Common.{◌≡◌, true, false, sym, ap, ◌∙◌, subst}
 use Rattle.std.specs.Prelude.{IfSome, is_none}
-use Rattle.instruction_table.specs.Each.{Pairs}
-use Rattle.instruction_table.specs.Shape.{shape_of}
+use Rattle.instructions.specs.Each.{Pairs}
+use Rattle.instructions.specs.Shape.{shape_of}
 use Rattle.in_flight.specs.Flight.{Flight, IsRestOf, later_of}
 use Rattle.in_flight.specs.Lookup.{sought, stage_at, place_for, enters}
 use Rattle.in_flight.specs.Apart.{IsApart}
-use Rattle.instruction_table.specs.Finding.{seek}
+use Rattle.instructions.specs.Finding.{seek}
 use Rattle.in_flight.proofs.Beside.{some_from, nobody_from}
 use Rattle.in_flight.proofs.Referring.{room_for_rest, leave_tied, leave_flight, leave_nobody}
 use Rattle.in_flight.proofs.flight.InFlight.leave.Goals as goal

@@ -2,7 +2,7 @@ use Rattle.std.proofs.Common.{sym, ap, ◌∙◌}
 use Rattle.std.specs.Prelude.{is_none, ◌&&◌}
 use Rattle.in_flight.specs.Flight.{Flight}
 use Rattle.in_flight.specs.Tests.{store_conflicts, refusal_of}
-use Rattle.instruction_table.specs.Finding.{seek}
+use Rattle.instructions.specs.Finding.{seek}
 use Rattle.in_flight.specs.Lookup.{stage_at, place_for}
 use Rattle.in_flight.proofs.Beside.{store_refused, store_unroomed, store_turned, full_is}
 use Rattle.in_flight.proofs.flight.InFlight.may_store.Goals as goal

@@ -3,7 +3,7 @@ use Rattle.scoreboard.specs.Answers.{held_in, read as board_read}
 use Rattle.in_flight.specs.declared.member.Phase.TheVariants.{Before}
 use Rattle.in_flight.specs.declared.member.Stage.TheVariants.{Read}
 use Rattle.in_flight.specs.Flight.{Flight}
-use Rattle.instruction_table.specs.Finding.{replaced, seek}
+use Rattle.instructions.specs.Finding.{replaced, seek}
 use Rattle.in_flight.specs.Lookup.{stage_at, in_phase}
 use Rattle.in_flight.proofs.Beside.{nothing_there, not_waiting, read_answered, read_refused, read_tied, changed_flight}
 use Rattle.in_flight.proofs.flight.InFlight.read.Goals as goal

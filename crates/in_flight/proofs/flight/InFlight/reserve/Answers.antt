@@ -1,7 +1,7 @@
 use Rattle.std.proofs.Common.{suc, sym, ap, ◌∙◌, subst}
 use Rattle.std.specs.Prelude.{unwrap_or}
-use Rattle.instruction_table.specs.declared.instr.Unit.TheVariants.{Branch}
-use Rattle.instruction_table.specs.Table.{row}
+use Rattle.instructions.specs.declared.instr.Unit.TheVariants.{Branch}
+use Rattle.instructions.specs.Operands.{row}
 use Rattle.sequential.specs.declared.fetching.Fetched.TheVariants.{Taking}
 use Rattle.in_flight.specs.Tests.{refusal_in, refusal_of, row_tests}
 use Rattle.in_flight.specs.Flight.{Flight, IsTied, flight_of, unit_taken, reserved_in}

@@ -1,9 +1,9 @@
 use Rattle.std.proofs.Common.{◌≡◌, [], sym, ap, ◌∙◌, subst}
 use Rattle.std.specs.Prelude.{IfSome}
-use Rattle.instruction_table.specs.Each.{Pairs}
+use Rattle.instructions.specs.Each.{Pairs}
 use Rattle.scoreboard.specs.Answers.{returning_by, gone}
 use Rattle.in_flight.specs.Flight.{Flight}
-use Rattle.instruction_table.specs.Finding.{replaced, seek}
+use Rattle.instructions.specs.Finding.{replaced, seek}
 use Rattle.in_flight.specs.Apart.{IsApart}
 use Rattle.in_flight.specs.Tests.{refusal_of, tests_found, return_tests}
 use Rattle.in_flight.specs.Lookup.{arrival_at}

@@ -1,5 +1,5 @@
 use Rattle.std.proofs.Common.{ap, sym, ◌∙◌, subst, None, get_or, set, arith}
-use Rattle.instruction_table.specs.Finding.{seek, replaced}
+use Rattle.instructions.specs.Finding.{seek, replaced}
 use Rattle.in_flight.specs.Lookup.{entry_at, kept}
 use Rattle.in_flight.specs.Seats.{seats, in_order, IsRight, HasRoom, places_with}
 use Rattle.in_flight.proofs.Moving.{accepted_right, accepted_view, nobody_accepted, seat_any}

@@ -1,5 +1,5 @@
 use Rattle.std.proofs.Common.{◌≡◌, ap, sym, ◌∙◌, Some, None, get_or}
-use Rattle.instruction_table.specs.Finding.{seek}
+use Rattle.instructions.specs.Finding.{seek}
 use Rattle.in_flight.specs.Lookup.{arrival_at, sought}
 use Rattle.in_flight.proofs.Moving.{arrival_none, arrival_answer, arrival_must, channel_below}
 use Rattle.in_flight.proofs.slots.Slots.find_arrival.Goals as goal

@@ -1,5 +1,5 @@
 use Rattle.std.proofs.Common.{ap, sym, ◌∙◌, None, get_or, arith}
-use Rattle.instruction_table.specs.Finding.{seek}
+use Rattle.instructions.specs.Finding.{seek}
 use Rattle.in_flight.specs.Lookup.{entry_at, sought}
 use Rattle.in_flight.proofs.Moving.{entry_nobody, entry_answer, entry_must, seat_any}
 use Rattle.in_flight.proofs.slots.Slots.find_entry.Goals as goal

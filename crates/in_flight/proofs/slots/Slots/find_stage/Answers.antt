@@ -1,5 +1,5 @@
 use Rattle.std.proofs.Common.{ap, sym, ◌∙◌, arith}
-use Rattle.instruction_table.specs.Finding.{seek}
+use Rattle.instructions.specs.Finding.{seek}
 use Rattle.in_flight.specs.Lookup.{stage_at, sought}
 use Rattle.in_flight.proofs.Moving.{stage_nobody, found_answer, found_must, seat_any}
 use Rattle.in_flight.proofs.slots.Slots.find_stage.Goals as goal

@@ -1,5 +1,5 @@
 use Rattle.std.proofs.Common.{ap, sym, ◌∙◌, subst, None, set, arith}
-use Rattle.instruction_table.specs.Finding.{seek, replaced}
+use Rattle.instructions.specs.Finding.{seek, replaced}
 use Rattle.in_flight.specs.Lookup.{stage_at, kept}
 use Rattle.in_flight.specs.Seats.{seats, in_order, IsRight, HasRoom, places_with}
 use Rattle.in_flight.proofs.Moving.{left_right, left_view, nobody_replaced, seat_any}

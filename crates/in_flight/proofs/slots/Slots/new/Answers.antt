@@ -1,5 +1,5 @@
 use Rattle.std.proofs.Common.{refl}
-use Rattle.instruction_table.specs.Order.{sort_by, somes}
+use Rattle.instructions.specs.Order.{sort_by, somes}
 use Rattle.in_flight.specs.Seats.{seats, in_order}
 use Rattle.in_flight.proofs.slots.Slots.new.Goals as goal
 

@@ -1,7 +1,7 @@
 use Rattle.std.proofs.Common.{◌<◌, ap, sym, ◌∙◌, subst, [], ◌∷◌, ◌++◌}
 use Rattle.in_flight.specs.declared.member.Stage.TheVariants.{Waiting}
-use Rattle.instruction_table.specs.Each.{Each}
-use Rattle.instruction_table.specs.Finding.{seek}
+use Rattle.instructions.specs.Each.{Each}
+use Rattle.instructions.specs.Finding.{seek}
 use Rattle.in_flight.specs.Lookup.{stage_at}
 use Rattle.in_flight.proofs.Moving.{seat_free, new_right, new_view}
 use Rattle.in_flight.proofs.slots.Slots.push.Goals as goal

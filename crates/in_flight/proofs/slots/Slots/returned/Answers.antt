@@ -1,5 +1,5 @@
 use Rattle.std.proofs.Common.{ap, sym, ◌∙◌, subst, None, [], get_or, set, arith}
-use Rattle.instruction_table.specs.Finding.{seek, replaced}
+use Rattle.instructions.specs.Finding.{seek, replaced}
 use Rattle.in_flight.specs.Lookup.{arrival_at}
 use Rattle.in_flight.specs.Seats.{seats, in_order, IsRight}
 use Rattle.in_flight.proofs.Moving.{returned_right, returned_view, nobody_returned, seat_any}

@@ -1,8 +1,8 @@
 -- The turn of references: Branch and the Increment units with a lower number, as the list says it.
 use Rattle.std.proofs.Common.{ap, sym, ◌∙◌, get_or, true, false, arith}
 use Rattle.std.specs.Prelude.{◌&&◌, ◌||◌}
-use Rattle.instruction_table.specs.declared.instr.Unit.TheVariants.{Branch}
-use Rattle.instruction_table.specs.Finding.{seek}
+use Rattle.instructions.specs.declared.instr.Unit.TheVariants.{Branch}
+use Rattle.instructions.specs.Finding.{seek}
 use Rattle.scoreboard.specs.Answers.{Standing, turn_answer, held_in}
 use Rattle.scoreboard.specs.Fields.{seat_at, seat_has_turn, in_increment}
 use Rattle.scoreboard.proofs.Standing.{nobody_answers, seat_any, no_seat}

@@ -1,7 +1,7 @@
 -- A read: the invariant and the list after it, and that a free unit changes nothing.
 use Rattle.std.proofs.Common.{ap, sym, ◌∙◌, subst, arith}
 use Rattle.std.proofs.lemmas.List.{set-get_or}
-use Rattle.instruction_table.specs.Finding.{seek, replaced}
+use Rattle.instructions.specs.Finding.{seek, replaced}
 use Rattle.scoreboard.specs.declared.board.Board.TheInside.{Inside}
 use Rattle.scoreboard.specs.Answers.{Standing, held_in, with_issued, read, in_progress}
 use Rattle.scoreboard.specs.View.{standing_of, IsRight}

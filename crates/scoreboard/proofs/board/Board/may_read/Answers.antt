@@ -1,9 +1,9 @@
 -- Second order: the producers of the unit, as the list says it.
 use Rattle.std.proofs.Common.{ap, refl, sym, ◌∙◌, None, get_or, arith}
-use Rattle.instruction_table.specs.Finding.{seek}
-use Rattle.instruction_table.specs.Table.{sources_of}
+use Rattle.instructions.specs.Finding.{seek}
+use Rattle.instructions.specs.Operands.{sources_of}
 use Rattle.scoreboard.specs.Answers.{Standing, read_answer, held_in}
-use Rattle.instruction_table.specs.declared.refusal.Refusal.TheVariants.{OperandAwaited}
+use Rattle.instructions.specs.declared.refusal.Refusal.TheVariants.{OperandAwaited}
 use Rattle.scoreboard.proofs.Standing.{nobody_answers, read_answered, from_found, seat_any, no_seat, list_read}
 use Rattle.scoreboard.proofs.Small.{none_produced}
 use Rattle.scoreboard.proofs.board.Board.may_read.Goals as goal

@@ -1,11 +1,11 @@
 -- Third order at a return: the units with a lower number, as the list says it.
 use Rattle.std.proofs.Common.{ap, sym, ◌∙◌, None, get_or, true, false, arith}
 use Rattle.std.specs.List.{list_any}
-use Rattle.instruction_table.specs.Finding.{seek}
+use Rattle.instructions.specs.Finding.{seek}
 use Rattle.scoreboard.specs.Answers.{Standing, return_answer, returning_by, unless}
 use Rattle.scoreboard.specs.Fields.{seat_reads}
-use Rattle.instruction_table.specs.declared.instr.Reg.TheVariants.{X}
-use Rattle.instruction_table.specs.declared.refusal.Refusal.TheVariants.{ResultHeld}
+use Rattle.instructions.specs.declared.instr.Reg.TheVariants.{X}
+use Rattle.instructions.specs.declared.refusal.Refusal.TheVariants.{ResultHeld}
 use Rattle.scoreboard.proofs.Standing.{nobody_returning, return_answered, seat_any, no_seat}
 use Rattle.scoreboard.proofs.board.Board.may_return.Goals as goal
 

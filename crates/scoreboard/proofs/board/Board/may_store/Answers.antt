@@ -1,8 +1,8 @@
 -- Third order at a store event: the units with a lower number, as the list says it.
 use Rattle.std.proofs.Common.{ap, sym, ◌∙◌, get_or, arith}
-use Rattle.instruction_table.specs.Finding.{seek}
+use Rattle.instructions.specs.Finding.{seek}
 use Rattle.scoreboard.specs.Answers.{Standing, store_answer, held_in}
-use Rattle.instruction_table.specs.declared.refusal.Refusal.TheVariants.{ResultHeld}
+use Rattle.instructions.specs.declared.refusal.Refusal.TheVariants.{ResultHeld}
 use Rattle.scoreboard.proofs.Standing.{nobody_answers, store_answered, from_found, seat_any, no_seat}
 use Rattle.scoreboard.proofs.board.Board.may_store.Goals as goal
 

@@ -1,9 +1,9 @@
 -- A store event: the invariant and the list after it, and that a free unit changes nothing.
 use Rattle.std.proofs.Common.{rules, ap, sym, ◌∙◌, ◌++◌, subst, None, set, arith}
-use Rattle.instruction_table.specs.Each.{Each}
-use Rattle.instruction_table.specs.Shape.{shape_of}
+use Rattle.instructions.specs.Each.{Each}
+use Rattle.instructions.specs.Shape.{shape_of}
 use Rattle.scoreboard.specs.declared.writer.Writer.TheVariants.{OfUnit}
-use Rattle.instruction_table.specs.Finding.{seek, replaced}
+use Rattle.instructions.specs.Finding.{seek, replaced}
 use Rattle.scoreboard.specs.Answers.{Standing, held_in, with_issued, left}
 use Rattle.scoreboard.specs.Fields.{channels_with}
 use Rattle.scoreboard.specs.Issued.{channel_of}

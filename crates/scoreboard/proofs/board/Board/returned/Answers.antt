@@ -1,8 +1,8 @@
 -- A return: the invariant and the list after it, and that an empty channel changes nothing.
 use Rattle.std.proofs.Common.{rules, ap, sym, ◌∙◌, ◌++◌, subst, None, get_or, set, arith}
-use Rattle.instruction_table.specs.declared.instr.Reg.TheVariants.{X}
+use Rattle.instructions.specs.declared.instr.Reg.TheVariants.{X}
 use Rattle.scoreboard.specs.declared.writer.Writer.TheVariants.{OfChannel}
-use Rattle.instruction_table.specs.Finding.{seek, replaced}
+use Rattle.instructions.specs.Finding.{seek, replaced}
 use Rattle.scoreboard.specs.Answers.{Standing, returning_by, with_issued, gone}
 use Rattle.scoreboard.specs.Fields.{forget_in_taken}
 use Rattle.scoreboard.specs.View.{standing_of, IsRight}

@@ -1,8 +1,8 @@
 -- An issue: both refusals, the new reservation, and the invariant and the list after it.
 use Rattle.std.proofs.Common.{◌+◌, ap, sym, ◌∙◌, Some, None, arith}
 use Rattle.std.specs.Prelude.{Ok, Err}
-use Rattle.instruction_table.specs.declared.refusal.Refusal.TheVariants.{UnitBusy}
-use Rattle.instruction_table.specs.Table.{row}
+use Rattle.instructions.specs.declared.refusal.Refusal.TheVariants.{UnitBusy}
+use Rattle.instructions.specs.Operands.{row}
 use Rattle.scoreboard.specs.Conflicts.{unit_for}
 use Rattle.scoreboard.specs.Issued.{row_of}
 use Rattle.scoreboard.specs.Answers.{Standing, reserve_answer, reserved}

@@ -1,6 +1,6 @@
 -- What is left to set gives all that is to be set.
 use Rattle.std.proofs.Common.{◌≡◌, drop, take}
-use Rattle.instruction_table.specs.Each.{Each}
+use Rattle.instructions.specs.Each.{Each}
 use Rattle.scoreboard.specs.Writers.{IsRegister, set_each}
 use Rattle.scoreboard.proofs.writers.Writers.set_each.Given as goal
 

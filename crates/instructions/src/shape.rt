@@ -1,5 +1,5 @@
 ghost use Rattle.std.specs.Prelude.{◌≡◌};
-ghost use Rattle.instruction_table.specs.Shape.{shape_of, puts_of, is_branch_shape, has_reference, has_store};
+ghost use Rattle.instructions.specs.Shape.{shape_of, puts_of, is_branch_shape, has_reference, has_store};
 
 use crate::{Instr, Reg, Target, results};
 use arrayvec::ArrayVec;

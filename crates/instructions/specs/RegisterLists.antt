@@ -2,8 +2,8 @@
 -- Source: ours.
 use Rattle.std.specs.Prelude.{Bool, List}
 use Rattle.std.specs.List.{list_any}
-use Rattle.instruction_table.specs.declared.instr.Reg.{Reg}
-use Rattle.instruction_table.specs.Table.{reg_eq}
+use Rattle.instructions.specs.declared.instr.Reg.{Reg}
+use Rattle.instructions.specs.Operands.{reg_eq}
 
 -- the register is in the list
 unfoldable pub is_in : List Reg → Reg → Bool

@@ -1,7 +1,7 @@
 -- Who is found in a list.
 use Rattle.std.proofs.Common.{◌≡◌, List, [], ◌∷◌, ◌++◌, Option, Some, None, refl, ap, ◌∙◌, subst}
-use Rattle.instruction_table.specs.Each.{Each}
-use Rattle.instruction_table.specs.Finding.{Found, found_behind, found_here, seek, put_back, replaced}
+use Rattle.instructions.specs.Each.{Each}
+use Rattle.instructions.specs.Finding.{Found, found_behind, found_here, seek, put_back, replaced}
 
 pub some_inj : {K : Type 0} (x y : K) → Some x ≡ Some y → x ≡ y
 some_inj x y e = cc

@@ -5,12 +5,12 @@ use Rattle.std.specs.Prelude.{◌||◌, is_some}
 use Rattle.std.specs.List.{list_any}
 use Rattle.std.proofs.lemmas.Bool.{eq-eqb, ne_eqb}
 use Rattle.std.proofs.lemmas.List.{set-get_or}
-use Rattle.instruction_table.specs.Each.{Each, Pairs}
-use Rattle.instruction_table.specs.Finding.{seek}
-use Rattle.instruction_table.specs.Order.{insert_by, sort_by, somes, IsSeated}
-use Rattle.instruction_table.proofs.Finding.{seek_around, seek_nobody}
-use Rattle.instruction_table.proofs.Lists.{any_of_each, each_left, each_right, each_append, each_map, pairs_before, pairs_right, pairs_without}
-use Rattle.instruction_table.proofs.Sorted.{below, above, insert_splits, insert_last, below-above, sort_around, sort_each, before_place, behind_place, somes-at, somes-set_some, somes-set_none, somes-empty}
+use Rattle.instructions.specs.Each.{Each, Pairs}
+use Rattle.instructions.specs.Finding.{seek}
+use Rattle.instructions.specs.Order.{insert_by, sort_by, somes, IsSeated}
+use Rattle.instructions.proofs.Finding.{seek_around, seek_nobody}
+use Rattle.instructions.proofs.Lists.{any_of_each, each_left, each_right, each_append, each_map, pairs_before, pairs_right, pairs_without}
+use Rattle.instructions.proofs.Sorted.{below, above, insert_splits, insert_last, below-above, sort_around, sort_each, before_place, behind_place, somes-at, somes-set_some, somes-set_none, somes-empty}
 
 pub within : {K : Type 0} (os : List (Option K)) (i : ℕ) (x : K) → get_or os i None ≡ Some x → i < length os
 within [] i x h = cc

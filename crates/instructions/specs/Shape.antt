@@ -1,12 +1,12 @@
 -- What a row does with its value, whatever its opcode.
 -- Source: ours.
 use Rattle.std.specs.Prelude.{ℕ, Bool, true, false, List, [], ◌∷◌, ◌++◌}
-use Rattle.instruction_table.specs.declared.instr.Reg.{Reg}
-use Rattle.instruction_table.specs.declared.instr.Reg.TheVariants.{X, A}
-use Rattle.instruction_table.specs.declared.instr.Target.TheVariants.{A as TargetA}
-use Rattle.instruction_table.specs.declared.instr.Instr.{Instr}
-use Rattle.instruction_table.specs.declared.instr.Instr.TheVariants.{ReturnJump, Jump, BranchX, BranchB, Increment}
-use Rattle.instruction_table.specs.Table.{row, by_reference}
+use Rattle.instructions.specs.declared.instr.Reg.{Reg}
+use Rattle.instructions.specs.declared.instr.Reg.TheVariants.{X, A}
+use Rattle.instructions.specs.declared.instr.Target.TheVariants.{A as TargetA}
+use Rattle.instructions.specs.declared.instr.Instr.{Instr}
+use Rattle.instructions.specs.declared.instr.Instr.TheVariants.{ReturnJump, Jump, BranchX, BranchB, Increment}
+use Rattle.instructions.specs.Operands.{row, by_reference}
 
 -- what a row does with its value: it writes registers, loads, stores, jumps or links
 pub data Shape : Type 0 where

@@ -1,15 +1,15 @@
 ghost use Rattle.std.specs.Prelude.{◌≡◌, ◌<◌, ◌≤◌, ◌+◌, ◌∷◌, ◌++◌, [], Some, None};
 ghost use Rattle.std.specs.List.{list_any};
 ghost use Rattle.arrayvec.specs.ArrayVec.{array_vec_len};
-ghost use Rattle.instruction_table.specs.Shape.{shape_of, results as results_of_shape};
-ghost use Rattle.instruction_table.specs.Table.{row, stored, with_source, sources_of, base_reg, pair_reg, reg_eq};
+ghost use Rattle.instructions.specs.Shape.{shape_of, results as results_of_shape};
+ghost use Rattle.instructions.specs.Operands.{row, stored, with_source, sources_of, base_reg, pair_reg, reg_eq};
 
 use crate::{Addends, Base, Digit, Instr, Pair, Reg, Target, UnitKind};
 use arrayvec::ArrayVec;
 
 /// B0, which is always zero.
 impl Default for Reg {
-    ghost use Rattle.instruction_table.specs.declared.instr.Reg.TheVariants.{B};
+    ghost use Rattle.instructions.specs.declared.instr.Reg.TheVariants.{B};
 
     ghost is_default = { λ r. r ≡ B 0 };
 

@@ -3,9 +3,9 @@ use Rattle.std.proofs.Common.{◌≡◌, ◌≢◌, ℕ, zero, suc, ◌<◌, ◌
 use Rattle.std.specs.Prelude.{◌||◌, ◌&&◌}
 use Rattle.std.proofs.lemmas.Bool.{ltb-true, ltb-false, lt-ltb, le-ltb, or_from}
 use Rattle.std.specs.List.{list_any}
-use Rattle.instruction_table.specs.Each.{Each, Pairs}
-use Rattle.instruction_table.specs.Order.{insert_by, sort_by, somes}
-use Rattle.instruction_table.proofs.Lists.{each_right, each_map}
+use Rattle.instructions.specs.Each.{Each, Pairs}
+use Rattle.instructions.specs.Order.{insert_by, sort_by, somes}
+use Rattle.instructions.proofs.Lists.{each_right, each_map}
 
 -- ---- tests ----
 

@@ -1,0 +1,4 @@
+pub mod Lists
+pub mod Sorted
+pub mod Finding
+pub mod Seats
