@@ -3,7 +3,7 @@ use Rattle.std.proofs.Common.{◌≡◌, ℕ, ◌+◌, ◌<◌, ◌≤◌, true,
 use Rattle.std.proofs.lemmas.Bool.{lt-ltb, le-ltb}
 use Rattle.device_text.specs.Device.{Moves}
 use Rattle.device_text.specs.Line.{IsText, LineTaken, lines_of}
-use Rattle.device_text.specs.declared.line.Took.TheVariants.{Whole, Long}
+use Rattle.device_text.specs.declared.line.Took.TheVariants.{Processor, Long}
 use Rattle.device_text.proofs.Moving.{Moves-weaker, Moves-trans}
 use Rattle.deck.specs.Deck.{Judged, Goes, Ends, Good, Bad, deck, read_all, read_from, read_on, judged_first, judged_line}
 use Rattle.deck.specs.Views.{sketch, plan}
@@ -19,8 +19,8 @@ use Rattle.device_text.proofs.Lines.{FirstHas, lines_whole, lines_first_long}
 abbrev pub Taken : List ℕ → List ℕ → List ℕ → Type 0
 Taken text xs ys = lines_of xs ≡ (text, ys) ∷ lines_of ys
 
-pub taken_whole : (a b : Option (List ℕ)) (text : List ℕ) → IsText text → Moves a b (LineTaken Whole text) → Moves a b (Taken text)
-taken_whole a b text h m = Moves-weaker a b (LineTaken Whole text) (Taken text) (λ xs ys e. lines_whole text xs ys h e) m
+pub taken_whole : (a b : Option (List ℕ)) (text : List ℕ) → IsText text → Moves a b (LineTaken Processor text) → Moves a b (Taken text)
+taken_whole a b text h m = Moves-weaker a b (LineTaken Processor text) (Taken text) (λ xs ys e. lines_whole text xs ys h e) m
 
 refuses_long : (n : ℕ) (lines : List (List ℕ × List ℕ)) → FirstHas 201 lines → Refuses n (errors.Deck n faults.Long) lines
 refuses_long n [] h = absurd h

@@ -20,24 +20,24 @@ abbrev Behind : ℕ → List (List ℕ × List ℕ) → Type 0
 Behind k [] = Unit {0}
 Behind k (line ∷ lines) = (length line.1 ≤ k) × Behind k lines
 
-behind_more : (k m : ℕ) (lines : List (List ℕ × List ℕ)) → k ≤ m → Behind k lines → Behind m lines
-behind_more k m [] l h = tt
-behind_more k m (line ∷ lines) l h = let first = h.0 in (omega (arith, l, first), behind_more k m lines l h.1)
+after_more : (k m : ℕ) (lines : List (List ℕ × List ℕ)) → k ≤ m → Behind k lines → Behind m lines
+after_more k m [] l h = tt
+after_more k m (line ∷ lines) l h = let first = h.0 in (omega (arith, l, first), after_more k m lines l h.1)
 
-behind_onto : (k b : ℕ) (lines : List (List ℕ × List ℕ)) → Behind k lines → Behind k (onto b lines)
-behind_onto k b [] h = (omega arith, tt)
-behind_onto k b (line ∷ lines) h = h
+after_onto : (k b : ℕ) (lines : List (List ℕ × List ℕ)) → Behind k lines → Behind k (onto b lines)
+after_onto k b [] h = (omega arith, tt)
+after_onto k b (line ∷ lines) h = h
 
-behind_lines : (ys : List ℕ) → Behind (length ys) (lines_of ys)
-behind_lines [] = tt
-behind_lines (b ∷ ys) =
-    let more = behind_more (length ys) (suc (length ys)) (lines_of ys) (omega arith) (behind_lines ys) in
-    elim (eqb b 10) as (λ v. Behind (suc (length ys)) (cond v (([], ys) ∷ lines_of ys) (onto b (lines_of ys)))) [ true ↦ (omega arith, more) | false ↦ behind_onto (suc (length ys)) b (lines_of ys) more ]
+after_lines : (ys : List ℕ) → Behind (length ys) (lines_of ys)
+after_lines [] = tt
+after_lines (b ∷ ys) =
+    let more = after_more (length ys) (suc (length ys)) (lines_of ys) (omega arith) (after_lines ys) in
+    elim (eqb b 10) as (λ v. Behind (suc (length ys)) (cond v (([], ys) ∷ lines_of ys) (onto b (lines_of ys)))) [ true ↦ (omega arith, more) | false ↦ after_onto (suc (length ys)) b (lines_of ys) more ]
 
-behind_part : (part ys : List ℕ) → IsText part → Behind (length ys) (lines_of (part ++ ys))
-behind_part [] ys h = behind_lines ys
-behind_part (b ∷ part) ys h =
-    rw (ne_eqb b 10 (All-head (λ b. b ≢ 10) b part h)) (behind_onto (length ys) b (lines_of (part ++ ys)) (behind_part part ys (All-tail (λ b. b ≢ 10) b part h)))
+after_part : (part ys : List ℕ) → IsText part → Behind (length ys) (lines_of (part ++ ys))
+after_part [] ys h = after_lines ys
+after_part (b ∷ part) ys h =
+    rw (ne_eqb b 10 (All-head (λ b. b ≢ 10) b part h)) (after_onto (length ys) b (lines_of (part ++ ys)) (after_part part ys (All-tail (λ b. b ≢ 10) b part h)))
 
 on_within : (k n : ℕ) (j : Judged) (rest : List ℕ) (next : Sketch → Reading) → length rest ≤ k → ((s : Sketch) → EndsWithin k (next s)) → EndsWithin k (read_on n j rest next)
 on_within k n (Goes s) rest next l h = h s
@@ -64,20 +64,20 @@ pub first_cut : (a b : Option (List ℕ)) (e : DeckError) → Moves a b (λ xs y
 first_cut a b (errors.Deck n fault) m part c = cc
 first_cut a b errors.OutOfMemory m part c = none_there a b Unread m
 first_cut a b errors.Read m part c =
-    Moves-weaker a b ReadsPart Unread (λ xs ys h. rw h.2 (all_within (length ys) (lines_of (h.0 ++ ys)) (behind_part h.0 ys h.1))) (part refl)
+    Moves-weaker a b ReadsPart Unread (λ xs ys h. rw h.2 (all_within (length ys) (lines_of (h.0 ++ ys)) (after_part h.0 ys h.1))) (part refl)
 
 pub first_taken : (a b : Option (List ℕ)) (text : List ℕ) → Moves a b (Taken text) → Moves a b Unread
 first_taken a b text m =
-    Moves-weaker a b (Taken text) Unread (λ xs ys h. subst (λ l. EndsWithin (length ys) (read_all l)) (sym h) (all_within (length ys) ((text, ys) ∷ lines_of ys) (omega arith, behind_lines ys))) m
+    Moves-weaker a b (Taken text) Unread (λ xs ys h. subst (λ l. EndsWithin (length ys) (read_all l)) (sym h) (all_within (length ys) ((text, ys) ∷ lines_of ys) (omega arith, after_lines ys))) m
 
 pub later_cut : (a b c : Option (List ℕ)) (n : ℕ) (d : Draft) (e : DeckError) → Moves a b (ReadsOn n d) → Moves b c (λ xs ys. Refuses n e (lines_of xs)) → (is_read {T = Unit {0}} (Err e) ≡ true → Moves b c ReadsPart) → is_cut {T = Deck × ℕ} (Err e) ≡ true → Moves a c Unread
 later_cut a b c n d (errors.Deck m fault) told refused part h = cc
 later_cut a b c n d errors.OutOfMemory told refused part h = Moves-trans a b c (ReadsOn n d) (λ xs ys. ⊥) Unread (λ xs ys zs p q. absurd q) told refused
 later_cut a b c n d errors.Read told refused part h =
     Moves-trans a b c (ReadsOn n d) ReadsPart Unread (λ xs ys zs p q.
-    subst (EndsWithin (length zs)) (sym p) (from_within (length zs) n (sketch d) (lines_of ys) (rw q.2 (behind_part q.0 zs q.1)))) told (part refl)
+    subst (EndsWithin (length zs)) (sym p) (from_within (length zs) n (sketch d) (lines_of ys) (rw q.2 (after_part q.0 zs q.1)))) told (part refl)
 
 pub later_taken : (a b c : Option (List ℕ)) (n : ℕ) (d : Draft) (text : List ℕ) → Moves a b (ReadsOn n d) → Moves b c (Taken text) → Moves a c Unread
 later_taken a b c n d text told taken =
     Moves-trans a b c (ReadsOn n d) (Taken text) Unread (λ xs ys zs p q.
-    subst (EndsWithin (length zs)) (sym p) (from_within (length zs) n (sketch d) (lines_of ys) (subst (Behind (length zs)) (sym q) (omega arith, behind_lines zs)))) told taken
+    subst (EndsWithin (length zs)) (sym p) (from_within (length zs) n (sketch d) (lines_of ys) (subst (Behind (length zs)) (sym q) (omega arith, after_lines zs)))) told taken

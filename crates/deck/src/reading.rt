@@ -27,7 +27,7 @@ fn next_line<I: Input>(
     ensures same { I.lender input.new ≡ I.lender input.old }
 {
     match read_line(input, line) {
-        Ok(Took::Whole) => Ok(()),
+        Ok(Took::Processor) => Ok(()),
         Ok(Took::Long) => Err(DeckError::Deck {
             line: number,
             fault: DeckFault::Long,

@@ -3,7 +3,7 @@ use Rattle.std.proofs.Common.{◌≡◌, ◌≢◌, ℕ, suc, ◌<◌, ◌≤◌
 use Rattle.std.proofs.lemmas.Bool.{ne_eqb}
 use Rattle.std.proofs.lemmas.List.Elements.{All-head, All-tail}
 use Rattle.device_text.specs.Line.{IsText, LineTaken, lines_of, onto}
-use Rattle.device_text.specs.declared.line.Took.TheVariants.{Whole}
+use Rattle.device_text.specs.declared.line.Took.TheVariants.{Processor}
 
 -- what each has, the first and the others have
 All-uncons : {X : Type 0} (P : X → Type 0) (x : X) (xs : List X) → All P (x ∷ xs) → P x × All P xs
@@ -30,7 +30,7 @@ cut : (text : List ℕ) → IsText text → 0 < length text → lines_of text �
 cut [] h p = absurd (omega arith)
 cut (b ∷ text) h p = lines_cut b text h
 
-pub lines_whole : (text xs ys : List ℕ) → IsText text → LineTaken Whole text xs ys → lines_of xs ≡ (text, ys) ∷ lines_of ys
+pub lines_whole : (text xs ys : List ℕ) → IsText text → LineTaken Processor text xs ys → lines_of xs ≡ (text, ys) ∷ lines_of ys
 lines_whole text xs ys h (inl e) = rw e (lines_ended text ys h)
 lines_whole text xs ys h (inr e) = rw (e.1, e.2) (cut text h e.0)
 

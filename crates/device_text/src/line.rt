@@ -9,7 +9,7 @@ use arrayvec::ArrayVec;
 #[derive(Clone, Copy, Debug, PartialEq, Eq)]
 pub enum Took {
     /// A whole line of at most 200 bytes.
-    Whole,
+    Processor,
     /// 201 bytes of a longer line, and no more of it.
     Long,
     /// Nothing: the input has ended.
@@ -35,10 +35,10 @@ pub fn read_line<I: Input>(input: &mut I, line: &mut ArrayVec<u8, 201>) -> Resul
                 return Ok(if line.is_empty() {
                     Took::Nothing
                 } else {
-                    Took::Whole
+                    Took::Processor
                 });
             }
-            Some(b'\n') => return Ok(Took::Whole),
+            Some(b'\n') => return Ok(Took::Processor),
             Some(byte) => line.push(byte),
         }
     }

@@ -118,7 +118,7 @@ found_at os p w =
     record {
       earlier = map entered_in (before_seat before os p w);
       member = w.entered;
-      what = w.entered.reference;
+      answer = w.entered.reference;
       later = map entered_in (after_seat before os p w);
     }
 

@@ -50,13 +50,13 @@ waits_for_bank bank e = bank_of e.reference.address == bank
 unfoldable pub accept_answer : List Bool → Option (Found Entered Reference) → Result Reference Refusal
 accept_answer busy None = Err Nothing
 accept_answer busy (Some f) =
-    if slice_index_or busy (bank_of f.what.address) false then Err (BankBusy (bank_of f.what.address))
-    else (if list_any (waits_for_bank (bank_of f.what.address)) f.earlier then Err OlderInBank else Ok f.what)
+    if slice_index_or busy (bank_of f.answer.address) false then Err (BankBusy (bank_of f.answer.address))
+    else (if list_any (waits_for_bank (bank_of f.answer.address)) f.earlier then Err OlderInBank else Ok f.answer)
 
 -- the reference has left, and its bank is busy
 unfoldable pub accepted : Queue → Option (Found Entered Reference) → Queue
 accepted q None = q
-accepted q (Some f) = record { entered = put_back f []; busy = slice_set q.busy (bank_of f.what.address) true }
+accepted q (Some f) = record { entered = put_back f []; busy = slice_set q.busy (bank_of f.answer.address) true }
 
 -- E15, nothing: the bank is not busy
 unfoldable pub free_answer : List Bool → ℕ → Result (Unit {0}) Refusal

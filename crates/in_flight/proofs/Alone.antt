@@ -6,7 +6,7 @@ use Rattle.instructions.specs.declared.instr.Addends.{Addends}
 use Rattle.instructions.specs.declared.instr.Instr.TheVariants.{Increment}
 use Rattle.instructions.specs.declared.instr.Target.TheVariants.{A as TargetA, X as TargetX}
 use Rattle.instructions.specs.declared.instr.Unit.{Unit as FunctionalUnit}
-use Rattle.instructions.specs.Finding.{seek, found_here, found_behind}
+use Rattle.instructions.specs.Finding.{seek, found_here, found_further}
 use Rattle.instructions.specs.Shape.{shape_of, has_reference}
 use Rattle.hopper.specs.Hopper.{free_place, first_place}
 use Rattle.relocation.specs.declared.area.Access.TheVariants.{Store}
@@ -14,10 +14,10 @@ use Rattle.scoreboard.specs.Issued.{channel_of}
 use Rattle.in_flight.specs.declared.flight.Rest.{Rest}
 use Rattle.in_flight.specs.declared.flight.Rest.TheVariants.{Enters}
 use Rattle.in_flight.specs.Board.{left_to_return}
-use Rattle.in_flight.specs.Member.{returning}
-use Rattle.in_flight.specs.declared.member.Member.{Member}
-use Rattle.in_flight.specs.declared.member.Stage.{Stage}
-use Rattle.in_flight.specs.Flight.{Flight, IsRestOf, reserved_in, later_of}
+use Rattle.in_flight.specs.Pending.{returning}
+use Rattle.in_flight.specs.declared.pending.Pending.{Pending}
+use Rattle.in_flight.specs.declared.pending.Stage.{Stage}
+use Rattle.in_flight.specs.Flight.{Flight, IsRestOf, reserved_in, outstanding_of}
 use Rattle.in_flight.specs.Lookup.{sought, stage_at, enters, place_for, entry_at, entry_in, in_place}
 
 abbrev pub boot : Flight
@@ -30,8 +30,8 @@ pub alone_room : (f g : Flight) (i : Instr) (at : ℕ) → f ≡ boot → g ≡ 
 unfolding place_for free_place first_place in_place entry_at entry_in
 alone_room f g i at p q = subst (λ (x : Flight). is_none (place_for x.pending) ≡ false) (sym (reserved f g i at p q)) refl
 
-one_rest : (o : Option Stage) (m : Member) (rest : Option Rest) → IsRestOf (shape_of m.instr) rest → IfSome (sought (found_here o m [] None)) (λ s. IsRestOf (shape_of s.member.instr) rest)
-unfolding sought found_here found_behind
+one_rest : (o : Option Stage) (m : Pending) (rest : Option Rest) → IsRestOf (shape_of m.instr) rest → IfSome (sought (found_here o m [] None)) (λ s. IsRestOf (shape_of s.member.instr) rest)
+unfolding sought found_here found_further
 one_rest None m rest h = tt
 one_rest (Some t) m rest h = h
 
@@ -40,9 +40,9 @@ unfolding seek
 alone_rest f g i at u rest p q h = subst (λ (x : Flight). IfSome (sought (seek (stage_at u) x.pending)) (λ s. IsRestOf (shape_of s.member.instr) rest)) (sym (reserved f g i at p q)) (one_rest (stage_at u (record { instr = i; at = at; number = 1; unit = _; phase = _ })) _ rest h)
 
 pub sum_rest : (n : ℕ) (addends : Addends) → IsRestOf (shape_of (Increment TargetX n addends)) None
-unfolding shape_of has_reference channel_of left_to_return later_of enters
+unfolding shape_of has_reference channel_of left_to_return outstanding_of enters
 sum_rest n addends = record { returns = refl; refers = λ e. e }
 
 pub store_rest : (n : ℕ) (addends : Addends) (address word : ℕ) → n ≡ 6 → IsRestOf (shape_of (Increment TargetA n addends)) (Some (Enters (record { address = address; access = Store word })))
-unfolding shape_of has_reference channel_of left_to_return later_of returning enters
+unfolding shape_of has_reference channel_of left_to_return outstanding_of returning enters
 store_rest n addends address word h = subst (λ x. IsRestOf (shape_of (Increment TargetA x addends)) (Some (Enters (record { address = address; access = Store word })))) (sym h) (record { returns = refl; refers = λ e. e })

@@ -6,13 +6,13 @@ use Rattle.in_flight.specs.Tests.{Test, nothing, refusal_of}
 use Rattle.in_flight.specs.Lookup.{arrival_at, arrival_in, entry_at, entry_in, stage_at, stage_in, sought}
 use Rattle.instructions.specs.declared.instr.Unit.{Unit as FunctionalUnit}
 use Rattle.scoreboard.specs.Units.{same_unit}
-use Rattle.in_flight.specs.declared.member.Arrival.{Arrival}
-use Rattle.in_flight.specs.declared.member.Entry.{Entry}
-use Rattle.in_flight.specs.declared.member.Later.TheVariants.{Accepted, Entered}
-use Rattle.in_flight.specs.declared.member.Member.{Member}
-use Rattle.in_flight.specs.declared.member.Phase.{Phase}
-use Rattle.in_flight.specs.declared.member.Phase.TheVariants.{After, Before}
-use Rattle.in_flight.specs.declared.member.Stage.{Stage}
+use Rattle.in_flight.specs.declared.pending.Arrival.{Arrival}
+use Rattle.in_flight.specs.declared.pending.HopperEntry.{HopperEntry}
+use Rattle.in_flight.specs.declared.pending.Outstanding.TheVariants.{Accepted, Entered}
+use Rattle.in_flight.specs.declared.pending.Pending.{Pending}
+use Rattle.in_flight.specs.declared.pending.Phase.{Phase}
+use Rattle.in_flight.specs.declared.pending.Phase.TheVariants.{After, Before}
+use Rattle.in_flight.specs.declared.pending.Stage.{Stage}
 use Rattle.in_flight.specs.declared.slots.Sought.{Sought}
 use Rattle.instructions.proofs.Finding.{some_inj}
 
@@ -31,13 +31,13 @@ unfolding refusal_of nothing
 not_nothing h = cc
 
 -- the member that was sought is the one that was found
-pub sought_member : {K : Type 0} (f : Found Member K) (s : Sought K) → sought (Some f) ≡ Some s → f.member ≡ s.member
+pub sought_member : {K : Type 0} (f : Found Pending K) (s : Sought K) → sought (Some f) ≡ Some s → f.member ≡ s.member
 unfolding sought
 sought_member {K} f s h = ap (λ (x : Sought K). x.member) (some_inj _ s h)
 
-pub sought_what : {K : Type 0} (f : Found Member K) (s : Sought K) → sought (Some f) ≡ Some s → f.what ≡ s.what
+pub sought_what : {K : Type 0} (f : Found Pending K) (s : Sought K) → sought (Some f) ≡ Some s → f.answer ≡ s.answer
 unfolding sought
-sought_what {K} f s h = ap (λ (x : Sought K). x.what) (some_inj _ s h)
+sought_what {K} f s h = ap (λ (x : Sought K). x.answer) (some_inj _ s h)
 
 pub no_sought : {K : Type 0} (s : Sought K) → sought None ≡ Some s → ⊥
 unfolding sought
@@ -48,7 +48,7 @@ unfolding stage_in
 stage_in_found (Before s) t h = ap Before (some_inj s t h)
 stage_in_found (After l) t h = cc
 
-pub stage_found : (u : FunctionalUnit) (m : Member) (t : Stage) → stage_at u m ≡ Some t → m.phase ≡ Before t
+pub stage_found : (u : FunctionalUnit) (m : Pending) (t : Stage) → stage_at u m ≡ Some t → m.phase ≡ Before t
 unfolding stage_at
 stage_found u m t h = by_test (same_unit m.unit u) h
   where
@@ -56,17 +56,17 @@ stage_found u m t h = by_test (same_unit m.unit u) h
     by_test true k = stage_in_found m.phase t k
     by_test false k = cc
 
-pub entry_in_found : (p : ℕ) (q : Phase) (e : Entry) → entry_in p q ≡ Some e → (slot : ℕ) × (q ≡ After (Entered slot e.a e.access))
+pub entry_in_found : (p : ℕ) (q : Phase) (e : HopperEntry) → entry_in p q ≡ Some e → (slot : ℕ) × (q ≡ After (Entered slot e.a e.access))
 unfolding entry_in
 entry_in_found p (Before t) e h = cc
 entry_in_found p (After (Accepted n w)) e h = cc
 entry_in_found p (After (Entered slot a access)) e h = by_test (eqb slot p) h
   where
     by_test : (f : Bool) → cond f (Some (record { a = a; access = access })) None ≡ Some e → (k : ℕ) × (After (Entered slot a access) ≡ After (Entered k e.a e.access))
-    by_test true k = (slot, ap (λ (y : Entry). After (Entered slot y.a y.access)) (some_inj _ e k))
+    by_test true k = (slot, ap (λ (y : HopperEntry). After (Entered slot y.a y.access)) (some_inj _ e k))
     by_test false k = cc
 
-pub entry_found : (p : ℕ) (m : Member) (e : Entry) → entry_at p m ≡ Some e → (slot : ℕ) × (m.phase ≡ After (Entered slot e.a e.access))
+pub entry_found : (p : ℕ) (m : Pending) (e : HopperEntry) → entry_at p m ≡ Some e → (slot : ℕ) × (m.phase ≡ After (Entered slot e.a e.access))
 unfolding entry_at
 entry_found p m e h = entry_in_found p m.phase e h
 
@@ -80,6 +80,6 @@ arrival_in_found c (After (Accepted n v)) x h = by_test (eqb n c) h
     by_test true k = ap (λ (y : Arrival). After (Accepted y.channel y.word)) (some_inj _ x k)
     by_test false k = cc
 
-pub arrival_found : (c : ℕ) (m : Member) (x : Arrival) → arrival_at c m ≡ Some x → m.phase ≡ After (Accepted x.channel x.word)
+pub arrival_found : (c : ℕ) (m : Pending) (x : Arrival) → arrival_at c m ≡ Some x → m.phase ≡ After (Accepted x.channel x.word)
 unfolding arrival_at
 arrival_found c m x h = arrival_in_found c m.phase x h

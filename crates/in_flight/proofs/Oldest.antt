@@ -2,16 +2,16 @@
 use Rattle.std.proofs.Common.{◌≡◌, ◌<◌, ◌≤◌, ◌+◌, ℕ, zero, suc, Bool, true, false, cond, List, [], ◌∷◌, ◌++◌, Option, Some, None, refl, sym, ap, ◌∙◌, ltb, drop, get_or, length, add-one, arith}
 use Rattle.std.proofs.lemmas.Bool.{ltb-true, ltb-false}
 use Rattle.instructions.specs.Order.{insert_by, sort_by, somes}
-use Rattle.in_flight.specs.declared.member.Member.{Member}
+use Rattle.in_flight.specs.declared.pending.Pending.{Pending}
 use Rattle.in_flight.specs.Seats.{number_of, seats, in_order, lower_of, lowest_of}
 use Rattle.in_flight.specs.Lookup.{first_of}
 
-lower_none : (o : Option Member) → lower_of o None ≡ o
+lower_none : (o : Option Pending) → lower_of o None ≡ o
 unfolding lower_of
 lower_none None = refl
 lower_none (Some a) = refl
 
-lower_all : (a b c : Member) → lower_of (Some a) (lower_of (Some b) (Some c)) ≡ lower_of (lower_of (Some a) (Some b)) (Some c)
+lower_all : (a b c : Pending) → lower_of (Some a) (lower_of (Some b) (Some c)) ≡ lower_of (lower_of (Some a) (Some b)) (Some c)
 unfolding lower_of
 lower_all a b c = by_tests (ltb a.number b.number) refl (ltb b.number c.number) refl (ltb a.number c.number) refl
   where
@@ -23,22 +23,22 @@ lower_all a b c = by_tests (ltb a.number b.number) refl (ltb b.number c.number) 
     by_tests false eab false ebc true eac = absurd (let x = ltb-false _ _ eab in let y = ltb-false _ _ ebc in let z = ltb-true _ _ eac in omega arith)
     by_tests false eab false ebc false eac = rw (eac, ebc) refl
 
-lower_assoc : (o p q : Option Member) → lower_of o (lower_of p q) ≡ lower_of (lower_of o p) q
+lower_assoc : (o p q : Option Pending) → lower_of o (lower_of p q) ≡ lower_of (lower_of o p) q
 unfolding lower_of
 lower_assoc None p q = refl
 lower_assoc (Some a) None q = refl
 lower_assoc (Some a) (Some b) None = sym (lower_none (lower_of (Some a) (Some b)))
 lower_assoc (Some a) (Some b) (Some c) = lower_all a b c
 
-lowest-append : (os ps : List (Option Member)) → lowest_of (os ++ ps) ≡ lower_of (lowest_of os) (lowest_of ps)
+lowest-append : (os ps : List (Option Pending)) → lowest_of (os ++ ps) ≡ lower_of (lowest_of os) (lowest_of ps)
 unfolding lower_of lowest_of
 lowest-append [] ps = nothing_first (lowest_of ps)
   where
-    nothing_first : (o : Option Member) → o ≡ lower_of None o
+    nothing_first : (o : Option Pending) → o ≡ lower_of None o
     nothing_first o = refl
 lowest-append (o ∷ os) ps = ap (lower_of o) (lowest-append os ps) ∙ lower_assoc o (lowest_of os) (lowest_of ps)
 
-first_inserted : (x : Member) (ys : List Member) → first_of (insert_by number_of x ys) ≡ lower_of (Some x) (first_of ys)
+first_inserted : (x : Pending) (ys : List Pending) → first_of (insert_by number_of x ys) ≡ lower_of (Some x) (first_of ys)
 unfolding insert_by number_of first_of lower_of
 first_inserted x [] = refl
 first_inserted x (y ∷ ys) = by_test (ltb x.number y.number)
@@ -47,13 +47,13 @@ first_inserted x (y ∷ ys) = by_test (ltb x.number y.number)
     by_test true = refl
     by_test false = refl
 
-lowest_sorted : (os : List (Option Member)) → lowest_of os ≡ first_of (sort_by number_of (somes os))
+lowest_sorted : (os : List (Option Pending)) → lowest_of os ≡ first_of (sort_by number_of (somes os))
 unfolding sort_by somes lowest_of first_of lower_of
 lowest_sorted [] = refl
 lowest_sorted (None ∷ os) = lowest_sorted os
 lowest_sorted (Some x ∷ os) = ap (lower_of (Some x)) (lowest_sorted os) ∙ sym (first_inserted x (sort_by number_of (somes os)))
 
-pub first_pending : (units places channels : List (Option Member)) → lower_of (lowest_of units) (lower_of (lowest_of places) (lowest_of channels)) ≡ first_of (in_order (seats units places channels))
+pub first_pending : (units places channels : List (Option Pending)) → lower_of (lowest_of units) (lower_of (lowest_of places) (lowest_of channels)) ≡ first_of (in_order (seats units places channels))
 unfolding seats in_order
 first_pending units places channels =
     ap (lower_of (lowest_of units)) (sym (lowest-append places channels))
@@ -62,16 +62,16 @@ first_pending units places channels =
 
 -- ---- over the seats ----
 
-lowest_next : (found next : Option Member) (os : List (Option Member)) (i : ℕ) (o d l : Option Member) → i < length os → next ≡ lower_of found o → o ≡ get_or os i d → lower_of found (lowest_of (drop i os)) ≡ l → lower_of next (lowest_of (drop (suc i) os)) ≡ l
+lowest_next : (found next : Option Pending) (os : List (Option Pending)) (i : ℕ) (o d l : Option Pending) → i < length os → next ≡ lower_of found o → o ≡ get_or os i d → lower_of found (lowest_of (drop i os)) ≡ l → lower_of next (lowest_of (drop (suc i) os)) ≡ l
 unfolding lowest_of
 lowest_next found next [] i o d l h e k q = absurd (omega (arith, h))
 lowest_next found next (p ∷ os) zero o d l h e k q = ap (λ n. lower_of n (lowest_of os)) (e ∙ ap (lower_of found) k) ∙ sym (lower_assoc found p (lowest_of os)) ∙ q
 lowest_next found next (p ∷ os) (suc i) o d l h e k q = lowest_next found next os i o d l (omega (arith, h)) e k q
 
-pub lowest_more : (found next : Option Member) (os : List (Option Member)) (i : ℕ) (o d l : Option Member) → i < length os → next ≡ lower_of found o → o ≡ get_or os i d → lower_of found (lowest_of (drop i os)) ≡ l → lower_of next (lowest_of (drop (i + 1) os)) ≡ l
+pub lowest_more : (found next : Option Pending) (os : List (Option Pending)) (i : ℕ) (o d l : Option Pending) → i < length os → next ≡ lower_of found o → o ≡ get_or os i d → lower_of found (lowest_of (drop i os)) ≡ l → lower_of next (lowest_of (drop (i + 1) os)) ≡ l
 lowest_more found next os i o d l h e k q = ap (λ n. lower_of next (lowest_of (drop n os))) (add-one i) ∙ lowest_next found next os i o d l h e k q
 
-pub lowest_done : (found : Option Member) (os : List (Option Member)) (i : ℕ) (l : Option Member) → length os ≤ i → lower_of found (lowest_of (drop i os)) ≡ l → found ≡ l
+pub lowest_done : (found : Option Pending) (os : List (Option Pending)) (i : ℕ) (l : Option Pending) → length os ≤ i → lower_of found (lowest_of (drop i os)) ≡ l → found ≡ l
 unfolding lowest_of
 lowest_done found [] zero l h q = sym (lower_none found) ∙ q
 lowest_done found [] (suc i) l h q = sym (lower_none found) ∙ q

@@ -7,19 +7,19 @@ use Rattle.relocation.specs.declared.area.Access.TheVariants.{Load as LoadInto, 
 use Rattle.hopper.specs.Hopper.{stores_to}
 use Rattle.scoreboard.specs.Rows as row
 use Rattle.scoreboard.specs.Rows.{is_reserved, returning_to}
-use Rattle.in_flight.specs.declared.member.Later.{Later}
-use Rattle.in_flight.specs.declared.member.Later.TheVariants.{Entered, Accepted}
-use Rattle.in_flight.specs.declared.member.Phase.{Phase}
-use Rattle.in_flight.specs.declared.member.Phase.TheVariants.{Before, After}
-use Rattle.in_flight.specs.declared.member.Member.{Member}
-use Rattle.in_flight.specs.Member.{returning, progress_of, row_of, is_branch, stores_in, delays_fetch}
+use Rattle.in_flight.specs.declared.pending.Outstanding.{Outstanding}
+use Rattle.in_flight.specs.declared.pending.Outstanding.TheVariants.{Entered, Accepted}
+use Rattle.in_flight.specs.declared.pending.Phase.{Phase}
+use Rattle.in_flight.specs.declared.pending.Phase.TheVariants.{Before, After}
+use Rattle.in_flight.specs.declared.pending.Pending.{Pending}
+use Rattle.in_flight.specs.Pending.{returning, progress_of, row_of, is_branch, stores_in, delays_fetch}
 use Rattle.in_flight.specs.Slots.{unit_slot}
 use Rattle.instructions.specs.declared.instr.Unit.{Unit as FunctionalUnit}
 
 unfoldable pub to_come_in : Shape → Phase → List Reg
 to_come_in h p = row.to_come_in h (progress_of p)
 
-unfoldable pub target_of : Later → List Reg
+unfoldable pub target_of : Outstanding → List Reg
 target_of l = returning_to (returning l)
 
 unfoldable pub reads_in : List Reg → Phase → List Reg
@@ -35,11 +35,11 @@ may_store_in f a (After (Entered place b (LoadInto n))) = false
 may_store_in f a (After (Accepted n w)) = false
 
 -- it may still store to that absolute address
-unfoldable pub may_store : ℕ → Member → Bool
+unfoldable pub may_store : ℕ → Pending → Bool
 may_store a m = may_store_in (has_store (shape_of m.instr)) a m.phase
 
 -- the registers that an option of what is left writes
-unfoldable pub targets_left : Option Later → List Reg
+unfoldable pub targets_left : Option Outstanding → List Reg
 targets_left None = []
 targets_left (Some l) = target_of l
 
@@ -49,7 +49,7 @@ slot_in unit (Before t) = unit_slot unit
 slot_in unit (After (Entered place a access)) = 7 + place
 slot_in unit (After (Accepted n word)) = 10 + n
 
-unfoldable pub slot_of : Member → ℕ
+unfoldable pub slot_of : Pending → ℕ
 slot_of m = slot_in m.unit m.phase
 
 no_store : (f g x : Bool) → (((true && f) && not g) || x) ≡ false → (true && g) ≡ false → f ≡ false
@@ -65,6 +65,6 @@ may_store_none f g a (After (Entered place b (LoadInto n))) h k = refl
 may_store_none f g a (After (Accepted n w)) h k = refl
 
 -- a member that delays no fetch of a word, and is no branch, stores nothing there
-pub stores_nothing : (a : ℕ) (m : Member) → delays_fetch a m ≡ false → is_branch m ≡ false → may_store a m ≡ false
+pub stores_nothing : (a : ℕ) (m : Pending) → delays_fetch a m ≡ false → is_branch m ≡ false → may_store a m ≡ false
 unfolding delays_fetch is_branch row_of row.has_store_turn row.is_branch may_store
 stores_nothing a m h k = may_store_none (has_store (shape_of m.instr)) (is_branch_shape (shape_of m.instr)) a m.phase h k

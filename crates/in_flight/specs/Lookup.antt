@@ -5,14 +5,14 @@ use Rattle.instructions.specs.declared.instr.Unit.{Unit as FunctionalUnit}
 use Rattle.instructions.specs.Finding.{Found}
 use Rattle.hopper.specs.Hopper.{free_place}
 use Rattle.scoreboard.specs.Units.{same_unit}
-use Rattle.in_flight.specs.declared.member.Arrival.{Arrival}
-use Rattle.in_flight.specs.declared.member.Entry.{Entry}
-use Rattle.in_flight.specs.declared.member.Later.{Later}
-use Rattle.in_flight.specs.declared.member.Later.TheVariants.{Entered, Accepted}
-use Rattle.in_flight.specs.declared.member.Member.{Member}
-use Rattle.in_flight.specs.declared.member.Phase.{Phase}
-use Rattle.in_flight.specs.declared.member.Phase.TheVariants.{Before, After}
-use Rattle.in_flight.specs.declared.member.Stage.{Stage}
+use Rattle.in_flight.specs.declared.pending.Arrival.{Arrival}
+use Rattle.in_flight.specs.declared.pending.HopperEntry.{HopperEntry}
+use Rattle.in_flight.specs.declared.pending.Outstanding.{Outstanding}
+use Rattle.in_flight.specs.declared.pending.Outstanding.TheVariants.{Entered, Accepted}
+use Rattle.in_flight.specs.declared.pending.Pending.{Pending}
+use Rattle.in_flight.specs.declared.pending.Phase.{Phase}
+use Rattle.in_flight.specs.declared.pending.Phase.TheVariants.{Before, After}
+use Rattle.in_flight.specs.declared.pending.Stage.{Stage}
 use Rattle.in_flight.specs.declared.slots.Sought.{Sought}
 
 -- the stage in that phase, before the store event
@@ -21,17 +21,17 @@ stage_in (Before t) = Some t
 stage_in (After l) = None
 
 -- the stage of the instruction that holds the unit
-unfoldable pub stage_at : FunctionalUnit → Member → Option Stage
+unfoldable pub stage_at : FunctionalUnit → Pending → Option Stage
 stage_at unit m = if same_unit m.unit unit then stage_in m.phase else None
 
 -- the reference in that phase, if it waits in the place of this number
-unfoldable pub entry_in : ℕ → Phase → Option Entry
+unfoldable pub entry_in : ℕ → Phase → Option HopperEntry
 entry_in p (Before t) = None
 entry_in p (After (Entered place a access)) = if place == p then Some (record { a = a; access = access }) else None
 entry_in p (After (Accepted n word)) = None
 
 -- the reference in a hopper place
-unfoldable pub entry_at : ℕ → Member → Option Entry
+unfoldable pub entry_at : ℕ → Pending → Option HopperEntry
 entry_at p m = entry_in p m.phase
 
 -- the load in that phase, if it waits in the channel of this number
@@ -41,51 +41,51 @@ arrival_in c (After (Entered place a access)) = None
 arrival_in c (After (Accepted n word)) = if n == c then Some (record { channel = n; word = word }) else None
 
 -- the word that waits in a channel
-unfoldable pub arrival_at : ℕ → Member → Option Arrival
+unfoldable pub arrival_at : ℕ → Pending → Option Arrival
 arrival_at c m = arrival_in c m.phase
 
 -- what is known of the one that was found
-unfoldable pub sought : {K : Type 0} → Option (Found Member K) → Option (Sought K)
+unfoldable pub sought : {K : Type 0} → Option (Found Pending K) → Option (Sought K)
 sought None = None
-sought (Some f) = Some (record { member = f.member; what = f.what })
+sought (Some f) = Some (record { member = f.member; answer = f.answer })
 
 -- the oldest of the pending instructions
-unfoldable pub first_of : List Member → Option Member
+unfoldable pub first_of : List Pending → Option Pending
 first_of [] = None
 first_of (m ∷ ms) = Some m
 
 -- there is a pending instruction
-unfoldable pub is_pending : List Member → Bool
+unfoldable pub is_pending : List Pending → Bool
 is_pending [] = false
 is_pending (m ∷ ms) = true
 
 -- ---- places of the hopper ----
 
 -- its reference waits in the hopper place
-unfoldable pub in_place : ℕ → Member → Bool
+unfoldable pub in_place : ℕ → Pending → Bool
 in_place p m = is_some (entry_at p m)
 
 -- a reference waits in the hopper place
-abbrev pub is_taken : List Member → ℕ → Bool
+abbrev pub is_taken : List Pending → ℕ → Bool
 is_taken ms p = list_any (in_place p) ms
 
 -- the lowest-numbered free one of the four hopper places
-unfoldable pub place_for : List Member → Option ℕ
+unfoldable pub place_for : List Pending → Option ℕ
 place_for ms = free_place (is_taken ms)
 
 -- ---- what is put in its place ----
 
 -- the instruction has come to that phase
-unfoldable pub in_phase : Member → Phase → Member
+unfoldable pub in_phase : Pending → Phase → Pending
 in_phase m phase = record m { phase = phase }
 
 -- after its store event an instruction is pending while something is left of it
-unfoldable pub kept : Member → Option Later → List Member
+unfoldable pub kept : Pending → Option Outstanding → List Pending
 kept m None = []
 kept m (Some l) = in_phase m (After l) ∷ []
 
 -- what is left is a reference, which enters the hopper
-unfoldable pub enters : Option Later → Bool
+unfoldable pub enters : Option Outstanding → Bool
 enters None = false
 enters (Some (Entered place a access)) = true
 enters (Some (Accepted n word)) = false

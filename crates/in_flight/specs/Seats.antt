@@ -4,15 +4,15 @@ use Rattle.instructions.specs.declared.instr.Unit.{Unit as FunctionalUnit}
 use Rattle.scoreboard.specs.Units.{unit_number}
 use Rattle.instructions.specs.Each.{Each, Pairs}
 use Rattle.instructions.specs.Order.{sort_by, somes, IsSeated}
-use Rattle.in_flight.specs.declared.member.Later.{Later}
-use Rattle.in_flight.specs.declared.member.Later.TheVariants.{Entered, Accepted}
-use Rattle.in_flight.specs.declared.member.Phase.{Phase}
-use Rattle.in_flight.specs.declared.member.Phase.TheVariants.{Before, After}
-use Rattle.in_flight.specs.declared.member.Member.{Member}
+use Rattle.in_flight.specs.declared.pending.Outstanding.{Outstanding}
+use Rattle.in_flight.specs.declared.pending.Outstanding.TheVariants.{Entered, Accepted}
+use Rattle.in_flight.specs.declared.pending.Phase.{Phase}
+use Rattle.in_flight.specs.declared.pending.Phase.TheVariants.{Before, After}
+use Rattle.in_flight.specs.declared.pending.Pending.{Pending}
 use Rattle.in_flight.specs.Lookup.{in_phase}
 
 -- the number of its reservation
-unfoldable pub number_of : Member → ℕ
+unfoldable pub number_of : Pending → ℕ
 number_of m = m.number
 
 -- units have the seats 0 to 9, places of the hopper 10 to 13, channels 14 to 21; there is no seat 22
@@ -22,19 +22,19 @@ seat_in unit (After (Entered place a access)) = if nat_lt place 4 then 10 + plac
 seat_in unit (After (Accepted n word)) = if nat_lt n 8 then 14 + n else 22
 
 -- the seat of a pending instruction
-unfoldable pub seat_of : Member → ℕ
+unfoldable pub seat_of : Pending → ℕ
 seat_of m = seat_in m.unit m.phase
 
 -- the seats in the order of their numbers: units, places of the hopper, channels
-unfoldable pub seats : List (Option Member) → List (Option Member) → List (Option Member) → List (Option Member)
+unfoldable pub seats : List (Option Pending) → List (Option Pending) → List (Option Pending) → List (Option Pending)
 seats units places channels = units ++ (places ++ channels)
 
 -- those that sit there, in issue order
-abbrev pub in_order : List (Option Member) → List Member
+abbrev pub in_order : List (Option Pending) → List Pending
 in_order os = sort_by number_of (somes os)
 
 -- each pending instruction sits in the seat of its unit, place or channel
-pub record IsRight (units places channels : List (Option Member)) : Type 0 where
+pub record IsRight (units places channels : List (Option Pending)) : Type 0 where
   -- ten units, four places of the hopper and eight channels
   pub all_units : length units ≡ 10
   pub all_places : length places ≡ 4
@@ -44,39 +44,39 @@ pub record IsRight (units places channels : List (Option Member)) : Type 0 where
   pub own : Pairs (λ x y. number_of x ≢ number_of y) (somes (seats units places channels))
 
 -- none of them sits there
-abbrev pub AreElsewhere : ℕ → List Member → Type 0
+abbrev pub AreElsewhere : ℕ → List Pending → Type 0
 AreElsewhere seat ms = Each (λ m. seat_of m ≢ seat) ms
 
 -- the seat of what is left is there, and free
-abbrev pub HasRoom : Option Later → List Member → Type 0
+abbrev pub HasRoom : Option Outstanding → List Pending → Type 0
 HasRoom None ms = Unit {0}
 HasRoom (Some (Entered place a access)) ms = (place < 4) × AreElsewhere (10 + place) ms
 HasRoom (Some (Accepted n word)) ms = (n < 8) × AreElsewhere (14 + n) ms
 
 -- the places of the hopper when what is left of an instruction has come to its own
-unfoldable pub places_with : List (Option Member) → Member → Option Later → List (Option Member)
+unfoldable pub places_with : List (Option Pending) → Pending → Option Outstanding → List (Option Pending)
 places_with places m None = places
 places_with places m (Some (Entered place a access)) = slice_set places place (Some (in_phase m (After (Entered place a access))))
 places_with places m (Some (Accepted n word)) = places
 
 -- the channels when what is left of an instruction has come to its own
-unfoldable pub channels_with : List (Option Member) → Member → Option Later → List (Option Member)
+unfoldable pub channels_with : List (Option Pending) → Pending → Option Outstanding → List (Option Pending)
 channels_with channels m None = channels
 channels_with channels m (Some (Entered place a access)) = channels
 channels_with channels m (Some (Accepted n word)) = slice_set channels n (Some (in_phase m (After (Accepted n word))))
 
 -- nothing is pending
-unfoldable pub has_none : List Member → Bool
+unfoldable pub has_none : List Pending → Bool
 has_none [] = true
 has_none (m ∷ ms) = false
 
 -- the one with the lower number
-unfoldable pub lower_of : Option Member → Option Member → Option Member
+unfoldable pub lower_of : Option Pending → Option Pending → Option Pending
 lower_of None o = o
 lower_of (Some a) None = Some a
 lower_of (Some a) (Some b) = if nat_lt a.number b.number then Some a else Some b
 
 -- the one with the lowest number in the seats
-unfoldable pub lowest_of : List (Option Member) → Option Member
+unfoldable pub lowest_of : List (Option Pending) → Option Pending
 lowest_of [] = None
 lowest_of (o ∷ os) = lower_of o (lowest_of os)

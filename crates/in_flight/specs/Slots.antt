@@ -11,10 +11,10 @@ use Rattle.instructions.specs.Operands.{row}
 use Rattle.scoreboard.specs.Units.{same_unit, units_of}
 use Rattle.relocation.specs.declared.area.Access.{Access}
 use Rattle.relocation.specs.declared.area.Access.TheVariants.{Load, Store}
-use Rattle.in_flight.specs.declared.member.Later.TheVariants.{Entered, Accepted}
-use Rattle.in_flight.specs.declared.member.Phase.{Phase}
-use Rattle.in_flight.specs.declared.member.Phase.TheVariants.{Before, After}
-use Rattle.in_flight.specs.declared.member.Member.{Member}
+use Rattle.in_flight.specs.declared.pending.Outstanding.TheVariants.{Entered, Accepted}
+use Rattle.in_flight.specs.declared.pending.Phase.{Phase}
+use Rattle.in_flight.specs.declared.pending.Phase.TheVariants.{Before, After}
+use Rattle.in_flight.specs.declared.pending.Pending.{Pending}
 use Rattle.instructions.specs.Each.{Each, Pairs}
 
 -- the units in use have the slots 0 to 6; the others have none
@@ -41,7 +41,7 @@ clash_in u (After (Accepted m w)) v (After (Entered q b y)) = false
 clash_in u (After (Accepted m w)) v (After (Accepted n x)) = false
 
 -- two hold one unit, or stand in one place of the hopper
-unfoldable pub clash : Member → Member → Bool
+unfoldable pub clash : Pending → Pending → Bool
 clash m n = clash_in m.unit m.phase n.unit n.phase
 
 -- it is the number of a channel, 1 to 5
@@ -65,11 +65,11 @@ is_of_kind None unit = false
 is_of_kind (Some kind) unit = list_any (same_unit unit) (units_of kind)
 
 -- its unit is of the kind that its row names, and what is left of it has its place in a memory of that size
-pub record IsProper (size : ℕ) (m : Member) : Type 0 where
+pub record IsProper (size : ℕ) (m : Pending) : Type 0 where
   pub of_kind : is_of_kind (row m.instr).unit m.unit ≡ true
   pub placed : IsPlaced size m.unit m.phase
 
 -- no two hold one unit or stand in one place of the hopper, and each is where it may be
-pub record IsSlotted (size : ℕ) (ms : List Member) : Type 0 where
+pub record IsSlotted (size : ℕ) (ms : List Pending) : Type 0 where
   pub apart : Pairs (λ m n. clash m n ≡ false) ms
   pub proper : Each (IsProper size) ms

@@ -18,13 +18,13 @@ use Rattle.scoreboard.specs.Conflicts.{first_such, result_reserved, operand_awai
 use Rattle.scoreboard.specs.Units.{first_unit}
 use Rattle.sequential.specs.declared.fetching.Fetched.{Fetched}
 use Rattle.sequential.specs.declared.fetching.Fetched.TheVariants.{Halting, Passing, Taking}
-use Rattle.in_flight.specs.declared.member.Arrival.{Arrival}
-use Rattle.in_flight.specs.declared.member.Entry.{Entry}
-use Rattle.in_flight.specs.declared.member.Member.{Member}
-use Rattle.in_flight.specs.declared.member.Stage.{Stage}
-use Rattle.in_flight.specs.declared.member.Stage.TheVariants.{Waiting, Read as HasRead, Finished}
+use Rattle.in_flight.specs.declared.pending.Arrival.{Arrival}
+use Rattle.in_flight.specs.declared.pending.HopperEntry.{HopperEntry}
+use Rattle.in_flight.specs.declared.pending.Pending.{Pending}
+use Rattle.in_flight.specs.declared.pending.Stage.{Stage}
+use Rattle.in_flight.specs.declared.pending.Stage.TheVariants.{Waiting, Read as HasRead, Finished}
 use Rattle.in_flight.specs.Lookup.{place_for}
-use Rattle.in_flight.specs.Member.{row_of, awaited, to_be_read, in_bank}
+use Rattle.in_flight.specs.Pending.{row_of, awaited, to_be_read, in_bank}
 
 -- a refusal, and whether it applies
 pub record Test : Type 0 where
@@ -41,7 +41,7 @@ unfoldable pub nothing : List Test
 nothing = record { fails = true; refusal = Nothing } ∷ []
 
 -- the tests of the one that was found; E15, nothing, where none was
-unfoldable pub tests_found : {K : Type 0} → Option (Found Member K) → (Found Member K → List Test) → List Test
+unfoldable pub tests_found : {K : Type 0} → Option (Found Pending K) → (Found Pending K → List Test) → List Test
 tests_found None f = nothing
 tests_found (Some x) f = f x
 
@@ -53,12 +53,12 @@ refusal_in (Err k) = Some k
 -- ---- issue ----
 
 -- the unit that an instruction takes: the lower-numbered free one of its kind, if there is one
-abbrev pub unit_for : List Member → Option UnitKind → Option FunctionalUnit
+abbrev pub unit_for : List Pending → Option UnitKind → Option FunctionalUnit
 unit_for ms kind = conflict.unit_for row_of ms kind
 
 -- first order: E7, unit busy, where no unit of the kind is free; E8, result reserved, where a result register is a
 -- result still to come (a pass and a halt take no unit)
-unfoldable pub row_tests : List Member → Fetched → List Test
+unfoldable pub row_tests : List Pending → Fetched → List Test
 row_tests ms (Halting h place) = []
 row_tests ms (Passing place) = []
 row_tests ms (Taking i place) =
@@ -70,7 +70,7 @@ row_tests ms (Taking i place) =
 
 -- E9, operand awaited (second order): an operand is a result still to come of an earlier instruction; E15, nothing,
 -- where it has read before
-unfoldable pub read_tests : Stage → List Member → Instr → List Test
+unfoldable pub read_tests : Stage → List Pending → Instr → List Test
 read_tests Waiting earlier i =
     record { fails = operand_awaited row_of earlier (sources_of i); refusal = OperandAwaited (first_such (awaited earlier) (sources_of i)) } ∷ []
 read_tests (HasRead os) earlier i = nothing
@@ -78,7 +78,7 @@ read_tests (Finished v) earlier i = nothing
 
 -- E10, result held (third order); E11, hopper full: a reference would enter and no place is free; E12, out of turn:
 -- an earlier reference has not come to its store event
-abbrev pub store_conflicts : List Member → List Member → Instr → Bool → List Test
+abbrev pub store_conflicts : List Pending → List Pending → Instr → Bool → List Test
 store_conflicts ms earlier i entering =
     record { fails = result_held row_of earlier (puts_of (shape_of i)); refusal = ResultHeld (first_such (to_be_read earlier) (puts_of (shape_of i))) }
     ∷ record { fails = entering && is_none (place_for ms); refusal = HopperFull }
@@ -88,14 +88,14 @@ store_conflicts ms earlier i entering =
 -- ---- the events of memory ----
 
 -- E13, bank busy; E14, older in bank: an older reference for that bank waits
-unfoldable pub accept_tests : List Bool → List Member → Entry → List Test
+unfoldable pub accept_tests : List Bool → List Pending → HopperEntry → List Test
 accept_tests busy earlier entry =
     record { fails = slice_index_or busy (bank_of entry.a) false; refusal = BankBusy (bank_of entry.a) }
     ∷ record { fails = list_any (in_bank (bank_of entry.a)) earlier; refusal = OlderInBank }
     ∷ []
 
 -- E10, result held (third order): an earlier instruction has still to read the X register of the load
-unfoldable pub return_tests : List Member → Arrival → List Test
+unfoldable pub return_tests : List Pending → Arrival → List Test
 return_tests earlier arrival =
     record { fails = to_be_read earlier (X arrival.channel); refusal = ResultHeld (X arrival.channel) } ∷ []
 

@@ -7,19 +7,19 @@ ghost use Rattle.hopper.specs.Queue.{place_for as free_in};
 ghost use Rattle.sequential.specs.declared.fetching.Fetched.TheVariants.{Taking};
 ghost use Rattle.sequential.specs.declared.place.Place.{Place as SomePlace};
 ghost use Rattle.sequential.specs.Work.{operands};
-ghost use Rattle.in_flight.specs.declared.member.Phase.TheVariants.{Before};
-ghost use Rattle.in_flight.specs.declared.member.Stage.{Stage as SomeStage};
-ghost use Rattle.in_flight.specs.declared.member.Stage.TheVariants.{Waiting, Read, Finished};
+ghost use Rattle.in_flight.specs.declared.pending.Phase.TheVariants.{Before};
+ghost use Rattle.in_flight.specs.declared.pending.Stage.{Stage as SomeStage};
+ghost use Rattle.in_flight.specs.declared.pending.Stage.TheVariants.{Waiting, Read, Finished};
 ghost use Rattle.in_flight.specs.Tests.{refusal_in, store_conflicts, refusal_of, tests_found, row_tests, read_tests, accept_tests, return_tests, free_tests};
-ghost use Rattle.in_flight.specs.Flight.{left_by, later_of, IsRestOf, unit_taken, reserved_in, with_pending, entered_at, rest_at, queue_with, queue_behind};
-ghost use Rattle.in_flight.specs.Member.{has_read, is_branch, delays_fetch};
+ghost use Rattle.in_flight.specs.Flight.{left_by, outstanding_of, IsRestOf, unit_taken, reserved_in, with_pending, entered_at, rest_at, queue_with, queue_after};
+ghost use Rattle.in_flight.specs.Pending.{has_read, is_branch, delays_fetch};
 ghost use Rattle.in_flight.specs.Lookup.{first_of, sought, stage_at, entry_at, arrival_at, in_phase, kept, enters, place_for, is_pending};
 ghost use Rattle.instructions.specs.Finding.{replaced, Found, seek};
 ghost use Rattle.in_flight.specs.Slots.{IsSlotted};
 ghost use Rattle.in_flight.specs.Apart.{IsApart};
 
 use crate::slots::Slots;
-use crate::{Arrival, Later, Member, Phase, Sought, Stage};
+use crate::{Arrival, Outstanding, Pending, Phase, Sought, Stage};
 use hopper::{Hopper, Reference};
 use instruction_table::{Digit, Instr, Refusal, Unit, unit_kind};
 use registers::RegisterFile;
@@ -59,33 +59,33 @@ impl Model for InFlight {
 
 /// The reference in the lowest-numbered free place of the hopper.
 #[tactic(auto, unfolding(crate::specs::Flight::entered_at, crate::specs::Flight::queue_with, hopper::specs::Queue::enter_answer))]
-fn entered(hopper: &mut Hopper, reference: &Reference) -> Option<Later>
+fn entered(hopper: &mut Hopper, reference: &Reference) -> Option<Outstanding>
     ensures answer { result ≡ entered_at (free_in hopper.old.entered) reference.now }
     ensures after { hopper.new ≡ queue_with hopper.old (free_in hopper.old.entered) reference.now }
 {
     let address = reference.address;
     let access = reference.access;
     match hopper.enter(*reference) {
-        Ok(place) => Some(Later::Entered(place, address, access)),
+        Ok(place) => Some(Outstanding::Entered(place, address, access)),
         Err(_) => None,
     }
 }
 
 /// What is left of an instruction, where it waits: a reference enters the hopper.
-#[tactic(auto, unfolding(crate::specs::Flight::rest_at, crate::specs::Flight::queue_behind))]
-fn waiting_rest(hopper: &mut Hopper, rest: &Option<Rest>) -> Option<Later>
+#[tactic(auto, unfolding(crate::specs::Flight::rest_at, crate::specs::Flight::queue_after))]
+fn waiting_rest(hopper: &mut Hopper, rest: &Option<Rest>) -> Option<Outstanding>
     ensures answer { result ≡ rest_at (free_in hopper.old.entered) rest.now }
-    ensures after { hopper.new ≡ queue_behind hopper.old (free_in hopper.old.entered) rest.now }
+    ensures after { hopper.new ≡ queue_after hopper.old (free_in hopper.old.entered) rest.now }
 {
     match rest {
         None => None,
         Some(Rest::Enters(reference)) => entered(hopper, reference),
-        Some(Rest::Arrives(n)) => Some(Later::Accepted(*n, Word60::default())),
+        Some(Rest::Arrives(n)) => Some(Outstanding::Accepted(*n, Word60::default())),
     }
 }
 
 /// The instruction as it waited, and what it reads.
-fn reading(member: &Member, registers: &RegisterFile) -> (Member, Operands)
+fn reading(member: &Pending, registers: &RegisterFile) -> (Pending, Operands)
     ensures member { result.0 ≡ member.now }
     ensures operands { result.1 ≡ operands member.now.instr member.now.at registers.now }
 {
@@ -93,12 +93,12 @@ fn reading(member: &Member, registers: &RegisterFile) -> (Member, Operands)
 }
 
 /// What is left of a reference that its bank took.
-fn left_by(memory: &Storage, reference: &Reference) -> Option<Later>
+fn left_by(memory: &Storage, reference: &Reference) -> Option<Outstanding>
     requires { reference.now.address < length memory.now }
     ensures { result ≡ left_by memory.now reference.now.address reference.now.access }
 {
     match &reference.access {
-        Access::Load(n) => Some(Later::Accepted(*n, memory.load(reference.address))),
+        Access::Load(n) => Some(Outstanding::Accepted(*n, memory.load(reference.address))),
         Access::Store(_) => None,
     }
 }
@@ -151,7 +151,7 @@ impl InFlight {
     }
 
     /// The oldest of them.
-    pub fn oldest(&self) -> Option<Member>
+    pub fn oldest(&self) -> Option<Pending>
         ensures { result ≡ first_of self.now.pending }
     {
         self.slots.oldest()
@@ -175,7 +175,7 @@ impl InFlight {
             Ok(reserved) => reserved,
             Err(refusal) => return Err(refusal),
         };
-        self.slots.push(Member {
+        self.slots.push(Pending {
             instr: *instr,
             at,
             number,
@@ -194,9 +194,9 @@ impl InFlight {
         &mut self,
         unit: Unit,
         registers: &RegisterFile,
-    ) -> Result<(Member, Operands), Refusal>
-        ensures answer { refusal_of (tests_found (seek (stage_at unit) self.old.pending) (λ f. read_tests f.what f.earlier f.member.instr)) ≡ refusal_in result }
-        ensures member { IfOk result (λ read. sought (seek (stage_at unit) self.old.pending) ≡ Some (record { member = read.0; what = Waiting })) }
+    ) -> Result<(Pending, Operands), Refusal>
+        ensures answer { refusal_of (tests_found (seek (stage_at unit) self.old.pending) (λ f. read_tests f.answer f.earlier f.member.instr)) ≡ refusal_in result }
+        ensures member { IfOk result (λ read. sought (seek (stage_at unit) self.old.pending) ≡ Some (record { member = read.0; answer = Waiting })) }
         ensures operands { IfOk result (λ read. read.1 ≡ operands read.0.instr read.0.at registers.now) }
         ensures after { MatchResult result
             (λ read. self.new ≡ with_pending self.old (replaced (seek (stage_at unit) self.old.pending) self.old.pending (λ m. in_phase m (Before (Read read.1)) ∷ [])))
@@ -205,7 +205,7 @@ impl InFlight {
         let Some(found) = self.slots.find_stage(unit) else {
             return Err(Refusal::Nothing);
         };
-        let Stage::Waiting = found.what else {
+        let Stage::Waiting = found.answer else {
             return Err(Refusal::Nothing);
         };
         if let Err(refusal) = self.board.may_read(unit) {
@@ -219,7 +219,7 @@ impl InFlight {
 
     /// The unit's instruction, which has read its operands, has its value.
     pub fn finish(&mut self, unit: Unit, value: UnitValue)
-        requires { IfSome (sought (seek (stage_at unit) self.old.pending)) (λ s. has_read s.what ≡ true) }
+        requires { IfSome (sought (seek (stage_at unit) self.old.pending)) (λ s. has_read s.answer ≡ true) }
         ensures { self.new ≡ with_pending self.old (replaced (seek (stage_at unit) self.old.pending) self.old.pending (λ m. in_phase m (Before (Finished value)) ∷ [])) }
     {
         self.slots.set_stage(unit, Stage::Finished(value));
@@ -230,7 +230,7 @@ impl InFlight {
     /// # Errors
     /// `ResultHeld`, `HopperFull`, `OutOfTurn`.
     pub fn may_store(&self, unit: Unit, enters: bool) -> Result<(), Refusal>
-        ensures { (f : Found Member SomeStage) → seek (stage_at unit) self.now.pending ≡ Some f → refusal_of (store_conflicts self.now.pending f.earlier f.member.instr enters) ≡ refusal_in result }
+        ensures { (f : Found Pending SomeStage) → seek (stage_at unit) self.now.pending ≡ Some f → refusal_of (store_conflicts self.now.pending f.earlier f.member.instr enters) ≡ refusal_in result }
     {
         if let Err(refusal) = self.board.may_store(unit) {
             return Err(refusal);
@@ -245,8 +245,8 @@ impl InFlight {
     pub fn leave(&mut self, unit: Unit, rest: &Option<Rest>)
         requires apart { Pairs IsApart self.old.pending }
         requires rest { IfSome (sought (seek (stage_at unit) self.old.pending)) (λ s. IsRestOf (shape_of s.member.instr) rest.now) }
-        requires room { enters (later_of 0 rest.now) ≡ true → is_none (place_for self.old.pending) ≡ false }
-        ensures { self.new ≡ with_pending self.old (replaced (seek (stage_at unit) self.old.pending) self.old.pending (λ m. kept m (later_of (unwrap_or (place_for self.old.pending) 0) rest.now))) }
+        requires room { enters (outstanding_of 0 rest.now) ≡ true → is_none (place_for self.old.pending) ≡ false }
+        ensures { self.new ≡ with_pending self.old (replaced (seek (stage_at unit) self.old.pending) self.old.pending (λ m. kept m (outstanding_of (unwrap_or (place_for self.old.pending) 0) rest.now))) }
     {
         if self.slots.find_stage(unit).is_none() {
             return;
@@ -264,8 +264,8 @@ impl InFlight {
     pub fn accept(&mut self, place: u8, memory: &Storage) -> Result<Reference, Refusal>
         requires apart { Pairs IsApart self.old.pending }
         requires slotted { IsSlotted (length memory.now) self.old.pending }
-        ensures answer { refusal_of (tests_found (seek (entry_at place) self.old.pending) (λ f. accept_tests self.old.busy f.earlier f.what)) ≡ refusal_in result }
-        ensures entry { IfOk result (λ reference. IfSome (seek (entry_at place) self.old.pending) (λ f. f.what ≡ record { a = reference.address; access = reference.access })) }
+        ensures answer { refusal_of (tests_found (seek (entry_at place) self.old.pending) (λ f. accept_tests self.old.busy f.earlier f.answer)) ≡ refusal_in result }
+        ensures entry { IfOk result (λ reference. IfSome (seek (entry_at place) self.old.pending) (λ f. f.answer ≡ record { a = reference.address; access = reference.access })) }
         ensures after { MatchResult result
             (λ reference. self.new ≡ record self.old {
               pending = replaced (seek (entry_at place) self.old.pending) self.old.pending (λ m. kept m (left_by memory.now reference.address reference.access));
@@ -288,8 +288,8 @@ impl InFlight {
     /// `Nothing`, `ResultHeld`.
     pub fn return_load(&mut self, channel: u8) -> Result<Arrival, Refusal>
         requires apart { Pairs IsApart self.old.pending }
-        ensures answer { refusal_of (tests_found (seek (arrival_at channel) self.old.pending) (λ f. return_tests f.earlier f.what)) ≡ refusal_in result }
-        ensures arrival { IfOk result (λ arrival. IfSome (seek (arrival_at channel) self.old.pending) (λ f. f.what ≡ arrival)) }
+        ensures answer { refusal_of (tests_found (seek (arrival_at channel) self.old.pending) (λ f. return_tests f.earlier f.answer)) ≡ refusal_in result }
+        ensures arrival { IfOk result (λ arrival. IfSome (seek (arrival_at channel) self.old.pending) (λ f. f.answer ≡ arrival)) }
         ensures after { MatchResult result
             (λ arrival. self.new ≡ with_pending self.old (replaced (seek (arrival_at channel) self.old.pending) self.old.pending (λ m. [])))
             (λ refusal. self.new ≡ self.old) }
@@ -302,7 +302,7 @@ impl InFlight {
         }
         self.slots.returned(channel);
         self.board.returned(channel);
-        Ok(found.what)
+        Ok(found.answer)
     }
 
     /// A bank is free again.

@@ -3,7 +3,7 @@
 #![tactic(auto)]
 
 mod flight;
-mod member;
+mod pending;
 mod slots;
 #[cfg(test)]
 mod test_calls;
@@ -11,5 +11,5 @@ mod test_calls;
 mod tests;
 
 pub use flight::{InFlight, Rest};
-pub use member::{Arrival, Entry, Later, Member, Phase, Stage};
+pub use pending::{Arrival, HopperEntry, Outstanding, Pending, Phase, Stage};
 pub use slots::Sought;

@@ -2,13 +2,13 @@ ghost use Rattle.std.specs.Prelude.{◌≡◌, ◌<◌, ◌∷◌, ◌++◌, [],
 ghost use Rattle.std.specs.List.{list_all};
 ghost use Rattle.scoreboard.specs.Units.{unit_number};
 ghost use Rattle.instructions.specs.Each.{Each};
-ghost use Rattle.in_flight.specs.declared.member.Phase.TheVariants.{Before, After};
-ghost use Rattle.in_flight.specs.declared.member.Stage.TheVariants.{Waiting};
+ghost use Rattle.in_flight.specs.declared.pending.Phase.TheVariants.{Before, After};
+ghost use Rattle.in_flight.specs.declared.pending.Stage.TheVariants.{Waiting};
 ghost use Rattle.instructions.specs.Finding.{seek, replaced};
 ghost use Rattle.in_flight.specs.Lookup.{stage_at, entry_at, arrival_at, in_phase, kept, sought, first_of};
 ghost use Rattle.in_flight.specs.Seats.{HasRoom, places_with, channels_with, has_none, lower_of, lowest_of};
 
-use crate::{Arrival, Entry, Later, Member, Phase, Stage};
+use crate::{Arrival, HopperEntry, Outstanding, Pending, Phase, Stage};
 use instruction_table::Unit;
 use scoreboard::unit_number;
 use std::marker::Model;
@@ -16,24 +16,24 @@ use std::marker::Model;
 /// A member that was sought, with what was asked of it.
 #[derive(Clone, Copy, Drop)]
 pub struct Sought<K> {
-    pub member: Member,
-    pub what: K,
+    pub member: Pending,
+    pub answer: K,
 }
 
 /// The pending instructions: by the number of the unit that they hold, by the place of the hopper in which their
 /// reference waits, by the channel in which their load waits.
 #[derive(Drop)]
 pub struct Slots {
-    units: [Option<Member>; 10],
-    places: [Option<Member>; 4],
-    channels: [Option<Member>; 8],
+    units: [Option<Pending>; 10],
+    places: [Option<Pending>; 4],
+    channels: [Option<Pending>; 8],
 }
 
 impl Model for Slots {
     ghost use Rattle.std.specs.Prelude.{List};
-    ghost use Rattle.in_flight.specs.declared.member.Member.{Member};
+    ghost use Rattle.in_flight.specs.declared.pending.Pending.{Pending};
 
-    ghost Value = { List Member };
+    ghost Value = { List Pending };
 
     ghost use Rattle.in_flight.specs.Seats.{seats, in_order, IsRight};
 
@@ -50,23 +50,23 @@ fn index_of(unit: Unit) -> usize
     usize::from(unit_number(unit))
 }
 
-impl Member {
+impl Pending {
     /// The member in another phase.
     #[tactic(auto, unfolding(crate::specs::Lookup::in_phase))]
-    fn in_phase(&self, phase: Phase) -> Member
+    fn in_phase(&self, phase: Phase) -> Pending
         ensures { result ≡ in_phase self.now phase }
     {
-        Member { phase, ..*self }
+        Pending { phase, ..*self }
     }
 }
 
 /// What is left of a member goes to its place or its channel.
 #[tactic(auto, unfolding(crate::specs::Seats::places_with, crate::specs::Seats::channels_with))]
 fn put_rest(
-    places: &mut [Option<Member>],
-    channels: &mut [Option<Member>],
-    member: &Member,
-    later: &Option<Later>,
+    places: &mut [Option<Pending>],
+    channels: &mut [Option<Pending>],
+    member: &Pending,
+    later: &Option<Outstanding>,
 )
     requires places { length places.old ≡ 4 }
     requires channels { length channels.old ≡ 8 }
@@ -76,19 +76,19 @@ fn put_rest(
 {
     match *later {
         None => {}
-        Some(Later::Entered(place, address, access)) => {
-            let rest = member.in_phase(Phase::After(Later::Entered(place, address, access)));
+        Some(Outstanding::Entered(place, address, access)) => {
+            let rest = member.in_phase(Phase::After(Outstanding::Entered(place, address, access)));
             places[usize::from(place)] = Some(rest);
         }
-        Some(Later::Accepted(n, word)) => {
-            let rest = member.in_phase(Phase::After(Later::Accepted(n, word)));
+        Some(Outstanding::Accepted(n, word)) => {
+            let rest = member.in_phase(Phase::After(Outstanding::Accepted(n, word)));
             channels[usize::from(n.get())] = Some(rest);
         }
     }
 }
 
 /// What the seat holds, None if there is no such seat.
-fn seat_at(seats: &[Option<Member>], index: usize) -> Option<Member>
+fn seat_at(seats: &[Option<Pending>], index: usize) -> Option<Pending>
     ensures { result ≡ slice_index_or seats.now index None }
 {
     match seats.get(index) {
@@ -98,7 +98,7 @@ fn seat_at(seats: &[Option<Member>], index: usize) -> Option<Member>
 }
 
 /// Whether no seat is held.
-fn none_held(seats: &[Option<Member>]) -> bool
+fn none_held(seats: &[Option<Pending>]) -> bool
     ensures { result ≡ list_all is_none seats.now }
 {
     seats.iter().all(|seat| seat.is_none())
@@ -106,7 +106,7 @@ fn none_held(seats: &[Option<Member>]) -> bool
 
 /// The one with the lower number, or the only one.
 #[tactic(auto, unfolding(crate::specs::Seats::lower_of))]
-fn lower(first: &Option<Member>, second: &Option<Member>) -> Option<Member>
+fn lower(first: &Option<Pending>, second: &Option<Pending>) -> Option<Pending>
     ensures { result ≡ lower_of first.now second.now }
 {
     let Some(one) = *first else {
@@ -125,7 +125,7 @@ fn lower(first: &Option<Member>, second: &Option<Member>) -> Option<Member>
 }
 
 /// The one with the lowest number in the seats.
-fn lowest(seats: &[Option<Member>]) -> Option<Member>
+fn lowest(seats: &[Option<Pending>]) -> Option<Pending>
     ensures { result ≡ lowest_of seats.now }
 {
     let mut found = None;
@@ -161,7 +161,7 @@ impl Slots {
     }
 
     /// The member with the lowest number.
-    pub fn oldest(&self) -> Option<Member>
+    pub fn oldest(&self) -> Option<Pending>
         ensures { result ≡ first_of self.now }
     {
         let referring = lower(&lowest(&self.places), &lowest(&self.channels));
@@ -178,7 +178,7 @@ impl Slots {
             return None;
         };
         match member.stage_in(unit) {
-            Some(what) => Some(Sought { member, what }),
+            Some(answer) => Some(Sought { member, answer }),
             None => None,
         }
     }
@@ -194,7 +194,7 @@ impl Slots {
     }
 
     /// The member that holds the unit leaves it; what is left of it goes to its place or its channel.
-    pub fn leave(&mut self, unit: Unit, later: &Option<Later>)
+    pub fn leave(&mut self, unit: Unit, later: &Option<Outstanding>)
         requires { HasRoom later.now self.old }
         ensures { self.new ≡ replaced (seek (stage_at unit) self.old) self.old (λ m. kept m later.now) }
     {
@@ -208,7 +208,7 @@ impl Slots {
     }
 
     /// The member that stands in a place of the hopper, with its reference.
-    pub fn find_entry(&self, place: u8) -> Option<Sought<Entry>>
+    pub fn find_entry(&self, place: u8) -> Option<Sought<HopperEntry>>
         requires { place < 4 }
         ensures { result ≡ sought (seek (entry_at place) self.now) }
     {
@@ -217,13 +217,13 @@ impl Slots {
             return None;
         };
         match member.entry_in(place) {
-            Some(what) => Some(Sought { member, what }),
+            Some(answer) => Some(Sought { member, answer }),
             None => None,
         }
     }
 
     /// The member in the place leaves it; what is left of it goes to its channel.
-    pub fn accept(&mut self, place: u8, later: &Option<Later>)
+    pub fn accept(&mut self, place: u8, later: &Option<Outstanding>)
         requires place { place < 4 }
         requires room { HasRoom later.now self.old }
         ensures { self.new ≡ replaced (seek (entry_at place) self.old) self.old (λ m. kept m later.now) }
@@ -247,7 +247,7 @@ impl Slots {
             return None;
         };
         match member.arrival_in(channel) {
-            Some(what) => Some(Sought { member, what }),
+            Some(answer) => Some(Sought { member, answer }),
             None => None,
         }
     }
@@ -266,7 +266,7 @@ impl Slots {
     }
 
     /// A new member, with a number above all, goes to its unit, which is free.
-    pub fn push(&mut self, member: Member)
+    pub fn push(&mut self, member: Pending)
         requires waits { member.phase ≡ Before Waiting }
         requires free { seek (stage_at member.unit) self.old ≡ None }
         requires last { Each (λ m. m.number < member.number) self.old }

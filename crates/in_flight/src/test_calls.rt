@@ -4,7 +4,7 @@ ghost use Rattle.std.specs.Prelude.{◌≡◌};
 ghost use Rattle.instructions.specs.Shape.{shape_of};
 ghost use Rattle.in_flight.specs.Flight.{IsRestOf};
 
-use crate::{Arrival, InFlight, Member, Phase, Rest, Stage};
+use crate::{Arrival, InFlight, Pending, Phase, Rest, Stage};
 use hopper::Reference;
 use instruction_table::{Addends, Digit, Instr, Pair, Refusal, Reg, Unit, read_text};
 use registers::RegisterFile;
@@ -111,7 +111,7 @@ pub(crate) fn return_at_boot(channel: u8) -> Result<Arrival, Refusal> {
 }
 
 /// Whether nothing is in flight after a unit that is free was left.
-#[tactic(auto, unfolding(crate::specs::Lookup::sought, crate::specs::Lookup::enters, crate::specs::Flight::later_of, instructions::specs::Finding::seek))]
+#[tactic(auto, unfolding(crate::specs::Lookup::sought, crate::specs::Lookup::enters, crate::specs::Flight::outstanding_of, instructions::specs::Finding::seek))]
 pub(crate) fn is_empty_after_leave(unit: Unit) -> bool {
     let mut flight = InFlight::new();
     flight.leave(unit, &None);
@@ -132,8 +132,8 @@ pub(crate) fn left_alone(instr: &Instr, rest: &Option<Rest>) -> Option<InFlight>
 }
 
 /// The first reservation after boot, of the instruction IX3 X1+X2 at this address.
-pub(crate) fn first_add(instr: Instr, at: Word18, stage: Stage) -> Member {
-    Member {
+pub(crate) fn first_add(instr: Instr, at: Word18, stage: Stage) -> Pending {
+    Pending {
         instr,
         at,
         number: 1,
@@ -169,14 +169,14 @@ fn judged(judgement: Result<(), Refusal>) -> Answer {
 }
 
 /// The unit has the value 5, if its instruction has read its operands.
-#[tactic(auto, unfolding(crate::specs::Member::has_read))]
+#[tactic(auto, unfolding(crate::specs::Pending::has_read))]
 fn finish(flight: &mut InFlight, unit: Unit) -> Answer
     ensures { flight.new.last ≡ flight.old.last }
 {
     let Some(found) = flight.find(unit) else {
         return Answer::Free;
     };
-    let Stage::Read(_) = found.what else {
+    let Stage::Read(_) = found.answer else {
         return Answer::Free;
     };
     flight.finish(unit, five());
@@ -186,7 +186,7 @@ fn finish(flight: &mut InFlight, unit: Unit) -> Answer
 /// The stage of the unit's instruction.
 fn find(flight: &InFlight, unit: Unit) -> Answer {
     match flight.find(unit) {
-        Some(found) => Answer::At(found.member.number, found.what),
+        Some(found) => Answer::At(found.member.number, found.answer),
         None => Answer::Free,
     }
 }

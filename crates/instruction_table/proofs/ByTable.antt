@@ -8,15 +8,15 @@ use Rattle.instructions.specs.declared.instr.Instr.TheVariants.{BranchX}
 use Rattle.instructions.specs.declared.instr.Op.TheVariants.{Plain, Extended}
 use Rattle.instructions.specs.declared.instr.Target.TheVariants.{A as TargetA, B as TargetB, X as TargetX}
 use Rattle.instruction_table.specs.declared.decoding.Decoded.TheVariants.{Legal, Straddle}
-use Rattle.instruction_table.specs.declared.decoding.Entry.{Entry}
-use Rattle.instruction_table.specs.declared.decoding.Entry.TheVariants.{Short, Long, Refused}
+use Rattle.instruction_table.specs.declared.decoding.TableEntry.{TableEntry}
+use Rattle.instruction_table.specs.declared.decoding.TableEntry.TheVariants.{Short, Long, Refused}
 use Rattle.instruction_table.specs.Decoding.{x_test_at, entry, rows_01, branches, logicals, shifts, additions, others, increments, rows, entry_of, settled, following_at, reading_at}
 use Rattle.instruction_table.specs.Opcode.{op_at}
 use Rattle.instruction_table.specs.Pattern.{parcels_from, IsReadAs, IsByTable}
 use Rattle.instruction_table.proofs.RoundTrip.{no_code}
 
 -- what an entry says of the parcels that it is read from
-abbrev Agrees : ℕ → ℕ → Entry → Type 0
+abbrev Agrees : ℕ → ℕ → TableEntry → Type 0
 Agrees p q (Short instr) = IsReadAs instr (p ∷ [])
 Agrees p q (Long instr) = IsReadAs instr (p ∷ q ∷ [])
 Agrees p q (Refused op) = op ≡ op_at p
@@ -38,28 +38,28 @@ p also q = (p, q)
 -- ---- a row of entries ----
 
 -- each entry agrees with the parcel of its number
-abbrev AgreeFrom : (ℕ → ℕ) → ℕ → ℕ → List Entry → Type 0
+abbrev AgreeFrom : (ℕ → ℕ) → ℕ → ℕ → List TableEntry → Type 0
 AgreeFrom g n q [] = ⊤
 AgreeFrom g n q (e ∷ es) = Agrees (g n) q e × AgreeFrom g (suc n) q es
 
-agrees_at : (g : ℕ → ℕ) (es : List Entry) (c n m q : ℕ) → n ≡ c + m → m < length es → AgreeFrom g c q es → Agrees (g n) q (entry es m)
+agrees_at : (g : ℕ → ℕ) (es : List TableEntry) (c n m q : ℕ) → n ≡ c + m → m < length es → AgreeFrom g c q es → Agrees (g n) q (entry es m)
 agrees_at g [] c n m q h l a = absurd (omega (arith, l))
 agrees_at g (e ∷ es) c n zero q h l a = subst (λ x. Agrees (g x) q e) (omega (arith, h)) a.0
 agrees_at g (e ∷ es) c n (suc m) q h l a = agrees_at g es (suc c) n m q (omega (arith, h)) (omega (arith, l)) a.1
 
 -- each of several rows of eight
-abbrev AgreeRows : (ℕ → ℕ) → ℕ → ℕ → List (List Entry) → Type 0
+abbrev AgreeRows : (ℕ → ℕ) → ℕ → ℕ → List (List TableEntry) → Type 0
 AgreeRows g n q [] = ⊤
 AgreeRows g n q (row ∷ rs) = ((length row ≡ 8) × AgreeFrom g n q row) × AgreeRows g (n + 8) q rs
 
-agrees_in : (g : ℕ → ℕ) (rs : List (List Entry)) (c n f m q : ℕ) → n ≡ c + (8 * f + m) → f < length rs → m < 8 → AgreeRows g c q rs → Agrees (g n) q (entry (get_or rs f []) m)
+agrees_in : (g : ℕ → ℕ) (rs : List (List TableEntry)) (c n f m q : ℕ) → n ≡ c + (8 * f + m) → f < length rs → m < 8 → AgreeRows g c q rs → Agrees (g n) q (entry (get_or rs f []) m)
 agrees_in g [] c n f m q h l k a = absurd (omega (arith, l))
 agrees_in g (row ∷ rs) c n zero m q h l k a = let d : length row ≡ 8 = a.0.0 in agrees_at g row c n m q (omega (arith, h)) (omega (arith, k, d)) a.0.1
 agrees_in g (row ∷ rs) c n (suc f) m q h l k a = agrees_in g rs (c + 8) n f m q (omega (arith, h)) (omega (arith, l)) k a.1
 
 -- ---- each opcode ----
 
-abbrev all_rows : ℕ → ℕ → ℕ → ℕ → List (List Entry)
+abbrev all_rows : ℕ → ℕ → ℕ → ℕ → List (List TableEntry)
 all_rows i j k K =
     branches i j K
     ∷ logicals i j k
@@ -263,7 +263,7 @@ by_table word place l =
     by_length instr true t a = subst (λ n. IsReadAs instr (parcels_from word place n)) (let d : 2 ≡ place + 2 - place = omega arith in d) a
     by_length instr false t a = let f = ltb-false place 3 t in (omega (arith, l, f), (instr, a))
 
-    by_entry : (e : Entry) → entry_of (parcel_at word place) (following_at word place) ≡ e
+    by_entry : (e : TableEntry) → entry_of (parcel_at word place) (following_at word place) ≡ e
         → Agrees (parcel_at word place) (following_at word place) e → IsByTable word place (settled e place)
     by_entry (Short instr) h a = subst (λ n. IsReadAs instr (parcels_from word place n)) (let d : 1 ≡ place + 1 - place = omega arith in d) a
     by_entry (Long instr) h a = by_length instr (nat_lt place 3) refl a

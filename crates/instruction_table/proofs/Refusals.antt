@@ -5,28 +5,28 @@ use Rattle.std.proofs.lemmas.Bool.{eqb-false, or_parts}
 use Rattle.instructions.specs.declared.instr.Op.{Op}
 use Rattle.instructions.specs.declared.instr.Op.TheVariants.{Plain, Extended}
 use Rattle.instructions.specs.declared.instr.Target.TheVariants.{A as TargetA, B as TargetB, X as TargetX}
-use Rattle.instruction_table.specs.declared.decoding.Entry.{Entry}
-use Rattle.instruction_table.specs.declared.decoding.Entry.TheVariants.{Short, Long, Refused}
+use Rattle.instruction_table.specs.declared.decoding.TableEntry.{TableEntry}
+use Rattle.instruction_table.specs.declared.decoding.TableEntry.TheVariants.{Short, Long, Refused}
 use Rattle.instruction_table.specs.Decoding.{entry, rows_01, branches, logicals, shifts, additions, others, increments, rows, entry_of}
 use Rattle.instruction_table.specs.Opcode.{op_at}
 
-abbrev pub refused_op : Entry → Option Op
+abbrev pub refused_op : TableEntry → Option Op
 refused_op (Short instr) = None
 refused_op (Long instr) = None
 refused_op (Refused op) = Some op
 
-refused_at : (xs : List Entry) (m : ℕ) → refused_op (entry xs m) ≡ get_or (map refused_op xs) m None
+refused_at : (xs : List TableEntry) (m : ℕ) → refused_op (entry xs m) ≡ get_or (map refused_op xs) m None
 refused_at [] m = refl
 refused_at (x ∷ xs) zero = refl
 refused_at (x ∷ xs) (suc m) = refused_at xs m
 
-refused_in_row : (xss : List (List Entry)) (f m : ℕ) → refused_op (entry (get_or xss f []) m) ≡ get_or (get_or (map (map refused_op) xss) f []) m None
+refused_in_row : (xss : List (List TableEntry)) (f m : ℕ) → refused_op (entry (get_or xss f []) m) ≡ get_or (get_or (map (map refused_op) xss) f []) m None
 refused_in_row [] f m = refl
 refused_in_row (xs ∷ xss) zero m = refused_at xs m
 refused_in_row (xs ∷ xss) (suc f) m = refused_in_row xss f m
 
 -- the rows of the first digits above 0
-abbrev upper_rows : ℕ → ℕ → ℕ → ℕ → List (List Entry)
+abbrev upper_rows : ℕ → ℕ → ℕ → ℕ → List (List TableEntry)
 upper_rows i j k K =
     logicals i j k
     ∷ shifts i j k

@@ -18,8 +18,8 @@ use Rattle.instructions.specs.declared.instr.Pair.TheVariants.{XPlusB, APlusB, A
 use Rattle.instructions.specs.declared.instr.Addends.TheVariants.{Address, Registers}
 use Rattle.instruction_table.specs.declared.decoding.Decoded.{Decoded}
 use Rattle.instruction_table.specs.declared.decoding.Decoded.TheVariants.{Legal, Refused as RefusedOp, Straddle}
-use Rattle.instruction_table.specs.declared.decoding.Entry.{Entry}
-use Rattle.instruction_table.specs.declared.decoding.Entry.TheVariants.{Short, Long, Refused}
+use Rattle.instruction_table.specs.declared.decoding.TableEntry.{TableEntry}
+use Rattle.instruction_table.specs.declared.decoding.TableEntry.TheVariants.{Short, Long, Refused}
 
 -- what 030 to 037 ask of Xj, in the order of the digit i
 abbrev pub x_tests : List XTest
@@ -30,11 +30,11 @@ abbrev pub x_test_at : ℕ → XTest
 x_test_at i = get_or x_tests i Zero
 
 -- one of eight readings, by the octal digit m, or i after 01
-abbrev pub entry : List Entry → ℕ → Entry
+abbrev pub entry : List TableEntry → ℕ → TableEntry
 entry row m = get_or row m (Short Pass)
 
 -- the readings of 010 to 017, by the digit i: a return jump, and seven refused opcodes
-abbrev pub rows_01 : ℕ → List Entry
+abbrev pub rows_01 : ℕ → List TableEntry
 rows_01 K =
     Long (ReturnJump K)
     ∷ Refused (Extended 0 1 1)
@@ -47,11 +47,11 @@ rows_01 K =
     ∷ []
 
 -- the reading of 01 by the digit i: 010 is a return jump, and 011 to 017 are refused
-abbrev pub refused_01 : ℕ → ℕ → Entry
+abbrev pub refused_01 : ℕ → ℕ → TableEntry
 refused_01 i K = entry (rows_01 K) i
 
 -- the readings of 00 to 07, by the digit m: a stop and the branches, of which 01 and 03 go on by the digit i
-abbrev pub branches : ℕ → ℕ → ℕ → List Entry
+abbrev pub branches : ℕ → ℕ → ℕ → List TableEntry
 branches i j K =
     Short Stop
     ∷ refused_01 i K
@@ -64,7 +64,7 @@ branches i j K =
     ∷ []
 
 -- the readings of 10 to 17, by the digit m
-abbrev pub logicals : ℕ → ℕ → ℕ → List Entry
+abbrev pub logicals : ℕ → ℕ → ℕ → List TableEntry
 logicals i j k =
     Short (Copy i j)
     ∷ Short (Logical And i j k)
@@ -77,7 +77,7 @@ logicals i j k =
     ∷ []
 
 -- the readings of 20 to 27, by the digit m; 24 to 27 are refused
-abbrev pub shifts : ℕ → ℕ → ℕ → List Entry
+abbrev pub shifts : ℕ → ℕ → ℕ → List TableEntry
 shifts i j k =
     Short (ShiftBy Left i (8 * j + k))
     ∷ Short (ShiftBy Right i (8 * j + k))
@@ -90,7 +90,7 @@ shifts i j k =
     ∷ []
 
 -- the readings of 30 to 37, by the digit m; 30 to 35 are refused
-abbrev pub additions : ℕ → ℕ → ℕ → List Entry
+abbrev pub additions : ℕ → ℕ → ℕ → List TableEntry
 additions i j k =
     Refused (Plain 3 0)
     ∷ Refused (Plain 3 1)
@@ -103,7 +103,7 @@ additions i j k =
     ∷ []
 
 -- the readings of 40 to 47, by the digit m; 40 to 42, 44 and 45 are refused
-abbrev pub others : ℕ → ℕ → ℕ → List Entry
+abbrev pub others : ℕ → ℕ → ℕ → List TableEntry
 others i j k =
     Refused (Plain 4 0)
     ∷ Refused (Plain 4 1)
@@ -116,7 +116,7 @@ others i j k =
     ∷ []
 
 -- the readings of 50 to 57 for A, 60 to 67 for B and 70 to 77 for X, by the digit m
-abbrev pub increments : Target → ℕ → ℕ → ℕ → ℕ → List Entry
+abbrev pub increments : Target → ℕ → ℕ → ℕ → ℕ → List TableEntry
 increments target i j k K =
     Long (Increment target i (Address A j K))
     ∷ Long (Increment target i (Address B j K))
@@ -129,7 +129,7 @@ increments target i j k K =
     ∷ []
 
 -- the eight readings of the first digit f
-abbrev pub rows : ℕ → ℕ → ℕ → ℕ → ℕ → List Entry
+abbrev pub rows : ℕ → ℕ → ℕ → ℕ → ℕ → List TableEntry
 rows f i j k K = get_or
     (branches i j K
     ∷ logicals i j k
@@ -142,12 +142,12 @@ rows f i j k K = get_or
     ∷ []) f []
 
 -- the reading of a parcel that is followed by another, which has the low 15 bits of K
-unfoldable pub entry_of : ℕ → ℕ → Entry
+unfoldable pub entry_of : ℕ → ℕ → TableEntry
 entry_of parcel following =
     entry (rows (parcel / 2 ^ 12) (parcel / 2 ^ 6 % 8) (parcel / 2 ^ 3 % 8) (parcel % 8) (parcel % 8 * 2 ^ 15 + following)) (parcel / 2 ^ 9 % 8)
 
 -- a reading at a place of a word: an instruction and the place after it, a refused opcode, or a straddle
-abbrev pub settled : Entry → ℕ → Decoded
+abbrev pub settled : TableEntry → ℕ → Decoded
 settled (Short instr) place = Legal instr (place + 1)
 settled (Long instr) place = if nat_lt place 3 then Legal instr (place + 2) else Straddle
 settled (Refused op) place = RefusedOp op

@@ -24,7 +24,7 @@ pub enum Decoded {
 }
 
 /// What an opcode reads as, before its length is looked at.
-enum Entry {
+enum TableEntry {
     Short(Instr),
     Long(Instr),
     Refused(Op),
@@ -49,86 +49,86 @@ fn x_test(digit: Digit) -> XTest
 
 /// A refused opcode of two digits.
 #[inline(always)]
-fn refused(f: u16, m: Digit) -> Entry
+fn refused(f: u16, m: Digit) -> TableEntry
     requires { f < 8 }
-    ensures { result ≡ Entry.Refused (Op.Plain f m) }
+    ensures { result ≡ TableEntry.Refused (Op.Plain f m) }
 {
-    Entry::Refused(Op::Plain(Digit::low(f), m))
+    TableEntry::Refused(Op::Plain(Digit::low(f), m))
 }
 
 /// 010 to 017.
 #[inline(always)]
-fn return_jump(i: Digit, to: Word18) -> Entry
+fn return_jump(i: Digit, to: Word18) -> TableEntry
     ensures { result ≡ refused_01 i to }
 {
     match i.get() {
-        0 => Entry::Long(Instr::ReturnJump { to }),
-        _ => Entry::Refused(Op::Extended(Digit::low(0), Digit::low(1), i)),
+        0 => TableEntry::Long(Instr::ReturnJump { to }),
+        _ => TableEntry::Refused(Op::Extended(Digit::low(0), Digit::low(1), i)),
     }
 }
 
 /// 00 to 07.
 #[inline(always)]
-fn branch(m: Digit, i: Digit, j: Digit, to: Word18) -> Entry
+fn branch(m: Digit, i: Digit, j: Digit, to: Word18) -> TableEntry
     ensures { result ≡ entry (branches i j to) m }
 {
     let test = match m.get() {
-        0 => return Entry::Short(Instr::Stop),
+        0 => return TableEntry::Short(Instr::Stop),
         1 => return return_jump(i, to),
-        2 => return Entry::Long(Instr::Jump { i, to }),
+        2 => return TableEntry::Long(Instr::Jump { i, to }),
         3 => {
             let test = x_test(i);
-            return Entry::Long(Instr::BranchX { test, j, to });
+            return TableEntry::Long(Instr::BranchX { test, j, to });
         }
         4 => BTest::Equal,
         5 => BTest::NotEqual,
         6 => BTest::GreaterOrEqual,
         _ => BTest::Less,
     };
-    Entry::Long(Instr::BranchB { test, i, j, to })
+    TableEntry::Long(Instr::BranchB { test, i, j, to })
 }
 
 /// 10 to 17.
 #[inline(always)]
-fn logical(m: Digit, i: Digit, j: Digit, k: Digit) -> Entry
+fn logical(m: Digit, i: Digit, j: Digit, k: Digit) -> TableEntry
     ensures { result ≡ entry (logicals i j k) m }
 {
     let op = match m.get() {
-        0 => return Entry::Short(Instr::Copy { i, j }),
+        0 => return TableEntry::Short(Instr::Copy { i, j }),
         1 => Logic::And,
         2 => Logic::Or,
         3 => Logic::Xor,
-        4 => return Entry::Short(Instr::Invert { i, k }),
+        4 => return TableEntry::Short(Instr::Invert { i, k }),
         5 => Logic::AndNot,
         6 => Logic::OrNot,
         _ => Logic::XorNot,
     };
-    Entry::Short(Instr::Logical { op, i, j, k })
+    TableEntry::Short(Instr::Logical { op, i, j, k })
 }
 
 /// 20 to 27.
 #[inline(always)]
-fn shift(m: Digit, i: Digit, j: Digit, k: Digit) -> Entry
+fn shift(m: Digit, i: Digit, j: Digit, k: Digit) -> TableEntry
     ensures { result ≡ entry (shifts i j k) m }
 {
     match m.get() {
-        0 => Entry::Short(Instr::ShiftBy {
+        0 => TableEntry::Short(Instr::ShiftBy {
             direction: Direction::Left,
             i,
             count: SixBits::of(j, k),
         }),
-        1 => Entry::Short(Instr::ShiftBy {
+        1 => TableEntry::Short(Instr::ShiftBy {
             direction: Direction::Right,
             i,
             count: SixBits::of(j, k),
         }),
-        2 => Entry::Short(Instr::ShiftNominal {
+        2 => TableEntry::Short(Instr::ShiftNominal {
             direction: Direction::Left,
             i,
             j,
             k,
         }),
-        3 => Entry::Short(Instr::ShiftNominal {
+        3 => TableEntry::Short(Instr::ShiftNominal {
             direction: Direction::Right,
             i,
             j,
@@ -140,7 +140,7 @@ fn shift(m: Digit, i: Digit, j: Digit, k: Digit) -> Entry
 
 /// 30 to 37.
 #[inline(always)]
-fn addition(m: Digit, i: Digit, j: Digit, k: Digit) -> Entry
+fn addition(m: Digit, i: Digit, j: Digit, k: Digit) -> TableEntry
     ensures { result ≡ entry (additions i j k) m }
 {
     let op = match m.get() {
@@ -148,38 +148,38 @@ fn addition(m: Digit, i: Digit, j: Digit, k: Digit) -> Entry
         6 => Addition::Sum,
         _ => Addition::Difference,
     };
-    Entry::Short(Instr::LongAdd { op, i, j, k })
+    TableEntry::Short(Instr::LongAdd { op, i, j, k })
 }
 
 /// 40 to 47.
 #[inline(always)]
-fn other(m: Digit, i: Digit, j: Digit, k: Digit) -> Entry
+fn other(m: Digit, i: Digit, j: Digit, k: Digit) -> TableEntry
     ensures { result ≡ entry (others i j k) m }
 {
     match m.get() {
         0..=2 => refused(4, m),
-        3 => Entry::Short(Instr::Mask {
+        3 => TableEntry::Short(Instr::Mask {
             i,
             count: SixBits::of(j, k),
         }),
         4 | 5 => refused(4, m),
-        6 => Entry::Short(Instr::Pass),
-        _ => Entry::Short(Instr::CountOnes { i, k }),
+        6 => TableEntry::Short(Instr::Pass),
+        _ => TableEntry::Short(Instr::CountOnes { i, k }),
     }
 }
 
 /// The instructions of 50 to 77 that add an address.
 #[inline(always)]
-fn address_increment(target: Target, i: Digit, base: Base, j: Digit, address: Word18) -> Entry
-    ensures { result ≡ Entry.Long (Instr.Increment target i (Addends.Address base j address)) }
+fn address_increment(target: Target, i: Digit, base: Base, j: Digit, address: Word18) -> TableEntry
+    ensures { result ≡ TableEntry.Long (Instr.Increment target i (Addends.Address base j address)) }
 {
     let addends = Addends::Address { base, j, address };
-    Entry::Long(Instr::Increment { target, i, addends })
+    TableEntry::Long(Instr::Increment { target, i, addends })
 }
 
 /// 50 to 77.
 #[inline(always)]
-fn increment(target: Target, m: Digit, i: Digit, j: Digit, k: Digit, address: Word18) -> Entry
+fn increment(target: Target, m: Digit, i: Digit, j: Digit, k: Digit, address: Word18) -> TableEntry
     ensures { result ≡ entry (increments target i j k address) m }
 {
     let pair = match m.get() {
@@ -193,12 +193,12 @@ fn increment(target: Target, m: Digit, i: Digit, j: Digit, k: Digit, address: Wo
         _ => Pair::BMinusB,
     };
     let addends = Addends::Registers { pair, j, k };
-    Entry::Short(Instr::Increment { target, i, addends })
+    TableEntry::Short(Instr::Increment { target, i, addends })
 }
 
 /// The reading of a parcel that is followed by another.
 #[inline(always)]
-fn entry_at(parcel: u16, following: u16) -> Entry
+fn entry_at(parcel: u16, following: u16) -> TableEntry
     requires parcel { parcel < 2 ^ 15 }
     requires following { following < 2 ^ 15 }
     ensures { result ≡ entry_of parcel following }
@@ -244,10 +244,10 @@ pub fn decode_as(word: Word60, place: u8, digits: u16) -> Decoded
 {
     let low = parcel_of(word, place) % 0x200;
     match entry_at(digits * 0x200 + low, following(word, place)) {
-        Entry::Short(instr) => Decoded::Legal(instr, place + 1),
-        Entry::Long(instr) if place < 3 => Decoded::Legal(instr, place + 2),
-        Entry::Long(_) => Decoded::Straddle,
-        Entry::Refused(op) => Decoded::Refused(op),
+        TableEntry::Short(instr) => Decoded::Legal(instr, place + 1),
+        TableEntry::Long(instr) if place < 3 => Decoded::Legal(instr, place + 2),
+        TableEntry::Long(_) => Decoded::Straddle,
+        TableEntry::Refused(op) => Decoded::Refused(op),
     }
 }
 

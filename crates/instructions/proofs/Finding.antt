@@ -1,17 +1,17 @@
 -- Who is found in a list.
 use Rattle.std.proofs.Common.{◌≡◌, List, [], ◌∷◌, ◌++◌, Option, Some, None, refl, ap, ◌∙◌, subst}
 use Rattle.instructions.specs.Each.{Each}
-use Rattle.instructions.specs.Finding.{Found, found_behind, found_here, seek, put_back, replaced}
+use Rattle.instructions.specs.Finding.{Found, found_further, found_here, seek, put_back, replaced}
 
 pub some_inj : {K : Type 0} (x y : K) → Some x ≡ Some y → x ≡ y
 some_inj x y e = cc
 
 -- what was found is one of the list, the answer is about it, and none before it answers
 abbrev pub Splits : {M K : Type 0} → (M → Option K) → List M → Found M K → Type 0
-Splits f ms x = (ms ≡ x.earlier ++ x.member ∷ x.later) × (f x.member ≡ Some x.what) × Each (λ e. f e ≡ None) x.earlier
+Splits f ms x = (ms ≡ x.earlier ++ x.member ∷ x.later) × (f x.member ≡ Some x.answer) × Each (λ e. f e ≡ None) x.earlier
 
 pub seek_splits : {M K : Type 0} (f : M → Option K) (ms : List M) (x : Found M K) → seek f ms ≡ Some x → Splits f ms x
-unfolding seek found_here found_behind
+unfolding seek found_here found_further
 seek_splits f [] x h = cc
 seek_splits {M} {K} f (m ∷ ms) x h = here (seek_splits f ms) (f m) refl (seek f ms) refl h
   where
@@ -23,15 +23,15 @@ seek_splits {M} {K} f (m ∷ ms) x h = here (seek_splits f ms) (f m) refl (seek 
         subst (Splits f (m ∷ ms)) (some_inj _ x k) (ap (λ l. m ∷ l) p.0, p.1, (e, p.2))
 
 -- one is found where none before it answers
-pub seek_around : {M K : Type 0} (f : M → Option K) (es : List M) (m : M) (x : K) (ls : List M) → Each (λ e. f e ≡ None) es → f m ≡ Some x → seek f (es ++ m ∷ ls) ≡ Some (record { earlier = es; member = m; what = x; later = ls })
-unfolding seek found_here found_behind
+pub seek_around : {M K : Type 0} (f : M → Option K) (es : List M) (m : M) (x : K) (ls : List M) → Each (λ e. f e ≡ None) es → f m ≡ Some x → seek f (es ++ m ∷ ls) ≡ Some (record { earlier = es; member = m; answer = x; later = ls })
+unfolding seek found_here found_further
 seek_around f [] m x ls h e = ap (λ o. found_here o m ls (seek f ls)) e
-seek_around f (y ∷ es) m x ls h e = ap (λ o. found_here o y (es ++ m ∷ ls) (seek f (es ++ m ∷ ls))) h.0 ∙ ap (found_behind y) (seek_around f es m x ls h.1 e)
+seek_around f (y ∷ es) m x ls h e = ap (λ o. found_here o y (es ++ m ∷ ls) (seek f (es ++ m ∷ ls))) h.0 ∙ ap (found_further y) (seek_around f es m x ls h.1 e)
 
 pub seek_nobody : {M K : Type 0} (f : M → Option K) (ms : List M) → Each (λ m. f m ≡ None) ms → seek f ms ≡ None
-unfolding seek found_here found_behind
+unfolding seek found_here found_further
 seek_nobody f [] h = refl
-seek_nobody f (m ∷ ms) h = ap (λ o. found_here o m ms (seek f ms)) h.0 ∙ ap (found_behind m) (seek_nobody f ms h.1)
+seek_nobody f (m ∷ ms) h = ap (λ o. found_here o m ms (seek f ms)) h.0 ∙ ap (found_further m) (seek_nobody f ms h.1)
 
 -- others stand in its place
 pub replaced_around : {M K : Type 0} (f : M → Option K) (g : M → List M) (es : List M) (m : M) (x : K) (ls : List M) → Each (λ e. f e ≡ None) es → f m ≡ Some x → replaced (seek f (es ++ m ∷ ls)) (es ++ m ∷ ls) g ≡ es ++ (g m ++ ls)

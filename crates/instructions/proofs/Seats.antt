@@ -10,7 +10,7 @@ use Rattle.instructions.specs.Finding.{seek}
 use Rattle.instructions.specs.Order.{insert_by, sort_by, somes, IsSeated}
 use Rattle.instructions.proofs.Finding.{seek_around, seek_nobody}
 use Rattle.instructions.proofs.Lists.{any_of_each, each_left, each_right, each_append, each_map, pairs_before, pairs_right, pairs_without}
-use Rattle.instructions.proofs.Sorted.{below, above, insert_splits, insert_last, below-above, sort_around, sort_each, before_place, behind_place, somes-at, somes-set_some, somes-set_none, somes-empty}
+use Rattle.instructions.proofs.Sorted.{below, above, insert_splits, insert_last, below-above, sort_around, sort_each, before_place, after_place, somes-at, somes-set_some, somes-set_none, somes-empty}
 
 pub within : {K : Type 0} (os : List (Option K)) (i : ℕ) (x : K) → get_or os i None ≡ Some x → i < length os
 within [] i x h = cc
@@ -30,29 +30,29 @@ pub others_differ : {K : Type 0} (key : K → ℕ) (os : List (Option K)) (i : �
 others_differ key os i m h own =
     let split = subst (HasOwnKeys key) (somes-at os i m h) own in
     subst (Each (λ x. key x ≢ key m)) (sym (somes-set_none os i (within os i m h)))
-    (each_append (λ x. key x ≢ key m) (before_place os i) (behind_place os i)
-    (pairs_before (λ a b. key a ≢ key b) (before_place os i) m (behind_place os i) split)
-    (each_map (λ x. key m ≢ key x) (λ x. key x ≢ key m) (λ x k. λ e. k (sym e)) (behind_place os i) (pairs_right (λ a b. key a ≢ key b) (before_place os i) (m ∷ behind_place os i) split).0))
+    (each_append (λ x. key x ≢ key m) (before_place os i) (after_place os i)
+    (pairs_before (λ a b. key a ≢ key b) (before_place os i) m (after_place os i) split)
+    (each_map (λ x. key m ≢ key x) (λ x. key x ≢ key m) (λ x k. λ e. k (sym e)) (after_place os i) (pairs_right (λ a b. key a ≢ key b) (before_place os i) (m ∷ after_place os i) split).0))
 
 pub own_taken : {K : Type 0} (key : K → ℕ) (os : List (Option K)) (i : ℕ) (m : K) → get_or os i None ≡ Some m → HasOwnKeys key (somes os) → HasOwnKeys key (somes (set os i None))
 own_taken key os i m h own =
     subst (HasOwnKeys key) (sym (somes-set_none os i (within os i m h)))
-    (pairs_without (λ a b. key a ≢ key b) (before_place os i) m (behind_place os i) (subst (HasOwnKeys key) (somes-at os i m h) own))
+    (pairs_without (λ a b. key a ≢ key b) (before_place os i) m (after_place os i) (subst (HasOwnKeys key) (somes-at os i m h) own))
 
 pub own_put : {K : Type 0} (key : K → ℕ) (os : List (Option K)) (i : ℕ) (m : K) → get_or os i None ≡ None → i < length os → Each (λ x. key x ≢ key m) (somes os) → HasOwnKeys key (somes os) → HasOwnKeys key (somes (set os i (Some m)))
 own_put key os i m h l d own =
     let e = somes-empty os i h l in
     let dd = subst (Each (λ x. key x ≢ key m)) e d in
     subst (HasOwnKeys key) (sym (somes-set_some os i m l))
-    (pairs_insert (λ a b. key a ≢ key b) (before_place os i) m (behind_place os i) (subst (HasOwnKeys key) e own)
-    (each_left (λ x. key x ≢ key m) (before_place os i) (behind_place os i) dd)
-    (each_map (λ x. key x ≢ key m) (λ x. key m ≢ key x) (λ x k. λ i. k (sym i)) (behind_place os i) (each_right (λ x. key x ≢ key m) (before_place os i) (behind_place os i) dd)))
+    (pairs_insert (λ a b. key a ≢ key b) (before_place os i) m (after_place os i) (subst (HasOwnKeys key) e own)
+    (each_left (λ x. key x ≢ key m) (before_place os i) (after_place os i) dd)
+    (each_map (λ x. key x ≢ key m) (λ x. key m ≢ key x) (λ x k. λ i. k (sym i)) (after_place os i) (each_right (λ x. key x ≢ key m) (before_place os i) (after_place os i) dd)))
 
 -- one taken out of its seat
 pub sort_take : {K : Type 0} (key : K → ℕ) (os : List (Option K)) (i : ℕ) (m : K) → get_or os i None ≡ Some m → HasOwnKeys key (somes os) → sort_by key (somes os) ≡ insert_by key m (sort_by key (somes (set os i None)))
 sort_take key os i m h own =
     ap (sort_by key) (somes-at os i m h)
-    ∙ sort_around key (before_place os i) m (behind_place os i) (pairs_before (λ a b. key a ≢ key b) (before_place os i) m (behind_place os i) (subst (HasOwnKeys key) (somes-at os i m h) own))
+    ∙ sort_around key (before_place os i) m (after_place os i) (pairs_before (λ a b. key a ≢ key b) (before_place os i) m (after_place os i) (subst (HasOwnKeys key) (somes-at os i m h) own))
     ∙ ap (λ l. insert_by key m (sort_by key l)) (sym (somes-set_none os i (within os i m h)))
 
 -- one put into an empty seat
@@ -60,7 +60,7 @@ pub sort_put : {K : Type 0} (key : K → ℕ) (os : List (Option K)) (i : ℕ) (
 sort_put key os i m h l d =
     let e = somes-empty os i h l in
     ap (sort_by key) (somes-set_some os i m l)
-    ∙ sort_around key (before_place os i) m (behind_place os i) (each_left (λ x. key x ≢ key m) (before_place os i) (behind_place os i) (subst (Each (λ x. key x ≢ key m)) e d))
+    ∙ sort_around key (before_place os i) m (after_place os i) (each_left (λ x. key x ≢ key m) (before_place os i) (after_place os i) (subst (Each (λ x. key x ≢ key m)) e d))
     ∙ ap (λ q. insert_by key m (sort_by key q)) (sym e)
 
 -- the list in order with it, and without it
@@ -168,9 +168,9 @@ after_seat key os i x = above key (key x) (sort_by key (somes (set os i None)))
 pub each_before : {K : Type 0} (key : K → ℕ) (P : K → Type 0) (os : List (Option K)) (i : ℕ) (x : K) → Each P (somes (set os i None)) → Each P (before_seat key os i x)
 each_before key P os i x h = each_left P (before_seat key os i x) (after_seat key os i x) (subst (Each P) (below-above key (key x) (sort_by key (somes (set os i None)))) (sort_each key P (somes (set os i None)) h))
 
-pub found_there : {K W : Type 0} (key : K → ℕ) (f : K → Option W) (os : List (Option K)) (i : ℕ) (m : K) (what : W) → get_or os i None ≡ Some m → HasOwnKeys key (somes os) → f m ≡ Some what → Each (λ y. f y ≡ None) (somes (set os i None)) → seek f (sort_by key (somes os)) ≡ Some (record { earlier = before_seat key os i m; member = m; what = what; later = after_seat key os i m })
-found_there key f os i m what h own e s =
-    ap (seek f) (taken_with key os i m h own) ∙ seek_around f (before_seat key os i m) m what (after_seat key os i m) (each_before key (λ y. f y ≡ None) os i m s) e
+pub found_there : {K W : Type 0} (key : K → ℕ) (f : K → Option W) (os : List (Option K)) (i : ℕ) (m : K) (answer : W) → get_or os i None ≡ Some m → HasOwnKeys key (somes os) → f m ≡ Some answer → Each (λ y. f y ≡ None) (somes (set os i None)) → seek f (sort_by key (somes os)) ≡ Some (record { earlier = before_seat key os i m; member = m; answer = answer; later = after_seat key os i m })
+found_there key f os i m answer h own e s =
+    ap (seek f) (taken_with key os i m h own) ∙ seek_around f (before_seat key os i m) m answer (after_seat key os i m) (each_before key (λ y. f y ≡ None) os i m s) e
 
 pub found_nobody : {K W : Type 0} (key : K → ℕ) (f : K → Option W) (os : List (Option K)) → Each (λ y. f y ≡ None) (somes os) → seek f (sort_by key (somes os)) ≡ None
 found_nobody key f os s = seek_nobody f (sort_by key (somes os)) (sort_each key (λ y. f y ≡ None) (somes os) s)

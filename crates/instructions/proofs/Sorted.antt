@@ -180,15 +180,15 @@ before_place (o ∷ os) zero = []
 before_place (None ∷ os) (suc i) = before_place os i
 before_place (Some x ∷ os) (suc i) = x ∷ before_place os i
 
-unfoldable pub behind_place : {K : Type 0} → List (Option K) → ℕ → List K
-behind_place [] i = []
-behind_place (o ∷ os) zero = somes os
-behind_place (None ∷ os) (suc i) = behind_place os i
-behind_place (Some x ∷ os) (suc i) = behind_place os i
+unfoldable pub after_place : {K : Type 0} → List (Option K) → ℕ → List K
+after_place [] i = []
+after_place (o ∷ os) zero = somes os
+after_place (None ∷ os) (suc i) = after_place os i
+after_place (Some x ∷ os) (suc i) = after_place os i
 
 -- a place that is filled, whatever it held
-pub somes-set_some : {K : Type 0} (os : List (Option K)) (i : ℕ) (y : K) → i < length os → somes (set os i (Some y)) ≡ before_place os i ++ y ∷ behind_place os i
-unfolding somes before_place behind_place
+pub somes-set_some : {K : Type 0} (os : List (Option K)) (i : ℕ) (y : K) → i < length os → somes (set os i (Some y)) ≡ before_place os i ++ y ∷ after_place os i
+unfolding somes before_place after_place
 somes-set_some [] i y h = absurd (omega arith)
 somes-set_some (None ∷ os) zero y h = refl
 somes-set_some (Some x ∷ os) zero y h = refl
@@ -196,8 +196,8 @@ somes-set_some (None ∷ os) (suc i) y h = somes-set_some os i y (omega arith)
 somes-set_some (Some x ∷ os) (suc i) y h = ap (λ l. x ∷ l) (somes-set_some os i y (omega arith))
 
 -- a place that is emptied
-pub somes-set_none : {K : Type 0} (os : List (Option K)) (i : ℕ) → i < length os → somes (set os i None) ≡ before_place os i ++ behind_place os i
-unfolding somes before_place behind_place
+pub somes-set_none : {K : Type 0} (os : List (Option K)) (i : ℕ) → i < length os → somes (set os i None) ≡ before_place os i ++ after_place os i
+unfolding somes before_place after_place
 somes-set_none [] i h = absurd (omega arith)
 somes-set_none (None ∷ os) zero h = refl
 somes-set_none (Some x ∷ os) zero h = refl
@@ -205,8 +205,8 @@ somes-set_none (None ∷ os) (suc i) h = somes-set_none os i (omega arith)
 somes-set_none (Some x ∷ os) (suc i) h = ap (λ l. x ∷ l) (somes-set_none os i (omega arith))
 
 -- a place that holds something
-pub somes-at : {K : Type 0} (os : List (Option K)) (i : ℕ) (x : K) → get_or os i None ≡ Some x → somes os ≡ before_place os i ++ x ∷ behind_place os i
-unfolding somes before_place behind_place
+pub somes-at : {K : Type 0} (os : List (Option K)) (i : ℕ) (x : K) → get_or os i None ≡ Some x → somes os ≡ before_place os i ++ x ∷ after_place os i
+unfolding somes before_place after_place
 somes-at [] i x h = cc
 somes-at (None ∷ os) zero x h = cc
 somes-at (Some y ∷ os) zero x h = let e : y ≡ x = cc in ap (λ z. z ∷ somes os) e
@@ -214,8 +214,8 @@ somes-at (None ∷ os) (suc i) x h = somes-at os i x h
 somes-at (Some y ∷ os) (suc i) x h = ap (λ l. y ∷ l) (somes-at os i x h)
 
 -- a place that holds nothing
-pub somes-empty : {K : Type 0} (os : List (Option K)) (i : ℕ) → get_or os i None ≡ None → i < length os → somes os ≡ before_place os i ++ behind_place os i
-unfolding somes before_place behind_place
+pub somes-empty : {K : Type 0} (os : List (Option K)) (i : ℕ) → get_or os i None ≡ None → i < length os → somes os ≡ before_place os i ++ after_place os i
+unfolding somes before_place after_place
 somes-empty [] i h l = absurd (omega arith)
 somes-empty (None ∷ os) zero h l = refl
 somes-empty (Some y ∷ os) zero h l = cc

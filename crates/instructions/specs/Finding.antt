@@ -9,19 +9,19 @@ pub record Found (M K : Type 0) : Type 0 where
   -- the one itself
   pub member : M
   -- its answer to what was asked
-  pub what : K
+  pub answer : K
   -- those of the list after it
   pub later : List M
 
 -- what was found among those after m, with m among the earlier ones
-unfoldable pub found_behind : {M K : Type 0} → M → Option (Found M K) → Option (Found M K)
-found_behind m None = None
-found_behind m (Some f) = Some (record f { earlier = m ∷ f.earlier })
+unfoldable pub found_further : {M K : Type 0} → M → Option (Found M K) → Option (Found M K)
+found_further m None = None
+found_further m (Some f) = Some (record f { earlier = m ∷ f.earlier })
 
 -- the one at hand where it answers, and else what was found among those after it
 unfoldable pub found_here : {M K : Type 0} → Option K → M → List M → Option (Found M K) → Option (Found M K)
-found_here (Some x) m ms rest = Some (record { earlier = []; member = m; what = x; later = ms })
-found_here None m ms rest = found_behind m rest
+found_here (Some x) m ms rest = Some (record { earlier = []; member = m; answer = x; later = ms })
+found_here None m ms rest = found_further m rest
 
 -- the first of a list that answers, if one does
 unfoldable pub seek : {M K : Type 0} → (M → Option K) → List M → Option (Found M K)

@@ -6,7 +6,7 @@ use Rattle.device_text.specs.Device.{Moves}
 use Rattle.device_text.specs.Line.{IsText, LineTaken, lines_of}
 use Rattle.job_deck.specs.Schedule.{heard, spoken}
 use Rattle.job_deck.specs.Holding.{Hears}
-use Rattle.device_text.specs.declared.line.Took.TheVariants.{Whole, Long}
+use Rattle.device_text.specs.declared.line.Took.TheVariants.{Processor, Long}
 use Rattle.job_deck.specs.declared.schedule.Spoken.{Spoken}
 use Rattle.job_deck.specs.declared.schedule.Spoken.TheVariants.{Makes, Ends, Drains, Faulty}
 use Rattle.device_text.proofs.Lines.{FirstHas, lines_whole, lines_first_long}
@@ -24,9 +24,9 @@ hears_taken n Ends xs ys text h t = (h, (text, t))
 hears_taken n Drains xs ys text h t = (h, (text, t))
 hears_taken n (Faulty fault) xs ys text h t = h
 
-pub hears_whole : (a b : Option (List ℕ)) (n : ℕ) (text : List ℕ) (s : Spoken) → n ≤ 10000000 → IsText text → length text ≤ 200 → s ≡ spoken text → Moves a b (LineTaken Whole text) → Moves a b (Hears n s)
+pub hears_whole : (a b : Option (List ℕ)) (n : ℕ) (text : List ℕ) (s : Spoken) → n ≤ 10000000 → IsText text → length text ≤ 200 → s ≡ spoken text → Moves a b (LineTaken Processor text) → Moves a b (Hears n s)
 hears_whole a b n text s low is short said m =
-    Moves-weaker a b (LineTaken Whole text) (Hears n s) (λ xs ys q.
+    Moves-weaker a b (LineTaken Processor text) (Hears n s) (λ xs ys q.
     let t = lines_whole text xs ys is q in
     hears_taken n s xs ys text (ap (heard n) t ∙ whole_line n text ys low short ∙ sym said) t) m
 

@@ -6,11 +6,11 @@ use Rattle.instruction_table.specs.declared.decoding.Decoded.{Decoded}
 use Rattle.instruction_table.specs.declared.decoding.Decoded.TheVariants.{Legal, Refused, Straddle}
 use Rattle.instruction_table.specs.Decoding.{reading_at, GoesOn}
 use Rattle.device_text.specs.Device.{WritesAllBut, WritesFront}
-use Rattle.job_deck.specs.Listing.{item_text, behind, separator, items_from}
+use Rattle.job_deck.specs.Listing.{item_text, after, separator, items_from}
 use Rattle.device_text.proofs.Moving.{piece_written, piece_cut, all_written}
 
 -- an item takes a parcel at least
-pub goes_on : (parcel : ℕ) (item : Decoded) → GoesOn parcel item → parcel < behind parcel item
+pub goes_on : (parcel : ℕ) (item : Decoded) → GoesOn parcel item → parcel < after parcel item
 goes_on parcel (Legal instr next) range = range.0
 goes_on parcel (Refused op) range = omega arith
 goes_on parcel Straddle range = omega arith
@@ -22,8 +22,8 @@ AllButItems word parcel old new all = (most : ℕ) × (4 ≤ most + parcel) × W
 -- the first of these items, and the others
 abbrev FirstItem : ℕ → ℕ → ℕ → Type 0
 FirstItem most word parcel =
-    (fewer : ℕ) × (4 ≤ fewer + behind parcel (reading_at word parcel))
-    × (items_from most word parcel ≡ separator parcel ++ (item_text (reading_at word parcel) ++ items_from fewer word (behind parcel (reading_at word parcel))))
+    (fewer : ℕ) × (4 ≤ fewer + after parcel (reading_at word parcel))
+    × (items_from most word parcel ≡ separator parcel ++ (item_text (reading_at word parcel) ++ items_from fewer word (after parcel (reading_at word parcel))))
 
 first_item : (most word parcel : ℕ) → GoesOn parcel (reading_at word parcel) → parcel < 4 → 4 ≤ most + parcel → FirstItem most word parcel
 first_item zero word parcel range low enough = absurd (omega arith)
@@ -32,7 +32,7 @@ first_item (suc fewer) word parcel range low enough =
     let within : ltb parcel 4 ≡ true = lt-ltb _ _ low in
     (fewer, omega (arith, on), rw within refl)
 
-pub item_done : (word parcel : ℕ) (a b c d : Option (List ℕ)) (all : List ℕ) → GoesOn parcel (reading_at word parcel) → parcel < 4 → AllButItems word parcel a b all → Appends b c (separator parcel) → Appends c d (item_text (reading_at word parcel)) → AllButItems word (behind parcel (reading_at word parcel)) a d all
+pub item_done : (word parcel : ℕ) (a b c d : Option (List ℕ)) (all : List ℕ) → GoesOn parcel (reading_at word parcel) → parcel < 4 → AllButItems word parcel a b all → Appends b c (separator parcel) → Appends c d (item_text (reading_at word parcel)) → AllButItems word (after parcel (reading_at word parcel)) a d all
 item_done word parcel a b c d all range low left before item =
     let first = first_item left.0 word parcel range low left.1 in
     let parts = subst (λ l. WritesAllBut l a b all) first.2 left.2 in

@@ -23,10 +23,10 @@ item_text (Refused op) = codes "?" ++ code_text op
 item_text Straddle = codes "?straddle"
 
 -- the parcel after an item; an opcode that is refused counts as one parcel
-abbrev pub behind : ℕ → Decoded → ℕ
-behind parcel (Legal instr next) = next
-behind parcel (Refused op) = parcel + 1
-behind parcel Straddle = parcel + 1
+abbrev pub after : ℕ → Decoded → ℕ
+after parcel (Legal instr next) = next
+after parcel (Refused op) = parcel + 1
+after parcel Straddle = parcel + 1
 
 -- what stands before an item: nothing before the first
 abbrev pub separator : ℕ → List ℕ
@@ -36,7 +36,7 @@ separator parcel = if parcel == 0 then [] else codes "; "
 abbrev pub items_from : ℕ → ℕ → ℕ → List ℕ
 items_from zero word parcel = []
 items_from (suc more) word parcel =
-    if nat_lt parcel 4 then separator parcel ++ (item_text (reading_at word parcel) ++ items_from more word (behind parcel (reading_at word parcel))) else []
+    if nat_lt parcel 4 then separator parcel ++ (item_text (reading_at word parcel) ++ items_from more word (after parcel (reading_at word parcel))) else []
 
 -- the items of a word, which has at most four
 unfoldable pub items_text : ℕ → List ℕ

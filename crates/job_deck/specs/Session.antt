@@ -9,7 +9,7 @@ use Rattle.program_order.specs.declared.event.Event.{Event}
 use Rattle.program_order.specs.Reached.{GoesOnByWork}
 use Rattle.program_order.specs.Run.{IsAnswer, IsAnswered, settled_all}
 use Rattle.in_flight.specs.Lookup.{is_pending}
-use Rattle.program_order.specs.Processor.{Whole, replayed}
+use Rattle.program_order.specs.Processor.{Processor, replayed}
 use Rattle.program_order.specs.Working.{Works}
 use Rattle.job_deck.specs.AnswerText.{answer_line}
 use Rattle.job_deck.specs.Dump.{dump_text, log_line}
@@ -26,7 +26,7 @@ Says n (e ∷ events) (line ∷ lines) left = (heard n (line ∷ lines) ≡ Make
 -- a session so far, with machine w and these lines from line n on: the first lines said events, and each event got an
 -- answer that may be given. IsLed relates events and their answers with a machine to which they lead, from wherever it
 -- is told: from boot, where it is `IsReached memory budget`
-pub record Session (IsLed : List Event → List (Result Done Refusal) → Whole → Type 0) (w : Whole) (n : ℕ)
+pub record Session (IsLed : List Event → List (Result Done Refusal) → Processor → Type 0) (w : Processor) (n : ℕ)
     (lines : List (List ℕ × List ℕ)) : Type 0 where
   -- the events that the first lines say, one a line
   pub events : List Event
@@ -37,7 +37,7 @@ pub record Session (IsLed : List Event → List (Result Done Refusal) → Whole 
   pub answers : List (Result Done Refusal)
   pub answered : IsAnswered w events answers
   -- the machine that the answers leave
-  pub machine : Whole
+  pub machine : Processor
   pub leads : machine ≡ settled_all w events answers
   -- the events with the answers lead to it
   pub led : IsLed events answers machine
@@ -49,7 +49,7 @@ pub record Session (IsLed : List Event → List (Result Done Refusal) → Whole 
   pub written : text ≡ flat_map answer_line answers
 
 -- the dump of a drained machine, whose state is the replay of its log
-pub record IsDump (w : Whole) (shows : List (ℕ × ℕ)) (text : List ℕ) : Type 0 where
+pub record IsDump (w : Processor) (shows : List (ℕ × ℕ)) (text : List ℕ) : Type 0 where
   -- no issued instruction has an effect still to come
   pub drained : is_pending w.pending ≡ false
   -- the machine that does one instruction at a time comes from boot to this state by the log
@@ -58,16 +58,16 @@ pub record IsDump (w : Whole) (shows : List (ℕ × ℕ)) (text : List ℕ) : Ty
   pub dump : text ≡ dump_text w.state (entries_of w.log) shows
 
 -- of a machine that isn't drained only the line `NOT DRAINED` and the log line are printed
-abbrev pub not_drained_text : Whole → List ℕ
+abbrev pub not_drained_text : Processor → List ℕ
 not_drained_text w = concat (codes "NOT DRAINED\n" ∷ log_line (entries_of w.log) ∷ [])
 
 -- what may be written for what a line says: an answer's line; at `end` the dump, or that the machine isn't drained; at
 -- `drain` the dump of the machine to which at most forty accepted events lead, none of them an issue, a request or an
 -- exchange, and to which so many such events more lead from wherever the first machine was reached
-abbrev pub IsReply : Spoken → Whole → List (ℕ × ℕ) → List ℕ → Type 0
+abbrev pub IsReply : Spoken → Processor → List (ℕ × ℕ) → List ℕ → Type 0
 IsReply (Makes e) w shows text = (answer : Result Done Refusal) × IsAnswer w e answer × (text ≡ answer_line answer)
 IsReply Ends w shows text = IsDump w shows text ⊎ ((is_pending w.pending ≡ true) × (text ≡ not_drained_text w))
-IsReply Drains w shows text = (v : Whole) × (count : ℕ) × Works w v count × GoesOnByWork w count v × IsDump v shows text
+IsReply Drains w shows text = (v : Processor) × (count : ℕ) × Works w v count × GoesOnByWork w count v × IsDump v shows text
 IsReply (Faulty fault) w shows text = ⊥
 
 -- the line ends the session: it says `end` or `drain`

@@ -7,7 +7,7 @@ use Rattle.instructions.specs.declared.refusal.Refusal.TheVariants as refusals
 use Rattle.program_order.specs.declared.event.Done.{Done}
 use Rattle.program_order.specs.declared.event.Event.{Event}
 use Rattle.program_order.specs.Reached.{IsReached}
-use Rattle.program_order.specs.Processor.{Whole, boot_whole}
+use Rattle.program_order.specs.Processor.{Processor, boot_processor}
 use Rattle.deck.specs.Deck.{Plan, Reading, Good, Bad}
 use Rattle.device_text.specs.Line.{IsText, lines_of}
 use Rattle.job_deck.specs.Schedule.{heard}
@@ -27,7 +27,7 @@ WritesCut old new text last = (front : List ℕ) × (rest : List ℕ) × (last �
 -- a session with machine w from line n on: an `Ok` has written it all, and leaves what follows its last line; at a
 -- fault, a failed read and want of memory for the dump each line before has its whole answer; a failed write has cut
 -- the reply to the line that was read last. IsLed is what holds of the events, the answers and the machine so far
-abbrev pub Tells : Result (Unit {0}) SessionError → (List Event → List (Result Done Refusal) → Whole → Type 0) → Whole
+abbrev pub Tells : Result (Unit {0}) SessionError → (List Event → List (Result Done Refusal) → Processor → Type 0) → Processor
     → ℕ → List (ℕ × ℕ) → List ℕ → List ℕ → Option (List ℕ) → Option (List ℕ) → Type 0
 Tells (Ok x) IsLed w n shows xs rest old new =
     (s : Session IsLed w n (lines_of xs)) × (text : List ℕ) × IsLast (heard s.number s.left)
@@ -52,7 +52,7 @@ HasNotBegun after rest old new = (length after ≤ length rest) × Keeps old new
 abbrev pub TellsFromBoot : Result (Unit {0}) SessionError → ℕ → Plan → ℕ → List ℕ → List ℕ → Option (List ℕ)
     → Option (List ℕ) → Type 0
 TellsFromBoot result budget plan n after rest old new =
-    Tells result (IsReached plan.image.memory budget) (boot_whole plan.image.memory budget) (n + 1) plan.shows after rest
+    Tells result (IsReached plan.image.memory budget) (boot_processor plan.image.memory budget) (n + 1) plan.shows after rest
     old new
 
 -- the same of a deck with its schedule; memory may run out and a read may fail before the session begins

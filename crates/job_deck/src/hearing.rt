@@ -22,7 +22,7 @@ pub fn hear<I: Input>(input: &mut I, number: u32) -> Result<Spoken, ReadFailed>
 {
     let mut line = ArrayVec::new();
     match read_line(input, &mut line) {
-        Ok(Took::Whole) => Ok(spoken_in(line.as_slice())),
+        Ok(Took::Processor) => Ok(spoken_in(line.as_slice())),
         Ok(Took::Long) => Ok(Spoken::Faulty(DeckFault::Long)),
         Ok(Took::Nothing) => Ok(Spoken::Faulty(DeckFault::NoEnd)),
         Err(error) => Err(error),

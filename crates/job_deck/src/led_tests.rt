@@ -7,7 +7,7 @@ ghost use Rattle.instructions.specs.declared.refusal.Refusal.{Refusal as SomeRef
 ghost use Rattle.program_order.specs.declared.event.Done.{Done as SomeDone};
 ghost use Rattle.program_order.specs.declared.event.Event.{Event as SomeEvent};
 ghost use Rattle.program_order.specs.Headline.{IsFaithful};
-ghost use Rattle.program_order.specs.Processor.{Whole};
+ghost use Rattle.program_order.specs.Processor.{Processor};
 ghost use Rattle.job_deck.specs.AnswerText.{answer_line};
 ghost use Rattle.deck.specs.Deck.{Good, Plan, deck};
 ghost use Rattle.device_text.specs.Device.{Moves};
@@ -32,7 +32,7 @@ fn held<R: Read, W: Write>(
     requires { budget ≤ 10000000 }
     ensures { OnOk result (Moves (R.remaining reader.old) (R.remaining reader.new)
         (λ xs rest. (plan : Plan) → (n : ℕ) → (after : List ℕ) → deck xs ≡ Good plan n after
-        → (events : List SomeEvent) × ((answers : List (Result SomeDone SomeRefusal)) × ((w : Whole)
+        → (events : List SomeEvent) × ((answers : List (Result SomeDone SomeRefusal)) × ((w : Processor)
         × ((left : List (List ℕ × List ℕ)) × ((text : List ℕ) × (Says (n + 1) events (lines_of after) left
         × (Appends (W.contents writer.old) (W.contents writer.new) (flat_map answer_line answers ++ text)
         × IsFaithful plan.image.memory events answers w)))))))) }

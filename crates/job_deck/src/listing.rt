@@ -1,7 +1,7 @@
 ghost use Rattle.std.specs.Prelude.{◌≡◌, ◌<◌, ◌≤◌, ◌^◌, ◌||◌, length};
 ghost use Rattle.device_text.specs.Device.{Moves, Writes, failed_after};
 ghost use Rattle.deck.specs.Deck.{deck};
-ghost use Rattle.job_deck.specs.Listing.{item_text, behind, separator, items_text, listed_word, listed, listing, Lists, is_read_refusal, is_write_refusal};
+ghost use Rattle.job_deck.specs.Listing.{item_text, after, separator, items_text, listed_word, listed, listing, Lists, is_read_refusal, is_write_refusal};
 
 use deck::{Image, read_deck_from, refusal};
 use device_text::{Input, Output, Piece, Tracked, Watched, WriteFailed, put_pieces};
@@ -24,9 +24,9 @@ fn put_item<O: Output>(output: &mut O, item: &Decoded) -> Result<(), WriteFailed
 }
 
 /// The parcel after an item; an opcode that is refused counts as one parcel.
-fn behind(parcel: u8, item: &Decoded) -> u8
+fn after(parcel: u8, item: &Decoded) -> u8
     requires { parcel < 4 }
-    ensures { result ≡ behind parcel item.now }
+    ensures { result ≡ after parcel item.now }
 {
     match *item {
         Decoded::Legal(_, next) => next,
@@ -55,7 +55,7 @@ fn put_items<O: Output>(output: &mut O, word: Word60) -> Result<(), WriteFailed>
         let item = decode(word, parcel);
         put_separator(output, parcel)?;
         put_item(output, &item)?;
-        parcel = behind(parcel, &item);
+        parcel = after(parcel, &item);
     }
     Ok(())
 }

@@ -1,7 +1,7 @@
 ghost use Rattle.std.specs.Prelude.{◌≡◌, ◌||◌, ◌≤◌, ◌+◌, [], IfOk, MatchResult};
 ghost use Rattle.instructions.specs.declared.refusal.Refusal.TheVariants.{OutOfMemory};
 ghost use Rattle.program_order.specs.Reached.{GoesOn, IsReached};
-ghost use Rattle.program_order.specs.Processor.{boot_whole};
+ghost use Rattle.program_order.specs.Processor.{boot_processor};
 ghost use Rattle.deck.specs.Deck.{deck};
 ghost use Rattle.device_text.specs.Device.{Moves, failed_after};
 ghost use Rattle.job_deck.specs.Listing.{is_read_refusal, is_write_refusal};
@@ -115,7 +115,7 @@ fn hold<I: Input, O: Output>(
 /// `OutOfMemory`.
 fn booted(alloc: Global, deck: &Deck, budget: u64) -> Result<Machine, Refusal>
     requires { budget ≤ 10000000 }
-    ensures machine { MatchResult result (λ machine. machine ≡ boot_whole deck.now.image.memory budget) (λ refusal. refusal ≡ OutOfMemory) }
+    ensures machine { MatchResult result (λ machine. machine ≡ boot_processor deck.now.image.memory budget) (λ refusal. refusal ≡ OutOfMemory) }
     ensures reached { IfOk result (λ machine. IsReached deck.now.image.memory budget [] [] machine) }
 {
     match deck.image.memory().copy() {

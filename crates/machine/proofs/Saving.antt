@@ -13,11 +13,11 @@ use Rattle.sequential.specs.declared.state.State.{State}
 use Rattle.sequential.specs.Replay.{boot}
 use Rattle.sequential.specs.Swap.{begun, package_of, swap}
 use Rattle.program_order.specs.Sound.{IsReplay}
-use Rattle.program_order.specs.Processor.{Whole}
+use Rattle.program_order.specs.Processor.{Processor}
 use Rattle.program_order.proofs.Sizes.{boot_size, package_within}
 
 -- what was saved of the memory is of the memory's size
-pub saved_size : (w : Whole) (saved : List (Option ℕ)) → IsReplay w → w.boot_memory ≡ original saved w.state.memory → length saved ≡ length w.state.memory
+pub saved_size : (w : Processor) (saved : List (Option ℕ)) → IsReplay w → w.boot_memory ≡ original saved w.state.memory → length saved ≡ length w.state.memory
 saved_size w saved r e =
     sym (length-original saved w.state.memory)
     ∙ ap (λ (l : List ℕ). length l) (sym e)

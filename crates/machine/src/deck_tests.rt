@@ -8,7 +8,7 @@
 //! two-adds-code.deck has the words of two-adds.deck.
 //!
 //! The counts are those of all ten rounds, in the order of `Event`. Where no exchange is asked for on the way, the
-//! first is ten times the count behind `I` in the deck's dump, as `LOG E40 I6` in decks/two-adds.dump: each round comes
+//! first is ten times the count after `I` in the deck's dump, as `LOG E40 I6` in decks/two-adds.dump: each round comes
 //! to the program's end. The program of endless.deck has none.
 
 use crate::test_scanning::{Amount, accepted};

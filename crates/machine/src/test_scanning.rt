@@ -7,7 +7,7 @@ use crate::{Answer, Done, Event, MOST_ISSUES, Machine, Note, Snapshot};
 use arrayvec::ArrayVec;
 use exchange_package::SIZE;
 use hopper::bank_of;
-use in_flight::{Arrival, Entry, Later, Member, Phase, Stage};
+use in_flight::{Arrival, HopperEntry, Outstanding, Pending, Phase, Stage};
 use instruction_table::{Instr, Refusal, Reg, Unit, UnitKind, results, sources, unit_kind};
 use relocation::{Access, Storage, relocate};
 use scoreboard::{Progress, Row, is_same_unit};
@@ -39,7 +39,7 @@ fn kind(event: &Event) -> usize {
 struct ScanningMachine {
     state: State,
     /// In issue order.
-    pending: ArrayVec<Member, 16>,
+    pending: ArrayVec<Pending, 16>,
     busy: [bool; 32],
     request: Option<u32>,
     budget: u64,
@@ -52,15 +52,15 @@ struct ScanningMachine {
 // ---- what is asked of a member, and of a list of members ----
 
 /// What the scoreboard sees of it.
-fn row(member: &Member) -> Row {
+fn row(member: &Pending) -> Row {
     let progress = match member.phase {
         Phase::Before(Stage::Waiting) => Progress::Reserved { has_read: false },
         Phase::Before(_) => Progress::Reserved { has_read: true },
-        Phase::After(Later::Entered(_, _, Access::Store(_))) => Progress::Left { returning: None },
-        Phase::After(Later::Entered(_, _, Access::Load(n))) => Progress::Left {
+        Phase::After(Outstanding::Entered(_, _, Access::Store(_))) => Progress::Left { returning: None },
+        Phase::After(Outstanding::Entered(_, _, Access::Load(n))) => Progress::Left {
             returning: Some(n),
         },
-        Phase::After(Later::Accepted(n, _)) => Progress::Left { returning: Some(n) },
+        Phase::After(Outstanding::Accepted(n, _)) => Progress::Left { returning: Some(n) },
     };
     Row {
         instr: member.instr,
@@ -70,7 +70,7 @@ fn row(member: &Member) -> Row {
 }
 
 /// Its stage, if it holds the unit.
-fn stage_in(member: &Member, unit: Unit) -> Option<Stage> {
+fn stage_in(member: &Pending, unit: Unit) -> Option<Stage> {
     if !is_same_unit(member.unit, unit) {
         return None;
     }
@@ -81,10 +81,10 @@ fn stage_in(member: &Member, unit: Unit) -> Option<Stage> {
 }
 
 /// Its reference, if it stands in the place of the hopper.
-fn entry_in(member: &Member, place: u8) -> Option<Entry> {
+fn entry_in(member: &Pending, place: u8) -> Option<HopperEntry> {
     match member.phase {
-        Phase::After(Later::Entered(taken, a, access)) => if taken == place {
-            Some(Entry { a, access })
+        Phase::After(Outstanding::Entered(taken, a, access)) => if taken == place {
+            Some(HopperEntry { a, access })
         } else {
             None
         },
@@ -93,9 +93,9 @@ fn entry_in(member: &Member, place: u8) -> Option<Entry> {
 }
 
 /// Its word, if it waits in the channel.
-fn arrival_in(member: &Member, given: u8) -> Option<Arrival> {
+fn arrival_in(member: &Pending, given: u8) -> Option<Arrival> {
     match member.phase {
-        Phase::After(Later::Accepted(channel, word)) => if channel.get() == given {
+        Phase::After(Outstanding::Accepted(channel, word)) => if channel.get() == given {
             Some(Arrival { channel, word })
         } else {
             None
@@ -105,24 +105,24 @@ fn arrival_in(member: &Member, given: u8) -> Option<Arrival> {
 }
 
 /// Whether it waits in the hopper for the bank.
-fn is_in_bank(member: &Member, bank: u8) -> bool {
+fn is_in_bank(member: &Pending, bank: u8) -> bool {
     match member.phase {
-        Phase::After(Later::Entered(_, address, _)) => bank_of(address) == bank,
+        Phase::After(Outstanding::Entered(_, address, _)) => bank_of(address) == bank,
         _ => false,
     }
 }
 
 /// Whether a fetch of the word at the absolute address waits for it.
-fn delays_fetch(member: &Member, address: u32) -> bool {
+fn delays_fetch(member: &Pending, address: u32) -> bool {
     match member.phase {
         Phase::Before(_) => row(member).has_store_turn(),
-        Phase::After(Later::Entered(_, at, Access::Store(_))) => at == address,
+        Phase::After(Outstanding::Entered(_, at, Access::Store(_))) => at == address,
         Phase::After(_) => false,
     }
 }
 
 /// The members before the one in this place of the list.
-fn before(members: &[Member], index: usize) -> &[Member] {
+fn before(members: &[Pending], index: usize) -> &[Pending] {
     if index < members.len() {
         &members[..index]
     } else {
@@ -131,7 +131,7 @@ fn before(members: &[Member], index: usize) -> &[Member] {
 }
 
 /// The first of the registers that is a result still to come of one of the members.
-fn first_awaited(members: &[Member], registers: &[Reg]) -> Option<Reg> {
+fn first_awaited(members: &[Pending], registers: &[Reg]) -> Option<Reg> {
     for register in registers {
         if members
             .iter()
@@ -144,7 +144,7 @@ fn first_awaited(members: &[Member], registers: &[Reg]) -> Option<Reg> {
 }
 
 /// The first of the registers that one of the members has still to read.
-fn first_to_be_read(members: &[Member], registers: &[Reg]) -> Option<Reg> {
+fn first_to_be_read(members: &[Pending], registers: &[Reg]) -> Option<Reg> {
     for register in registers {
         if members
             .iter()
@@ -157,7 +157,7 @@ fn first_to_be_read(members: &[Member], registers: &[Reg]) -> Option<Reg> {
 }
 
 /// Whether one of the members holds the unit.
-fn is_held(members: &[Member], unit: Unit) -> bool {
+fn is_held(members: &[Pending], unit: Unit) -> bool {
     members.iter().any(|member| row(member).holds(unit))
 }
 
@@ -175,7 +175,7 @@ fn first_unit(instr: &Instr) -> Unit {
 }
 
 /// The unit that an instruction takes: the lower-numbered free one of its kind.
-fn unit_for(members: &[Member], instr: &Instr) -> Result<Unit, Refusal> {
+fn unit_for(members: &[Pending], instr: &Instr) -> Result<Unit, Refusal> {
     let first = first_unit(instr);
     if !is_held(members, first) {
         return Ok(first);
@@ -187,7 +187,7 @@ fn unit_for(members: &[Member], instr: &Instr) -> Result<Unit, Refusal> {
 }
 
 /// The lowest-numbered free place of the hopper.
-fn place_for(members: &[Member]) -> Option<u8> {
+fn place_for(members: &[Pending]) -> Option<u8> {
     for place in 0..4u8 {
         if !members
             .iter()
@@ -200,7 +200,7 @@ fn place_for(members: &[Member]) -> Option<u8> {
 }
 
 /// The member that holds the unit, with its place in the list and its stage.
-fn find_stage(members: &[Member], unit: Unit) -> Option<(usize, Member, Stage)> {
+fn find_stage(members: &[Pending], unit: Unit) -> Option<(usize, Pending, Stage)> {
     for index in 0..members.len() {
         if let Some(stage) = stage_in(&members[index], unit) {
             return Some((index, members[index], stage));
@@ -210,7 +210,7 @@ fn find_stage(members: &[Member], unit: Unit) -> Option<(usize, Member, Stage)> 
 }
 
 /// The member in the place of the hopper, with its place in the list and its reference.
-fn find_entry(members: &[Member], place: u8) -> Option<(usize, Entry)> {
+fn find_entry(members: &[Pending], place: u8) -> Option<(usize, HopperEntry)> {
     for index in 0..members.len() {
         if let Some(entry) = entry_in(&members[index], place) {
             return Some((index, entry));
@@ -220,7 +220,7 @@ fn find_entry(members: &[Member], place: u8) -> Option<(usize, Entry)> {
 }
 
 /// The member in the channel, with its place in the list and its word.
-fn find_arrival(members: &[Member], channel: u8) -> Option<(usize, Arrival)> {
+fn find_arrival(members: &[Pending], channel: u8) -> Option<(usize, Arrival)> {
     for index in 0..members.len() {
         if let Some(arrival) = arrival_in(&members[index], channel) {
             return Some((index, arrival));
@@ -331,7 +331,7 @@ impl ScanningMachine {
             return Err(Refusal::ResultReserved(register));
         }
         self.last = self.last.saturating_add(1);
-        let member = Member {
+        let member = Pending {
             instr,
             at: self.state.place.p,
             number: self.last,
@@ -420,9 +420,9 @@ impl ScanningMachine {
         };
         let access = reference.access;
         match reference.absolute(&self.state.area, self.state.memory.size()) {
-            Some(address) => Some(Phase::After(Later::Entered(place, address, access))),
+            Some(address) => Some(Phase::After(Outstanding::Entered(place, address, access))),
             None => match access {
-                Access::Load(n) => Some(Phase::After(Later::Accepted(n, Word60::default()))),
+                Access::Load(n) => Some(Phase::After(Outstanding::Accepted(n, Word60::default()))),
                 Access::Store(_) => None,
             },
         }
@@ -431,7 +431,7 @@ impl ScanningMachine {
     /// Whether what is left enters the hopper, and finds no place there.
     fn finds_no_place(&self, instr: &Instr, value: &UnitValue) -> bool {
         match self.rest_of(instr, value) {
-            Some(Phase::After(Later::Entered(_, _, _))) => {
+            Some(Phase::After(Outstanding::Entered(_, _, _))) => {
                 place_for(self.pending.as_slice()).is_none()
             }
             _ => false,
@@ -492,12 +492,12 @@ impl ScanningMachine {
     }
 
     /// Makes a reference in memory, and answers what is left of it.
-    fn perform(&mut self, entry: &Entry) -> Option<Phase> {
+    fn perform(&mut self, entry: &HopperEntry) -> Option<Phase> {
         if entry.a >= self.state.memory.size() {
             return None;
         }
         match entry.access {
-            Access::Load(n) => Some(Phase::After(Later::Accepted(
+            Access::Load(n) => Some(Phase::After(Outstanding::Accepted(
                 n,
                 self.state.memory.load(entry.a),
             ))),

@@ -23,17 +23,17 @@ use Rattle.relocation.specs.declared.area.Access.TheVariants.{Load as LoadInto, 
 use Rattle.scoreboard.specs.Rows as board
 use Rattle.scoreboard.specs.Rows.{is_reserved, returning_to}
 use Rattle.scoreboard.specs.Units.{same_unit, units_of}
-use Rattle.in_flight.specs.declared.member.Later.TheVariants.{Entered, Accepted}
-use Rattle.in_flight.specs.declared.member.Member.{Member}
-use Rattle.in_flight.specs.declared.member.Phase.{Phase}
-use Rattle.in_flight.specs.declared.member.Phase.TheVariants.{Before, After}
-use Rattle.in_flight.specs.declared.member.Stage.{Stage}
-use Rattle.in_flight.specs.declared.member.Stage.TheVariants.{Waiting, Read as HasRead, Finished}
+use Rattle.in_flight.specs.declared.pending.Outstanding.TheVariants.{Entered, Accepted}
+use Rattle.in_flight.specs.declared.pending.Pending.{Pending}
+use Rattle.in_flight.specs.declared.pending.Phase.{Phase}
+use Rattle.in_flight.specs.declared.pending.Phase.TheVariants.{Before, After}
+use Rattle.in_flight.specs.declared.pending.Stage.{Stage}
+use Rattle.in_flight.specs.declared.pending.Stage.TheVariants.{Waiting, Read as HasRead, Finished}
 use Rattle.instructions.specs.Each.{Each, Pairs}
-use Rattle.in_flight.specs.Member.{progress_of, returning, row_of, entered_in, is_entered, has_turn}
+use Rattle.in_flight.specs.Pending.{progress_of, returning, row_of, entered_in, is_entered, has_turn}
 use Rattle.in_flight.specs.Slots.{unit_slot, IsChannel, IsPlaced, is_of_kind, IsProper, IsSlotted}
 use Rattle.in_flight.specs.Apart.{IsApart}
-use Rattle.program_order.specs.Working.{reference_cost, stage_cost, later_cost, phase_cost, cost, work_left}
+use Rattle.program_order.specs.Working.{reference_cost, stage_cost, outstanding_cost, phase_cost, cost, work_left}
 use Rattle.in_flight.proofs.Phases.{to_come_in, before_and, slot_in, slot_of}
 use Rattle.program_order.proofs.Pigeons.{listed_bound}
 use Rattle.in_flight.proofs.Slotting.{all_slots, coming, loads_channel}
@@ -66,11 +66,11 @@ unfoldable one_if : Bool → ℕ
 one_if true = 1
 one_if false = 0
 
-unfoldable count_of : (Member → Bool) → List Member → ℕ
+unfoldable count_of : (Pending → Bool) → List Pending → ℕ
 count_of f [] = 0
 count_of f (m ∷ ms) = one_if (f m) + count_of f ms
 
-count_picked : (f : Member → Bool) (ms : List Member) → count_of f ms ≡ length (picked f ms)
+count_picked : (f : Pending → Bool) (ms : List Pending) → count_of f ms ≡ length (picked f ms)
 unfolding count_of picked one_if
 count_picked f [] = refl
 count_picked f (m ∷ ms) = by_test (f m) (count_picked f ms)
@@ -80,7 +80,7 @@ count_picked f (m ∷ ms) = by_test (f m) (count_picked f ms)
     by_test false e = omega (arith, e)
 
 -- those that pass are no more than the numbers that they can have
-count_bound : (f : Member → Bool) (key : Member → ℕ) (ns : List ℕ) (R : Member → Member → Type 0) (P : Member → Type 0) (ms : List Member) → ((a b : Member) → f a ≡ true → f b ≡ true → R a b → key a ≢ key b) → ((m : Member) → f m ≡ true → P m → list_any (eqb (key m)) ns ≡ true) → Pairs R ms → Each P ms → count_of f ms ≤ length ns
+count_bound : (f : Pending → Bool) (key : Pending → ℕ) (ns : List ℕ) (R : Pending → Pending → Type 0) (P : Pending → Type 0) (ms : List Pending) → ((a b : Pending) → f a ≡ true → f b ≡ true → R a b → key a ≢ key b) → ((m : Pending) → f m ≡ true → P m → list_any (eqb (key m)) ns ≡ true) → Pairs R ms → Each P ms → count_of f ms ≤ length ns
 count_bound f key ns R P ms apart listed h k =
     let e = count_picked f ms in
     let l = listed_bound key ns (picked f ms) (picked_pairs f R (λ a b. key a ≢ key b) ms apart h) (picked_each f P (λ m. list_any (eqb (key m)) ns ≡ true) ms listed k) in
@@ -93,7 +93,7 @@ before_in (Before t) = true
 before_in (After l) = false
 
 -- it holds a unit
-unfoldable in_unit : Member → Bool
+unfoldable in_unit : Pending → Bool
 in_unit m = before_in m.phase
 
 unfoldable load_in : Shape → Phase → Bool
@@ -107,7 +107,7 @@ load_in h (After (Entered place a (StoreWord word))) = false
 load_in h (After (Accepted n word)) = true
 
 -- it has a load still to return
-unfoldable has_load : Member → Bool
+unfoldable has_load : Pending → Bool
 has_load m = load_in (shape_of m.instr) m.phase
 
 unfoldable channel_in : Shape → Phase → ℕ
@@ -121,7 +121,7 @@ channel_in h (After (Entered place a (StoreWord word))) = 0
 channel_in h (After (Accepted n word)) = n
 
 -- the register of its load
-unfoldable channel_of : Member → ℕ
+unfoldable channel_of : Pending → ℕ
 channel_of m = channel_in (shape_of m.instr) m.phase
 
 stage_bound : (t : Stage) → stage_cost t ≤ 3
@@ -131,7 +131,7 @@ stage_bound (HasRead os) = omega arith
 stage_bound (Finished v) = omega arith
 
 phase_bound : (h : Shape) (p : Phase) → phase_cost h p ≤ 3 * one_if (before_in p) + 2 * (one_if (before_and (has_reference h) p) + one_if (entered_in p)) + one_if (load_in h p)
-unfolding phase_cost reference_cost later_cost one_if before_in before_and progress_of is_reserved has_reference entered_in load_in
+unfolding phase_cost reference_cost outstanding_cost one_if before_in before_and progress_of is_reserved has_reference entered_in load_in
 phase_bound (Puts rs) (Before t) = let k = stage_bound t in omega (arith, k)
 phase_bound (Loads n) (Before t) = let k = stage_bound t in omega (arith, k)
 phase_bound (Stores n) (Before t) = let k = stage_bound t in omega (arith, k)
@@ -141,11 +141,11 @@ phase_bound h (After (Entered place a (LoadInto n))) = omega arith
 phase_bound h (After (Entered place a (StoreWord word))) = omega arith
 phase_bound h (After (Accepted n word)) = omega arith
 
-member_bound : (m : Member) → cost m ≤ 3 * one_if (in_unit m) + 2 * (one_if (has_turn m) + one_if (is_entered m)) + one_if (has_load m)
+member_bound : (m : Pending) → cost m ≤ 3 * one_if (in_unit m) + 2 * (one_if (has_turn m) + one_if (is_entered m)) + one_if (has_load m)
 unfolding cost in_unit has_turn board.has_turn row_of before_and is_entered has_load
 member_bound m = phase_bound (shape_of m.instr) m.phase
 
-work_bound : (ms : List Member) → work_left ms ≤ 3 * count_of in_unit ms + 2 * (count_of has_turn ms + count_of is_entered ms) + count_of has_load ms
+work_bound : (ms : List Pending) → work_left ms ≤ 3 * count_of in_unit ms + 2 * (count_of has_turn ms + count_of is_entered ms) + count_of has_load ms
 unfolding work_left count_of
 work_bound [] = omega arith
 work_bound (m ∷ ms) = let k = member_bound m in let r = work_bound ms in omega (arith, k, r)
@@ -167,7 +167,7 @@ unfolding before_in slot_in
 unit_listed size u (Before t) e h = below_seven (unit_slot u) h
 unit_listed size u (After l) e h = cc
 
-units_bound : (size : ℕ) (ms : List Member) → Pairs (λ a b. slot_of a ≢ slot_of b) ms → Each (IsProper size) ms → count_of in_unit ms ≤ 7
+units_bound : (size : ℕ) (ms : List Pending) → Pairs (λ a b. slot_of a ≢ slot_of b) ms → Each (IsProper size) ms → count_of in_unit ms ≤ 7
 unfolding in_unit slot_of
 units_bound size ms h k =
     count_bound in_unit slot_of (0 ∷ 1 ∷ 2 ∷ 3 ∷ 4 ∷ 5 ∷ 6 ∷ []) _ (IsProper size) ms (λ a b x y d. d) (λ m e p. unit_listed size m.unit m.phase e p.placed) h k
@@ -236,7 +236,7 @@ unfolding progress_of is_reserved slot_in
 turn_slot i u (Before t) e h = instr_slot i u e h
 turn_slot i u (After l) e h = cc
 
-turns_bound : (size : ℕ) (ms : List Member) → Pairs (λ a b. slot_of a ≢ slot_of b) ms → Each (IsProper size) ms → count_of has_turn ms ≤ 3
+turns_bound : (size : ℕ) (ms : List Pending) → Pairs (λ a b. slot_of a ≢ slot_of b) ms → Each (IsProper size) ms → count_of has_turn ms ≤ 3
 unfolding has_turn board.has_turn row_of slot_of
 turns_bound size ms h k =
     count_bound has_turn slot_of (0 ∷ 5 ∷ 6 ∷ []) _ (IsProper size) ms (λ a b x y d. d) (λ m e p. turn_slot m.instr m.unit m.phase e p.of_kind) h k
@@ -256,7 +256,7 @@ entered_slot size u (Before t) e h = cc
 entered_slot size u (After (Entered place a access)) e h = below_four place h.0
 entered_slot size u (After (Accepted n word)) e h = cc
 
-entered_bound : (size : ℕ) (ms : List Member) → Pairs (λ a b. slot_of a ≢ slot_of b) ms → Each (IsProper size) ms → count_of is_entered ms ≤ 4
+entered_bound : (size : ℕ) (ms : List Pending) → Pairs (λ a b. slot_of a ≢ slot_of b) ms → Each (IsProper size) ms → count_of is_entered ms ≤ 4
 unfolding is_entered slot_of
 entered_bound size ms h k =
     count_bound is_entered slot_of (7 ∷ 8 ∷ 9 ∷ 10 ∷ []) _ (IsProper size) ms (λ a b x y d. d) (λ m e p. entered_slot size m.unit m.phase e p.placed) h k
@@ -314,7 +314,7 @@ loads_differ : (h k : Shape) (p q : Phase) → load_in h p ≡ true → load_in 
 loads_differ h k p q a b o e =
     not_both _ (ap (λ n. is_in (to_come_in h p) (X n)) (sym e) ∙ load_comes h p a) (in_one (channel_in k q) (to_come_in k q) (to_come_in h p) (load_comes k q b) o)
 
-loads_bound : (size : ℕ) (ms : List Member) → Pairs IsApart ms → Each (IsProper size) ms → count_of has_load ms ≤ 5
+loads_bound : (size : ℕ) (ms : List Pending) → Pairs IsApart ms → Each (IsProper size) ms → count_of has_load ms ≤ 5
 unfolding has_load channel_of
 loads_bound size ms h k =
     count_bound has_load channel_of (1 ∷ 2 ∷ 3 ∷ 4 ∷ 5 ∷ []) IsApart (IsProper size) ms
@@ -324,7 +324,7 @@ loads_bound size ms h k =
 
 -- ---- all of it ----
 
-pub forty : (size : ℕ) (ms : List Member) → IsSlotted size ms → Pairs IsApart ms → work_left ms ≤ 40
+pub forty : (size : ℕ) (ms : List Pending) → IsSlotted size ms → Pairs IsApart ms → work_left ms ≤ 40
 forty size ms s apart =
     let slots = all_slots size ms s.proper s.apart apart in
     let a = units_bound size ms slots s.proper in

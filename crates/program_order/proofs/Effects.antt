@@ -1,5 +1,5 @@
 -- Changes of the state that don't touch one another, made in either order.
-use Rattle.in_flight.specs.Member.{returning}
+use Rattle.in_flight.specs.Pending.{returning}
 use Rattle.sequential.specs.Place.{gone}
 use Rattle.scoreboard.specs.Rows.{returning_to}
 use Rattle.std.proofs.Common.{◌≡◌, ℕ, Bool, true, false, List, [], ◌∷◌, Option, Some, None, refl, sym, ap, ◌∙◌, get_or, eqb}
@@ -15,10 +15,10 @@ use Rattle.instructions.specs.declared.instr.Reg.{Reg}
 use Rattle.instructions.specs.declared.instr.Reg.TheVariants.{X}
 use Rattle.instructions.specs.declared.refusal.Halt.{Halt}
 use Rattle.in_flight.proofs.Phases.{target_of, targets_left}
-use Rattle.program_order.specs.Complete.{do_later}
+use Rattle.program_order.specs.Complete.{do_outstanding}
 use Rattle.program_order.specs.Units.{entering, rest_of}
-use Rattle.in_flight.specs.declared.member.Later.{Later}
-use Rattle.in_flight.specs.declared.member.Later.TheVariants.{Accepted, Entered}
+use Rattle.in_flight.specs.declared.pending.Outstanding.{Outstanding}
+use Rattle.in_flight.specs.declared.pending.Outstanding.TheVariants.{Accepted, Entered}
 use Rattle.registers.specs.Registers.{get}
 use Rattle.relocation.specs.declared.area.Access.{Access}
 use Rattle.relocation.specs.declared.area.Access.TheVariants.{Load as LoadInto, Store as StoreWord}
@@ -29,9 +29,9 @@ use Rattle.sequential.specs.declared.state.State.{State}
 use Rattle.sequential.specs.declared.work.ProgramReference.{ProgramReference}
 use Rattle.unit_ops.specs.declared.UnitValue.{UnitValue}
 
-unfoldable pub do_option : State → Option Later → State
+unfoldable pub do_option : State → Option Outstanding → State
 do_option s None = s
-do_option s (Some l) = do_later s l
+do_option s (Some l) = do_outstanding s l
 
 -- the whole of a row's work, in two parts: what it does now, and what is left
 unfoldable pub do_parts : Bounds → State → Work → State
@@ -60,16 +60,16 @@ mark-write : (s : State) (f : Bool) (r : Reg) (v : ℕ) → mark (write s r v) f
 unfolding mark write
 mark-write s f r v = refl
 
-pub do_later-write : (s : State) (l : Later) (r : Reg) (v : ℕ) → is_in (target_of l) r ≡ false → do_later (write s r v) l ≡ write (do_later s l) r v
-unfolding do_later access_at poke write target_of is_in returning_to returning
-do_later-write s (Entered slot a (LoadInto n)) r v h = sym (write_comm s (X n) r (get_or s.memory a 0) v (or_parts (reg_eq r (X n)) false h).0)
-do_later-write s (Entered slot a (StoreWord w)) r v h = refl
-do_later-write s (Accepted n w) r v h = sym (write_comm s (X n) r w v (or_parts (reg_eq r (X n)) false h).0)
+pub do_outstanding-write : (s : State) (l : Outstanding) (r : Reg) (v : ℕ) → is_in (target_of l) r ≡ false → do_outstanding (write s r v) l ≡ write (do_outstanding s l) r v
+unfolding do_outstanding access_at poke write target_of is_in returning_to returning
+do_outstanding-write s (Entered slot a (LoadInto n)) r v h = sym (write_comm s (X n) r (get_or s.memory a 0) v (or_parts (reg_eq r (X n)) false h).0)
+do_outstanding-write s (Entered slot a (StoreWord w)) r v h = refl
+do_outstanding-write s (Accepted n w) r v h = sym (write_comm s (X n) r w v (or_parts (reg_eq r (X n)) false h).0)
 
-pub do_option-write : (s : State) (o : Option Later) (r : Reg) (v : ℕ) → is_in (targets_left o) r ≡ false → do_option (write s r v) o ≡ write (do_option s o) r v
+pub do_option-write : (s : State) (o : Option Outstanding) (r : Reg) (v : ℕ) → is_in (targets_left o) r ≡ false → do_option (write s r v) o ≡ write (do_option s o) r v
 unfolding do_option targets_left
 do_option-write s None r v h = refl
-do_option-write s (Some l) r v h = do_later-write s l r v h
+do_option-write s (Some l) r v h = do_outstanding-write s l r v h
 
 entering_targets : (slot n : ℕ) (o : Option ℕ) → targets_left (entering slot o (LoadInto n)) ≡ X n ∷ []
 unfolding entering targets_left target_of returning_to returning
@@ -113,16 +113,16 @@ mark-move : (s : State) (f : Bool) (p : Place) → mark (move_to s p) f ≡ move
 unfolding mark move_to
 mark-move s f p = refl
 
-pub do_later-move : (s : State) (l : Later) (p : Place) → do_later (move_to s p) l ≡ move_to (do_later s l) p
-unfolding do_later access_at poke write move_to
-do_later-move s (Entered slot a (LoadInto n)) p = refl
-do_later-move s (Entered slot a (StoreWord w)) p = refl
-do_later-move s (Accepted n w) p = refl
+pub do_outstanding-move : (s : State) (l : Outstanding) (p : Place) → do_outstanding (move_to s p) l ≡ move_to (do_outstanding s l) p
+unfolding do_outstanding access_at poke write move_to
+do_outstanding-move s (Entered slot a (LoadInto n)) p = refl
+do_outstanding-move s (Entered slot a (StoreWord w)) p = refl
+do_outstanding-move s (Accepted n w) p = refl
 
-do_option-move : (s : State) (o : Option Later) (p : Place) → do_option (move_to s p) o ≡ move_to (do_option s o) p
+do_option-move : (s : State) (o : Option Outstanding) (p : Place) → do_option (move_to s p) o ≡ move_to (do_option s o) p
 unfolding do_option
 do_option-move s None p = refl
-do_option-move s (Some l) p = do_later-move s l p
+do_option-move s (Some l) p = do_outstanding-move s l p
 
 -- a row that is no branch leaves the place alone
 pub no_jump : (h : Shape) (x : UnitValue) → is_branch_shape h ≡ false → jump_for h x ≡ None
@@ -161,16 +161,16 @@ mark-halt : (s : State) (f : Bool) (k : Halt) → mark (halt_by s k) f ≡ halt_
 unfolding mark halt_by
 mark-halt s f k = refl
 
-pub do_later-halt : (s : State) (l : Later) (k : Halt) → do_later (halt_by s k) l ≡ halt_by (do_later s l) k
-unfolding do_later access_at poke write halt_by
-do_later-halt s (Entered slot a (LoadInto n)) k = refl
-do_later-halt s (Entered slot a (StoreWord w)) k = refl
-do_later-halt s (Accepted n w) k = refl
+pub do_outstanding-halt : (s : State) (l : Outstanding) (k : Halt) → do_outstanding (halt_by s k) l ≡ halt_by (do_outstanding s l) k
+unfolding do_outstanding access_at poke write halt_by
+do_outstanding-halt s (Entered slot a (LoadInto n)) k = refl
+do_outstanding-halt s (Entered slot a (StoreWord w)) k = refl
+do_outstanding-halt s (Accepted n w) k = refl
 
-do_option-halt : (s : State) (o : Option Later) (k : Halt) → do_option (halt_by s k) o ≡ halt_by (do_option s o) k
+do_option-halt : (s : State) (o : Option Outstanding) (k : Halt) → do_option (halt_by s k) o ≡ halt_by (do_option s o) k
 unfolding do_option
 do_option-halt s None k = refl
-do_option-halt s (Some l) k = do_later-halt s l k
+do_option-halt s (Some l) k = do_outstanding-halt s l k
 
 pub do_parts-halt : (b : Bounds) (s : State) (w : Work) (k : Halt) → do_parts b (halt_by s k) w ≡ halt_by (do_parts b s w) k
 unfolding do_parts do_now
@@ -203,16 +203,16 @@ mark-mark : (s : State) (f g : Bool) → mark (mark s f) g ≡ mark (mark s g) f
 unfolding mark
 mark-mark s f g = ap (λ x. record s { fault = x }) (or_swap s.fault f g)
 
-pub do_later-mark : (s : State) (l : Later) (f : Bool) → do_later (mark s f) l ≡ mark (do_later s l) f
-unfolding do_later access_at poke write mark
-do_later-mark s (Entered slot a (LoadInto n)) f = refl
-do_later-mark s (Entered slot a (StoreWord w)) f = refl
-do_later-mark s (Accepted n w) f = refl
+pub do_outstanding-mark : (s : State) (l : Outstanding) (f : Bool) → do_outstanding (mark s f) l ≡ mark (do_outstanding s l) f
+unfolding do_outstanding access_at poke write mark
+do_outstanding-mark s (Entered slot a (LoadInto n)) f = refl
+do_outstanding-mark s (Entered slot a (StoreWord w)) f = refl
+do_outstanding-mark s (Accepted n w) f = refl
 
-do_option-mark : (s : State) (o : Option Later) (f : Bool) → do_option (mark s f) o ≡ mark (do_option s o) f
+do_option-mark : (s : State) (o : Option Outstanding) (f : Bool) → do_option (mark s f) o ≡ mark (do_option s o) f
 unfolding do_option
 do_option-mark s None f = refl
-do_option-mark s (Some l) f = do_later-mark s l f
+do_option-mark s (Some l) f = do_outstanding-mark s l f
 
 pub do_parts-mark : (b : Bounds) (s : State) (w : Work) (f : Bool) → do_parts b (mark s f) w ≡ mark (do_parts b s w) f
 unfolding do_parts do_now
@@ -239,15 +239,15 @@ unfolding mark poke
 mark-poke s f a w = refl
 
 -- what is left of a reference is about another address
-unfoldable pub later_touches : ℕ → Later → Bool
+unfoldable pub later_touches : ℕ → Outstanding → Bool
 later_touches a (Entered slot k access) = eqb k a
 later_touches a (Accepted n w) = false
 
-pub do_later-poke : (s : State) (l : Later) (a w : ℕ) → later_touches a l ≡ false → do_later (poke s a w) l ≡ poke (do_later s l) a w
-unfolding do_later access_at poke write later_touches
-do_later-poke s (Entered slot k (LoadInto n)) a w h = ap (λ v. write (poke s a w) (X n) v) (get_or-set_other s.memory a k w 0 (eqb-false k a h))
-do_later-poke s (Entered slot k (StoreWord v)) a w h = ap (λ m. record s { memory = m }) (set_comm s.memory a k w v (λ e. eqb-false k a h (sym e)))
-do_later-poke s (Accepted n v) a w h = refl
+pub do_outstanding-poke : (s : State) (l : Outstanding) (a w : ℕ) → later_touches a l ≡ false → do_outstanding (poke s a w) l ≡ poke (do_outstanding s l) a w
+unfolding do_outstanding access_at poke write later_touches
+do_outstanding-poke s (Entered slot k (LoadInto n)) a w h = ap (λ v. write (poke s a w) (X n) v) (get_or-set_other s.memory a k w 0 (eqb-false k a h))
+do_outstanding-poke s (Entered slot k (StoreWord v)) a w h = ap (λ m. record s { memory = m }) (set_comm s.memory a k w v (λ e. eqb-false k a h (sym e)))
+do_outstanding-poke s (Accepted n v) a w h = refl
 
 pub no_reference : (h : Shape) (x : UnitValue) → has_reference h ≡ false → reference_for h x ≡ None
 unfolding reference_for has_reference
@@ -311,16 +311,16 @@ unfolding go gone
 go-halted s None = refl
 go-halted s (Some to) = refl
 
-pub do_later-get : (s : State) (l : Later) (r : Reg) → is_in (target_of l) r ≡ false → get (do_later s l).registers r ≡ get s.registers r
-unfolding do_later access_at poke write target_of is_in returning_to returning
-do_later-get s (Entered slot a (LoadInto n)) r h = get-put_other s.registers (X n) r _ (or_parts (reg_eq r (X n)) false h).0
-do_later-get s (Entered slot a (StoreWord w)) r h = refl
-do_later-get s (Accepted n w) r h = get-put_other s.registers (X n) r _ (or_parts (reg_eq r (X n)) false h).0
+pub do_outstanding-get : (s : State) (l : Outstanding) (r : Reg) → is_in (target_of l) r ≡ false → get (do_outstanding s l).registers r ≡ get s.registers r
+unfolding do_outstanding access_at poke write target_of is_in returning_to returning
+do_outstanding-get s (Entered slot a (LoadInto n)) r h = get-put_other s.registers (X n) r _ (or_parts (reg_eq r (X n)) false h).0
+do_outstanding-get s (Entered slot a (StoreWord w)) r h = refl
+do_outstanding-get s (Accepted n w) r h = get-put_other s.registers (X n) r _ (or_parts (reg_eq r (X n)) false h).0
 
-do_option-get : (s : State) (o : Option Later) (r : Reg) → is_in (targets_left o) r ≡ false → get (do_option s o).registers r ≡ get s.registers r
+do_option-get : (s : State) (o : Option Outstanding) (r : Reg) → is_in (targets_left o) r ≡ false → get (do_option s o).registers r ≡ get s.registers r
 unfolding do_option targets_left
 do_option-get s None r h = refl
-do_option-get s (Some l) r h = do_later-get s l r h
+do_option-get s (Some l) r h = do_outstanding-get s l r h
 
 pub do_parts-get : (b : Bounds) (s : State) (h : Shape) (x : UnitValue) (r : Reg) → is_in (puts_of h) r ≡ false → is_in (loads_of h) r ≡ false → get (do_parts b s (work_of h x)).registers r ≡ get s.registers r
 unfolding do_parts do_now work_of mark
@@ -330,23 +330,23 @@ do_parts-get b s h x r p q =
     ∙ write_all-get s _ (puts_of h) r p
 
 -- what is left of a reference may store to the address
-unfoldable pub later_stores : ℕ → Later → Bool
+unfoldable pub later_stores : ℕ → Outstanding → Bool
 later_stores a (Entered slot k (StoreWord w)) = eqb k a
 later_stores a (Entered slot k (LoadInto n)) = false
 later_stores a (Accepted n w) = false
 
-pub do_later-word : (s : State) (l : Later) (a : ℕ) → later_stores a l ≡ false → get_or (do_later s l).memory a 0 ≡ get_or s.memory a 0
-unfolding do_later access_at poke write later_stores
-do_later-word s (Entered slot k (LoadInto n)) a h = refl
-do_later-word s (Entered slot k (StoreWord w)) a h = get_or-set_other s.memory k a w 0 (λ e. eqb-false k a h (sym e))
-do_later-word s (Accepted n w) a h = refl
+pub do_outstanding-word : (s : State) (l : Outstanding) (a : ℕ) → later_stores a l ≡ false → get_or (do_outstanding s l).memory a 0 ≡ get_or s.memory a 0
+unfolding do_outstanding access_at poke write later_stores
+do_outstanding-word s (Entered slot k (LoadInto n)) a h = refl
+do_outstanding-word s (Entered slot k (StoreWord w)) a h = get_or-set_other s.memory k a w 0 (λ e. eqb-false k a h (sym e))
+do_outstanding-word s (Accepted n w) a h = refl
 
 pub do_now-memory : (b : Bounds) (s : State) (w : Work) → (do_now b s w).memory ≡ s.memory
 unfolding do_now mark
 do_now-memory b s w = go-memory _ w.jump ∙ ap (λ y. y.memory) (write_all_rest s w.puts)
 
 entering_stores_not : (s : State) (slot n a : ℕ) (o : Option ℕ) → get_or (do_option s (entering slot o (LoadInto n))).memory a 0 ≡ get_or s.memory a 0
-unfolding entering do_option do_later access_at write
+unfolding entering do_option do_outstanding access_at write
 entering_stores_not s slot n a None = refl
 entering_stores_not s slot n a (Some k) = refl
 
@@ -362,31 +362,31 @@ pub do_parts-word : (b : Bounds) (s : State) (h : Shape) (x : UnitValue) (a : �
 unfolding do_parts work_of
 do_parts-word b s h x a e = rest_stores_not b _ 0 a h x e ∙ ap (λ m. get_or m a 0) (do_now-memory b s _)
 
-pub do_later-halted : (s : State) (l : Later) → (do_later s l).halt ≡ s.halt
-unfolding do_later access_at poke write
-do_later-halted s (Entered slot a (LoadInto n)) = refl
-do_later-halted s (Entered slot a (StoreWord w)) = refl
-do_later-halted s (Accepted n w) = refl
+pub do_outstanding-halted : (s : State) (l : Outstanding) → (do_outstanding s l).halt ≡ s.halt
+unfolding do_outstanding access_at poke write
+do_outstanding-halted s (Entered slot a (LoadInto n)) = refl
+do_outstanding-halted s (Entered slot a (StoreWord w)) = refl
+do_outstanding-halted s (Accepted n w) = refl
 
-do_option-halted : (s : State) (o : Option Later) → (do_option s o).halt ≡ s.halt
+do_option-halted : (s : State) (o : Option Outstanding) → (do_option s o).halt ≡ s.halt
 unfolding do_option
 do_option-halted s None = refl
-do_option-halted s (Some l) = do_later-halted s l
+do_option-halted s (Some l) = do_outstanding-halted s l
 
 pub do_parts-halted : (b : Bounds) (s : State) (w : Work) → (do_parts b s w).halt ≡ s.halt
 unfolding do_parts do_now mark
 do_parts-halted b s w = do_option-halted _ (rest_of b 0 w.reference) ∙ go-halted _ w.jump ∙ ap (λ y. y.halt) (write_all_rest s w.puts)
 
-pub do_later-bounds : (s : State) (l : Later) → bounds_of (do_later s l) ≡ bounds_of s
-unfolding do_later access_at poke write bounds_of
-do_later-bounds s (Entered slot a (LoadInto n)) = refl
-do_later-bounds s (Entered slot a (StoreWord w)) = ap (λ n. record { area = s.area; size = n }) (length-set s.memory a w)
-do_later-bounds s (Accepted n w) = refl
+pub do_outstanding-bounds : (s : State) (l : Outstanding) → bounds_of (do_outstanding s l) ≡ bounds_of s
+unfolding do_outstanding access_at poke write bounds_of
+do_outstanding-bounds s (Entered slot a (LoadInto n)) = refl
+do_outstanding-bounds s (Entered slot a (StoreWord w)) = ap (λ n. record { area = s.area; size = n }) (length-set s.memory a w)
+do_outstanding-bounds s (Accepted n w) = refl
 
-do_option-bounds : (s : State) (o : Option Later) → bounds_of (do_option s o) ≡ bounds_of s
+do_option-bounds : (s : State) (o : Option Outstanding) → bounds_of (do_option s o) ≡ bounds_of s
 unfolding do_option
 do_option-bounds s None = refl
-do_option-bounds s (Some l) = do_later-bounds s l
+do_option-bounds s (Some l) = do_outstanding-bounds s l
 
 go-bounds : (s : State) (j : Option ℕ) → bounds_of (go s j) ≡ bounds_of s
 unfolding go bounds_of gone
@@ -401,11 +401,11 @@ pub do_parts-bounds : (b : Bounds) (s : State) (w : Work) → bounds_of (do_part
 unfolding do_parts
 do_parts-bounds b s w = do_option-bounds _ (rest_of b 0 w.reference) ∙ do_now-bounds b s w
 
-pub do_later-place : (s : State) (l : Later) → (do_later s l).place ≡ s.place
-unfolding do_later access_at poke write
-do_later-place s (Entered slot a (LoadInto n)) = refl
-do_later-place s (Entered slot a (StoreWord w)) = refl
-do_later-place s (Accepted n w) = refl
+pub do_outstanding-place : (s : State) (l : Outstanding) → (do_outstanding s l).place ≡ s.place
+unfolding do_outstanding access_at poke write
+do_outstanding-place s (Entered slot a (LoadInto n)) = refl
+do_outstanding-place s (Entered slot a (StoreWord w)) = refl
+do_outstanding-place s (Accepted n w) = refl
 
 pub do_parts-place : (b : Bounds) (s : State) (h : Shape) (x : UnitValue) → is_branch_shape h ≡ false → (do_parts b s (work_of h x)).place ≡ s.place
 unfolding move_to
@@ -414,7 +414,7 @@ do_parts-place b s h x e = ap (λ y. y.place) (do_parts-move b s h x s.place e)
 -- ---- the work of a row is its two parts ----
 
 refer_at-is : (s : State) (o : Option ℕ) (access : Access) → refer_at s o access ≡ do_option s (entering 0 o access)
-unfolding refer_at do_option entering do_later
+unfolding refer_at do_option entering do_outstanding
 refer_at-is s (Some a) (LoadInto n) = refl
 refer_at-is s (Some a) (StoreWord w) = refl
 refer_at-is s None (LoadInto n) = refl

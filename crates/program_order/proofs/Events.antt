@@ -16,18 +16,18 @@ use Rattle.instructions.specs.Shape.{has_reference, puts_of, shape_of}
 use Rattle.instructions.specs.Operands.{sources_of}
 use Rattle.instructions.specs.declared.instr.Reg.TheVariants.{X}
 use Rattle.instructions.specs.Each.{Each, Pairs}
-use Rattle.in_flight.specs.Member.{awaited, entered_in, has_turn, in_bank, is_entered, to_be_read}
+use Rattle.in_flight.specs.Pending.{awaited, entered_in, has_turn, in_bank, is_entered, to_be_read}
 use Rattle.in_flight.proofs.Asked.{comes}
 use Rattle.program_order.specs.Complete.{complete}
 use Rattle.in_flight.specs.Apart.{IsApart}
 use Rattle.in_flight.specs.Lookup.{in_phase, kept}
 use Rattle.program_order.specs.Units.{rest_of, stage_after_finish, stage_after_read}
-use Rattle.in_flight.specs.declared.member.Later.{Later}
-use Rattle.in_flight.specs.declared.member.Later.TheVariants.{Accepted, Entered}
-use Rattle.in_flight.specs.declared.member.Member.{Member}
-use Rattle.in_flight.specs.declared.member.Phase.TheVariants.{After, Before}
-use Rattle.in_flight.specs.declared.member.Stage.{Stage}
-use Rattle.in_flight.specs.declared.member.Stage.TheVariants.{Finished}
+use Rattle.in_flight.specs.declared.pending.Outstanding.{Outstanding}
+use Rattle.in_flight.specs.declared.pending.Outstanding.TheVariants.{Accepted, Entered}
+use Rattle.in_flight.specs.declared.pending.Pending.{Pending}
+use Rattle.in_flight.specs.declared.pending.Phase.TheVariants.{After, Before}
+use Rattle.in_flight.specs.declared.pending.Stage.{Stage}
+use Rattle.in_flight.specs.declared.pending.Stage.TheVariants.{Finished}
 use Rattle.registers.specs.Registers.{get}
 use Rattle.relocation.specs.declared.area.Access.TheVariants.{Load as LoadInto, Store as StoreWord}
 use Rattle.sequential.specs.State.{Bounds, poke, write}
@@ -36,15 +36,15 @@ use Rattle.sequential.specs.declared.state.State.{State}
 use Rattle.unit_ops.specs.declared.UnitValue.{UnitValue}
 
 -- the members stay apart, and complete to the same
-pub record IsKept (b : Bounds) (s c : State) (ms ns : List Member) : Type 0 where
+pub record IsKept (b : Bounds) (s c : State) (ms ns : List Pending) : Type 0 where
   pub apart : Pairs IsApart ns
   pub same : complete b c ns ≡ complete b s ms
 
 -- a member that has not entered has nobody to wait for
-not_entered : (es : List Member) (m : Member) → is_entered m ≡ false → Each (λ e. (is_entered m && has_turn e) ≡ false) es
+not_entered : (es : List Pending) (m : Pending) → is_entered m ≡ false → Each (λ e. (is_entered m && has_turn e) ≡ false) es
 not_entered es m h = each_all (λ e. (is_entered m && has_turn e) ≡ false) (λ e. ap (λ f. f && has_turn e) h) es
 
-pub read_event : (b : Bounds) (s : State) (es : List Member) (m : Member) (ls : List Member) (t : Stage) → m.phase ≡ Before t → list_any (awaited es) (sources_of m.instr) ≡ false → Pairs IsApart (es ++ m ∷ ls) → IsKept b s s (es ++ m ∷ ls) (es ++ (in_phase m (Before (stage_after_read s.registers m.instr m.at t)) ∷ [] ++ ls))
+pub read_event : (b : Bounds) (s : State) (es : List Pending) (m : Pending) (ls : List Pending) (t : Stage) → m.phase ≡ Before t → list_any (awaited es) (sources_of m.instr) ≡ false → Pairs IsApart (es ++ m ∷ ls) → IsKept b s s (es ++ m ∷ ls) (es ++ (in_phase m (Before (stage_after_read s.registers m.instr m.at t)) ∷ [] ++ ls))
 unfolding is_entered entered_in in_phase complete
 read_event b s es m ls t e h apart = record {
   apart = pairs_less es (in_phase m (Before (stage_after_read s.registers m.instr m.at t))) m ls (less_before m t _ e) (not_entered es (in_phase m (Before (stage_after_read s.registers m.instr m.at t))) refl) apart;
@@ -53,14 +53,14 @@ read_event b s es m ls t e h apart = record {
       (each_map (λ r. Each (λ y. comes r y ≡ false) es) (λ r. get s.registers r ≡ get (complete b s es).registers r) (λ r k. sym (complete-get b s es r k)) (sources_of m.instr) (not_awaited es (sources_of m.instr) h))));
 }
 
-pub finish_event : (b : Bounds) (s : State) (es : List Member) (m : Member) (ls : List Member) (t : Stage) → m.phase ≡ Before t → Pairs IsApart (es ++ m ∷ ls) → IsKept b s s (es ++ m ∷ ls) (es ++ (in_phase m (Before (stage_after_finish m.instr t)) ∷ [] ++ ls))
+pub finish_event : (b : Bounds) (s : State) (es : List Pending) (m : Pending) (ls : List Pending) (t : Stage) → m.phase ≡ Before t → Pairs IsApart (es ++ m ∷ ls) → IsKept b s s (es ++ m ∷ ls) (es ++ (in_phase m (Before (stage_after_finish m.instr t)) ∷ [] ++ ls))
 unfolding is_entered entered_in in_phase complete
 finish_event b s es m ls t e apart = record {
   apart = pairs_less es (in_phase m (Before (stage_after_finish m.instr t))) m ls (less_before m t _ e) (not_entered es (in_phase m (Before (stage_after_finish m.instr t))) refl) apart;
   same = complete-put_back b s s es ((in_phase m (Before (stage_after_finish m.instr t))) ∷ []) m ls (run-finish b (complete b s es) m t e);
 }
 
-kept_apart : (es : List Member) (m : Member) (ls : List Member) (t : Stage) (b : Bounds) (slot : ℕ) (v : UnitValue) (o : Option Later) → rest_of b slot (reference_for (shape_of m.instr) v) ≡ o → m.phase ≡ Before t → (has_reference (shape_of m.instr) && list_any has_turn es) ≡ false → Pairs IsApart (es ++ m ∷ ls) → Pairs IsApart (es ++ (kept m o ++ ls))
+kept_apart : (es : List Pending) (m : Pending) (ls : List Pending) (t : Stage) (b : Bounds) (slot : ℕ) (v : UnitValue) (o : Option Outstanding) → rest_of b slot (reference_for (shape_of m.instr) v) ≡ o → m.phase ≡ Before t → (has_reference (shape_of m.instr) && list_any has_turn es) ≡ false → Pairs IsApart (es ++ m ∷ ls) → Pairs IsApart (es ++ (kept m o ++ ls))
 unfolding kept targets_left
 kept_apart es m ls t b slot v None k e h apart = pairs_without IsApart es m ls apart
 kept_apart es m ls t b slot v (Some l) k e h apart =
@@ -69,7 +69,7 @@ kept_apart es m ls t b slot v (Some l) k e h apart =
     (each_map (λ y. has_turn y ≡ false) _ (λ y i. and_right _ (has_turn y) i) es (turns_at_store b slot (shape_of m.instr) v l es k h))
     apart
 
-pub store_event : (b : Bounds) (s : State) (es : List Member) (m : Member) (ls : List Member) (v : UnitValue) (slot : ℕ) → m.phase ≡ Before (Finished v) → list_any (to_be_read es) (puts_of (shape_of m.instr)) ≡ false → (has_reference (shape_of m.instr) && list_any has_turn es) ≡ false → Pairs IsApart (es ++ m ∷ ls) → IsKept b s (do_now b s (work_of (shape_of m.instr) v)) (es ++ m ∷ ls) (es ++ (kept m (rest_of b slot (work_of (shape_of m.instr) v).reference) ++ ls))
+pub store_event : (b : Bounds) (s : State) (es : List Pending) (m : Pending) (ls : List Pending) (v : UnitValue) (slot : ℕ) → m.phase ≡ Before (Finished v) → list_any (to_be_read es) (puts_of (shape_of m.instr)) ≡ false → (has_reference (shape_of m.instr) && list_any has_turn es) ≡ false → Pairs IsApart (es ++ m ∷ ls) → IsKept b s (do_now b s (work_of (shape_of m.instr) v)) (es ++ m ∷ ls) (es ++ (kept m (rest_of b slot (work_of (shape_of m.instr) v).reference) ++ ls))
 unfolding work_of
 store_event b s es m ls v slot e held turn apart =
     let before = pairs_before IsApart es m ls apart in
@@ -80,7 +80,7 @@ store_event b s es m ls v slot e held turn apart =
           ∙ run-store b (complete b s es) m v slot e);
     }
 
-pub accept_load_event : (b : Bounds) (s : State) (es : List Member) (m : Member) (ls : List Member) (slot a n : ℕ) → m.phase ≡ After (Entered slot a (LoadInto n)) → list_any (in_bank (bank_of a)) es ≡ false → Pairs IsApart (es ++ m ∷ ls) → IsKept b s s (es ++ m ∷ ls) (es ++ (in_phase m (After (Accepted n (get_or s.memory a 0))) ∷ [] ++ ls))
+pub accept_load_event : (b : Bounds) (s : State) (es : List Pending) (m : Pending) (ls : List Pending) (slot a n : ℕ) → m.phase ≡ After (Entered slot a (LoadInto n)) → list_any (in_bank (bank_of a)) es ≡ false → Pairs IsApart (es ++ m ∷ ls) → IsKept b s s (es ++ m ∷ ls) (es ++ (in_phase m (After (Accepted n (get_or s.memory a 0))) ∷ [] ++ ls))
 unfolding is_entered entered_in in_phase complete
 accept_load_event b s es m ls slot a n e bank apart =
     let turns = turns_past es m slot a _ e (pairs_before IsApart es m ls apart) in
@@ -90,7 +90,7 @@ accept_load_event b s es m ls slot a n e bank apart =
           (run-accept_load b (complete b s es) m slot a n _ e (sym (complete-word b s es a (unstored es a turns bank))));
     }
 
-pub accept_store_event : (b : Bounds) (s : State) (es : List Member) (m : Member) (ls : List Member) (slot a v : ℕ) → m.phase ≡ After (Entered slot a (StoreWord v)) → list_any (in_bank (bank_of a)) es ≡ false → Pairs IsApart (es ++ m ∷ ls) → IsKept b s (poke s a v) (es ++ m ∷ ls) (es ++ ([] ++ ls))
+pub accept_store_event : (b : Bounds) (s : State) (es : List Pending) (m : Pending) (ls : List Pending) (slot a v : ℕ) → m.phase ≡ After (Entered slot a (StoreWord v)) → list_any (in_bank (bank_of a)) es ≡ false → Pairs IsApart (es ++ m ∷ ls) → IsKept b s (poke s a v) (es ++ m ∷ ls) (es ++ ([] ++ ls))
 accept_store_event b s es m ls slot a v e bank apart =
     let turns = turns_past es m slot a _ e (pairs_before IsApart es m ls apart) in
     record {
@@ -99,7 +99,7 @@ accept_store_event b s es m ls slot a v e bank apart =
           (ap (λ x. complete b x []) (complete-poke b s es a v (untouched es a turns bank)) ∙ run-accept_store b (complete b s es) m slot a v e);
     }
 
-pub return_event : (b : Bounds) (s : State) (es : List Member) (m : Member) (ls : List Member) (c v : ℕ) → m.phase ≡ After (Accepted c v) → to_be_read es (X c) ≡ false → Pairs IsApart (es ++ m ∷ ls) → IsKept b s (write s (X c) v) (es ++ m ∷ ls) (es ++ ([] ++ ls))
+pub return_event : (b : Bounds) (s : State) (es : List Pending) (m : Pending) (ls : List Pending) (c v : ℕ) → m.phase ≡ After (Accepted c v) → to_be_read es (X c) ≡ false → Pairs IsApart (es ++ m ∷ ls) → IsKept b s (write s (X c) v) (es ++ m ∷ ls) (es ++ ([] ++ ls))
 return_event b s es m ls c v e held apart =
     record {
       apart = pairs_without IsApart es m ls apart;

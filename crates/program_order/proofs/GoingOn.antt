@@ -32,10 +32,10 @@ use Rattle.sequential.specs.Place.{moved_on}
 use Rattle.sequential.specs.Step.{fetch, fetched_by, fetched_from, here, met, word_seen}
 use Rattle.instruction_table.specs.Decoding.{reading_at}
 use Rattle.program_order.specs.declared.event.Event.TheVariants.{Issue, Exchange as MakeExchange}
-use Rattle.in_flight.specs.declared.member.Member.{Member}
-use Rattle.in_flight.specs.Member.{awaited}
+use Rattle.in_flight.specs.declared.pending.Pending.{Pending}
+use Rattle.in_flight.specs.Pending.{awaited}
 use Rattle.in_flight.specs.Tests.{Test, refusal_of, row_tests, unit_for}
-use Rattle.program_order.specs.Processor.{Whole}
+use Rattle.program_order.specs.Processor.{Processor}
 use Rattle.program_order.specs.Events.{allowed, tests_of}
 use Rattle.program_order.specs.Exchange.{exchange_tests}
 use Rattle.program_order.specs.Issue.{fetch_waits, issue_tests, waits_at}
@@ -54,64 +54,64 @@ HasUnit (Halting halt place) = Unit {0}
 HasUnit (Passing place) = Unit {0}
 HasUnit (Taking i place) = IsSome (row i).unit
 
-met_unit : (place behind : Place) (i : Instr) → HasUnit (met place behind i)
+met_unit : (place after : Place) (i : Instr) → HasUnit (met place after i)
 unfolding met
-met_unit place behind Stop = tt
-met_unit place behind (ReturnJump K) = refl
-met_unit place behind (Jump i K) = refl
-met_unit place behind (BranchX Zero j K) = refl
-met_unit place behind (BranchX NonZero j K) = refl
-met_unit place behind (BranchX Positive j K) = refl
-met_unit place behind (BranchX Negative j K) = refl
-met_unit place behind (BranchX InRange j K) = refl
-met_unit place behind (BranchX OutOfRange j K) = refl
-met_unit place behind (BranchX Definite j K) = refl
-met_unit place behind (BranchX Indefinite j K) = refl
-met_unit place behind (BranchB Equal i j K) = refl
-met_unit place behind (BranchB NotEqual i j K) = refl
-met_unit place behind (BranchB GreaterOrEqual i j K) = refl
-met_unit place behind (BranchB Less i j K) = refl
-met_unit place behind (Copy i j) = refl
-met_unit place behind (Logical And i j k) = refl
-met_unit place behind (Logical Or i j k) = refl
-met_unit place behind (Logical Xor i j k) = refl
-met_unit place behind (Invert i k) = refl
-met_unit place behind (Logical AndNot i j k) = refl
-met_unit place behind (Logical OrNot i j k) = refl
-met_unit place behind (Logical XorNot i j k) = refl
-met_unit place behind (ShiftBy Left i jk) = refl
-met_unit place behind (ShiftBy Right i jk) = refl
-met_unit place behind (ShiftNominal Left i j k) = refl
-met_unit place behind (ShiftNominal Right i j k) = refl
-met_unit place behind (LongAdd Sum i j k) = refl
-met_unit place behind (LongAdd Difference i j k) = refl
-met_unit place behind (Mask i jk) = refl
-met_unit place behind Pass = tt
-met_unit place behind (CountOnes i k) = refl
-met_unit place behind (Increment TargetA i (Address BaseA j K)) = refl
-met_unit place behind (Increment TargetA i (Address BaseB j K)) = refl
-met_unit place behind (Increment TargetA i (Address BaseX j K)) = refl
-met_unit place behind (Increment TargetA i (Registers XPlusB j k)) = refl
-met_unit place behind (Increment TargetA i (Registers APlusB j k)) = refl
-met_unit place behind (Increment TargetA i (Registers AMinusB j k)) = refl
-met_unit place behind (Increment TargetA i (Registers BPlusB j k)) = refl
-met_unit place behind (Increment TargetA i (Registers BMinusB j k)) = refl
-met_unit place behind (Increment TargetB i (Address BaseA j K)) = refl
-met_unit place behind (Increment TargetB i (Address BaseB j K)) = refl
-met_unit place behind (Increment TargetB i (Address BaseX j K)) = refl
-met_unit place behind (Increment TargetB i (Registers XPlusB j k)) = refl
-met_unit place behind (Increment TargetB i (Registers APlusB j k)) = refl
-met_unit place behind (Increment TargetB i (Registers AMinusB j k)) = refl
-met_unit place behind (Increment TargetB i (Registers BPlusB j k)) = refl
-met_unit place behind (Increment TargetB i (Registers BMinusB j k)) = refl
-met_unit place behind (Increment TargetX i (Address BaseA j K)) = refl
-met_unit place behind (Increment TargetX i (Address BaseB j K)) = refl
-met_unit place behind (Increment TargetX i (Address BaseX j K)) = refl
-met_unit place behind (Increment TargetX i (Registers XPlusB j k)) = refl
-met_unit place behind (Increment TargetX i (Registers APlusB j k)) = refl
-met_unit place behind (Increment TargetX i (Registers AMinusB j k)) = refl
-met_unit place behind (Increment TargetX i (Registers BPlusB j k)) = refl
-met_unit place behind (Increment TargetX i (Registers BMinusB j k)) = refl
+met_unit place after Stop = tt
+met_unit place after (ReturnJump K) = refl
+met_unit place after (Jump i K) = refl
+met_unit place after (BranchX Zero j K) = refl
+met_unit place after (BranchX NonZero j K) = refl
+met_unit place after (BranchX Positive j K) = refl
+met_unit place after (BranchX Negative j K) = refl
+met_unit place after (BranchX InRange j K) = refl
+met_unit place after (BranchX OutOfRange j K) = refl
+met_unit place after (BranchX Definite j K) = refl
+met_unit place after (BranchX Indefinite j K) = refl
+met_unit place after (BranchB Equal i j K) = refl
+met_unit place after (BranchB NotEqual i j K) = refl
+met_unit place after (BranchB GreaterOrEqual i j K) = refl
+met_unit place after (BranchB Less i j K) = refl
+met_unit place after (Copy i j) = refl
+met_unit place after (Logical And i j k) = refl
+met_unit place after (Logical Or i j k) = refl
+met_unit place after (Logical Xor i j k) = refl
+met_unit place after (Invert i k) = refl
+met_unit place after (Logical AndNot i j k) = refl
+met_unit place after (Logical OrNot i j k) = refl
+met_unit place after (Logical XorNot i j k) = refl
+met_unit place after (ShiftBy Left i jk) = refl
+met_unit place after (ShiftBy Right i jk) = refl
+met_unit place after (ShiftNominal Left i j k) = refl
+met_unit place after (ShiftNominal Right i j k) = refl
+met_unit place after (LongAdd Sum i j k) = refl
+met_unit place after (LongAdd Difference i j k) = refl
+met_unit place after (Mask i jk) = refl
+met_unit place after Pass = tt
+met_unit place after (CountOnes i k) = refl
+met_unit place after (Increment TargetA i (Address BaseA j K)) = refl
+met_unit place after (Increment TargetA i (Address BaseB j K)) = refl
+met_unit place after (Increment TargetA i (Address BaseX j K)) = refl
+met_unit place after (Increment TargetA i (Registers XPlusB j k)) = refl
+met_unit place after (Increment TargetA i (Registers APlusB j k)) = refl
+met_unit place after (Increment TargetA i (Registers AMinusB j k)) = refl
+met_unit place after (Increment TargetA i (Registers BPlusB j k)) = refl
+met_unit place after (Increment TargetA i (Registers BMinusB j k)) = refl
+met_unit place after (Increment TargetB i (Address BaseA j K)) = refl
+met_unit place after (Increment TargetB i (Address BaseB j K)) = refl
+met_unit place after (Increment TargetB i (Address BaseX j K)) = refl
+met_unit place after (Increment TargetB i (Registers XPlusB j k)) = refl
+met_unit place after (Increment TargetB i (Registers APlusB j k)) = refl
+met_unit place after (Increment TargetB i (Registers AMinusB j k)) = refl
+met_unit place after (Increment TargetB i (Registers BPlusB j k)) = refl
+met_unit place after (Increment TargetB i (Registers BMinusB j k)) = refl
+met_unit place after (Increment TargetX i (Address BaseA j K)) = refl
+met_unit place after (Increment TargetX i (Address BaseB j K)) = refl
+met_unit place after (Increment TargetX i (Address BaseX j K)) = refl
+met_unit place after (Increment TargetX i (Registers XPlusB j k)) = refl
+met_unit place after (Increment TargetX i (Registers APlusB j k)) = refl
+met_unit place after (Increment TargetX i (Registers AMinusB j k)) = refl
+met_unit place after (Increment TargetX i (Registers BPlusB j k)) = refl
+met_unit place after (Increment TargetX i (Registers BMinusB j k)) = refl
 
 read_unit : (p parcel word : ℕ) (d : Decoded) → HasUnit (fetched_by p parcel word d)
 unfolding fetched_by
@@ -182,10 +182,10 @@ budget_left budget count h = by_test (nat_le budget count) refl
     by_test false e = e
     by_test true e = let k : budget ≤ count = leb-true budget count e in absurd (omega (arith, h, k))
 
-pub issue_accepted : (w : Whole) → is_pending w.pending ≡ false → w.state.halt ≡ None → w.state.fault ≡ false → issued w.log < w.budget → (is_none w.request || is_some w.state.place.held) ≡ true → allowed w Issue ≡ None
+pub issue_accepted : (w : Processor) → is_pending w.pending ≡ false → w.state.halt ≡ None → w.state.fault ≡ false → issued w.log < w.budget → (is_none w.request || is_some w.state.place.held) ≡ true → allowed w Issue ≡ None
 unfolding allowed tests_of issue_tests
 issue_accepted w p h f b r =
-    ap (λ (ms : List Member). refusal_of (issue_tests w.state ms w.request w.budget (issued w.log))) (not_pending w.pending p)
+    ap (λ (ms : List Pending). refusal_of (issue_tests w.state ms w.request w.budget (issued w.log))) (not_pending w.pending p)
     ∙ none_fails (issue_tests w.state [] w.request w.budget (issued w.log)) (
       some_of w.state.halt h,
       (
@@ -206,6 +206,6 @@ issue_accepted w p h f b r =
       ),
     )
 
-pub exchange_accepted : (w : Whole) (at : ℕ) → is_pending w.pending ≡ false → w.request ≡ Some at → (is_none w.state.halt && (not w.state.fault && is_some w.state.place.held)) ≡ false → allowed w MakeExchange ≡ None
+pub exchange_accepted : (w : Processor) (at : ℕ) → is_pending w.pending ≡ false → w.request ≡ Some at → (is_none w.state.halt && (not w.state.fault && is_some w.state.place.held)) ≡ false → allowed w MakeExchange ≡ None
 unfolding allowed tests_of exchange_tests
 exchange_accepted w at p r m = none_fails (exchange_tests w.request w.pending w.state) (ap is_none r, (p, (m, tt)))

@@ -1,6 +1,6 @@
 -- An issue is a step of the completed state.
 use Rattle.scoreboard.specs.Rows as board
-use Rattle.in_flight.specs.Member.{progress_of, returning, row_of, delays_fetch, awaited, entered_in, has_turn, is_branch, is_entered, to_come}
+use Rattle.in_flight.specs.Pending.{progress_of, returning, row_of, delays_fetch, awaited, entered_in, has_turn, is_branch, is_entered, to_come}
 use Rattle.in_flight.proofs.Asked.{comes}
 use Rattle.scoreboard.specs.Rows.{returning_to}
 use Rattle.std.proofs.Common.{◌≡◌, ℕ, false, List, [], ◌∷◌, ◌++◌, Option, Some, None, refl, ap, ◌∙◌}
@@ -17,16 +17,16 @@ use Rattle.instructions.specs.Each.{Each, Pairs}
 use Rattle.program_order.specs.Complete.{complete, run, run_phase, value_at}
 use Rattle.in_flight.specs.Apart.{IsApart}
 use Rattle.program_order.specs.Issue.{fetch_waits, waits_at}
-use Rattle.in_flight.specs.declared.member.Member.{Member}
-use Rattle.in_flight.specs.declared.member.Phase.TheVariants.{Before}
-use Rattle.in_flight.specs.declared.member.Stage.TheVariants.{Waiting}
+use Rattle.in_flight.specs.declared.pending.Pending.{Pending}
+use Rattle.in_flight.specs.declared.pending.Phase.TheVariants.{Before}
+use Rattle.in_flight.specs.declared.pending.Stage.TheVariants.{Waiting}
 use Rattle.sequential.specs.Replay.{LogStep, do_log_step, replay, then_replay}
 use Rattle.sequential.specs.State.{Bounds, absolute, bounds_of, halt_by, move_to}
 use Rattle.sequential.specs.Step.{do_fetched, do_instruction, fetch, fetched_from, step, step_unless, word_at, word_seen}
 use Rattle.sequential.specs.declared.place.Place.{Place}
 use Rattle.sequential.specs.declared.state.State.{State}
 
-word_at-same : (b : Bounds) (s : State) (ms : List Member) (o : Option ℕ) → list_any is_branch ms ≡ false → waits_at o ms ≡ false → word_at (complete b s ms).memory o ≡ word_at s.memory o
+word_at-same : (b : Bounds) (s : State) (ms : List Pending) (o : Option ℕ) → list_any is_branch ms ≡ false → waits_at o ms ≡ false → word_at (complete b s ms).memory o ≡ word_at s.memory o
 unfolding word_at waits_at
 word_at-same b s ms None nb h = refl
 word_at-same b s ms (Some a) nb h =
@@ -34,13 +34,13 @@ word_at-same b s ms (Some a) nb h =
     (each_both (λ m. delays_fetch a m ≡ false) (λ m. is_branch m ≡ false) (λ m. may_store a m ≡ false) (λ m i j. stores_nothing a m i j) ms
     (each_of_any (delays_fetch a) (λ m. delays_fetch a m ≡ false) (λ m k. k) ms h) (each_no_branch ms nb)))
 
-word_seen-same : (b : Bounds) (s : State) (ms : List Member) (p : ℕ) (held : Option ℕ) → list_any is_branch ms ≡ false → (is_none held && waits_at (absolute b p) ms) ≡ false → word_seen b (complete b s ms).memory p held ≡ word_seen b s.memory p held
+word_seen-same : (b : Bounds) (s : State) (ms : List Pending) (p : ℕ) (held : Option ℕ) → list_any is_branch ms ≡ false → (is_none held && waits_at (absolute b p) ms) ≡ false → word_seen b (complete b s ms).memory p held ≡ word_seen b s.memory p held
 unfolding word_seen
 word_seen-same b s ms p (Some w) nb h = refl
 word_seen-same b s ms p None nb h = word_at-same b s ms (absolute b p) nb h
 
 -- where the fetch need not wait, all members leave the fetched word as it is
-fetch-same : (b : Bounds) (s : State) (ms : List Member) (place : Place) → list_any is_branch ms ≡ false → fetch_waits b place ms ≡ false → fetch b (complete b s ms).memory place ≡ fetch b s.memory place
+fetch-same : (b : Bounds) (s : State) (ms : List Pending) (place : Place) → list_any is_branch ms ≡ false → fetch_waits b place ms ≡ false → fetch b (complete b s ms).memory place ≡ fetch b s.memory place
 unfolding fetch fetch_waits
 fetch-same b s ms place nb h = ap (fetched_from place.p place.parcel) (word_seen-same b s ms place.p place.held nb h)
 
@@ -52,16 +52,16 @@ step_from s b place h e f =
     ∙ ap (λ k. do_fetched b s k.p (fetch b s.memory k)) f
 
 -- the completed state fetches what the present one does
-pub step-complete : (s : State) (ms : List Member) → s.halt ≡ None → list_any is_branch ms ≡ false → fetch_waits (bounds_of s) s.place ms ≡ false → step (complete (bounds_of s) s ms) ≡ do_fetched (bounds_of s) (complete (bounds_of s) s ms) s.place.p (fetch (bounds_of s) s.memory s.place)
+pub step-complete : (s : State) (ms : List Pending) → s.halt ≡ None → list_any is_branch ms ≡ false → fetch_waits (bounds_of s) s.place ms ≡ false → step (complete (bounds_of s) s ms) ≡ do_fetched (bounds_of s) (complete (bounds_of s) s ms) s.place.p (fetch (bounds_of s) s.memory s.place)
 step-complete s ms h nb w =
     step_from (complete (bounds_of s) s ms) (bounds_of s) s.place
     (complete-halted (bounds_of s) s ms ∙ h) (complete-bounds (bounds_of s) s ms) (complete-place (bounds_of s) s ms (each_no_branch ms nb))
     ∙ ap (do_fetched (bounds_of s) (complete (bounds_of s) s ms) s.place.p) (fetch-same (bounds_of s) s ms s.place nb w)
 
-pub issue_halting : (b : Bounds) (s : State) (ms : List Member) (place : Place) (k : Halt) → list_any is_branch ms ≡ false → complete b (halt_by (move_to s place) k) ms ≡ halt_by (move_to (complete b s ms) place) k
+pub issue_halting : (b : Bounds) (s : State) (ms : List Pending) (place : Place) (k : Halt) → list_any is_branch ms ≡ false → complete b (halt_by (move_to s place) k) ms ≡ halt_by (move_to (complete b s ms) place) k
 issue_halting b s ms place k nb = complete-halt b (move_to s place) ms k ∙ ap (λ x. halt_by x k) (complete-move b s ms place (each_no_branch ms nb))
 
-pub issue_taking : (b : Bounds) (s : State) (ms : List Member) (place : Place) (m : Member) → m.phase ≡ Before Waiting → list_any is_branch ms ≡ false → complete b (move_to s place) (ms ++ m ∷ []) ≡ do_instruction b (move_to (complete b s ms) place) m.instr m.at
+pub issue_taking : (b : Bounds) (s : State) (ms : List Pending) (place : Place) (m : Pending) → m.phase ≡ Before Waiting → list_any is_branch ms ≡ false → complete b (move_to s place) (ms ++ m ∷ []) ≡ do_instruction b (move_to (complete b s ms) place) m.instr m.at
 unfolding complete run run_phase value_at do_instruction
 issue_taking b s ms place m e nb =
     complete-append b (move_to s place) ms (m ∷ [])
@@ -69,7 +69,7 @@ issue_taking b s ms place m e nb =
     ∙ ap (λ x. do_instruction b x m.instr m.at) (complete-move b s ms place (each_no_branch ms nb))
 
 -- a new member is apart from those before it
-pub new_apart : (ms : List Member) (m : Member) → m.phase ≡ Before Waiting → list_any is_branch ms ≡ false → list_any (awaited ms) (results (shape_of m.instr)) ≡ false → Pairs IsApart ms → Pairs IsApart (ms ++ m ∷ [])
+pub new_apart : (ms : List Pending) (m : Pending) → m.phase ≡ Before Waiting → list_any is_branch ms ≡ false → list_any (awaited ms) (results (shape_of m.instr)) ≡ false → Pairs IsApart ms → Pairs IsApart (ms ++ m ∷ [])
 unfolding comes to_come to_come_in overlap is_entered entered_in board.comes row_of board.to_come board.to_come_in progress_of returning_to returning
 new_apart ms m e nb h apart =
     pairs_push IsApart ms m apart
@@ -89,11 +89,11 @@ then_replay-one (Some s) = refl
 pub replay-push : (s : State) (xs : List LogStep) (x : LogStep) → replay s (xs ++ x ∷ []) ≡ then_replay (replay s xs) (λ t. do_log_step t x)
 unfolding replay then_replay
 replay-push s [] x = then_replay-one (do_log_step s x)
-replay-push s (y ∷ xs) x = behind (do_log_step s y) (λ t. replay-push t xs x)
+replay-push s (y ∷ xs) x = after (do_log_step s y) (λ t. replay-push t xs x)
   where
-    behind : (o : Option State) → ((t : State) → replay t (xs ++ x ∷ []) ≡ then_replay (replay t xs) (λ u. do_log_step u x)) → then_replay o (λ t. replay t (xs ++ x ∷ [])) ≡ then_replay (then_replay o (λ t. replay t xs)) (λ t. do_log_step t x)
-    behind None ih = refl
-    behind (Some t) ih = ih t
+    after : (o : Option State) → ((t : State) → replay t (xs ++ x ∷ []) ≡ then_replay (replay t xs) (λ u. do_log_step u x)) → then_replay o (λ t. replay t (xs ++ x ∷ [])) ≡ then_replay (then_replay o (λ t. replay t xs)) (λ t. do_log_step t x)
+    after None ih = refl
+    after (Some t) ih = ih t
 
 -- one more step of a replay that came to a state
 pub replay_more : (s t : State) (xs : List LogStep) (x : LogStep) → replay s xs ≡ Some t → replay s (xs ++ x ∷ []) ≡ do_log_step t x

@@ -1,6 +1,6 @@
 -- What one pending member doesn't touch.
 use Rattle.scoreboard.specs.Rows as board
-use Rattle.in_flight.specs.Member.{has_read, progress_of, returning, row_of, is_branch, to_come}
+use Rattle.in_flight.specs.Pending.{has_read, progress_of, returning, row_of, is_branch, to_come}
 use Rattle.in_flight.proofs.Asked.{reads}
 use Rattle.scoreboard.specs.Rows.{is_reserved, returning_to}
 use Rattle.std.specs.Prelude.{◌||◌}
@@ -9,7 +9,7 @@ use Rattle.std.proofs.Common.{◌≡◌, ℕ, Bool, true, false, cond, sym, subs
 use Rattle.std.specs.List.{list_any}
 use Rattle.instructions.proofs.Lists.{any_left, any_right, each_left, each_right}
 use Rattle.program_order.proofs.RegisterLaws.{get-put_other, same_reg_flip}
-use Rattle.program_order.proofs.Effects.{later_touches, later_stores, do_later-write, do_work-write, do_later-move, do_work-move, do_later-halt, do_work-halt, do_later-mark, do_work-mark, do_later-poke, do_work-poke, do_later-get, do_work-get, do_later-word, do_work-word, do_later-halted, do_work-halted, do_later-bounds, do_work-bounds, do_later-place, do_work-place}
+use Rattle.program_order.proofs.Effects.{later_touches, later_stores, do_outstanding-write, do_work-write, do_outstanding-move, do_work-move, do_outstanding-halt, do_work-halt, do_outstanding-mark, do_work-mark, do_outstanding-poke, do_work-poke, do_outstanding-get, do_work-get, do_outstanding-word, do_work-word, do_outstanding-halted, do_work-halted, do_outstanding-bounds, do_work-bounds, do_outstanding-place, do_work-place}
 use Rattle.instructions.specs.RegisterLists.{is_in}
 use Rattle.instructions.specs.Shape.{Shape, has_reference, has_store, is_branch_shape, loads_of, puts_of, results, shape_of}
 use Rattle.instructions.specs.Operands.{reg_eq, sources_of, row, with_source}
@@ -20,12 +20,12 @@ use Rattle.instructions.specs.declared.refusal.Halt.{Halt}
 use Rattle.in_flight.proofs.Phases.{target_of, before_and, may_store, may_store_in, reads_in, to_come_in}
 use Rattle.instructions.specs.Each.{Each}
 use Rattle.program_order.specs.Complete.{run, run_phase, value_at}
-use Rattle.in_flight.specs.declared.member.Later.TheVariants.{Accepted, Entered}
-use Rattle.in_flight.specs.declared.member.Member.{Member}
-use Rattle.in_flight.specs.declared.member.Phase.{Phase}
-use Rattle.in_flight.specs.declared.member.Phase.TheVariants.{After, Before}
-use Rattle.in_flight.specs.declared.member.Stage.{Stage}
-use Rattle.in_flight.specs.declared.member.Stage.TheVariants.{Finished, Read as HasRead, Waiting}
+use Rattle.in_flight.specs.declared.pending.Outstanding.TheVariants.{Accepted, Entered}
+use Rattle.in_flight.specs.declared.pending.Pending.{Pending}
+use Rattle.in_flight.specs.declared.pending.Phase.{Phase}
+use Rattle.in_flight.specs.declared.pending.Phase.TheVariants.{After, Before}
+use Rattle.in_flight.specs.declared.pending.Stage.{Stage}
+use Rattle.in_flight.specs.declared.pending.Stage.TheVariants.{Finished, Read as HasRead, Waiting}
 use Rattle.registers.specs.Registers.{get, put}
 use Rattle.registers.specs.declared.file.RegisterFile.{RegisterFile}
 use Rattle.relocation.specs.declared.area.Access.TheVariants.{Load as LoadInto, Store as StoreWord}
@@ -110,22 +110,22 @@ unfolding run_phase to_come_in write board.to_come_in progress_of returning_to r
 phase-write b s i at (Before t) r v c d =
     ap (λ x. do_work b (write s r v) (work_of (shape_of i) x)) (value_at-put i at t s.registers r v d)
     ∙ do_work-write b s (shape_of i) _ r v (in_puts (shape_of i) r c) (in_loads (shape_of i) r c)
-phase-write b s i at (After l) r v c d = do_later-write s l r v c
+phase-write b s i at (After l) r v c d = do_outstanding-write s l r v c
 
 phase-move : (b : Bounds) (s : State) (i : Instr) (at : ℕ) (p : Phase) (k : Place) → before_and (is_branch_shape (shape_of i)) p ≡ false → run_phase b (move_to s k) i at p ≡ move_to (run_phase b s i at p) k
 unfolding run_phase before_and move_to is_reserved progress_of
 phase-move b s i at (Before t) k e = do_work-move b s (shape_of i) _ k e
-phase-move b s i at (After l) k e = do_later-move s l k
+phase-move b s i at (After l) k e = do_outstanding-move s l k
 
 phase-halt : (b : Bounds) (s : State) (i : Instr) (at : ℕ) (p : Phase) (k : Halt) → run_phase b (halt_by s k) i at p ≡ halt_by (run_phase b s i at p) k
 unfolding run_phase halt_by
 phase-halt b s i at (Before t) k = do_work-halt b s _ k
-phase-halt b s i at (After l) k = do_later-halt s l k
+phase-halt b s i at (After l) k = do_outstanding-halt s l k
 
 phase-mark : (b : Bounds) (s : State) (i : Instr) (at : ℕ) (p : Phase) (f : Bool) → run_phase b (mark s f) i at p ≡ mark (run_phase b s i at p) f
 unfolding run_phase mark
 phase-mark b s i at (Before t) f = do_work-mark b s _ f
-phase-mark b s i at (After l) f = do_later-mark s l f
+phase-mark b s i at (After l) f = do_outstanding-mark s l f
 
 unfoldable pub touches_in : Bool → ℕ → Phase → Bool
 touches_in f a (Before t) = f
@@ -134,77 +134,77 @@ touches_in f a (After l) = later_touches a l
 phase-poke : (b : Bounds) (s : State) (i : Instr) (at : ℕ) (p : Phase) (a w : ℕ) → touches_in (has_reference (shape_of i)) a p ≡ false → run_phase b (poke s a w) i at p ≡ poke (run_phase b s i at p) a w
 unfolding run_phase touches_in poke later_touches
 phase-poke b s i at (Before t) a w e = do_work-poke b s (shape_of i) _ a w e
-phase-poke b s i at (After l) a w e = do_later-poke s l a w e
+phase-poke b s i at (After l) a w e = do_outstanding-poke s l a w e
 
 phase-get : (b : Bounds) (s : State) (i : Instr) (at : ℕ) (p : Phase) (r : Reg) → is_in (to_come_in (shape_of i) p) r ≡ false → get (run_phase b s i at p).registers r ≡ get s.registers r
 unfolding run_phase to_come_in board.to_come_in progress_of returning_to returning target_of
 phase-get b s i at (Before t) r c = do_work-get b s (shape_of i) _ r (in_puts (shape_of i) r c) (in_loads (shape_of i) r c)
-phase-get b s i at (After l) r c = do_later-get s l r c
+phase-get b s i at (After l) r c = do_outstanding-get s l r c
 
 phase-word : (b : Bounds) (s : State) (i : Instr) (at : ℕ) (p : Phase) (a : ℕ) → may_store_in (has_store (shape_of i)) a p ≡ false → get_or (run_phase b s i at p).memory a 0 ≡ get_or s.memory a 0
 unfolding run_phase may_store_in later_stores
 phase-word b s i at (Before t) a e = do_work-word b s (shape_of i) _ a e
-phase-word b s i at (After (Entered slot k (LoadInto n))) a e = do_later-word s (Entered slot k (LoadInto n)) a refl
-phase-word b s i at (After (Entered slot k (StoreWord w))) a e = do_later-word s (Entered slot k (StoreWord w)) a e
-phase-word b s i at (After (Accepted n w)) a e = do_later-word s (Accepted n w) a refl
+phase-word b s i at (After (Entered slot k (LoadInto n))) a e = do_outstanding-word s (Entered slot k (LoadInto n)) a refl
+phase-word b s i at (After (Entered slot k (StoreWord w))) a e = do_outstanding-word s (Entered slot k (StoreWord w)) a e
+phase-word b s i at (After (Accepted n w)) a e = do_outstanding-word s (Accepted n w) a refl
 
 phase-halted : (b : Bounds) (s : State) (i : Instr) (at : ℕ) (p : Phase) → (run_phase b s i at p).halt ≡ s.halt
 unfolding run_phase
 phase-halted b s i at (Before t) = do_work-halted b s _
-phase-halted b s i at (After l) = do_later-halted s l
+phase-halted b s i at (After l) = do_outstanding-halted s l
 
 phase-bounds : (b : Bounds) (s : State) (i : Instr) (at : ℕ) (p : Phase) → bounds_of (run_phase b s i at p) ≡ bounds_of s
 unfolding run_phase
 phase-bounds b s i at (Before t) = do_work-bounds b s _
-phase-bounds b s i at (After l) = do_later-bounds s l
+phase-bounds b s i at (After l) = do_outstanding-bounds s l
 
 phase-place : (b : Bounds) (s : State) (i : Instr) (at : ℕ) (p : Phase) → before_and (is_branch_shape (shape_of i)) p ≡ false → (run_phase b s i at p).place ≡ s.place
 unfolding run_phase before_and is_reserved progress_of
 phase-place b s i at (Before t) e = do_work-place b s (shape_of i) _ e
-phase-place b s i at (After l) e = do_later-place s l
+phase-place b s i at (After l) e = do_outstanding-place s l
 
 -- ---- a member ----
 
-pub run-write : (b : Bounds) (s : State) (m : Member) (r : Reg) (v : ℕ) → is_in (to_come m) r ≡ false → is_in (reads m) r ≡ false → run b (write s r v) m ≡ write (run b s m) r v
+pub run-write : (b : Bounds) (s : State) (m : Pending) (r : Reg) (v : ℕ) → is_in (to_come m) r ≡ false → is_in (reads m) r ≡ false → run b (write s r v) m ≡ write (run b s m) r v
 unfolding run to_come reads board.to_come row_of to_come_in board.reads reads_in board.to_come_in progress_of returning_to returning board.reads_in has_read
 run-write b s m r v c d = phase-write b s m.instr m.at m.phase r v c d
 
-pub run-move : (b : Bounds) (s : State) (m : Member) (k : Place) → is_branch m ≡ false → run b (move_to s k) m ≡ move_to (run b s m) k
+pub run-move : (b : Bounds) (s : State) (m : Pending) (k : Place) → is_branch m ≡ false → run b (move_to s k) m ≡ move_to (run b s m) k
 unfolding run is_branch board.is_branch row_of before_and is_reserved progress_of
 run-move b s m k e = phase-move b s m.instr m.at m.phase k e
 
-pub run-halt : (b : Bounds) (s : State) (m : Member) (k : Halt) → run b (halt_by s k) m ≡ halt_by (run b s m) k
+pub run-halt : (b : Bounds) (s : State) (m : Pending) (k : Halt) → run b (halt_by s k) m ≡ halt_by (run b s m) k
 unfolding run
 run-halt b s m k = phase-halt b s m.instr m.at m.phase k
 
-pub run-mark : (b : Bounds) (s : State) (m : Member) (f : Bool) → run b (mark s f) m ≡ mark (run b s m) f
+pub run-mark : (b : Bounds) (s : State) (m : Pending) (f : Bool) → run b (mark s f) m ≡ mark (run b s m) f
 unfolding run
 run-mark b s m f = phase-mark b s m.instr m.at m.phase f
 
 -- the member may read or write the absolute address
-unfoldable pub touches : ℕ → Member → Bool
+unfoldable pub touches : ℕ → Pending → Bool
 touches a m = touches_in (has_reference (shape_of m.instr)) a m.phase
 
-pub run-poke : (b : Bounds) (s : State) (m : Member) (a w : ℕ) → touches a m ≡ false → run b (poke s a w) m ≡ poke (run b s m) a w
+pub run-poke : (b : Bounds) (s : State) (m : Pending) (a w : ℕ) → touches a m ≡ false → run b (poke s a w) m ≡ poke (run b s m) a w
 unfolding run touches
 run-poke b s m a w e = phase-poke b s m.instr m.at m.phase a w e
 
-pub run-get : (b : Bounds) (s : State) (m : Member) (r : Reg) → is_in (to_come m) r ≡ false → get (run b s m).registers r ≡ get s.registers r
+pub run-get : (b : Bounds) (s : State) (m : Pending) (r : Reg) → is_in (to_come m) r ≡ false → get (run b s m).registers r ≡ get s.registers r
 unfolding run to_come board.to_come row_of to_come_in board.to_come_in progress_of returning_to returning
 run-get b s m r c = phase-get b s m.instr m.at m.phase r c
 
-pub run-word : (b : Bounds) (s : State) (m : Member) (a : ℕ) → may_store a m ≡ false → get_or (run b s m).memory a 0 ≡ get_or s.memory a 0
+pub run-word : (b : Bounds) (s : State) (m : Pending) (a : ℕ) → may_store a m ≡ false → get_or (run b s m).memory a 0 ≡ get_or s.memory a 0
 unfolding run may_store
 run-word b s m a e = phase-word b s m.instr m.at m.phase a e
 
-pub run-halted : (b : Bounds) (s : State) (m : Member) → (run b s m).halt ≡ s.halt
+pub run-halted : (b : Bounds) (s : State) (m : Pending) → (run b s m).halt ≡ s.halt
 unfolding run
 run-halted b s m = phase-halted b s m.instr m.at m.phase
 
-pub run-bounds : (b : Bounds) (s : State) (m : Member) → bounds_of (run b s m) ≡ bounds_of s
+pub run-bounds : (b : Bounds) (s : State) (m : Pending) → bounds_of (run b s m) ≡ bounds_of s
 unfolding run
 run-bounds b s m = phase-bounds b s m.instr m.at m.phase
 
-pub run-place : (b : Bounds) (s : State) (m : Member) → is_branch m ≡ false → (run b s m).place ≡ s.place
+pub run-place : (b : Bounds) (s : State) (m : Pending) → is_branch m ≡ false → (run b s m).place ≡ s.place
 unfolding run is_branch board.is_branch row_of before_and is_reserved progress_of
 run-place b s m e = phase-place b s m.instr m.at m.phase e

@@ -13,7 +13,7 @@ use Rattle.sequential.specs.State.{Bounds, bounds_of, halt_by, move_to}
 use Rattle.sequential.specs.Step.{do_fetched, do_instruction, fetch, step, step_unless}
 use Rattle.sequential.specs.Swap.{begun, package_of, swap}
 use Rattle.program_order.specs.Sound.{Fits, IsReplay}
-use Rattle.program_order.specs.Processor.{Whole, completed, replayed}
+use Rattle.program_order.specs.Processor.{Processor, completed, replayed}
 use Rattle.program_order.proofs.Completing.{complete-bounds}
 use Rattle.program_order.proofs.Effects.{do_work-bounds}
 
@@ -51,19 +51,19 @@ log_step_size s (Exchanged n) t h = by_fit (package_fits n (length s.memory)) re
 pub replay_size : (s : State) (xs : List LogStep) (t : State) → replay s xs ≡ Some t → length t.memory ≡ length s.memory
 unfolding replay then_replay
 replay_size s [] t h = sym (ap (λ o. length (unwrap_or o s).memory) h)
-replay_size s (x ∷ xs) t h = behind (do_log_step s x) refl (λ u. replay_size u xs t) h
+replay_size s (x ∷ xs) t h = after (do_log_step s x) refl (λ u. replay_size u xs t) h
   where
-    behind : (o : Option State) → do_log_step s x ≡ o → ((u : State) → replay u xs ≡ Some t → length t.memory ≡ length u.memory) → then_replay o (λ u. replay u xs) ≡ Some t → length t.memory ≡ length s.memory
-    behind None e ih k = absurd (false≢true (ap is_some k))
-    behind (Some u) e ih k = ih u k ∙ log_step_size s x u e
+    after : (o : Option State) → do_log_step s x ≡ o → ((u : State) → replay u xs ≡ Some t → length t.memory ≡ length u.memory) → then_replay o (λ u. replay u xs) ≡ Some t → length t.memory ≡ length s.memory
+    after None e ih k = absurd (false≢true (ap is_some k))
+    after (Some u) e ih k = ih u k ∙ log_step_size s x u e
 
 -- the boot memory is of the memory's size
-pub boot_size : (w : Whole) → IsReplay w → length w.boot_memory ≡ length w.state.memory
+pub boot_size : (w : Processor) → IsReplay w → length w.boot_memory ≡ length w.state.memory
 unfolding completed replayed boot bounds_of
 boot_size w r =
     sym (replay_size (boot w.boot_memory) w.log (completed w) r)
     ∙ ap (λ (d : Bounds). d.size) (complete-bounds (bounds_of w.state) w.state w.pending)
 
 -- the package of a request lies in memory
-pub request_within : (w : Whole) (at : ℕ) → Fits w.request (length w.state.memory) → w.request ≡ Some at → package_fits at (length w.state.memory) ≡ true
+pub request_within : (w : Processor) (at : ℕ) → Fits w.request (length w.state.memory) → w.request ≡ Some at → package_fits at (length w.state.memory) ≡ true
 request_within w at f e = subst (λ o. Fits o (length w.state.memory)) e f

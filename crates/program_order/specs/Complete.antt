@@ -9,13 +9,13 @@ use Rattle.unit_ops.specs.Values.{value_of}
 use Rattle.sequential.specs.declared.state.State.{State}
 use Rattle.sequential.specs.State.{Bounds, write, access_at}
 use Rattle.sequential.specs.Work.{operands, work_of, do_work}
-use Rattle.in_flight.specs.declared.member.Later.{Later}
-use Rattle.in_flight.specs.declared.member.Later.TheVariants.{Entered, Accepted}
-use Rattle.in_flight.specs.declared.member.Member.{Member}
-use Rattle.in_flight.specs.declared.member.Phase.{Phase}
-use Rattle.in_flight.specs.declared.member.Phase.TheVariants.{Before, After}
-use Rattle.in_flight.specs.declared.member.Stage.{Stage}
-use Rattle.in_flight.specs.declared.member.Stage.TheVariants.{Waiting, Read, Finished}
+use Rattle.in_flight.specs.declared.pending.Outstanding.{Outstanding}
+use Rattle.in_flight.specs.declared.pending.Outstanding.TheVariants.{Entered, Accepted}
+use Rattle.in_flight.specs.declared.pending.Pending.{Pending}
+use Rattle.in_flight.specs.declared.pending.Phase.{Phase}
+use Rattle.in_flight.specs.declared.pending.Phase.TheVariants.{Before, After}
+use Rattle.in_flight.specs.declared.pending.Stage.{Stage}
+use Rattle.in_flight.specs.declared.pending.Stage.TheVariants.{Waiting, Read, Finished}
 
 -- the value of an instruction: one that waits reads the registers as they then are, a later one uses its operands or
 -- has its value
@@ -25,20 +25,20 @@ value_at instr at (Read os) g = value_of instr os
 value_at instr at (Finished v) g = v
 
 -- what is left after the store event: a reference, or a word on its way to its register
-unfoldable pub do_later : State → Later → State
-do_later s (Entered place a access) = access_at s a access
-do_later s (Accepted n word) = write s (X n) word
+unfoldable pub do_outstanding : State → Outstanding → State
+do_outstanding s (Entered place a access) = access_at s a access
+do_outstanding s (Accepted n word) = write s (X n) word
 
 -- the effects still to come of an instruction in that phase
 unfoldable pub run_phase : Bounds → State → Instr → ℕ → Phase → State
 run_phase b s instr at (Before t) = do_work b s (work_of (shape_of instr) (value_at instr at t s.registers))
-run_phase b s instr at (After l) = do_later s l
+run_phase b s instr at (After l) = do_outstanding s l
 
 -- all effects of a pending instruction that are still to come
-unfoldable pub run : Bounds → State → Member → State
+unfoldable pub run : Bounds → State → Pending → State
 run b s m = run_phase b s m.instr m.at m.phase
 
 -- Complete: the state after the effects of all, oldest first
-unfoldable pub complete : Bounds → State → List Member → State
+unfoldable pub complete : Bounds → State → List Pending → State
 complete b s [] = s
 complete b s (m ∷ ms) = complete b (run b s m) ms

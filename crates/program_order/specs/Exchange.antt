@@ -6,10 +6,10 @@ use Rattle.exchange_package.specs.Package.{package_fits}
 use Rattle.sequential.specs.declared.state.State.{State}
 use Rattle.sequential.specs.Swap.{swap}
 use Rattle.sequential.specs.Replay.{Exchanged}
-use Rattle.in_flight.specs.declared.member.Member.{Member}
+use Rattle.in_flight.specs.declared.pending.Pending.{Pending}
 use Rattle.in_flight.specs.Tests.{Test}
 use Rattle.in_flight.specs.Lookup.{is_pending}
-use Rattle.program_order.specs.Processor.{Whole}
+use Rattle.program_order.specs.Processor.{Processor}
 
 -- ---- what they are refused for ----
 
@@ -24,7 +24,7 @@ ask_tests asked request size n =
 
 -- E15, nothing: no exchange was asked for; E18, not drained: an instruction is pending; E25, mid word: it runs
 -- without fault in the middle of a word
-unfoldable pub exchange_tests : Option ℕ → List Member → State → List Test
+unfoldable pub exchange_tests : Option ℕ → List Pending → State → List Test
 exchange_tests request pending state =
     record { fails = is_none request; refusal = Nothing }
     ∷ record { fails = is_pending pending; refusal = NotDrained }
@@ -34,6 +34,6 @@ exchange_tests request pending state =
 -- ---- what it leaves ----
 
 -- the state and the package change places, the log gains the exchange, and no request waits
-unfoldable pub after_exchange : Whole → Option ℕ → Whole
+unfoldable pub after_exchange : Processor → Option ℕ → Processor
 after_exchange w None = w
 after_exchange w (Some n) = record w { state = swap n w.state; log = w.log ++ Exchanged n ∷ []; request = None }

@@ -11,7 +11,7 @@ use Rattle.sequential.specs.Swap.{swap}
 use Rattle.program_order.specs.declared.event.Done.{Done}
 use Rattle.program_order.specs.declared.event.Event.{Event}
 use Rattle.program_order.specs.declared.event.Event.TheVariants.{Issue, Read, Finish, Store, Accept, Return, BankFree, Ask, Exchange}
-use Rattle.program_order.specs.Processor.{Whole}
+use Rattle.program_order.specs.Processor.{Processor}
 use Rattle.program_order.specs.Events.{allowed, after}
 
 -- ---- the log ----
@@ -106,10 +106,10 @@ pub record IsFaultedRun (log : List LogStep) (memory : List ℕ) (s : State) : T
   pub issued : place < course.count
   -- the fault is not set before that instruction, and set after it
   pub before : (steps place course.start).fault ≡ false
-  pub behind : (steps (suc place) course.start).fault ≡ true
+  pub after : (steps (suc place) course.start).fault ≡ true
   -- it is the first: before it the fault is never set, and after it always
   pub never_before : (n : ℕ) → n ≤ place → (steps n course.start).fault ≡ false
-  pub always_behind : (n : ℕ) → place < n → (steps n course.start).fault ≡ true
+  pub always_after : (n : ℕ) → place < n → (steps n course.start).fault ≡ true
 
 -- the event is an exchange
 unfoldable pub is_exchange : Event → Bool
@@ -147,7 +147,7 @@ abbrev pub log_of : List Event → List (Result Done Refusal) → List LogStep
 log_of events answers = logged None events answers
 
 -- what holds of a machine to which these events with these answers have led from boot
-pub record IsFaithful (memory : List ℕ) (events : List Event) (answers : List (Result Done Refusal)) (w : Whole) : Type 0 where
+pub record IsFaithful (memory : List ℕ) (events : List Event) (answers : List (Result Done Refusal)) (w : Processor) : Type 0 where
   -- whenever it is drained, its whole state is the replay of what was issued and exchanged
   pub replays : w.pending ≡ [] → replay (boot memory) (log_of events answers) ≡ Some w.state
   -- its log is just that

@@ -14,27 +14,27 @@ use Rattle.sequential.specs.declared.state.State.{State}
 use Rattle.sequential.specs.State.{Bounds, bounds_of, absolute, move_to, halt_by}
 use Rattle.sequential.specs.Step.{fetch}
 use Rattle.sequential.specs.Replay.{Issued}
-use Rattle.in_flight.specs.declared.member.Stage.TheVariants.{Waiting}
-use Rattle.in_flight.specs.declared.member.Phase.TheVariants.{Before}
-use Rattle.in_flight.specs.declared.member.Member.{Member}
-use Rattle.in_flight.specs.Member.{is_branch, delays_fetch}
+use Rattle.in_flight.specs.declared.pending.Stage.TheVariants.{Waiting}
+use Rattle.in_flight.specs.declared.pending.Phase.TheVariants.{Before}
+use Rattle.in_flight.specs.declared.pending.Pending.{Pending}
+use Rattle.in_flight.specs.Pending.{is_branch, delays_fetch}
 use Rattle.in_flight.specs.Tests.{Test, unit_for, row_tests}
-use Rattle.program_order.specs.Processor.{Whole}
+use Rattle.program_order.specs.Processor.{Processor}
 
 -- ---- what an issue is refused for ----
 
 -- some pending instruction delays a fetch from this absolute address (none does where the address is out of range)
-unfoldable pub waits_at : Option ℕ → List Member → Bool
+unfoldable pub waits_at : Option ℕ → List Pending → Bool
 waits_at None ms = false
 waits_at (Some a) ms = list_any (delays_fetch a) ms
 
 -- E6, fetch waits: no word is held, P is in range, and a store may still change the word
-unfoldable pub fetch_waits : Bounds → Place → List Member → Bool
+unfoldable pub fetch_waits : Bounds → Place → List Pending → Bool
 fetch_waits b place ms = is_none place.held && waits_at (absolute b place.p) ms
 
 -- E1, halted; E2, faulted; E3, budget: it is used up; E4, branch pending; E5, exchange waiting: one is asked for and
 -- no word is held; E6, fetch waits; then E7 and E8 by first order
-unfoldable pub issue_tests : State → List Member → Option ℕ → ℕ → ℕ → List Test
+unfoldable pub issue_tests : State → List Pending → Option ℕ → ℕ → ℕ → List Test
 issue_tests state pending request budget count =
     record { fails = is_some state.halt; refusal = Halted (unwrap_or state.halt Stop) }
     ∷ record { fails = state.fault; refusal = Faulted }
@@ -47,7 +47,7 @@ issue_tests state pending request budget count =
 -- ---- what it leaves ----
 
 -- the machine halts, or the place moves on; the log gains an instruction, and one with a unit becomes pending
-unfoldable pub after_issue : Whole → Fetched → Whole
+unfoldable pub after_issue : Processor → Fetched → Processor
 after_issue w (Halting h place) = record w { state = halt_by (move_to w.state place) h; log = w.log ++ Issued ∷ [] }
 after_issue w (Passing place) = record w { state = move_to w.state place; log = w.log ++ Issued ∷ [] }
 after_issue w (Taking i place) = record w {

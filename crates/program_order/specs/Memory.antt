@@ -8,16 +8,16 @@ use Rattle.relocation.specs.declared.area.Access.{Access}
 use Rattle.relocation.specs.declared.area.Access.TheVariants.{Load, Store as StoreWord}
 use Rattle.hopper.specs.Hopper.{bank_of}
 use Rattle.sequential.specs.State.{write, poke}
-use Rattle.in_flight.specs.declared.member.Later.TheVariants.{Accepted}
-use Rattle.in_flight.specs.declared.member.Phase.TheVariants.{After}
-use Rattle.in_flight.specs.declared.member.Member.{Member}
-use Rattle.in_flight.specs.declared.member.Entry.{Entry}
-use Rattle.in_flight.specs.declared.member.Arrival.{Arrival}
+use Rattle.in_flight.specs.declared.pending.Outstanding.TheVariants.{Accepted}
+use Rattle.in_flight.specs.declared.pending.Phase.TheVariants.{After}
+use Rattle.in_flight.specs.declared.pending.Pending.{Pending}
+use Rattle.in_flight.specs.declared.pending.HopperEntry.{HopperEntry}
+use Rattle.in_flight.specs.declared.pending.Arrival.{Arrival}
 use Rattle.in_flight.specs.Lookup.{in_phase}
-use Rattle.program_order.specs.Processor.{Whole}
+use Rattle.program_order.specs.Processor.{Processor}
 
 -- the reference leaves its place and its bank is busy: a load has its word in its channel, a store has written memory
-unfoldable pub after_accept : Whole → Found Member Entry → ℕ → Access → Whole
+unfoldable pub after_accept : Processor → Found Pending HopperEntry → ℕ → Access → Processor
 after_accept w f a (Load n) = record w {
   pending = put_back f (in_phase f.member (After (Accepted n (slice_index_or w.state.memory a 0))) ∷ []);
   busy = slice_set w.busy (bank_of a) true;
@@ -25,5 +25,5 @@ after_accept w f a (Load n) = record w {
 after_accept w f a (StoreWord v) = record w { state = poke w.state a v; pending = put_back f []; busy = slice_set w.busy (bank_of a) true }
 
 -- the loaded word is written to its X register
-unfoldable pub after_return : Whole → Found Member Arrival → Whole
-after_return w f = record w { state = write w.state (X f.what.channel) f.what.word; pending = put_back f [] }
+unfoldable pub after_return : Processor → Found Pending Arrival → Processor
+after_return w f = record w { state = write w.state (X f.answer.channel) f.answer.word; pending = put_back f [] }

@@ -4,15 +4,15 @@ use Rattle.std.specs.Prelude.{ℕ, Bool, false, List, [], Option, None, replicat
 use Rattle.sequential.specs.declared.state.State.{State}
 use Rattle.sequential.specs.State.{bounds_of}
 use Rattle.sequential.specs.Replay.{LogStep, replay, boot}
-use Rattle.in_flight.specs.declared.member.Member.{Member}
+use Rattle.in_flight.specs.declared.pending.Pending.{Pending}
 use Rattle.program_order.specs.Complete.{complete}
 
 -- the machine with its pending instructions, busy banks, request, log and counts
-pub record Whole : Type 0 where
+pub record Processor : Type 0 where
   -- the state with the effects made so far
   pub state : State
   -- the instructions with an effect still to come, in issue order
-  pub pending : List Member
+  pub pending : List Pending
   -- by the number of the bank, whether it is busy
   pub busy : List Bool
   -- the package address of the exchange that was asked for
@@ -30,16 +30,16 @@ pub record Whole : Type 0 where
   -- whether its seats were given out
   pub seats_given : Bool
 
--- ---- the whole at boot, and what it comes to ----
+-- ---- the machine at boot, and what it comes to ----
 
 -- the machine at boot: nothing is pending, no bank is busy, no exchange is asked for, and the log is empty
-unfoldable pub boot_whole : List ℕ → ℕ → Whole
-boot_whole memory budget = record { state = boot memory; pending = []; busy = replicate 32 false; request = None; log = []; budget = budget; asked = 0; last = 0; boot_memory = memory; seats_given = false }
+unfoldable pub boot_processor : List ℕ → ℕ → Processor
+boot_processor memory budget = record { state = boot memory; pending = []; busy = replicate 32 false; request = None; log = []; budget = budget; asked = 0; last = 0; boot_memory = memory; seats_given = false }
 
 -- the effects so far with those still to come
-unfoldable pub completed : Whole → State
+unfoldable pub completed : Processor → State
 completed w = complete (bounds_of w.state) w.state w.pending
 
 -- the state of the machine that does one instruction at a time, after the log
-unfoldable pub replayed : Whole → Option State
+unfoldable pub replayed : Processor → Option State
 replayed w = replay (boot w.boot_memory) w.log

@@ -6,34 +6,34 @@ use Rattle.program_order.specs.declared.event.Done.{Done}
 use Rattle.program_order.specs.declared.event.Done.TheVariants.{Made}
 use Rattle.program_order.specs.declared.event.Event.{Event}
 use Rattle.program_order.specs.Run.{IsAnswered, settled_all}
-use Rattle.program_order.specs.Processor.{Whole, boot_whole}
+use Rattle.program_order.specs.Processor.{Processor, boot_processor}
 use Rattle.program_order.specs.Working.{is_work}
 
 -- the machine as it is but for its seats, which weren't given out
-abbrev pub without_seats : Whole → Whole
+abbrev pub without_seats : Processor → Processor
 without_seats w = record w { seats_given = false }
 
 -- these events with these answers lead from boot to the machine, whether or not its seats were given out
-pub record IsReached (memory : List ℕ) (budget : ℕ) (events : List Event) (answers : List (Result Done Refusal)) (w : Whole) : Type 0 where
+pub record IsReached (memory : List ℕ) (budget : ℕ) (events : List Event) (answers : List (Result Done Refusal)) (w : Processor) : Type 0 where
   -- each event has an answer that may be given
-  pub answered : IsAnswered (boot_whole memory budget) events answers
+  pub answered : IsAnswered (boot_processor memory budget) events answers
   -- and the machine is what these answers leave, but for its seats
-  pub left : without_seats w ≡ settled_all (boot_whole memory budget) events answers
+  pub left : without_seats w ≡ settled_all (boot_processor memory budget) events answers
 
 -- whatever led to the one machine leads, with these events and their answers more, to the other
-abbrev pub GoesOn : Whole → List Event → List (Result Done Refusal) → Whole → Type 0
+abbrev pub GoesOn : Processor → List Event → List (Result Done Refusal) → Processor → Type 0
 GoesOn w more given v =
     (memory : List ℕ) → (budget : ℕ) → (events : List Event) → (answers : List (Result Done Refusal))
     → IsReached memory budget events answers w → IsReached memory budget (events ++ more) (answers ++ given) v
 
 -- whatever led to the one machine leads to the other
-abbrev pub StaysReached : Whole → Whole → Type 0
+abbrev pub StaysReached : Processor → Processor → Type 0
 StaysReached w v =
     (memory : List ℕ) → (budget : ℕ) → (events : List Event) → (answers : List (Result Done Refusal))
     → IsReached memory budget events answers w → IsReached memory budget events answers v
 
 -- what leads to the machine, with so many events more, each made and none an issue or about an exchange
-pub record IsReachedByWork (memory : List ℕ) (budget : ℕ) (events : List Event) (answers : List (Result Done Refusal)) (count : ℕ) (w : Whole) : Type 0 where
+pub record IsReachedByWork (memory : List ℕ) (budget : ℕ) (events : List Event) (answers : List (Result Done Refusal)) (count : ℕ) (w : Processor) : Type 0 where
   pub more : List Event
   -- each of them works on what is pending
   pub work : Each (λ e. is_work e ≡ true) more
@@ -41,7 +41,7 @@ pub record IsReachedByWork (memory : List ℕ) (budget : ℕ) (events : List Eve
   pub reached : IsReached memory budget (events ++ more) (answers ++ replicate count (Ok Made)) w
 
 -- whatever led to the one machine leads, with so many events more that work on what is pending, to the other
-abbrev pub GoesOnByWork : Whole → ℕ → Whole → Type 0
+abbrev pub GoesOnByWork : Processor → ℕ → Processor → Type 0
 GoesOnByWork w count v =
     (memory : List ℕ) → (budget : ℕ) → (events : List Event) → (answers : List (Result Done Refusal))
     → IsReached memory budget events answers w → IsReachedByWork memory budget events answers count v

@@ -13,18 +13,18 @@ use Rattle.program_order.specs.declared.event.Done.TheVariants.{Issued as DoneIs
 use Rattle.program_order.specs.declared.event.Event.{Event}
 use Rattle.program_order.specs.declared.event.Event.TheVariants.{Issue, Read, Finish, Store, Accept, Return, BankFree, Ask, Exchange}
 use Rattle.program_order.specs.declared.event.Note.{Note}
-use Rattle.program_order.specs.Processor.{Whole}
+use Rattle.program_order.specs.Processor.{Processor}
 use Rattle.program_order.specs.Events.{allowed, after}
 use Rattle.in_flight.specs.Tests.{unit_for}
 
 -- an instruction with a unit is answered with its reservation
-unfoldable pub note_by : Whole → Fetched → Option Note
+unfoldable pub note_by : Processor → Fetched → Option Note
 note_by w (Halting halt place) = None
 note_by w (Passing place) = None
 note_by w (Taking i place) = Some (record { unit = unwrap_or (unit_for w.pending (row i).unit) Branch; number = suc w.last })
 
 -- what a made event is answered: an issue's reservation, or that the event was made
-unfoldable pub done_by : Whole → Event → Done
+unfoldable pub done_by : Processor → Event → Done
 done_by w Issue = DoneIssue (note_by w (fetch (bounds_of w.state) w.state.memory w.state.place))
 done_by w (Read u) = Made
 done_by w (Finish u) = Made
@@ -41,7 +41,7 @@ answer_by done None = Ok done
 answer_by done (Some refusal) = Err refusal
 
 -- the answer to an event: its first refusal, or what was done
-unfoldable pub answer_of : Whole → Event → Result Done Refusal
+unfoldable pub answer_of : Processor → Event → Result Done Refusal
 answer_of w e = answer_by (done_by w e) (allowed w e)
 
 -- the event is a request for an exchange
@@ -57,37 +57,37 @@ is_ask (BankFree k) = false
 is_ask Exchange = false
 
 -- E21, out of memory: a request that is allowed, but for which the log could not grow
-pub record IsRefusedGrowth (w : Whole) (e : Event) (answer : Result Done Refusal) : Type 0 where
+pub record IsRefusedGrowth (w : Processor) (e : Event) (answer : Result Done Refusal) : Type 0 where
   pub want : answer ≡ Err OutOfMemory
   pub ask : is_ask e ≡ true
   pub otherwise_allowed : allowed w e ≡ None
 
 -- an answer that may be given
-abbrev pub IsAnswer : Whole → Event → Result Done Refusal → Type 0
+abbrev pub IsAnswer : Processor → Event → Result Done Refusal → Type 0
 IsAnswer w e answer = (answer ≡ answer_of w e) ⊎ IsRefusedGrowth w e answer
 
--- the whole after an answer: after a refusal it is as it was
-unfoldable pub settled : Whole → Event → Result Done Refusal → Whole
+-- the machine after an answer: after a refusal it is as it was
+unfoldable pub settled : Processor → Event → Result Done Refusal → Processor
 settled w e (Ok done) = after w e
 settled w e (Err refusal) = w
 
 -- ---- runs ----
 
 -- each event has an answer that may be given
-abbrev pub IsAnswered : Whole → List Event → List (Result Done Refusal) → Type 0
+abbrev pub IsAnswered : Processor → List Event → List (Result Done Refusal) → Type 0
 IsAnswered w [] [] = Unit {0}
 IsAnswered w [] (a ∷ answers) = ⊥
 IsAnswered w (e ∷ events) [] = ⊥
 IsAnswered w (e ∷ events) (a ∷ answers) = IsAnswer w e a × IsAnswered (settled w e a) events answers
 
--- the whole after a run
-unfoldable pub settled_all : Whole → List Event → List (Result Done Refusal) → Whole
+-- the machine after a run
+unfoldable pub settled_all : Processor → List Event → List (Result Done Refusal) → Processor
 settled_all w [] answers = w
 settled_all w (e ∷ events) [] = w
 settled_all w (e ∷ events) (a ∷ answers) = settled_all (settled w e a) events answers
 
 -- a run of events: what answers were added, and what it left
-pub record IsRun (w v : Whole) (events : List Event) (old new : List (Result Done Refusal)) : Type 0 where
+pub record IsRun (w v : Processor) (events : List Event) (old new : List (Result Done Refusal)) : Type 0 where
   pub given : List (Result Done Refusal)
   pub added : new ≡ old ++ given
   pub answered : IsAnswered w events given

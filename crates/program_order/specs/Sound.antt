@@ -2,7 +2,7 @@
 use Rattle.std.specs.Prelude.{◌≡◌, true, ℕ, Option, Some, None, length}
 use Rattle.exchange_package.specs.Package.{package_fits}
 use Rattle.instructions.specs.Each.{Pairs}
-use Rattle.program_order.specs.Processor.{Whole, completed, replayed}
+use Rattle.program_order.specs.Processor.{Processor, completed, replayed}
 use Rattle.in_flight.specs.Apart.{IsApart}
 
 -- the sixteen words of the requested package lie in memory, where an exchange is asked for
@@ -11,10 +11,10 @@ Fits None size = Unit {0}
 Fits (Some n) size = package_fits n size ≡ true
 
 -- of the pending instructions each earlier one is apart from each later one, and the requested package lies in memory
-pub record IsSound (w : Whole) : Type 0 where
+pub record IsSound (w : Processor) : Type 0 where
   pub apart : Pairs IsApart w.pending
   pub request_fits : Fits w.request (length w.state.memory)
 
 -- the replay of the log is the state that the pending instructions come to
-abbrev pub IsReplay : Whole → Type 0
+abbrev pub IsReplay : Processor → Type 0
 IsReplay w = replayed w ≡ Some (completed w)

@@ -12,15 +12,15 @@ use Rattle.unit_ops.specs.Values.{value_of}
 use Rattle.sequential.specs.declared.work.ProgramReference.{ProgramReference}
 use Rattle.sequential.specs.State.{Bounds, bounds_of, absolute}
 use Rattle.sequential.specs.Work.{operands, Work, work_of, do_now}
-use Rattle.in_flight.specs.declared.member.Stage.{Stage}
-use Rattle.in_flight.specs.declared.member.Stage.TheVariants.{Waiting, Read as HasRead, Finished}
-use Rattle.in_flight.specs.declared.member.Later.{Later}
-use Rattle.in_flight.specs.declared.member.Later.TheVariants.{Entered, Accepted}
-use Rattle.in_flight.specs.declared.member.Phase.TheVariants.{Before}
-use Rattle.in_flight.specs.declared.member.Member.{Member}
+use Rattle.in_flight.specs.declared.pending.Stage.{Stage}
+use Rattle.in_flight.specs.declared.pending.Stage.TheVariants.{Waiting, Read as HasRead, Finished}
+use Rattle.in_flight.specs.declared.pending.Outstanding.{Outstanding}
+use Rattle.in_flight.specs.declared.pending.Outstanding.TheVariants.{Entered, Accepted}
+use Rattle.in_flight.specs.declared.pending.Phase.TheVariants.{Before}
+use Rattle.in_flight.specs.declared.pending.Pending.{Pending}
 use Rattle.in_flight.specs.Tests.{store_conflicts, Test, nothing}
 use Rattle.in_flight.specs.Lookup.{in_phase, kept, place_for, enters}
-use Rattle.program_order.specs.Processor.{Whole}
+use Rattle.program_order.specs.Processor.{Processor}
 
 -- ---- what they are refused for ----
 
@@ -31,18 +31,18 @@ finish_tests (HasRead os) = []
 finish_tests (Finished v) = nothing
 
 -- a reference in range enters a place; out of range a load has +0 in its channel, and a store is gone
-unfoldable pub entering : ℕ → Option ℕ → Access → Option Later
+unfoldable pub entering : ℕ → Option ℕ → Access → Option Outstanding
 entering place (Some a) access = Some (Entered place a access)
 entering place None (Load n) = Some (Accepted n 0)
 entering place None (StoreWord word) = None
 
 -- what is left after the store event
-unfoldable pub rest_of : Bounds → ℕ → Option ProgramReference → Option Later
+unfoldable pub rest_of : Bounds → ℕ → Option ProgramReference → Option Outstanding
 rest_of b place None = None
 rest_of b place (Some r) = entering place (absolute b r.address) r.access
 
 -- E15, nothing, where the unit has not finished; then E10, result held, E11, hopper full, and E12, out of turn
-unfoldable pub store_tests : Bounds → List Member → Stage → List Member → Instr → List Test
+unfoldable pub store_tests : Bounds → List Pending → Stage → List Pending → Instr → List Test
 store_tests b ms Waiting earlier i = nothing
 store_tests b ms (HasRead os) earlier i = nothing
 store_tests b ms (Finished v) earlier i = store_conflicts ms earlier i (enters (rest_of b 0 (work_of (shape_of i) v).reference))
@@ -62,23 +62,23 @@ stage_after_finish i (HasRead os) = Finished (value_of i os)
 stage_after_finish i (Finished v) = Finished v
 
 -- all operands are read in one step
-unfoldable pub after_read : Whole → Found Member Stage → Whole
-after_read w f = record w { pending = put_back f (in_phase f.member (Before (stage_after_read w.state.registers f.member.instr f.member.at f.what)) ∷ []) }
+unfoldable pub after_read : Processor → Found Pending Stage → Processor
+after_read w f = record w { pending = put_back f (in_phase f.member (Before (stage_after_read w.state.registers f.member.instr f.member.at f.answer)) ∷ []) }
 
 -- the unit has its value, that of the operands that were read
-unfoldable pub after_finish : Whole → Found Member Stage → Whole
-after_finish w f = record w { pending = put_back f (in_phase f.member (Before (stage_after_finish f.member.instr f.what)) ∷ []) }
+unfoldable pub after_finish : Processor → Found Pending Stage → Processor
+after_finish w f = record w { pending = put_back f (in_phase f.member (Before (stage_after_finish f.member.instr f.answer)) ∷ []) }
 
 -- the result is written and the jump made, a reference in range enters the hopper, and the unit is released; a
 -- reference out of range may set the fault flag
-unfoldable pub after_work : Whole → Found Member Stage → Work → Whole
+unfoldable pub after_work : Processor → Found Pending Stage → Work → Processor
 after_work w f work = record w {
   state = do_now (bounds_of w.state) w.state work;
   pending = put_back f (kept f.member (rest_of (bounds_of w.state) (unwrap_or (place_for w.pending) 0) work.reference));
 }
 
 -- the store event, which only an instruction that has its value comes to
-unfoldable pub after_store : Whole → Found Member Stage → Stage → Whole
+unfoldable pub after_store : Processor → Found Pending Stage → Stage → Processor
 after_store w f Waiting = w
 after_store w f (HasRead os) = w
 after_store w f (Finished v) = after_work w f (work_of (shape_of f.member.instr) v)

@@ -6,14 +6,14 @@ use Rattle.relocation.specs.declared.area.Access.TheVariants.{Load as LoadInto, 
 use Rattle.hopper.specs.Hopper.{bank_of}
 use Rattle.program_order.specs.declared.event.Event.{Event}
 use Rattle.program_order.specs.declared.event.Event.TheVariants.{Issue, Read, Finish, Store, Accept, Return, BankFree, Ask, Exchange}
-use Rattle.in_flight.specs.declared.member.Stage.{Stage}
-use Rattle.in_flight.specs.declared.member.Stage.TheVariants.{Waiting, Read as HasRead, Finished}
-use Rattle.in_flight.specs.declared.member.Later.{Later}
-use Rattle.in_flight.specs.declared.member.Later.TheVariants.{Entered, Accepted}
-use Rattle.in_flight.specs.declared.member.Phase.{Phase}
-use Rattle.in_flight.specs.declared.member.Phase.TheVariants.{Before, After}
-use Rattle.in_flight.specs.declared.member.Member.{Member}
-use Rattle.program_order.specs.Processor.{Whole}
+use Rattle.in_flight.specs.declared.pending.Stage.{Stage}
+use Rattle.in_flight.specs.declared.pending.Stage.TheVariants.{Waiting, Read as HasRead, Finished}
+use Rattle.in_flight.specs.declared.pending.Outstanding.{Outstanding}
+use Rattle.in_flight.specs.declared.pending.Outstanding.TheVariants.{Entered, Accepted}
+use Rattle.in_flight.specs.declared.pending.Phase.{Phase}
+use Rattle.in_flight.specs.declared.pending.Phase.TheVariants.{Before, After}
+use Rattle.in_flight.specs.declared.pending.Pending.{Pending}
+use Rattle.program_order.specs.Processor.{Processor}
 use Rattle.program_order.specs.Events.{allowed, after}
 
 -- neither an issue nor about an exchange
@@ -29,17 +29,17 @@ is_work (Ask n) = false
 is_work Exchange = false
 
 -- the events are accepted one after another, and each works on what is pending
-abbrev pub Accepts : Whole → List Event → Type 0
+abbrev pub Accepts : Processor → List Event → Type 0
 Accepts w [] = Unit {0}
 Accepts w (e ∷ events) = (allowed w e ≡ None) × (is_work e ≡ true) × Accepts (after w e) events
 
--- the whole after these events
-unfoldable pub leads_to : Whole → List Event → Whole
+-- the machine after these events
+unfoldable pub leads_to : Processor → List Event → Processor
 leads_to w [] = w
 leads_to w (e ∷ events) = leads_to (after w e) events
 
 -- so many such events, at most forty, lead from one whole to the other
-pub record Works (w v : Whole) (count : ℕ) : Type 0 where
+pub record Works (w v : Processor) (count : ℕ) : Type 0 where
   pub events : List Event
   pub accepted : Accepts w events
   pub leads : v ≡ leads_to w events
@@ -58,7 +58,7 @@ next_in unit (After (Entered place a access)) busy =
 next_in unit (After (Accepted n word)) busy = Return n
 
 -- the next event of the oldest pending instruction
-unfoldable pub next_of : List Member → List Bool → Option Event
+unfoldable pub next_of : List Pending → List Bool → Option Event
 next_of [] busy = None
 next_of (m ∷ ms) busy = Some (next_in m.unit m.phase busy)
 
@@ -79,21 +79,21 @@ stage_cost (HasRead os) = 2
 stage_cost (Finished v) = 1
 
 -- the most events of a reference that waits in the hopper, or of a load that waits in its channel
-unfoldable pub later_cost : Later → ℕ
-later_cost (Entered place a (LoadInto n)) = 3
-later_cost (Entered place a (StoreWord word)) = 2
-later_cost (Accepted n word) = 1
+unfoldable pub outstanding_cost : Outstanding → ℕ
+outstanding_cost (Entered place a (LoadInto n)) = 3
+outstanding_cost (Entered place a (StoreWord word)) = 2
+outstanding_cost (Accepted n word) = 1
 
 -- the most events of an instruction of that shape in that phase
 unfoldable pub phase_cost : Shape → Phase → ℕ
 phase_cost shape (Before t) = stage_cost t + reference_cost shape
-phase_cost shape (After l) = later_cost l
+phase_cost shape (After l) = outstanding_cost l
 
 -- the most events that a pending instruction still takes
-unfoldable pub cost : Member → ℕ
+unfoldable pub cost : Pending → ℕ
 cost m = phase_cost (shape_of m.instr) m.phase
 
 -- the most events that all pending instructions still take
-unfoldable pub work_left : List Member → ℕ
+unfoldable pub work_left : List Pending → ℕ
 work_left [] = 0
 work_left (m ∷ ms) = cost m + work_left ms

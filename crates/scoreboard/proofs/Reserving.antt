@@ -31,7 +31,7 @@ use Rattle.scoreboard.specs.View.{standing_of, seated, seat_in, seat_of, IsOther
 use Rattle.scoreboard.specs.Writers.{IsRegister, writer_at, set_writer}
 use Rattle.instructions.proofs.Lists.{each_map}
 use Rattle.instructions.proofs.Seats.{within, seated_fill, sort_new}
-use Rattle.instructions.proofs.Sorted.{any_sort, before_place, behind_place, somes-at}
+use Rattle.instructions.proofs.Sorted.{any_sort, before_place, after_place, somes-at}
 use Rattle.scoreboard.proofs.Registers.{AreSized, reg_eq_same, set_gives, set_sized, each_sized, each_gives}
 use Rattle.scoreboard.proofs.Writing.{some_any, any_same, some_written, all_earlier}
 use Rattle.scoreboard.proofs.Seating.{pairs_put, each_here, each_put, writer_put, unit_below}
@@ -113,8 +113,8 @@ or_true false = refl
 any_here : (t : Issued → Bool) (os : List (Option Issued)) (i : ℕ) (x : Issued) → get_or os i None ≡ Some x → t x ≡ true → list_any t (somes os) ≡ true
 any_here t os i x h e =
     ap (list_any t) (somes-at os i x h)
-    ∙ list_any-append t (before_place os i) (x ∷ behind_place os i)
-    ∙ ap (λ b. list_any t (before_place os i) || (b || list_any t (behind_place os i))) e
+    ∙ list_any-append t (before_place os i) (x ∷ after_place os i)
+    ∙ ap (λ b. list_any t (before_place os i) || (b || list_any t (after_place os i))) e
     ∙ or_true (list_any t (before_place os i))
 
 -- a unit is held where its seat is taken

@@ -18,7 +18,7 @@ use Rattle.instructions.specs.Order.{somes}
 use Rattle.scoreboard.specs.View.{IsOther, seat_in, seat_of}
 use Rattle.scoreboard.specs.Writers.{forget}
 use Rattle.instructions.proofs.Lists.{each_left, each_right, each_append, each_map, pairs_before, pairs_right, pairs_without}
-use Rattle.instructions.proofs.Sorted.{before_place, behind_place, somes-at, somes-set_some, somes-set_none, somes-empty}
+use Rattle.instructions.proofs.Sorted.{before_place, after_place, somes-at, somes-set_some, somes-set_none, somes-empty}
 use Rattle.instructions.proofs.Seats.{within, HasOwnKeys}
 use Rattle.scoreboard.proofs.Writing.{IsAlone, first_at, first_none, first_replaced, forget_first, forgotten_rest, earlier_alone, earlier_forget}
 
@@ -138,38 +138,38 @@ pub others_of : (os : List (Option Issued)) (i : ℕ) (x : Issued) → get_or os
 others_of os i x h p =
     let split = subst (Pairs IsOther) (somes-at os i x h) p in
     subst (Each (IsOther x)) (sym (somes-set_none os i (within os i x h)))
-    (each_append (IsOther x) (before_place os i) (behind_place os i)
-    (each_map (λ y. IsOther y x) (IsOther x) (λ y k. other_flip y x k) (before_place os i) (pairs_before IsOther (before_place os i) x (behind_place os i) split))
-    (pairs_right IsOther (before_place os i) (x ∷ behind_place os i) split).0)
+    (each_append (IsOther x) (before_place os i) (after_place os i)
+    (each_map (λ y. IsOther y x) (IsOther x) (λ y k. other_flip y x k) (before_place os i) (pairs_before IsOther (before_place os i) x (after_place os i) split))
+    (pairs_right IsOther (before_place os i) (x ∷ after_place os i) split).0)
 
 pub pairs_taken : (os : List (Option Issued)) (i : ℕ) (x : Issued) → get_or os i None ≡ Some x → Pairs IsOther (somes os) → Pairs IsOther (somes (set os i None))
 pairs_taken os i x h p =
     subst (Pairs IsOther) (sym (somes-set_none os i (within os i x h)))
-    (pairs_without IsOther (before_place os i) x (behind_place os i) (subst (Pairs IsOther) (somes-at os i x h) p))
+    (pairs_without IsOther (before_place os i) x (after_place os i) (subst (Pairs IsOther) (somes-at os i x h) p))
 
 pub pairs_put : (os : List (Option Issued)) (i : ℕ) (y : Issued) → get_or os i None ≡ None → i < length os → Each (IsOther y) (somes os) → Pairs IsOther (somes os) → Pairs IsOther (somes (set os i (Some y)))
 pairs_put os i y h l d p =
     let e = somes-empty os i h l in
     let dd = subst (Each (IsOther y)) e d in
     subst (Pairs IsOther) (sym (somes-set_some os i y l))
-    (pairs_insert IsOther (before_place os i) y (behind_place os i) (subst (Pairs IsOther) e p)
-    (each_map (IsOther y) (λ z. IsOther z y) (λ z k. other_flip y z k) (before_place os i) (each_left (IsOther y) (before_place os i) (behind_place os i) dd))
-    (each_right (IsOther y) (before_place os i) (behind_place os i) dd))
+    (pairs_insert IsOther (before_place os i) y (after_place os i) (subst (Pairs IsOther) e p)
+    (each_map (IsOther y) (λ z. IsOther z y) (λ z k. other_flip y z k) (before_place os i) (each_left (IsOther y) (before_place os i) (after_place os i) dd))
+    (each_right (IsOther y) (before_place os i) (after_place os i) dd))
 
 pub each_taken : (P : Issued → Type 0) (os : List (Option Issued)) (i : ℕ) (x : Issued) → get_or os i None ≡ Some x → Each P (somes os) → Each P (somes (set os i None))
 each_taken P os i x h p =
     let split = subst (Each P) (somes-at os i x h) p in
     subst (Each P) (sym (somes-set_none os i (within os i x h)))
-    (each_append P (before_place os i) (behind_place os i) (each_left P (before_place os i) (x ∷ behind_place os i) split) (each_right P (before_place os i) (x ∷ behind_place os i) split).1)
+    (each_append P (before_place os i) (after_place os i) (each_left P (before_place os i) (x ∷ after_place os i) split) (each_right P (before_place os i) (x ∷ after_place os i) split).1)
 
 pub each_here : (P : Issued → Type 0) (os : List (Option Issued)) (i : ℕ) (x : Issued) → get_or os i None ≡ Some x → Each P (somes os) → P x
-each_here P os i x h p = (each_right P (before_place os i) (x ∷ behind_place os i) (subst (Each P) (somes-at os i x h) p)).0
+each_here P os i x h p = (each_right P (before_place os i) (x ∷ after_place os i) (subst (Each P) (somes-at os i x h) p)).0
 
 pub each_put : (P : Issued → Type 0) (os : List (Option Issued)) (i : ℕ) (y : Issued) → get_or os i None ≡ None → i < length os → P y → Each P (somes os) → Each P (somes (set os i (Some y)))
 each_put P os i y h l q p =
     let dd = subst (Each P) (somes-empty os i h l) p in
     subst (Each P) (sym (somes-set_some os i y l))
-    (each_append P (before_place os i) (y ∷ behind_place os i) (each_left P (before_place os i) (behind_place os i) dd) (q, each_right P (before_place os i) (behind_place os i) dd))
+    (each_append P (before_place os i) (y ∷ after_place os i) (each_left P (before_place os i) (after_place os i) dd) (q, each_right P (before_place os i) (after_place os i) dd))
 
 pub own_keys : (xs : List Issued) → Pairs IsOther xs → HasOwnKeys number_of xs
 own_keys xs h = pairs_map IsOther (λ a b. number_of a ≢ number_of b) (λ x y k. k.number) xs h
@@ -180,14 +180,14 @@ first_taken : {W : Type 0} (f : Issued → Option W) (os : List (Option Issued))
 first_taken f os i x h a =
     let e = somes-set_none os i (within os i x h) in
     ap (first_some f) (somes-at os i x h)
-    ∙ first_at f (before_place os i) x (behind_place os i) (each_left (IsAlone f x) (before_place os i) (behind_place os i) (subst (Each (IsAlone f x)) e a))
+    ∙ first_at f (before_place os i) x (after_place os i) (each_left (IsAlone f x) (before_place os i) (after_place os i) (subst (Each (IsAlone f x)) e a))
     ∙ ap (λ l. or_else (f x) (first_some f l)) (sym e)
 
 first_put : {W : Type 0} (f : Issued → Option W) (os : List (Option Issued)) (i : ℕ) (y : Issued) → get_or os i None ≡ None → i < length os → Each (IsAlone f y) (somes os) → first_some f (somes (set os i (Some y))) ≡ or_else (f y) (first_some f (somes os))
 first_put f os i y h l a =
     let e = somes-empty os i h l in
     ap (first_some f) (somes-set_some os i y l)
-    ∙ first_at f (before_place os i) y (behind_place os i) (each_left (IsAlone f y) (before_place os i) (behind_place os i) (subst (Each (IsAlone f y)) e a))
+    ∙ first_at f (before_place os i) y (after_place os i) (each_left (IsAlone f y) (before_place os i) (after_place os i) (subst (Each (IsAlone f y)) e a))
     ∙ ap (λ l. or_else (f y) (first_some f l)) (sym e)
 
 alone_among : (n : ℕ) (r : Reg) (x : Issued) (ys : List Issued) → Each (IsOther x) ys → Each (IsAlone (if_earlier n (written_by r)) x) ys
@@ -216,5 +216,5 @@ pub writer_same : (n : ℕ) (r : Reg) (os : List (Option Issued)) (i : ℕ) (x y
 unfolding writer_before number_of if_earlier
 writer_same n r os i x y h e k =
     ap (first_some (if_earlier n (written_by r))) (somes-set_some os i y (within os i x h))
-    ∙ sym (first_replaced (if_earlier n (written_by r)) (before_place os i) x y (behind_place os i) (ap (λ m. cond (ltb m n) (written_by r x) None) e ∙ ap (λ o. cond (ltb y.number n) o None) k))
+    ∙ sym (first_replaced (if_earlier n (written_by r)) (before_place os i) x y (after_place os i) (ap (λ m. cond (ltb m n) (written_by r x) None) e ∙ ap (λ o. cond (ltb y.number n) o None) k))
     ∙ ap (first_some (if_earlier n (written_by r))) (sym (somes-at os i x h))

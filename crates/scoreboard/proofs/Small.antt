@@ -86,9 +86,9 @@ produced_here (x ∷ rs) (None ∷ ps) zero r p h e k g t = let q : is_some p �
 produced_here (x ∷ rs) (Some w ∷ ps) zero r p h e k g t = ap Some e
 produced_here (x ∷ rs) (o ∷ ps) (suc i) r p h e k g t = produced_here rs ps i r p (omega arith) e (omega arith) g t
 
-pub produced_behind : (rs : List Reg) (ps : List (Option Writer)) (i j : ℕ) (p : Option Writer) → j ≡ i + 1 → i < length rs → i < length ps → p ≡ get_or ps i p → is_some p ≡ false → first_produced (drop j rs) (drop j ps) ≡ first_produced (drop i rs) (drop i ps)
+pub produced_after : (rs : List Reg) (ps : List (Option Writer)) (i j : ℕ) (p : Option Writer) → j ≡ i + 1 → i < length rs → i < length ps → p ≡ get_or ps i p → is_some p ≡ false → first_produced (drop j rs) (drop j ps) ≡ first_produced (drop i rs) (drop i ps)
 unfolding first_produced
-produced_behind rs ps i j p e h k g t =
+produced_after rs ps i j p e h k g t =
     let s : j ≡ suc i = omega arith in
     ap (λ n. first_produced (drop n rs) (drop n ps)) s ∙ step rs ps i p h k g t
   where

@@ -50,13 +50,13 @@ unless refused refusal = if refused then Err refusal else Ok tt
 unfoldable pub read_answer : Option (Found Issued Instr) → Result (Unit {0}) Refusal
 read_answer None = Ok tt
 read_answer (Some f) =
-    unless (operand_awaited row_of f.earlier (sources_of f.what)) (OperandAwaited (first_such (awaited row_of f.earlier) (sources_of f.what)))
+    unless (operand_awaited row_of f.earlier (sources_of f.answer)) (OperandAwaited (first_such (awaited row_of f.earlier) (sources_of f.answer)))
 
 -- E10, result held (third order): an earlier instruction has still to read what the store event writes
 unfoldable pub store_answer : Option (Found Issued Instr) → Result (Unit {0}) Refusal
 store_answer None = Ok tt
 store_answer (Some f) =
-    unless (result_held row_of f.earlier (puts_of (shape_of f.what))) (ResultHeld (first_such (to_be_read row_of f.earlier) (puts_of (shape_of f.what))))
+    unless (result_held row_of f.earlier (puts_of (shape_of f.answer))) (ResultHeld (first_such (to_be_read row_of f.earlier) (puts_of (shape_of f.answer))))
 
 -- E10, result held (third order): an earlier instruction has still to read the X register that the load's return
 -- writes
@@ -67,7 +67,7 @@ return_answer n (Some f) = unless (to_be_read row_of f.earlier (X n)) (ResultHel
 -- E12, out of turn: it makes a reference, and an earlier reference has not come to its store event
 unfoldable pub turn_answer : Option (Found Issued Instr) → Result (Unit {0}) Refusal
 turn_answer None = Ok tt
-turn_answer (Some f) = unless (has_reference (shape_of f.what) && out_of_turn row_of f.earlier) OutOfTurn
+turn_answer (Some f) = unless (has_reference (shape_of f.answer) && out_of_turn row_of f.earlier) OutOfTurn
 
 -- first order: E7, unit busy, where no unit of the kind is free; E8, result reserved, where a result register is a
 -- result still to come; else the unit and the next number

@@ -221,7 +221,7 @@ fn waits_for_a_load(rt: HostRuntime) {
 
 /// A store event waits for earlier readers of what it writes, and not for itself or for a later one.
 #[test]
-fn stores_behind_earlier_reads(rt: HostRuntime) {
+fn stores_after_earlier_reads(rt: HostRuntime) {
     let wrong = first_wrong(&[
         reserves("IX2 X1+X1", Unit::LongAdd, 1),
         reserves("SX1 X1+B0", Unit::Increment1, 2),
@@ -248,7 +248,7 @@ fn stores_behind_earlier_reads(rt: HostRuntime) {
 
 /// The return of a load waits for earlier readers of its X register, and not for a later one.
 #[test]
-fn returns_behind_earlier_reads(rt: HostRuntime) {
+fn returns_after_earlier_reads(rt: HostRuntime) {
     let wrong = first_wrong(&[
         reserves("IX2 X1+X1", Unit::LongAdd, 1),
         reserves("SA1 X0+B0", Unit::Increment1, 2),

@@ -3,7 +3,7 @@ use Rattle.std.proofs.Common.{◌≡◌, ◌<◌, ◌≤◌, ◌+◌, ◌-◌, �
 use Rattle.std.specs.Prelude.{replicate, slice_get, slice_set}
 use Rattle.sequential.specs.declared.log.Entry.{Entry}
 use Rattle.sequential.specs.declared.log.Entry.TheVariants.{Issued as Count, Exchange}
-use Rattle.sequential.specs.Log.{steps_of, entries_of, one_before, more_behind, ends_open, issued}
+use Rattle.sequential.specs.Log.{steps_of, entries_of, one_before, more_after, ends_open, issued}
 use Rattle.sequential.specs.Replay.{LogStep, Issued, Exchanged}
 
 pub steps-append : (es fs : List Entry) → steps_of (es ++ fs) ≡ steps_of es ++ steps_of fs
@@ -146,66 +146,66 @@ last_place es e h = let k = read_within es (length es - 1) e h in omega (arith, 
 
 -- ---- the shortest entries ----
 
-exchange_behind : (es : List Entry) (n : ℕ) → one_before (es ++ Exchange n ∷ []) ≡ one_before es ++ Exchange n ∷ []
-exchange_behind [] n = refl
-exchange_behind (Count k ∷ es) n = refl
-exchange_behind (Exchange k ∷ es) n = refl
+exchange_past : (es : List Entry) (n : ℕ) → one_before (es ++ Exchange n ∷ []) ≡ one_before es ++ Exchange n ∷ []
+exchange_past [] n = refl
+exchange_past (Count k ∷ es) n = refl
+exchange_past (Exchange k ∷ es) n = refl
 
 pub shortest_exchange : (steps : List LogStep) (n : ℕ) → entries_of (steps ++ Exchanged n ∷ []) ≡ entries_of steps ++ Exchange n ∷ []
 unfolding entries_of
 shortest_exchange [] n = refl
-shortest_exchange (Issued ∷ steps) n = ap one_before (shortest_exchange steps n) ∙ exchange_behind (entries_of steps) n
+shortest_exchange (Issued ∷ steps) n = ap one_before (shortest_exchange steps n) ∙ exchange_past (entries_of steps) n
 shortest_exchange (Exchanged k ∷ steps) n = ap (λ l. Exchange k ∷ l) (shortest_exchange steps n)
 
-behind_exchange : (n k : ℕ) (es : List Entry) → Exchange k ∷ more_behind n es ≡ more_behind n (Exchange k ∷ es)
-unfolding more_behind
-behind_exchange n k [] = refl
-behind_exchange n k (e ∷ es) = refl
+past_exchange : (n k : ℕ) (es : List Entry) → Exchange k ∷ more_after n es ≡ more_after n (Exchange k ∷ es)
+unfolding more_after
+past_exchange n k [] = refl
+past_exchange n k (e ∷ es) = refl
 
-before_and_behind : (n : ℕ) (es : List Entry) → one_before (more_behind n es) ≡ more_behind n (one_before es)
-unfolding more_behind
-before_and_behind n [] = ap (λ k. Count k ∷ []) (let e : n + 1 ≡ 1 + n = omega arith in e)
-before_and_behind n (Count k ∷ []) = ap (λ m. Count m ∷ []) (let e : k + n + 1 ≡ k + 1 + n = omega arith in e)
-before_and_behind n (Exchange k ∷ []) = refl
-before_and_behind n (Count k ∷ e ∷ es) = refl
-before_and_behind n (Exchange k ∷ e ∷ es) = refl
+before_and_after : (n : ℕ) (es : List Entry) → one_before (more_after n es) ≡ more_after n (one_before es)
+unfolding more_after
+before_and_after n [] = ap (λ k. Count k ∷ []) (let e : n + 1 ≡ 1 + n = omega arith in e)
+before_and_after n (Count k ∷ []) = ap (λ m. Count m ∷ []) (let e : k + n + 1 ≡ k + 1 + n = omega arith in e)
+before_and_after n (Exchange k ∷ []) = refl
+before_and_after n (Count k ∷ e ∷ es) = refl
+before_and_after n (Exchange k ∷ e ∷ es) = refl
 
 entries_of_issues : (n : ℕ) → entries_of (replicate (suc n) Issued) ≡ Count (suc n) ∷ []
 unfolding entries_of
 entries_of_issues zero = refl
 entries_of_issues (suc n) = ap one_before (entries_of_issues n) ∙ ap (λ k. Count k ∷ []) (let e : suc n + 1 ≡ suc (suc n) = omega arith in e)
 
-shortest_issues : (steps : List LogStep) (n : ℕ) → entries_of (steps ++ replicate (suc n) Issued) ≡ more_behind (suc n) (entries_of steps)
-unfolding entries_of more_behind
+shortest_issues : (steps : List LogStep) (n : ℕ) → entries_of (steps ++ replicate (suc n) Issued) ≡ more_after (suc n) (entries_of steps)
+unfolding entries_of more_after
 shortest_issues [] n = entries_of_issues n
-shortest_issues (Issued ∷ steps) n = ap one_before (shortest_issues steps n) ∙ before_and_behind (suc n) (entries_of steps)
-shortest_issues (Exchanged k ∷ steps) n = ap (λ l. Exchange k ∷ l) (shortest_issues steps n) ∙ behind_exchange (suc n) k (entries_of steps)
+shortest_issues (Issued ∷ steps) n = ap one_before (shortest_issues steps n) ∙ before_and_after (suc n) (entries_of steps)
+shortest_issues (Exchanged k ∷ steps) n = ap (λ l. Exchange k ∷ l) (shortest_issues steps n) ∙ past_exchange (suc n) k (entries_of steps)
 
-last_behind : (before : List Entry) (k n : ℕ) → more_behind n (before ++ Count k ∷ []) ≡ before ++ Count (k + n) ∷ []
-unfolding more_behind
-last_behind [] k n = refl
-last_behind (Count m ∷ []) k n = refl
-last_behind (Exchange m ∷ []) k n = refl
-last_behind (e ∷ f ∷ es) k n = ap (λ l. e ∷ l) (last_behind (f ∷ es) k n)
+last_after : (before : List Entry) (k n : ℕ) → more_after n (before ++ Count k ∷ []) ≡ before ++ Count (k + n) ∷ []
+unfolding more_after
+last_after [] k n = refl
+last_after (Count m ∷ []) k n = refl
+last_after (Exchange m ∷ []) k n = refl
+last_after (e ∷ f ∷ es) k n = ap (λ l. e ∷ l) (last_after (f ∷ es) k n)
 
 -- the last count, so much higher
-pub raised_behind : (es : List Entry) (i k n : ℕ) → length es ≡ suc i → slice_get es i ≡ Some (Count k) → slice_set es i (Count (k + n)) ≡ more_behind n es
-raised_behind es i k n l h =
+pub raised_after : (es : List Entry) (i k n : ℕ) → length es ≡ suc i → slice_get es i ≡ Some (Count k) → slice_set es i (Count (k + n)) ≡ more_after n es
+raised_after es i k n l h =
     let r = ends_at es i (Count k) l h in
-    r.2 (Count (k + n)) ∙ sym (last_behind r.0 k n) ∙ ap (more_behind n) (sym r.1)
+    r.2 (Count (k + n)) ∙ sym (last_after r.0 k n) ∙ ap (more_after n) (sym r.1)
 
 -- a count of its own
-pub added_behind : (es : List Entry) (n : ℕ) → ends_open es ≡ false → es ++ Count n ∷ [] ≡ more_behind n es
-unfolding more_behind ends_open
-added_behind [] n h = refl
-added_behind (Count k ∷ []) n h = cc
-added_behind (Exchange k ∷ []) n h = refl
-added_behind (e ∷ f ∷ es) n h = ap (λ l. e ∷ l) (added_behind (f ∷ es) n h)
+pub added_after : (es : List Entry) (n : ℕ) → ends_open es ≡ false → es ++ Count n ∷ [] ≡ more_after n es
+unfolding more_after ends_open
+added_after [] n h = refl
+added_after (Count k ∷ []) n h = cc
+added_after (Exchange k ∷ []) n h = refl
+added_after (e ∷ f ∷ es) n h = ap (λ l. e ∷ l) (added_after (f ∷ es) n h)
 
 -- the entries stay the shortest ones
-pub shortest_after_issues : (es fs : List Entry) (n : ℕ) → 0 < n → es ≡ entries_of (steps_of es) → fs ≡ more_behind n es → steps_of fs ≡ steps_of es ++ replicate n Issued → fs ≡ entries_of (steps_of fs)
+pub shortest_after_issues : (es fs : List Entry) (n : ℕ) → 0 < n → es ≡ entries_of (steps_of es) → fs ≡ more_after n es → steps_of fs ≡ steps_of es ++ replicate n Issued → fs ≡ entries_of (steps_of fs)
 shortest_after_issues es fs zero z h p q = absurd (omega (arith, z))
-shortest_after_issues es fs (suc n) z h p q = p ∙ ap (more_behind (suc n)) h ∙ sym (shortest_issues (steps_of es) n) ∙ ap entries_of (sym q)
+shortest_after_issues es fs (suc n) z h p q = p ∙ ap (more_after (suc n)) h ∙ sym (shortest_issues (steps_of es) n) ∙ ap entries_of (sym q)
 
 pub shortest_after_exchange : (es fs : List Entry) (n : ℕ) → es ≡ entries_of (steps_of es) → fs ≡ es ++ Exchange n ∷ [] → fs ≡ entries_of (steps_of fs)
 shortest_after_exchange es fs n h p = p ∙ ap (λ l. l ++ Exchange n ∷ []) h ∙ sym (shortest_exchange (steps_of es) n) ∙ ap entries_of (sym (exchange_added es n)) ∙ ap (λ l. entries_of (steps_of l)) (sym p)

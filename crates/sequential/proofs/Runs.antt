@@ -67,7 +67,7 @@ unfolding replay steps_of
 exchange_refused s t n f e = record {
   before = [];
   at = n;
-  behind = [];
+  after = [];
   steps_are = refl;
   reached = ap Some (sym e);
   outside = ap (λ u. package_fits n (length u.memory)) e ∙ f;
@@ -93,11 +93,11 @@ exchange_not_made (Err k) s t n e m a b = (a.1, subst (λ x. IsRefusedAt s (step
 pub replay-append : (s : State) (xs ys : List LogStep) → replay s (xs ++ ys) ≡ then_replay (replay s xs) (λ t. replay t ys)
 unfolding replay then_replay
 replay-append s [] ys = refl
-replay-append s (x ∷ xs) ys = behind (do_log_step s x) (λ t. replay-append t xs ys)
+replay-append s (x ∷ xs) ys = after (do_log_step s x) (λ t. replay-append t xs ys)
   where
-    behind : (o : Option State) → ((t : State) → replay t (xs ++ ys) ≡ then_replay (replay t xs) (λ u. replay u ys)) → then_replay o (λ t. replay t (xs ++ ys)) ≡ then_replay (then_replay o (λ t. replay t xs)) (λ u. replay u ys)
-    behind None h = refl
-    behind (Some t) h = h t
+    after : (o : Option State) → ((t : State) → replay t (xs ++ ys) ≡ then_replay (replay t xs) (λ u. replay u ys)) → then_replay o (λ t. replay t (xs ++ ys)) ≡ then_replay (then_replay o (λ t. replay t xs)) (λ u. replay u ys)
+    after None h = refl
+    after (Some t) h = h t
 
 -- a replay that came to a state goes on from it
 pub replay_on : (s t : State) (xs ys : List LogStep) → replay s xs ≡ Some t → replay s (xs ++ ys) ≡ replay t ys
@@ -153,22 +153,22 @@ pub refused_replay : (s t : State) (xs : List LogStep) → IsRefusedAt s xs t �
 unfolding replay then_replay do_log_step
 refused_replay s t xs r =
     ap (replay s) r.steps_are
-    ∙ replay_on s t r.before (Exchanged r.at ∷ r.behind) r.reached
-    ∙ ap (λ b. then_replay (cond b (Some (swap r.at t)) None) (λ u. replay u r.behind)) r.outside
+    ∙ replay_on s t r.before (Exchanged r.at ∷ r.after) r.reached
+    ∙ ap (λ b. then_replay (cond b (Some (swap r.at t)) None) (λ u. replay u r.after)) r.outside
 
 -- the entry of a list at which it is refused
 pub refused_at : (s t u : State) (es : List Entry) (xs : List LogStep) (i : ℕ) (d e : Entry) → i < length es → e ≡ get_or es i d → steps_of es ≡ xs → replay s (steps_of (take i es)) ≡ Some t → IsRefusedAt t (steps_of (e ∷ [])) u → IsRefusedAt s xs u
 refused_at s t u es xs i d e l k m h r = record {
   before = steps_of (take i es) ++ r.before;
   at = r.at;
-  behind = r.behind ++ steps_of (drop (suc i) es);
+  after = r.after ++ steps_of (drop (suc i) es);
   steps_are =
       sym m
       ∙ split_steps es i d l
       ∙ ap (λ x. steps_of (take i es) ++ (steps_of (x ∷ []) ++ steps_of (drop (suc i) es))) (sym k)
       ∙ ap (λ y. steps_of (take i es) ++ (y ++ steps_of (drop (suc i) es))) r.steps_are
-      ∙ ap (λ y. steps_of (take i es) ++ y) (append_assoc r.before (Exchanged r.at ∷ r.behind) (steps_of (drop (suc i) es)))
-      ∙ sym (append_assoc (steps_of (take i es)) r.before (Exchanged r.at ∷ (r.behind ++ steps_of (drop (suc i) es))));
+      ∙ ap (λ y. steps_of (take i es) ++ y) (append_assoc r.before (Exchanged r.at ∷ r.after) (steps_of (drop (suc i) es)))
+      ∙ sym (append_assoc (steps_of (take i es)) r.before (Exchanged r.at ∷ (r.after ++ steps_of (drop (suc i) es))));
   reached = replay_on s t (steps_of (take i es)) r.before h ∙ r.reached;
   outside = r.outside;
 }

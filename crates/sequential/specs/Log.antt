@@ -33,11 +33,11 @@ entries_of (Issued ∷ steps) = one_before (entries_of steps)
 entries_of (Exchanged n ∷ steps) = Exchange n ∷ entries_of steps
 
 -- the entries with so many more instructions at the end
-unfoldable pub more_behind : ℕ → List Entry → List Entry
-more_behind n [] = Count n ∷ []
-more_behind n (Count k ∷ []) = Count (k + n) ∷ []
-more_behind n (Exchange k ∷ []) = Exchange k ∷ Count n ∷ []
-more_behind n (e ∷ f ∷ es) = e ∷ more_behind n (f ∷ es)
+unfoldable pub more_after : ℕ → List Entry → List Entry
+more_after n [] = Count n ∷ []
+more_after n (Count k ∷ []) = Count (k + n) ∷ []
+more_after n (Exchange k ∷ []) = Exchange k ∷ Count n ∷ []
+more_after n (e ∷ f ∷ es) = e ∷ more_after n (f ∷ es)
 
 -- the last entry is a count of instructions
 unfoldable pub ends_open : List Entry → Bool

@@ -38,9 +38,9 @@ pub record IsRefusedAt (start : State) (steps : List LogStep) (end : State) : Ty
   -- the address of its package
   pub at : ℕ
   -- the steps after it, which aren't made
-  pub behind : List LogStep
+  pub after : List LogStep
   -- these make up all the steps
-  pub steps_are : steps ≡ before ++ (Exchanged at ∷ behind)
+  pub steps_are : steps ≡ before ++ (Exchanged at ∷ after)
   -- the steps before it lead to the state `end`
   pub reached : replay start before ≡ Some end
   -- the package doesn't lie in memory there

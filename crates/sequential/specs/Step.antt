@@ -25,9 +25,9 @@ here p parcel word = record { p = p; parcel = parcel; held = Some word }
 
 -- a stop halts, a pass does nothing, and every other instruction goes to a unit
 unfoldable pub met : Place → Place → Instr → Fetched
-met place behind Stop = Halting StopHalt place
-met place behind Pass = Passing behind
-met place behind instr = Taking instr behind
+met place after Stop = Halting StopHalt place
+met place after Pass = Passing after
+met place after instr = Taking instr after
 
 -- what is read halts the machine where it stands, or moves it on
 unfoldable pub fetched_by : ℕ → ℕ → ℕ → Decoded → Fetched

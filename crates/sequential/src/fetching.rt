@@ -21,13 +21,13 @@ pub enum Fetched {
 /// What an instruction does that stands at one place and ends at another.
 #[tactic(auto, unfolding(crate::specs::Step::met))]
 #[inline(always)]
-fn met(place: Place, behind: Place, instr: &Instr) -> Fetched
-    ensures { result ≡ met place behind instr.now }
+fn met(place: Place, after: Place, instr: &Instr) -> Fetched
+    ensures { result ≡ met place after instr.now }
 {
     match *instr {
         Instr::Stop => Fetched::Halting(Halt::Stop, place),
-        Instr::Pass => Fetched::Passing(behind),
-        _ => Fetched::Taking(*instr, behind),
+        Instr::Pass => Fetched::Passing(after),
+        _ => Fetched::Taking(*instr, after),
     }
 }
 
@@ -42,7 +42,7 @@ pub fn fetched_by(place: Place, word: Word60, reading: Decoded) -> Fetched
         ..place
     };
     match reading {
-        Decoded::Legal(instr, next) => met(here, Place::behind(place.p, word, next), &instr),
+        Decoded::Legal(instr, next) => met(here, Place::after(place.p, word, next), &instr),
         Decoded::Refused(op) => Fetched::Halting(Halt::Illegal(op), here),
         Decoded::Straddle => Fetched::Halting(Halt::Straddle, here),
     }

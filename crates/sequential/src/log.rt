@@ -1,6 +1,6 @@
 ghost use Rattle.std.specs.Prelude.{◌≡◌, ◌<◌, ◌≤◌, ◌+◌, ◌++◌, ◌^◌, [], ◌∷◌, true, false, MatchResult, if◌then◌else◌, ◌-◌, length, slice_get, Some, is_some, IfSome, replicate};
 ghost use Rattle.instructions.specs.declared.refusal.Refusal.TheVariants.{OutOfMemory};
-ghost use Rattle.sequential.specs.Log.{issued, steps_of, entries_of, more_behind, ends_open};
+ghost use Rattle.sequential.specs.Log.{issued, steps_of, entries_of, more_after, ends_open};
 ghost use Rattle.sequential.specs.declared.log.Entry.TheVariants.{Issued as Count};
 ghost use Rattle.std.specs.Vec.{vec_len, vec_capacity};
 ghost use Rattle.sequential.specs.Replay.{Issued, Exchanged};
@@ -38,7 +38,7 @@ fn raise_last(entries: &mut [Entry], count: u64, more: u64)
     ensures steps { steps_of entries.new ≡ steps_of entries.old ++ replicate more Issued }
     ensures open { ends_open entries.new ≡ true }
     ensures len { length entries.new ≡ length entries.old }
-    ensures entries { entries.new ≡ more_behind more entries.old }
+    ensures entries { entries.new ≡ more_after more entries.old }
 {
     let place = entries.len() - 1;
     entries[place] = Entry::Issued(count + more);
@@ -52,7 +52,7 @@ fn add(entries: &mut Vec<Entry>, more: u64)
     ensures open { ends_open entries.new.items ≡ true }
     ensures len { vec_len entries.new ≡ vec_len entries.old + (if ends_open entries.old.items then 0 else 1) }
     ensures capacity { vec_capacity entries.new ≡ vec_capacity entries.old }
-    ensures entries { entries.new.items ≡ more_behind more entries.old.items }
+    ensures entries { entries.new.items ≡ more_after more entries.old.items }
 {
     match last_count(entries.as_slice()) {
         Some(count) => raise_last(entries.as_mut_slice(), count, more),

@@ -73,7 +73,7 @@ impl Place {
     /// the next word. After the word at 777777 comes the one at 0.
     #[tactic(auto, unfolding(crate::specs::Place::moved_on))]
     #[inline(always)]
-    pub fn behind(p: Word18, word: Word60, next: u8) -> Place
+    pub fn after(p: Word18, word: Word60, next: u8) -> Place
         ensures { result ≡ moved_on p word next }
     {
         match ParcelNumber::new(next) {

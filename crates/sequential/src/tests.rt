@@ -49,8 +49,8 @@ fn return_jump() -> Instr {
 fn moves_on(rt: HostRuntime) -> Result<(), Fail> {
     let (p, zero) = (Word18::from_bits(0o777777), Word18::default());
     let held = word(b"46000460004600046000")?;
-    assert_eq!(rt; Place::behind(p, held, 3), place(0o777777, 3, Some(held))?);
-    assert_eq!(rt; Place::behind(p, held, 4), place(0, 0, None)?);
+    assert_eq!(rt; Place::after(p, held, 3), place(0o777777, 3, Some(held))?);
+    assert_eq!(rt; Place::after(p, held, 4), place(0, 0, None)?);
     assert_eq!(rt; Place::at(p), place(0o777777, 0, None)?);
     let here = place(5, 2, Some(held))?;
     assert_eq!(rt; here.after_jump(None), here);
@@ -140,8 +140,8 @@ fn takes_branches_and_references(rt: HostRuntime) -> Result<(), Fail> {
     ] {
         let held = word(octal)?;
         state.place = place(5, 0, Some(held))?;
-        let behind = place(5, next, Some(held))?;
-        assert_eq!(rt; state.fetch(), Fetched::Taking(instr, behind));
+        let after = place(5, next, Some(held))?;
+        assert_eq!(rt; state.fetch(), Fetched::Taking(instr, after));
     }
     Ok(())
 }
@@ -186,7 +186,7 @@ fn takes_sa0_and_sb0(rt: HostRuntime) -> Result<(), Fail> {
         j: zero,
         address: Word18::from_bits(5),
     };
-    for (target, parcel, behind) in [
+    for (target, parcel, after) in [
         (Target::A, 0, place(5, 2, Some(held))?),
         (Target::B, 2, place(6, 0, None)?),
     ] {
@@ -197,7 +197,7 @@ fn takes_sa0_and_sb0(rt: HostRuntime) -> Result<(), Fail> {
             i: zero,
             addends,
         };
-        assert_eq!(rt; fetched, Fetched::Taking(instr, behind));
+        assert_eq!(rt; fetched, Fetched::Taking(instr, after));
     }
     Ok(())
 }

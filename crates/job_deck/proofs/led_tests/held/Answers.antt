@@ -7,7 +7,7 @@ use Rattle.program_order.specs.declared.event.Done.{Done}
 use Rattle.program_order.specs.declared.event.Event.{Event}
 use Rattle.program_order.specs.Headline.{IsFaithful}
 use Rattle.program_order.specs.Reached.{IsReached}
-use Rattle.program_order.specs.Processor.{Whole}
+use Rattle.program_order.specs.Processor.{Processor}
 use Rattle.job_deck.specs.AnswerText.{answer_line}
 use Rattle.deck.specs.Deck.{Good, Plan, Reading, deck}
 use Rattle.device_text.specs.Line.{lines_of}
@@ -19,12 +19,12 @@ use Rattle.job_deck.proofs.led_tests.held.Goals as goal
 -- what is said of a session that was held to its last line
 abbrev IsHeld : Plan → ℕ → List ℕ → Option (List ℕ) → Option (List ℕ) → Type 0
 IsHeld plan n after old new =
-    (events : List Event) × ((answers : List (Result Done Refusal)) × ((w : Whole) × ((left : List (List ℕ × List ℕ)) × ((text : List ℕ)
+    (events : List Event) × ((answers : List (Result Done Refusal)) × ((w : Processor) × ((left : List (List ℕ × List ℕ)) × ((text : List ℕ)
     × (Says (n + 1) events (lines_of after) left × (Appends old new (flat_map answer_line answers ++ text) × IsFaithful plan.image.memory events answers w))))))
 
 -- the theorem of what is reached from boot
 abbrev Law : Type 0
-Law = (memory : List ℕ) → (budget : ℕ) → (events : List Event) → (answers : List (Result Done Refusal)) → (w : Whole) → IsReached memory budget events answers w → IsFaithful memory events answers w
+Law = (memory : List ℕ) → (budget : ℕ) → (events : List Event) → (answers : List (Result Done Refusal)) → (w : Processor) → IsReached memory budget events answers w → IsFaithful memory events answers w
 
 is_held : (law : Law) (x : Unit {0}) (budget : ℕ) (plan : Plan) (n : ℕ) (after rest : List ℕ) (old new : Option (List ℕ)) → TellsFromBoot (Ok x) budget plan n after rest old new → IsHeld plan n after old new
 is_held law x budget plan n after rest old new h =

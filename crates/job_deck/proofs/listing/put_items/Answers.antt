@@ -1,6 +1,6 @@
 use Rattle.std.proofs.Common.{◌<◌, rules, refl, arith}
 use Rattle.std.proofs.lemmas.Result.{err_from_is_err_and}
-use Rattle.job_deck.specs.Listing.{behind, items_text}
+use Rattle.job_deck.specs.Listing.{after, items_text}
 use Rattle.device_text.proofs.Moving.{nothing_written}
 use Rattle.job_deck.proofs.Listings.{goes_on, item_done, separator_cut, item_cut}
 use Rattle.job_deck.proofs.listing.put_items.Goals as goal
@@ -29,8 +29,8 @@ returns-in_err-put_item-clause-written g c =
 
 pub loop-parcel-smaller : goal.loop-parcel-smaller
 loop-parcel-smaller g c =
-    let on : c.loop-parcel.parcel < behind c.loop-parcel.parcel c.decode-item.result = goes_on c.loop-parcel.parcel c.decode-item.result c.decode-item.ensures.range in
-    omega (arith, on, c.behind-parcel.ensures)
+    let on : c.loop-parcel.parcel < after c.loop-parcel.parcel c.decode-item.result = goes_on c.loop-parcel.parcel c.decode-item.result c.decode-item.ensures.range in
+    omega (arith, on, c.after-parcel.ensures)
 
 pub loop-parcel-preserved : goal.loop-parcel-preserved
 loop-parcel-preserved g c =
@@ -38,7 +38,7 @@ loop-parcel-preserved g c =
     let item = rw c.decode-item.ensures.value at c.in_ok-put_item.ensures.written in
     let done = item_done c.args.word c.loop-parcel.parcel _ _ (g.O.Output.contents c.put_separator.new.output) (g.O.Output.contents c.put_item.new.output) _ range c.loop-parcel-test.true c.loop-parcel.invariant.written c.in_ok-put_separator.ensures.written item in
     record {
-      written = rw (c.behind-parcel.ensures, c.decode-item.ensures.value) done;
+      written = rw (c.after-parcel.ensures, c.decode-item.ensures.value) done;
       same = search rules;
       failures = search rules;
     }

@@ -9,11 +9,11 @@ use Rattle.program_order.specs.declared.event.Event.{Event}
 use Rattle.program_order.specs.declared.event.Event.TheVariants.{Ask, Exchange, Issue}
 use Rattle.program_order.specs.Headline.{log_of}
 use Rattle.machine.specs.Snapped.{Snapped}
-use Rattle.program_order.specs.Processor.{Whole}
+use Rattle.program_order.specs.Processor.{Processor}
 use Rattle.machine.proofs.reached_tests.shown.Goals as goal
 
 -- what a taken snapshot shows of a machine whose boot memory and log are known
-taken : (r : Result Snapped Refusal) (w : Whole) (memory : List ℕ) (more : List Event) (answers : List (Result Done Refusal)) (Q : Refusal → Type 0)
+taken : (r : Result Snapped Refusal) (w : Processor) (memory : List ℕ) (more : List Event) (answers : List (Result Done Refusal)) (Q : Refusal → Type 0)
     → MatchResult r (λ s. (is_pending w.pending ≡ false) × (s.state ≡ w.state) × (s.log ≡ w.log) × (s.boot_memory ≡ w.boot_memory)) Q
     → IfOk r (λ s. replay (boot s.boot_memory) s.log ≡ Some s.state)
     → w.boot_memory ≡ memory → w.log ≡ log_of (Ask 32 ∷ Exchange ∷ Issue ∷ more) answers

@@ -13,7 +13,7 @@ use Rattle.in_flight.proofs.flight.InFlight.accept.Goals as goal
 
 pub returns-in-Err-clause-answer : goal.returns-in-Err-clause-answer
 returns-in-Err-clause-answer c =
-    sym (ap (λ (x : Flight). refusal_of (tests_found (seek (entry_at c.args.place) x.pending) (λ f. accept_tests x.busy f.earlier f.what))) c.self.view_is)
+    sym (ap (λ (x : Flight). refusal_of (tests_found (seek (entry_at c.args.place) x.pending) (λ f. accept_tests x.busy f.earlier f.answer))) c.self.view_is)
     ∙ accept_answered c.args.place c.self.inside.slots c.self.inside.hopper c.accept.result c.self.invariant.entered c.accept.ensures.answer
     ∙ ap refusal_in c.in-Err.is
 
@@ -39,14 +39,14 @@ invariant_of-self-2 c =
 
 pub returns-clause-answer : goal.returns-clause-answer
 returns-clause-answer c =
-    sym (ap (λ (x : Flight). refusal_of (tests_found (seek (entry_at c.args.place) x.pending) (λ f. accept_tests x.busy f.earlier f.what))) c.self.view_is)
+    sym (ap (λ (x : Flight). refusal_of (tests_found (seek (entry_at c.args.place) x.pending) (λ f. accept_tests x.busy f.earlier f.answer))) c.self.view_is)
     ∙ accept_answered c.args.place c.self.inside.slots c.self.inside.hopper c.accept.result c.self.invariant.entered c.accept.ensures.answer
     ∙ ap refusal_in c.in-Ok.is
 
 pub returns-clause-entry : goal.returns-clause-entry
 returns-clause-entry c =
     let p = (accept_found c.args.place c.self.inside.slots c.self.inside.hopper c.accept.result c.in-Ok.reference c.self.invariant.entered c.accept.ensures.answer c.in-Ok.is) in
-    subst (λ (x : Flight). IfSome (seek (entry_at c.args.place) x.pending) (λ f. f.what ≡ record { a = c.in-Ok.reference.address; access = c.in-Ok.reference.access })) c.self.view_is
+    subst (λ (x : Flight). IfSome (seek (entry_at c.args.place) x.pending) (λ f. f.answer ≡ record { a = c.in-Ok.reference.address; access = c.in-Ok.reference.access })) c.self.view_is
     (entry_answered c.args.place c.self.inside.slots p.0 c.in-Ok.reference p.1 p.2)
 
 pub returns-clause-after : goal.returns-clause-after

@@ -3,7 +3,7 @@ use Rattle.std.specs.List.{list_any}
 use Rattle.scoreboard.specs.Rows.{is_branch as is_branch_row}
 use Rattle.scoreboard.specs.declared.issued.Issued.{Issued}
 use Rattle.in_flight.specs.Flight.{Flight}
-use Rattle.in_flight.specs.Member.{is_branch}
+use Rattle.in_flight.specs.Pending.{is_branch}
 use Rattle.in_flight.proofs.Beside.{branch_held}
 use Rattle.in_flight.proofs.flight.InFlight.is_branch_held.Goals as goal
 

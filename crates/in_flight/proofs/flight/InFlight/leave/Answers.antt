@@ -2,7 +2,7 @@ use Rattle.std.proofs.Common.{◌≡◌, true, false, sym, ap, ◌∙◌, subst}
 use Rattle.std.specs.Prelude.{IfSome, is_none}
 use Rattle.instructions.specs.Each.{Pairs}
 use Rattle.instructions.specs.Shape.{shape_of}
-use Rattle.in_flight.specs.Flight.{Flight, IsRestOf, later_of}
+use Rattle.in_flight.specs.Flight.{Flight, IsRestOf, outstanding_of}
 use Rattle.in_flight.specs.Lookup.{sought, stage_at, place_for, enters}
 use Rattle.in_flight.specs.Apart.{IsApart}
 use Rattle.instructions.specs.Finding.{seek}
@@ -23,8 +23,8 @@ leave-requires c =
 pub invariant_of-self : goal.invariant_of-self
 invariant_of-self c =
     let p = (some_from (seek (stage_at c.args.unit) c.self.inside.slots) c.find_stage.result c.is_none.result c.find_stage.ensures c.is_none.ensures c.if-is_none.false) in
-    leave_tied c.args.unit c.self.inside.slots c.leave.new.self c.self.inside.hopper c.waiting_rest-later.new.hopper c.self.inside.board c.release.new.self p.0 c.args.rest.now c.waiting_rest-later.result c.self.invariant (subst (λ (x : Flight). Pairs IsApart x.pending) (sym c.self.view_is) c.requires.apart) p.1 (subst (λ (x : Flight). IfSome (sought (seek (stage_at c.args.unit) x.pending)) (λ s. IsRestOf (shape_of s.member.instr) c.args.rest.now)) (sym c.self.view_is) c.requires.rest) (subst (λ (x : Flight). enters (later_of 0 c.args.rest.now) ≡ true → is_none (place_for x.pending) ≡ false) (sym c.self.view_is) c.requires.room) c.waiting_rest-later.ensures.answer c.leave.ensures c.waiting_rest-later.ensures.after c.release.ensures
+    leave_tied c.args.unit c.self.inside.slots c.leave.new.self c.self.inside.hopper c.waiting_rest-later.new.hopper c.self.inside.board c.release.new.self p.0 c.args.rest.now c.waiting_rest-later.result c.self.invariant (subst (λ (x : Flight). Pairs IsApart x.pending) (sym c.self.view_is) c.requires.apart) p.1 (subst (λ (x : Flight). IfSome (sought (seek (stage_at c.args.unit) x.pending)) (λ s. IsRestOf (shape_of s.member.instr) c.args.rest.now)) (sym c.self.view_is) c.requires.rest) (subst (λ (x : Flight). enters (outstanding_of 0 c.args.rest.now) ≡ true → is_none (place_for x.pending) ≡ false) (sym c.self.view_is) c.requires.room) c.waiting_rest-later.ensures.answer c.leave.ensures c.waiting_rest-later.ensures.after c.release.ensures
 
 pub returns : goal.returns
 returns c =
-    leave_flight c.args.unit c.self.inside.slots c.leave.new.self c.self.inside.hopper c.waiting_rest-later.new.hopper c.self.inside.board c.release.new.self c.args.rest.now c.waiting_rest-later.result c.args.self.now c.self.view_is c.self.invariant (subst (λ (x : Flight). enters (later_of 0 c.args.rest.now) ≡ true → is_none (place_for x.pending) ≡ false) (sym c.self.view_is) c.requires.room) c.waiting_rest-later.ensures.answer c.leave.ensures c.waiting_rest-later.ensures.after c.release.ensures
+    leave_flight c.args.unit c.self.inside.slots c.leave.new.self c.self.inside.hopper c.waiting_rest-later.new.hopper c.self.inside.board c.release.new.self c.args.rest.now c.waiting_rest-later.result c.args.self.now c.self.view_is c.self.invariant (subst (λ (x : Flight). enters (outstanding_of 0 c.args.rest.now) ≡ true → is_none (place_for x.pending) ≡ false) (sym c.self.view_is) c.requires.room) c.waiting_rest-later.ensures.answer c.leave.ensures c.waiting_rest-later.ensures.after c.release.ensures

@@ -1,7 +1,7 @@
 use Rattle.std.proofs.Common.{[], ◌∷◌, refl, sym, ap, ◌∙◌}
 use Rattle.scoreboard.specs.Answers.{held_in, read as board_read}
-use Rattle.in_flight.specs.declared.member.Phase.TheVariants.{Before}
-use Rattle.in_flight.specs.declared.member.Stage.TheVariants.{Read}
+use Rattle.in_flight.specs.declared.pending.Phase.TheVariants.{Before}
+use Rattle.in_flight.specs.declared.pending.Stage.TheVariants.{Read}
 use Rattle.in_flight.specs.Flight.{Flight}
 use Rattle.instructions.specs.Finding.{replaced, seek}
 use Rattle.in_flight.specs.Lookup.{stage_at, in_phase}
@@ -13,9 +13,9 @@ returns-in_default-clause-answer c =
     sym (ap (λ (f : Flight). read_refused (seek (stage_at c.args.unit) f.pending)) c.self.view_is)
     ∙ nothing_there (seek (stage_at c.args.unit) c.self.inside.slots) _ (sym c.find_stage.ensures ∙ c.in_default.is)
 
-pub returns-in_default-what : goal.returns-in_default-what
-returns-in_default-what c = record {
-  answer = sym (ap (λ (f : Flight). read_refused (seek (stage_at c.args.unit) f.pending)) c.self.view_is) ∙ not_waiting (seek (stage_at c.args.unit) c.self.inside.slots) c.in-Some.found (sym c.find_stage.ensures ∙ c.in-Some.is) c.in_default-what.not-Waiting;
+pub returns-in_default-answer : goal.returns-in_default-answer
+returns-in_default-answer c = record {
+  answer = sym (ap (λ (f : Flight). read_refused (seek (stage_at c.args.unit) f.pending)) c.self.view_is) ∙ not_waiting (seek (stage_at c.args.unit) c.self.inside.slots) c.in-Some.found (sym c.find_stage.ensures ∙ c.in-Some.is) c.in_default-answer.not-Waiting;
   member = tt;
   operands = tt;
   after = refl;

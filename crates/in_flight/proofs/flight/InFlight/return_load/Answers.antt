@@ -12,12 +12,12 @@ use Rattle.in_flight.proofs.flight.InFlight.return_load.Goals as goal
 
 pub returns-in_default-clause-answer : goal.returns-in_default-clause-answer
 returns-in_default-clause-answer c =
-    sym (ap (λ (f : Flight). refusal_of (tests_found (seek (arrival_at c.args.channel) f.pending) (λ f. return_tests f.earlier f.what))) c.self.view_is)
+    sym (ap (λ (f : Flight). refusal_of (tests_found (seek (arrival_at c.args.channel) f.pending) (λ f. return_tests f.earlier f.answer))) c.self.view_is)
     ∙ nothing_there (seek (arrival_at c.args.channel) c.self.inside.slots) _ (sym c.find_arrival.ensures.found ∙ c.in_default.is)
 
 pub returns-in-Err-clause-answer : goal.returns-in-Err-clause-answer
 returns-in-Err-clause-answer c =
-    sym (ap (λ (f : Flight). refusal_of (tests_found (seek (arrival_at c.args.channel) f.pending) (λ f. return_tests f.earlier f.what))) c.self.view_is)
+    sym (ap (λ (f : Flight). refusal_of (tests_found (seek (arrival_at c.args.channel) f.pending) (λ f. return_tests f.earlier f.answer))) c.self.view_is)
     ∙ return_answered c.args.channel c.self.inside.slots c.self.inside.board.issued c.in-Some.found _ c.self.invariant.boarded (subst (λ (f : Flight). Pairs IsApart f.pending) (sym c.self.view_is) c.requires.apart) (sym c.find_arrival.ensures.found ∙ c.in-Some.is) (sym c.in-Err.is ∙ c.may_return.ensures)
 
 pub invariant_of-self : goal.invariant_of-self
@@ -26,12 +26,12 @@ invariant_of-self c =
 
 pub returns-clause-answer : goal.returns-clause-answer
 returns-clause-answer c =
-    sym (ap (λ (f : Flight). refusal_of (tests_found (seek (arrival_at c.args.channel) f.pending) (λ f. return_tests f.earlier f.what))) c.self.view_is)
+    sym (ap (λ (f : Flight). refusal_of (tests_found (seek (arrival_at c.args.channel) f.pending) (λ f. return_tests f.earlier f.answer))) c.self.view_is)
     ∙ return_answered c.args.channel c.self.inside.slots c.self.inside.board.issued c.in-Some.found _ c.self.invariant.boarded (subst (λ (f : Flight). Pairs IsApart f.pending) (sym c.self.view_is) c.requires.apart) (sym c.find_arrival.ensures.found ∙ c.in-Some.is) (sym c.in_default-may_return.is ∙ c.may_return.ensures)
 
 pub returns-clause-arrival : goal.returns-clause-arrival
 returns-clause-arrival c =
-    subst (λ (f : Flight). IfSome (seek (arrival_at c.args.channel) f.pending) (λ f. f.what ≡ c.in-Some.found.what)) c.self.view_is
+    subst (λ (f : Flight). IfSome (seek (arrival_at c.args.channel) f.pending) (λ f. f.answer ≡ c.in-Some.found.answer)) c.self.view_is
     (what_there (seek (arrival_at c.args.channel) c.self.inside.slots) c.in-Some.found (sym c.find_arrival.ensures.found ∙ c.in-Some.is))
 
 pub returns-clause-after : goal.returns-clause-after

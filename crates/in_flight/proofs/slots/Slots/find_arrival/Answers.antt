@@ -13,7 +13,7 @@ returns-in_default-clause-found c =
 pub returns-in-Some-arrival_in-clause-found : goal.returns-in-Some-arrival_in-clause-found
 returns-in-Some-arrival_in-clause-found c =
     let here : get_or c.self.inside.channels c.args.channel None ≡ Some c.in-Some.member = ap (λ k. get_or c.self.inside.channels k None) (sym c.from.ensures) ∙ sym c.seat_at-seat.ensures ∙ c.in-Some.is in
-    arrival_answer c.self.inside.units c.self.inside.places c.self.inside.channels c.args.channel c.in-Some.member c.in-Some-arrival_in.what c.self.invariant (channel_below c.self.inside.units c.self.inside.places c.self.inside.channels c.args.channel c.in-Some.member c.self.invariant here) here (sym c.arrival_in.ensures ∙ c.in-Some-arrival_in.is)
+    arrival_answer c.self.inside.units c.self.inside.places c.self.inside.channels c.args.channel c.in-Some.member c.in-Some-arrival_in.answer c.self.invariant (channel_below c.self.inside.units c.self.inside.places c.self.inside.channels c.args.channel c.in-Some.member c.self.invariant here) here (sym c.arrival_in.ensures ∙ c.in-Some-arrival_in.is)
     ∙ ap (λ ms. sought (seek (arrival_at c.args.channel) ms)) c.self.view_is
 
 pub returns-in-Some-arrival_in-clause-range : goal.returns-in-Some-arrival_in-clause-range

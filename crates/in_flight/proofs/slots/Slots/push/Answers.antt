@@ -1,5 +1,5 @@
 use Rattle.std.proofs.Common.{◌<◌, ap, sym, ◌∙◌, subst, [], ◌∷◌, ◌++◌}
-use Rattle.in_flight.specs.declared.member.Stage.TheVariants.{Waiting}
+use Rattle.in_flight.specs.declared.pending.Stage.TheVariants.{Waiting}
 use Rattle.instructions.specs.Each.{Each}
 use Rattle.instructions.specs.Finding.{seek}
 use Rattle.in_flight.specs.Lookup.{stage_at}

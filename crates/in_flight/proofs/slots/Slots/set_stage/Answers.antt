@@ -1,6 +1,6 @@
 use Rattle.std.proofs.Common.{◌≡◌, ap, sym, ◌∙◌, subst, Some, None, [], ◌∷◌, set, get_or, arith}
 use Rattle.std.proofs.lemmas.List.{set-get_or}
-use Rattle.in_flight.specs.declared.member.Phase.TheVariants.{Before}
+use Rattle.in_flight.specs.declared.pending.Phase.TheVariants.{Before}
 use Rattle.in_flight.specs.declared.slots.Slots.TheInside.{Inside}
 use Rattle.instructions.specs.Finding.{seek, replaced}
 use Rattle.in_flight.specs.Lookup.{stage_at, in_phase}

@@ -8,13 +8,13 @@ use Rattle.scoreboard.specs.declared.row.Progress.TheVariants.{Reserved, Left}
 use Rattle.scoreboard.specs.declared.row.Row.{Row}
 use Rattle.scoreboard.specs.Rows as row
 use Rattle.scoreboard.specs.Conflicts as conflict
-use Rattle.in_flight.specs.declared.member.Stage.{Stage}
-use Rattle.in_flight.specs.declared.member.Stage.TheVariants.{Waiting, Read, Finished}
-use Rattle.in_flight.specs.declared.member.Later.{Later}
-use Rattle.in_flight.specs.declared.member.Later.TheVariants.{Entered, Accepted}
-use Rattle.in_flight.specs.declared.member.Phase.{Phase}
-use Rattle.in_flight.specs.declared.member.Phase.TheVariants.{Before, After}
-use Rattle.in_flight.specs.declared.member.Member.{Member}
+use Rattle.in_flight.specs.declared.pending.Stage.{Stage}
+use Rattle.in_flight.specs.declared.pending.Stage.TheVariants.{Waiting, Read, Finished}
+use Rattle.in_flight.specs.declared.pending.Outstanding.{Outstanding}
+use Rattle.in_flight.specs.declared.pending.Outstanding.TheVariants.{Entered, Accepted}
+use Rattle.in_flight.specs.declared.pending.Phase.{Phase}
+use Rattle.in_flight.specs.declared.pending.Phase.TheVariants.{Before, After}
+use Rattle.in_flight.specs.declared.pending.Pending.{Pending}
 
 -- ---- what the scoreboard sees ----
 
@@ -37,7 +37,7 @@ is_finished (Read os) = false
 is_finished (Finished v) = true
 
 -- the X register to which a load has still to return
-unfoldable pub returning : Later → Option ℕ
+unfoldable pub returning : Outstanding → Option ℕ
 returning (Entered place a (Load n)) = Some n
 returning (Entered place a (Store word)) = None
 returning (Accepted n word) = Some n
@@ -49,27 +49,27 @@ progress_of (Before t) = Reserved (has_read t)
 progress_of (After l) = Left (returning l)
 
 -- what the board knows of an instruction
-unfoldable pub row_of : Member → Row
+unfoldable pub row_of : Pending → Row
 row_of m = record { instr = m.instr; unit = m.unit; progress = progress_of m.phase }
 
 -- its results still to come
-unfoldable pub to_come : Member → List Reg
+unfoldable pub to_come : Pending → List Reg
 to_come m = row.to_come (row_of m)
 
 -- it is a branch that holds its unit, Branch
-unfoldable pub is_branch : Member → Bool
+unfoldable pub is_branch : Pending → Bool
 is_branch m = row.is_branch (row_of m)
 
 -- it has a reference that has not come to its store event
-unfoldable pub has_turn : Member → Bool
+unfoldable pub has_turn : Pending → Bool
 has_turn m = row.has_turn (row_of m)
 
 -- the register is a result still to come of one of them
-abbrev pub awaited : List Member → Reg → Bool
+abbrev pub awaited : List Pending → Reg → Bool
 awaited ms register = conflict.awaited row_of ms register
 
 -- one of them has still to read the register
-abbrev pub to_be_read : List Member → Reg → Bool
+abbrev pub to_be_read : List Pending → Reg → Bool
 to_be_read ms register = conflict.to_be_read row_of ms register
 
 -- ---- what the hopper sees ----
@@ -81,7 +81,7 @@ entered_in (After (Entered place a access)) = true
 entered_in (After (Accepted n word)) = false
 
 -- it waits in the hopper
-unfoldable pub is_entered : Member → Bool
+unfoldable pub is_entered : Pending → Bool
 is_entered m = entered_in m.phase
 
 -- in that phase its reference waits in the hopper for that bank
@@ -91,7 +91,7 @@ in_bank_in bank (After (Entered place a access)) = bank_of a == bank
 in_bank_in bank (After (Accepted n word)) = false
 
 -- it waits in the hopper for that bank
-unfoldable pub in_bank : ℕ → Member → Bool
+unfoldable pub in_bank : ℕ → Pending → Bool
 in_bank bank m = in_bank_in bank m.phase
 
 -- in that phase it is a store to that absolute address, which waits in the hopper
@@ -102,5 +102,5 @@ stores_in address (After (Accepted n word)) = false
 
 -- a fetch of the word at that absolute address waits for it: it is an SA6 or SA7 that has not come to its
 -- store event, or a store to that address that waits in the hopper
-unfoldable pub delays_fetch : ℕ → Member → Bool
+unfoldable pub delays_fetch : ℕ → Pending → Bool
 delays_fetch address m = row.has_store_turn (row_of m) || stores_in address m.phase

@@ -1,6 +1,6 @@
 ghost use Rattle.std.specs.Prelude.{◌≡◌};
 ghost use Rattle.sequential.specs.Work.{operands};
-ghost use Rattle.in_flight.specs.Member.{is_waiting, is_finished};
+ghost use Rattle.in_flight.specs.Pending.{is_waiting, is_finished};
 ghost use Rattle.in_flight.specs.Lookup.{stage_at, entry_at, arrival_at};
 
 use instruction_table::{Digit, Instr, Unit};
@@ -24,7 +24,7 @@ pub enum Stage {
 
 /// What is left of an instruction after its store event.
 #[derive(Clone, Copy, Debug, Drop, PartialEq, Eq)]
-pub enum Later {
+pub enum Outstanding {
     /// A reference that waits in a place of the hopper (0 to 3): the place, the absolute address and what
     /// it does there.
     Entered(u8, u32, Access),
@@ -38,12 +38,12 @@ pub enum Phase {
     /// It holds its unit.
     Before(Stage),
     /// It has come to its store event and left its unit.
-    After(Later),
+    After(Outstanding),
 }
 
 /// An issued instruction with an effect still to come.
 #[derive(Clone, Copy, Debug, Drop, PartialEq, Eq)]
-pub struct Member {
+pub struct Pending {
     pub instr: Instr,
     /// The address of its word.
     pub at: Word18,
@@ -55,7 +55,7 @@ pub struct Member {
 
 /// A reference in a place of the hopper.
 #[derive(Clone, Copy, Debug, Drop, PartialEq, Eq)]
-pub struct Entry {
+pub struct HopperEntry {
     /// The absolute address.
     pub a: u32,
     pub access: Access,
@@ -71,7 +71,7 @@ pub struct Arrival {
 
 impl Stage {
     /// Whether it has still to read its operands.
-    #[tactic(auto, unfolding(crate::specs::Member::is_waiting))]
+    #[tactic(auto, unfolding(crate::specs::Pending::is_waiting))]
     pub fn is_waiting(&self) -> bool
         ensures { result ≡ is_waiting self.now }
     {
@@ -79,7 +79,7 @@ impl Stage {
     }
 
     /// Whether it has its value.
-    #[tactic(auto, unfolding(crate::specs::Member::is_finished))]
+    #[tactic(auto, unfolding(crate::specs::Pending::is_finished))]
     pub fn is_finished(&self) -> bool
         ensures { result ≡ is_finished self.now }
     {
@@ -87,9 +87,9 @@ impl Stage {
     }
 }
 
-impl Default for Member {
-    fn default() -> Member {
-        Member {
+impl Default for Pending {
+    fn default() -> Pending {
+        Pending {
             instr: Instr::Pass,
             at: Word18::default(),
             number: 0,
@@ -99,7 +99,7 @@ impl Default for Member {
     }
 }
 
-impl Member {
+impl Pending {
     /// What its unit reads, as the registers are.
     pub(crate) fn operands(&self, registers: &RegisterFile) -> Operands
         ensures { result ≡ operands self.now.instr self.now.at registers.now }
@@ -123,17 +123,17 @@ impl Member {
 
     /// Its reference, if it stands in the place of the hopper.
     #[tactic(auto, unfolding(crate::specs::Lookup::entry_at, crate::specs::Lookup::entry_in))]
-    pub(crate) fn entry_in(&self, place: u8) -> Option<Entry>
+    pub(crate) fn entry_in(&self, place: u8) -> Option<HopperEntry>
         ensures { result ≡ entry_at place self.now }
     {
         match self.phase {
             Phase::Before(_) => None,
-            Phase::After(Later::Entered(taken, a, access)) => if taken == place {
-                Some(Entry { a, access })
+            Phase::After(Outstanding::Entered(taken, a, access)) => if taken == place {
+                Some(HopperEntry { a, access })
             } else {
                 None
             },
-            Phase::After(Later::Accepted(_, _)) => None,
+            Phase::After(Outstanding::Accepted(_, _)) => None,
         }
     }
 
@@ -144,8 +144,8 @@ impl Member {
     {
         match self.phase {
             Phase::Before(_) => None,
-            Phase::After(Later::Entered(_, _, _)) => None,
-            Phase::After(Later::Accepted(channel, word)) => if channel.get() == given {
+            Phase::After(Outstanding::Entered(_, _, _)) => None,
+            Phase::After(Outstanding::Accepted(channel, word)) => if channel.get() == given {
                 Some(Arrival { channel, word })
             } else {
                 None
