@@ -1,6 +1,7 @@
 ghost use Rattle.std.specs.Prelude.{◌≡◌, ◌||◌, ◌⊎◌, true, false, Some, IfErr, IfOk, MatchResult};
 ghost use Rattle.instructions.specs.declared.refusal.Refusal.TheVariants.{Nothing, NotDrained, OutOfMemory, Stranger};
 ghost use Rattle.sequential.specs.Replay.{boot, replay};
+ghost use Rattle.program_order.specs.Headline.{IsFaultedRun};
 ghost use Rattle.program_order.specs.Refusals.{may_refuse, is_stranger, is_nothing, is_issue_refusal, is_read_refusal, is_store_refusal, is_accept_refusal, is_return_refusal, is_ask_refusal, is_exchange_refusal};
 ghost use Rattle.machine.specs.Tokens.{new_seats, one_more};
 
@@ -170,12 +171,14 @@ impl Shared {
     }
 
     /// The state, the log and the boot memory of the machine, if it is drained. The state is the replay of
-    /// the log on that memory.
+    /// the log on that memory; and where it has the fault, the log since the last exchange is a beginning of
+    /// the program's run that includes the instruction which set it.
     ///
     /// # Errors
     /// `NotDrained` or `OutOfMemory`.
     pub fn snapshot<R: Wait>(&self, rt: &R, _seen: &mut Seen) -> Result<Snapshot, Refusal>
         ensures replay { IfOk result (λ snapshot. replay (boot snapshot.boot_memory) snapshot.log ≡ Some snapshot.state) }
+        ensures fault { IfOk result (λ snapshot. snapshot.state.fault ≡ true → IsFaultedRun snapshot.log snapshot.boot_memory snapshot.state) }
         ensures named { IfErr result (λ refusal. (refusal ≡ NotDrained) ⊎ (refusal ≡ OutOfMemory)) }
     {
         self.locked.lock(rt).snapshot()
