@@ -283,9 +283,6 @@ read_answered u ms xs s r e h w k =
     ∙ test_is _ _
     ∙ ap refusal_in (sym (k ∙ ap (λ l. read_answer (seek (held_in u) l)) e ∙ read_of_all u ms p.0 p.1))
 
-pub waiting_there : (o : Option (Found Pending Stage)) (s : Sought Stage) → sought o ≡ Some s → s.answer ≡ Waiting → sought o ≡ Some (record { member = s.member; answer = Waiting })
-waiting_there o s h w = h ∙ ap (λ t. Some (record { member = s.member; answer = t })) w
-
 pub read_tied : (u : FunctionalUnit) (ms ns : List Pending) (queue : Queue) (b c : Standing) (s : Sought Stage) (os : Operands) → sought (seek (stage_at u) ms) ≡ Some s → IsTied ms queue b → ns ≡ replaced (seek (stage_at u) ms) ms (λ m. in_phase m (Before (Read os)) ∷ []) → c ≡ with_issued b (replaced (seek (held_in u) b.issued) b.issued read) → IsTied ns queue c
 unfolding replaced with_issued in_phase
 read_tied u ms ns queue b c s os h tied en ec =

@@ -152,7 +152,8 @@ pub(crate) fn holds(
     let state = snapshot.state();
     state.registers.get(x(i)) == word(first)
         && state.registers.get(x(j)) == word(second)
-        && snapshot.log().entries() == [HopperEntry::Exchange(0o40), HopperEntry::Issued(issues)].as_slice()
+        && snapshot.log().entries()
+            == [HopperEntry::Exchange(0o40), HopperEntry::Issued(issues)].as_slice()
         && machine.log().issues() == issues
 }
 

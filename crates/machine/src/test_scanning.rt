@@ -56,7 +56,9 @@ fn row(member: &Pending) -> Row {
     let progress = match member.phase {
         Phase::Before(Stage::Waiting) => Progress::Reserved { has_read: false },
         Phase::Before(_) => Progress::Reserved { has_read: true },
-        Phase::After(Outstanding::Entered(_, _, Access::Store(_))) => Progress::Left { returning: None },
+        Phase::After(Outstanding::Entered(_, _, Access::Store(_))) => Progress::Left {
+            returning: None,
+        },
         Phase::After(Outstanding::Entered(_, _, Access::Load(n))) => Progress::Left {
             returning: Some(n),
         },

@@ -137,15 +137,6 @@ replay_more s t u es i d e l k h j =
     ∙ ap (λ x. replay t (steps_of (x ∷ []))) (sym k)
     ∙ j
 
-all_taken : (es : List Entry) (i : ℕ) → length es ≤ i → take i es ≡ es
-all_taken [] zero h = refl
-all_taken [] (suc i) h = refl
-all_taken (e ∷ es) zero h = absurd (omega (arith, h))
-all_taken (e ∷ es) (suc i) h = ap (λ l. e ∷ l) (all_taken es i (omega (arith, h)))
-
-pub replay_done : (s t : State) (es : List Entry) (xs : List LogStep) (i : ℕ) → length es ≤ i → steps_of es ≡ xs → replay s (steps_of (take i es)) ≡ Some t → replay s xs ≡ Some t
-replay_done s t es xs i l e h = ap (replay s) (sym e) ∙ ap (λ l. replay s (steps_of l)) (sym (all_taken es i l)) ∙ h
-
 -- ---- a refused exchange ----
 
 -- steps of which an exchange is refused lead nowhere
