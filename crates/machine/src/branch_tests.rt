@@ -1,7 +1,7 @@
 use crate::test_fixtures::{Case, MADE, NO_UNIT, Standing, b, issued, x};
 use crate::{Answer, Event};
 use instruction_table::{Halt, Refusal, Unit};
-use sequential::HopperEntry;
+use sequential::Entry;
 use std::alloc::Global;
 use std::process::Abort;
 use std::test::Fail;
@@ -36,7 +36,7 @@ fn jump(rt: HostRuntime) -> Result<(), Fail> {
         standing: stopped_at(2),
         registers: &[],
         memory: &[(0o100, "02000000024600046000")],
-        log: &[HopperEntry::Exchange(0o40), HopperEntry::Issued(2)],
+        log: &[Entry::Exchange(0o40), Entry::Issued(2)],
     };
     assert!(rt; case.holds(rt.alloc())?);
     Ok(())
@@ -62,7 +62,7 @@ fn leads_to(alloc: Global, branch: &str, x1: &str, p: u32, parcel: u8) -> bool {
         },
         registers: &[(x(1), x1)],
         memory: &[(0o100, branch)],
-        log: &[HopperEntry::Exchange(0o40), HopperEntry::Issued(1)],
+        log: &[Entry::Exchange(0o40), Entry::Issued(1)],
     };
     matches!(case.holds(alloc), Ok(true))
 }
@@ -100,7 +100,7 @@ fn two_zeros(
         standing,
         registers: &[(b(2), "777777")],
         memory: &[(0o100, "04020000100602000010")],
-        log: &[HopperEntry::Exchange(0o40), HopperEntry::Issued(issues)],
+        log: &[Entry::Exchange(0o40), Entry::Issued(issues)],
     };
     case.holds(alloc)
 }
@@ -140,7 +140,7 @@ fn returns(
     next: Answer,
     link: &str,
     standing: Standing,
-    log: &[HopperEntry],
+    log: &[Entry],
 ) -> Result<bool, Refusal> {
     let [length, mode] = area;
     let case = Case {
@@ -198,8 +198,8 @@ fn return_jumps(rt: HostRuntime) -> Result<(), Fail> {
         halt: Some(Halt::FetchRange),
         fault: false,
     };
-    let one = [HopperEntry::Exchange(0o40), HopperEntry::Issued(1)];
-    let two = [HopperEntry::Exchange(0o40), HopperEntry::Issued(2)];
+    let one = [Entry::Exchange(0o40), Entry::Issued(1)];
+    let two = [Entry::Exchange(0o40), Entry::Issued(2)];
     let mode = "00010000000000000000";
     assert!(rt;
         returns(

@@ -1,7 +1,7 @@
 use crate::test_fixtures::{Case, MADE, NO_UNIT, Standing, a, issued, x};
 use crate::{Answer, Event};
 use instruction_table::{Halt, Refusal, Unit};
-use sequential::HopperEntry;
+use sequential::Entry;
 use std::process::Abort;
 use std::test::Fail;
 
@@ -33,7 +33,7 @@ fn refused_in_mid_word(rt: HostRuntime) -> Result<(), Fail> {
         },
         registers: &[(x(1), "5"), (x(2), "3")],
         memory: &[(0o100, "71100000057120000003")],
-        log: &[HopperEntry::Exchange(0o40), HopperEntry::Issued(2)],
+        log: &[Entry::Exchange(0o40), Entry::Issued(2)],
     };
     assert!(rt; case.holds(rt.alloc())?);
     assert!(rt; case.holds_in_one_run(rt.alloc())?);
@@ -89,9 +89,9 @@ fn requests(rt: HostRuntime) -> Result<(), Fail> {
             (0o371, "5"),
         ],
         log: &[
-            HopperEntry::Exchange(0o40),
-            HopperEntry::Issued(3),
-            HopperEntry::Exchange(0o360),
+            Entry::Exchange(0o40),
+            Entry::Issued(3),
+            Entry::Exchange(0o360),
         ],
     };
     assert!(rt; case.holds(rt.alloc())?);
@@ -167,10 +167,10 @@ fn exchange_asked_in_mid_word(rt: HostRuntime) -> Result<(), Fail> {
             (0o111, "3"),
         ],
         log: &[
-            HopperEntry::Exchange(0o40),
-            HopperEntry::Issued(4),
-            HopperEntry::Exchange(0o60),
-            HopperEntry::Issued(1),
+            Entry::Exchange(0o40),
+            Entry::Issued(4),
+            Entry::Exchange(0o60),
+            Entry::Issued(1),
         ],
     };
     assert!(rt; case.holds(rt.alloc())?);
@@ -240,10 +240,10 @@ fn package_across_two_pages(rt: HostRuntime) -> Result<(), Fail> {
             (0o1400, "66"),
         ],
         log: &[
-            HopperEntry::Exchange(0o40),
-            HopperEntry::Issued(2),
-            HopperEntry::Exchange(0o770),
-            HopperEntry::Issued(2),
+            Entry::Exchange(0o40),
+            Entry::Issued(2),
+            Entry::Exchange(0o770),
+            Entry::Issued(2),
         ],
     };
     assert!(rt; case.holds(rt.alloc())?);
@@ -291,9 +291,9 @@ fn stored_and_exchanged(rt: HostRuntime) -> Result<(), Fail> {
             (0o226, "7"),
         ],
         log: &[
-            HopperEntry::Exchange(0o40),
-            HopperEntry::Issued(2),
-            HopperEntry::Exchange(0o210),
+            Entry::Exchange(0o40),
+            Entry::Issued(2),
+            Entry::Exchange(0o210),
         ],
     };
     assert!(rt; case.holds(rt.alloc())?);

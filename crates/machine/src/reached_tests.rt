@@ -15,7 +15,7 @@ use crate::token_tests::of_increment1;
 use crate::{Answer, Event, Machine, Note, Seat, Snapshot, what_is_reached_is_faithful};
 use instruction_table::{Refusal, Unit};
 use relocation::Storage;
-use sequential::HopperEntry;
+use sequential::Entry;
 use std::alloc::Global;
 use std::process::Abort;
 use std::test::Fail;
@@ -96,7 +96,7 @@ fn by_each_call(rt: HostRuntime) -> Result<(), Fail> {
         .ok()
         .ok_or("memory")?;
     let snapshot = shown(rt.alloc(), memory).ok().ok_or("shown")?;
-    let log = [HopperEntry::Exchange(0o40), HopperEntry::Issued(1)];
+    let log = [Entry::Exchange(0o40), Entry::Issued(1)];
     assert!(rt; snapshot.log().entries() == log.as_slice());
     Ok(())
 }
@@ -132,7 +132,7 @@ fn with_a_fault(rt: HostRuntime) -> Result<(), Fail> {
     assert!(rt; faulted(&machine).is_none());
     let _ = machine.drain();
     let snapshot = faulted(&machine).ok_or("fault")?;
-    let log = [HopperEntry::Exchange(0o40), HopperEntry::Issued(1)];
+    let log = [Entry::Exchange(0o40), Entry::Issued(1)];
     assert!(rt; snapshot.log().entries() == log.as_slice());
     assert_eq!(rt; machine.apply(Event::Issue), Err(Refusal::Faulted));
     let mut other = started(rt.alloc(), FIVE, "0").ok().ok_or("start")?;

@@ -1,7 +1,7 @@
 use crate::test_fixtures::{Case, MADE, NO_UNIT, Standing, a, b, issued, x};
 use crate::{Answer, Event};
 use instruction_table::{Halt, Refusal, Unit};
-use sequential::HopperEntry;
+use sequential::Entry;
 use std::process::Abort;
 use std::test::Fail;
 
@@ -65,7 +65,7 @@ fn held_results(rt: HostRuntime) -> Result<(), Fail> {
             (x(3), "10"),
         ],
         memory: &[(0o100, "51100000171131276212"), (0o117, "14")],
-        log: &[HopperEntry::Exchange(0o40), HopperEntry::Issued(3)],
+        log: &[Entry::Exchange(0o40), Entry::Issued(3)],
     };
     assert!(rt; case.holds(rt.alloc())?);
     Ok(())
@@ -120,7 +120,7 @@ fn store_and_load(rt: HostRuntime) -> Result<(), Fail> {
             (x(6), "7"),
         ],
         memory: &[(0o100, "10650516000001056110"), (0o110, "7")],
-        log: &[HopperEntry::Exchange(0o40), HopperEntry::Issued(3)],
+        log: &[Entry::Exchange(0o40), Entry::Issued(3)],
     };
     assert!(rt; case.holds(rt.alloc())?);
     assert!(rt; case.holds_in_one_run(rt.alloc())?);
@@ -177,7 +177,7 @@ fn address_fault(rt: HostRuntime) -> Result<(), Fail> {
             (0o101, "46000460004600000000"),
             (0o117, "123"),
         ],
-        log: &[HopperEntry::Exchange(0o40), HopperEntry::Issued(3)],
+        log: &[Entry::Exchange(0o40), Entry::Issued(3)],
     };
     assert!(rt; case.holds(rt.alloc())?);
     Ok(())
@@ -208,7 +208,7 @@ fn fault_mode_off(rt: HostRuntime) -> Result<(), Fail> {
             (0o101, "46000460004600000000"),
             (0o117, "123"),
         ],
-        log: &[HopperEntry::Exchange(0o40), HopperEntry::Issued(6)],
+        log: &[Entry::Exchange(0o40), Entry::Issued(6)],
     };
     assert!(rt; case.holds(rt.alloc())?);
     Ok(())
@@ -260,7 +260,7 @@ fn stores_to_code(rt: HostRuntime) -> Result<(), Fail> {
             (x(6), "76211000000000000000"),
         ],
         memory: &[(0o101, "76211000000000000000")],
-        log: &[HopperEntry::Exchange(0o40), HopperEntry::Issued(6)],
+        log: &[Entry::Exchange(0o40), Entry::Issued(6)],
     };
     assert!(rt; case.holds(rt.alloc())?);
     Ok(())
@@ -333,7 +333,7 @@ fn full_hopper(rt: HostRuntime) -> Result<(), Fail> {
             (x(5), "55"),
         ],
         memory: &words,
-        log: &[HopperEntry::Exchange(0o40), HopperEntry::Issued(5)],
+        log: &[Entry::Exchange(0o40), Entry::Issued(5)],
     };
     assert!(rt; case.holds(rt.alloc())?);
     Ok(())
@@ -366,7 +366,7 @@ fn store_into_a_short_page(rt: HostRuntime) -> Result<(), Fail> {
         },
         registers: &[(a(6), "400"), (x(6), "7")],
         memory: &[(0o100, "51600004000000000000"), (0o400, "7")],
-        log: &[HopperEntry::Exchange(0o40), HopperEntry::Issued(2)],
+        log: &[Entry::Exchange(0o40), Entry::Issued(2)],
     };
     assert!(rt; case.holds(rt.alloc())?);
     Ok(())

@@ -4,7 +4,7 @@ use crate::{Answer, Done, Event, Machine, Note, Snapshot};
 use instruction_table::{Digit, Halt, Op, Refusal, Reg, Unit};
 use registers::RegisterFile;
 use relocation::Storage;
-use sequential::HopperEntry;
+use sequential::Entry;
 use std::alloc::Global;
 use word60::Word60;
 
@@ -152,8 +152,7 @@ pub(crate) fn holds(
     let state = snapshot.state();
     state.registers.get(x(i)) == word(first)
         && state.registers.get(x(j)) == word(second)
-        && snapshot.log().entries()
-            == [HopperEntry::Exchange(0o40), HopperEntry::Issued(issues)].as_slice()
+        && snapshot.log().entries() == [Entry::Exchange(0o40), Entry::Issued(issues)].as_slice()
         && machine.log().issues() == issues
 }
 
@@ -191,7 +190,7 @@ pub(crate) struct Case<'a> {
     pub(crate) registers: &'a [(Reg, &'a str)],
     /// The words that aren't +0, but for the status of the booted machine at 47.
     pub(crate) memory: Words<'a>,
-    pub(crate) log: &'a [HopperEntry],
+    pub(crate) log: &'a [Entry],
 }
 
 /// Registers that are +0 but for these.
