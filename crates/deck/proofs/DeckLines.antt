@@ -3,10 +3,10 @@ use Rattle.std.proofs.Common.{◌≡◌, ℕ, ◌+◌, ◌<◌, ◌≤◌, true,
 use Rattle.std.proofs.lemmas.Bool.{lt-ltb, le-ltb}
 use Rattle.device_text.specs.Device.{Moves}
 use Rattle.device_text.specs.Line.{IsText, LineTaken, lines_of}
-use Rattle.device_text.specs.declared.line.Took.TheVariants.{Processor, Long}
+use Rattle.device_text.specs.declared.line.Took.TheVariants.{Whole, Long}
 use Rattle.device_text.proofs.Moving.{Moves-weaker, Moves-trans}
 use Rattle.deck.specs.Deck.{Judged, Goes, Ends, Good, Bad, deck, read_all, read_from, read_on, judged_first, judged_line}
-use Rattle.deck.specs.Views.{sketch, plan}
+use Rattle.deck.specs.inner.Views.{sketch, plan}
 use Rattle.deck.specs.Reading.{Refuses, GivesErr, FollowsErr}
 use Rattle.deck.specs.declared.deck.Draft.{Draft}
 use Rattle.deck.specs.declared.deck.Deck.{Deck}
@@ -19,37 +19,52 @@ use Rattle.device_text.proofs.Lines.{FirstHas, lines_whole, lines_first_long}
 abbrev pub Taken : List ℕ → List ℕ → List ℕ → Type 0
 Taken text xs ys = lines_of xs ≡ (text, ys) ∷ lines_of ys
 
-pub taken_whole : (a b : Option (List ℕ)) (text : List ℕ) → IsText text → Moves a b (LineTaken Processor text) → Moves a b (Taken text)
-taken_whole a b text h m = Moves-weaker a b (LineTaken Processor text) (Taken text) (λ xs ys e. lines_whole text xs ys h e) m
+pub taken_whole : (a b : Option (List ℕ)) (text : List ℕ) → IsText text → Moves a b (LineTaken Whole text)
+    → Moves a b (Taken text)
+taken_whole a b text h m =
+    Moves-weaker a b (LineTaken Whole text) (Taken text) (λ xs ys e. lines_whole text xs ys h e) m
 
-refuses_long : (n : ℕ) (lines : List (List ℕ × List ℕ)) → FirstHas 201 lines → Refuses n (errors.Deck n faults.Long) lines
+refuses_long : (n : ℕ) (lines : List (List ℕ × List ℕ)) → FirstHas 201 lines
+    → Refuses n (errors.Deck n faults.Long) lines
 refuses_long n [] h = absurd h
 refuses_long n (line ∷ more) h = (refl, refl, omega arith)
 
-pub taken_long : (a b : Option (List ℕ)) (n : ℕ) (text : List ℕ) → IsText text → length text ≡ 201 → Moves a b (LineTaken Long text) → Moves a b (λ xs ys. Refuses n (errors.Deck n faults.Long) (lines_of xs))
-taken_long a b n text h e m = Moves-weaker a b (LineTaken Long text) (λ xs ys. Refuses n (errors.Deck n faults.Long) (lines_of xs)) (λ xs ys q. refuses_long n (lines_of xs) (lines_first_long text xs ys h e q)) m
+pub taken_long : (a b : Option (List ℕ)) (n : ℕ) (text : List ℕ) → IsText text → length text ≡ 201
+    → Moves a b (LineTaken Long text) → Moves a b (λ xs ys. Refuses n (errors.Deck n faults.Long) (lines_of xs))
+taken_long a b n text h e m =
+    Moves-weaker a b (LineTaken Long text) (λ xs ys. Refuses n (errors.Deck n faults.Long) (lines_of xs))
+    (λ xs ys q. refuses_long n (lines_of xs) (lines_first_long text xs ys h e q)) m
 
 -- ---- the first line
 
 refused_first : (e : DeckError) (lines : List (List ℕ × List ℕ)) → Refuses 1 e lines → GivesErr e (read_all lines)
 refused_first (errors.Deck m fault) [] h = cc
-refused_first (errors.Deck m fault) (line ∷ more) h = let long : ltb 200 (length line.0) ≡ true = lt-ltb _ _ h.2 in rw (long, h.0, h.1) refl
+refused_first (errors.Deck m fault) (line ∷ more) h =
+    let long : ltb 200 (length line.0) ≡ true = lt-ltb _ _ h.2 in rw (long, h.0, h.1) refl
 refused_first errors.OutOfMemory lines h = tt
 refused_first errors.Read lines h = tt
 
-err_on : (n : ℕ) (e : DeckError) (j : Judged) (rest : List ℕ) (next : _) → FollowsErr n e j → GivesErr e (read_on n j rest next)
+err_on : (n : ℕ) (e : DeckError) (j : Judged) (rest : List ℕ) (next : _) → FollowsErr n e j
+    → GivesErr e (read_on n j rest next)
 err_on n (errors.Deck m fault) j rest next h = rw (h.1, h.0) refl
 err_on n errors.OutOfMemory j rest next h = tt
 err_on n errors.Read j rest next h = tt
 
-pub first_err : (a b : Option (List ℕ)) (text : List ℕ) (e : DeckError) → Moves a b (Taken text) → FollowsErr 1 e (judged_first text) → Moves a b (λ xs ys. GivesErr e (deck xs))
-first_err a b text e m h = Moves-weaker a b (Taken text) (λ xs ys. GivesErr e (deck xs)) (λ xs ys t. subst (λ l. GivesErr e (read_all l)) (sym t) (err_on 1 e (judged_first text) ys (λ s. read_from 2 s (lines_of ys)) h)) m
+pub first_err : (a b : Option (List ℕ)) (text : List ℕ) (e : DeckError) → Moves a b (Taken text)
+    → FollowsErr 1 e (judged_first text) → Moves a b (λ xs ys. GivesErr e (deck xs))
+first_err a b text e m h = Moves-weaker a b (Taken text) (λ xs ys. GivesErr e (deck xs))
+    (λ xs ys t. subst (λ l. GivesErr e (read_all l)) (sym t)
+    (err_on 1 e (judged_first text) ys (λ s. read_from 2 s (lines_of ys)) h)) m
 
-pub first_goes : (a b : Option (List ℕ)) (text : List ℕ) (d : Draft) → Moves a b (Taken text) → judged_first text ≡ Goes (sketch d) → Moves a b (λ xs ys. deck xs ≡ read_from 2 (sketch d) (lines_of ys))
-first_goes a b text d m h = Moves-weaker a b (Taken text) (λ xs ys. deck xs ≡ read_from 2 (sketch d) (lines_of ys)) (λ xs ys t. ap read_all t ∙ ap (λ j. read_on 1 j ys (λ s. read_from 2 s (lines_of ys))) h) m
+pub first_goes : (a b : Option (List ℕ)) (text : List ℕ) (d : Draft) → Moves a b (Taken text)
+    → judged_first text ≡ Goes (sketch d) → Moves a b (λ xs ys. deck xs ≡ read_from 2 (sketch d) (lines_of ys))
+first_goes a b text d m h = Moves-weaker a b (Taken text) (λ xs ys. deck xs ≡ read_from 2 (sketch d) (lines_of ys))
+    (λ xs ys t. ap read_all t ∙ ap (λ j. read_on 1 j ys (λ s. read_from 2 s (lines_of ys))) h) m
 
-pub first_ends : (a b : Option (List ℕ)) (text : List ℕ) (d : Deck) → Moves a b (Taken text) → judged_first text ≡ Ends (plan d) → Moves a b (λ xs ys. deck xs ≡ Good (plan d) 1 ys)
-first_ends a b text d m h = Moves-weaker a b (Taken text) (λ xs ys. deck xs ≡ Good (plan d) 1 ys) (λ xs ys t. ap read_all t ∙ ap (λ j. read_on 1 j ys (λ s. read_from 2 s (lines_of ys))) h) m
+pub first_ends : (a b : Option (List ℕ)) (text : List ℕ) (d : Deck) → Moves a b (Taken text)
+    → judged_first text ≡ Ends (plan d) → Moves a b (λ xs ys. deck xs ≡ Good (plan d) 1 ys)
+first_ends a b text d m h = Moves-weaker a b (Taken text) (λ xs ys. deck xs ≡ Good (plan d) 1 ys)
+    (λ xs ys t. ap read_all t ∙ ap (λ j. read_on 1 j ys (λ s. read_from 2 s (lines_of ys))) h) m
 
 -- ---- a later line
 
@@ -57,8 +72,10 @@ first_ends a b text d m h = Moves-weaker a b (Taken text) (λ xs ys. deck xs ≡
 abbrev pub ReadsOn : ℕ → Draft → List ℕ → List ℕ → Type 0
 ReadsOn n d xs ys = deck xs ≡ read_from n (sketch d) (lines_of ys)
 
-refused_later : (n : ℕ) (d : Draft) (e : DeckError) (lines : List (List ℕ × List ℕ)) → n ≤ 10000000 → Refuses n e lines → GivesErr e (read_from n (sketch d) lines)
-refused_later n d (errors.Deck m fault) [] low h = let within : ltb 10000000 n ≡ false = le-ltb _ _ low in rw (within, h.0, h.1) refl
+refused_later : (n : ℕ) (d : Draft) (e : DeckError) (lines : List (List ℕ × List ℕ)) → n ≤ 10000000 → Refuses n e lines
+    → GivesErr e (read_from n (sketch d) lines)
+refused_later n d (errors.Deck m fault) [] low h =
+    let within : ltb 10000000 n ≡ false = le-ltb _ _ low in rw (within, h.0, h.1) refl
 refused_later n d (errors.Deck m fault) (line ∷ more) low h =
     let within : ltb 10000000 n ≡ false = le-ltb _ _ low in
     let long : ltb 200 (length line.0) ≡ true = lt-ltb _ _ h.2 in
@@ -66,36 +83,53 @@ refused_later n d (errors.Deck m fault) (line ∷ more) low h =
 refused_later n d errors.OutOfMemory lines low h = tt
 refused_later n d errors.Read lines low h = tt
 
-pub later_refused : (a b c : Option (List ℕ)) (n : ℕ) (d : Draft) (e : DeckError) → n ≤ 10000000 → Moves a b (ReadsOn n d) → Moves b c (λ xs ys. Refuses n e (lines_of xs)) → Moves a c (λ xs ys. GivesErr e (deck xs))
+pub later_refused : (a b c : Option (List ℕ)) (n : ℕ) (d : Draft) (e : DeckError) → n ≤ 10000000
+    → Moves a b (ReadsOn n d) → Moves b c (λ xs ys. Refuses n e (lines_of xs))
+    → Moves a c (λ xs ys. GivesErr e (deck xs))
 later_refused a b c n d e low told m =
     Moves-trans a b c (ReadsOn n d) (λ xs ys. Refuses n e (lines_of xs)) (λ xs ys. GivesErr e (deck xs))
     (λ xs ys zs p q. subst (GivesErr e) (sym p) (refused_later n d e (lines_of ys) low q)) told m
 
 -- one line on
-line_on : (n : ℕ) (d : Draft) (text xs ys zs : List ℕ) → n ≤ 10000000 → ReadsOn n d xs ys → Taken text ys zs → deck xs ≡ read_on n (judged_line (sketch d) text) zs (λ s. read_from (n + 1) s (lines_of zs))
+line_on : (n : ℕ) (d : Draft) (text xs ys zs : List ℕ) → n ≤ 10000000 → ReadsOn n d xs ys → Taken text ys zs
+    → deck xs ≡ read_on n (judged_line (sketch d) text) zs (λ s. read_from (n + 1) s (lines_of zs))
 line_on n d text xs ys zs low p q =
     let within : ltb 10000000 n ≡ false = le-ltb _ _ low in
-    p ∙ ap (read_from n (sketch d)) q ∙ ap (λ b. cond b (Bad n faults.Lines) (read_on n (judged_line (sketch d) text) zs (λ s. read_from (n + 1) s (lines_of zs)))) within
+    p ∙ ap (read_from n (sketch d)) q
+    ∙ ap (λ b. cond b (Bad n faults.Lines)
+    (read_on n (judged_line (sketch d) text) zs (λ s. read_from (n + 1) s (lines_of zs)))) within
 
-pub later_err : (a b c : Option (List ℕ)) (n : ℕ) (d : Draft) (text : List ℕ) (e : DeckError) → n ≤ 10000000 → Moves a b (ReadsOn n d) → Moves b c (Taken text) → FollowsErr n e (judged_line (sketch d) text) → Moves a c (λ xs ys. GivesErr e (deck xs))
+pub later_err : (a b c : Option (List ℕ)) (n : ℕ) (d : Draft) (text : List ℕ) (e : DeckError) → n ≤ 10000000
+    → Moves a b (ReadsOn n d) → Moves b c (Taken text) → FollowsErr n e (judged_line (sketch d) text)
+    → Moves a c (λ xs ys. GivesErr e (deck xs))
 later_err a b c n d text e low told m h =
     Moves-trans a b c (ReadsOn n d) (Taken text) (λ xs ys. GivesErr e (deck xs))
-    (λ xs ys zs p q. subst (GivesErr e) (sym (line_on n d text xs ys zs low p q)) (err_on n e (judged_line (sketch d) text) zs (λ s. read_from (n + 1) s (lines_of zs)) h)) told m
+    (λ xs ys zs p q. subst (GivesErr e) (sym (line_on n d text xs ys zs low p q))
+    (err_on n e (judged_line (sketch d) text) zs (λ s. read_from (n + 1) s (lines_of zs)) h)) told m
 
-pub later_goes : (a b c : Option (List ℕ)) (n : ℕ) (d : Draft) (text : List ℕ) (next : Draft) → n ≤ 10000000 → Moves a b (ReadsOn n d) → Moves b c (Taken text) → judged_line (sketch d) text ≡ Goes (sketch next) → Moves a c (ReadsOn (n + 1) next)
+pub later_goes : (a b c : Option (List ℕ)) (n : ℕ) (d : Draft) (text : List ℕ) (next : Draft) → n ≤ 10000000
+    → Moves a b (ReadsOn n d) → Moves b c (Taken text) → judged_line (sketch d) text ≡ Goes (sketch next)
+    → Moves a c (ReadsOn (n + 1) next)
 later_goes a b c n d text next low told m h =
     Moves-trans a b c (ReadsOn n d) (Taken text) (ReadsOn (n + 1) next)
-    (λ xs ys zs p q. line_on n d text xs ys zs low p q ∙ ap (λ j. read_on n j zs (λ s. read_from (n + 1) s (lines_of zs))) h) told m
+    (λ xs ys zs p q. line_on n d text xs ys zs low p q
+    ∙ ap (λ j. read_on n j zs (λ s. read_from (n + 1) s (lines_of zs))) h) told m
 
-pub later_ends : (a b c : Option (List ℕ)) (n : ℕ) (d : Draft) (text : List ℕ) (whole : Deck) → n ≤ 10000000 → Moves a b (ReadsOn n d) → Moves b c (Taken text) → judged_line (sketch d) text ≡ Ends (plan whole) → Moves a c (λ xs ys. deck xs ≡ Good (plan whole) n ys)
+pub later_ends : (a b c : Option (List ℕ)) (n : ℕ) (d : Draft) (text : List ℕ) (whole : Deck) → n ≤ 10000000
+    → Moves a b (ReadsOn n d) → Moves b c (Taken text) → judged_line (sketch d) text ≡ Ends (plan whole)
+    → Moves a c (λ xs ys. deck xs ≡ Good (plan whole) n ys)
 later_ends a b c n d text whole low told m h =
     Moves-trans a b c (ReadsOn n d) (Taken text) (λ xs ys. deck xs ≡ Good (plan whole) n ys)
-    (λ xs ys zs p q. line_on n d text xs ys zs low p q ∙ ap (λ j. read_on n j zs (λ s. read_from (n + 1) s (lines_of zs))) h) told m
+    (λ xs ys zs p q. line_on n d text xs ys zs low p q
+    ∙ ap (λ j. read_on n j zs (λ s. read_from (n + 1) s (lines_of zs))) h) told m
 
-all_read : (n : ℕ) (d : Draft) (lines : List (List ℕ × List ℕ)) → 10000000 < n → read_from n (sketch d) lines ≡ Bad n faults.Lines
+all_read : (n : ℕ) (d : Draft) (lines : List (List ℕ × List ℕ)) → 10000000 < n
+    → read_from n (sketch d) lines ≡ Bad n faults.Lines
 all_read n d [] h = let past : ltb 10000000 n ≡ true = lt-ltb _ _ h in rw past refl
 all_read n d (line ∷ more) h = let past : ltb 10000000 n ≡ true = lt-ltb _ _ h in rw past refl
 
-pub lines_over : (a b : Option (List ℕ)) (n : ℕ) (d : Draft) → n ≡ 10000001 → Moves a b (ReadsOn n d) → Moves a b (λ xs ys. deck xs ≡ Bad 10000001 faults.Lines)
+pub lines_over : (a b : Option (List ℕ)) (n : ℕ) (d : Draft) → n ≡ 10000001 → Moves a b (ReadsOn n d)
+    → Moves a b (λ xs ys. deck xs ≡ Bad 10000001 faults.Lines)
 lines_over a b n d e told =
-    Moves-weaker a b (ReadsOn n d) (λ xs ys. deck xs ≡ Bad 10000001 faults.Lines) (λ xs ys p. p ∙ all_read n d (lines_of ys) (omega arith) ∙ ap (λ m. Bad m faults.Lines) e) told
+    Moves-weaker a b (ReadsOn n d) (λ xs ys. deck xs ≡ Bad 10000001 faults.Lines)
+    (λ xs ys p. p ∙ all_read n d (lines_of ys) (omega arith) ∙ ap (λ m. Bad m faults.Lines) e) told

@@ -4,7 +4,8 @@ use Rattle.std.specs.List.{onto_first}
 use Rattle.device_text.specs.Text.{fields_of}
 use Rattle.deck.specs.Deck.{said_of, SaysNothing}
 
-too_many_onto : (w a b d : List ℕ) (x : ℕ) (parts : List (List ℕ)) → said_of (w ∷ a ∷ b ∷ d ∷ onto_first x parts) ≡ SaysNothing
+too_many_onto : (w a b d : List ℕ) (x : ℕ) (parts : List (List ℕ))
+    → said_of (w ∷ a ∷ b ∷ d ∷ onto_first x parts) ≡ SaysNothing
 too_many_onto w a b d x [] = refl
 too_many_onto w a b d x (part ∷ parts) = refl
 
@@ -12,4 +13,5 @@ too_many_onto w a b d x (part ∷ parts) = refl
 pub too_many : (w a b d rest : List ℕ) → said_of (w ∷ a ∷ b ∷ d ∷ fields_of rest) ≡ SaysNothing
 too_many w a b d [] = refl
 too_many w a b d (x ∷ xs) =
-    elim (eqb x 32) as (λ v. said_of (w ∷ a ∷ b ∷ d ∷ cond v ([] ∷ fields_of xs) (onto_first x (fields_of xs))) ≡ SaysNothing) [ true ↦ refl | false ↦ too_many_onto w a b d x (fields_of xs) ]
+    elim (eqb x 32) as (λ v. said_of (w ∷ a ∷ b ∷ d ∷ cond v ([] ∷ fields_of xs) (onto_first x (fields_of xs)))
+    ≡ SaysNothing) [ true ↦ refl | false ↦ too_many_onto w a b d x (fields_of xs) ]

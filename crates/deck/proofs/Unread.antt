@@ -6,7 +6,7 @@ use Rattle.deck.specs.Deck.{Reading, Bad, Judged, Goes, Ends, Faulty, Sketch, de
 use Rattle.device_text.specs.Device.{Moves}
 use Rattle.device_text.specs.Line.{IsText, ReadsPart, lines_of, onto}
 use Rattle.deck.specs.Reading.{EndsWithin, Refuses, is_cut, is_read}
-use Rattle.deck.specs.Views.{sketch}
+use Rattle.deck.specs.inner.Views.{sketch}
 use Rattle.deck.specs.declared.deck.Deck.{Deck}
 use Rattle.deck.specs.declared.deck.Draft.{Draft}
 use Rattle.deck.specs.declared.deck.DeckError.{DeckError}
@@ -32,26 +32,38 @@ after_lines : (ys : List ℕ) → Behind (length ys) (lines_of ys)
 after_lines [] = tt
 after_lines (b ∷ ys) =
     let more = after_more (length ys) (suc (length ys)) (lines_of ys) (omega arith) (after_lines ys) in
-    elim (eqb b 10) as (λ v. Behind (suc (length ys)) (cond v (([], ys) ∷ lines_of ys) (onto b (lines_of ys)))) [ true ↦ (omega arith, more) | false ↦ after_onto (suc (length ys)) b (lines_of ys) more ]
+    elim (eqb b 10) as (λ v. Behind (suc (length ys)) (cond v (([], ys) ∷ lines_of ys) (onto b (lines_of ys)))) [
+      | true ↦ (omega arith, more)
+      | false ↦ after_onto (suc (length ys)) b (lines_of ys) more
+    ]
 
 after_part : (part ys : List ℕ) → IsText part → Behind (length ys) (lines_of (part ++ ys))
 after_part [] ys h = after_lines ys
 after_part (b ∷ part) ys h =
-    rw (ne_eqb b 10 (All-head (λ b. b ≢ 10) b part h)) (after_onto (length ys) b (lines_of (part ++ ys)) (after_part part ys (All-tail (λ b. b ≢ 10) b part h)))
+    rw (ne_eqb b 10 (All-head (λ b. b ≢ 10) b part h))
+    (after_onto (length ys) b (lines_of (part ++ ys)) (after_part part ys (All-tail (λ b. b ≢ 10) b part h)))
 
-on_within : (k n : ℕ) (j : Judged) (rest : List ℕ) (next : Sketch → Reading) → length rest ≤ k → ((s : Sketch) → EndsWithin k (next s)) → EndsWithin k (read_on n j rest next)
+on_within : (k n : ℕ) (j : Judged) (rest : List ℕ) (next : Sketch → Reading) → length rest ≤ k
+    → ((s : Sketch) → EndsWithin k (next s)) → EndsWithin k (read_on n j rest next)
 on_within k n (Goes s) rest next l h = h s
 on_within k n (Ends plan) rest next l h = l
 on_within k n (Faulty fault) rest next l h = tt
 
-from_within : (k n : ℕ) (s : Sketch) (lines : List (List ℕ × List ℕ)) → Behind k lines → EndsWithin k (read_from n s lines)
+from_within : (k n : ℕ) (s : Sketch) (lines : List (List ℕ × List ℕ)) → Behind k lines
+    → EndsWithin k (read_from n s lines)
 from_within k n s [] h = tt
 from_within k n s (line ∷ lines) h =
-    elim (ltb 10000000 n) as (λ v. EndsWithin k (cond v (Bad n faults.Lines) (read_on n (judged_line s line.0) line.1 (λ t. read_from (n + 1) t lines)))) [ true ↦ tt | false ↦ on_within k n (judged_line s line.0) line.1 (λ t. read_from (n + 1) t lines) h.0 (λ t. from_within k (n + 1) t lines h.1) ]
+    elim (ltb 10000000 n) as (λ v. EndsWithin k
+    (cond v (Bad n faults.Lines) (read_on n (judged_line s line.0) line.1 (λ t. read_from (n + 1) t lines)))) [
+      | true ↦ tt
+      | false ↦ on_within k n (judged_line s line.0) line.1 (λ t. read_from (n + 1) t lines) h.0
+          (λ t. from_within k (n + 1) t lines h.1)
+    ]
 
 all_within : (k : ℕ) (lines : List (List ℕ × List ℕ)) → Behind k lines → EndsWithin k (read_all lines)
 all_within k [] h = tt
-all_within k (line ∷ lines) h = on_within k 1 (judged_first line.0) line.1 (λ s. read_from 2 s lines) h.0 (λ s. from_within k 2 s lines h.1)
+all_within k (line ∷ lines) h =
+    on_within k 1 (judged_first line.0) line.1 (λ s. read_from 2 s lines) h.0 (λ s. from_within k 2 s lines h.1)
 
 -- what is left is at most what is after the deck
 abbrev pub Unread : List ℕ → List ℕ → Type 0
@@ -60,24 +72,36 @@ Unread xs ys = EndsWithin (length ys) (deck xs)
 none_there : (a b : Option (List ℕ)) (P : List ℕ → List ℕ → Type 0) → Moves a b (λ xs ys. ⊥) → Moves a b P
 none_there a b P m = Moves-weaker a b (λ xs ys. ⊥) P (λ xs ys h. absurd h) m
 
-pub first_cut : (a b : Option (List ℕ)) (e : DeckError) → Moves a b (λ xs ys. Refuses 1 e (lines_of xs)) → (is_read {T = Unit {0}} (Err e) ≡ true → Moves a b ReadsPart) → is_cut {T = Deck × ℕ} (Err e) ≡ true → Moves a b Unread
+pub first_cut : (a b : Option (List ℕ)) (e : DeckError) → Moves a b (λ xs ys. Refuses 1 e (lines_of xs))
+    → (is_read {T = Unit {0}} (Err e) ≡ true → Moves a b ReadsPart) → is_cut {T = Deck × ℕ} (Err e) ≡ true
+    → Moves a b Unread
 first_cut a b (errors.Deck n fault) m part c = cc
 first_cut a b errors.OutOfMemory m part c = none_there a b Unread m
 first_cut a b errors.Read m part c =
-    Moves-weaker a b ReadsPart Unread (λ xs ys h. rw h.2 (all_within (length ys) (lines_of (h.0 ++ ys)) (after_part h.0 ys h.1))) (part refl)
+    Moves-weaker a b ReadsPart Unread
+    (λ xs ys h. rw h.2 (all_within (length ys) (lines_of (h.0 ++ ys)) (after_part h.0 ys h.1))) (part refl)
 
 pub first_taken : (a b : Option (List ℕ)) (text : List ℕ) → Moves a b (Taken text) → Moves a b Unread
 first_taken a b text m =
-    Moves-weaker a b (Taken text) Unread (λ xs ys h. subst (λ l. EndsWithin (length ys) (read_all l)) (sym h) (all_within (length ys) ((text, ys) ∷ lines_of ys) (omega arith, after_lines ys))) m
+    Moves-weaker a b (Taken text) Unread
+    (λ xs ys h. subst (λ l. EndsWithin (length ys) (read_all l)) (sym h)
+    (all_within (length ys) ((text, ys) ∷ lines_of ys) (omega arith, after_lines ys))) m
 
-pub later_cut : (a b c : Option (List ℕ)) (n : ℕ) (d : Draft) (e : DeckError) → Moves a b (ReadsOn n d) → Moves b c (λ xs ys. Refuses n e (lines_of xs)) → (is_read {T = Unit {0}} (Err e) ≡ true → Moves b c ReadsPart) → is_cut {T = Deck × ℕ} (Err e) ≡ true → Moves a c Unread
+pub later_cut : (a b c : Option (List ℕ)) (n : ℕ) (d : Draft) (e : DeckError) → Moves a b (ReadsOn n d)
+    → Moves b c (λ xs ys. Refuses n e (lines_of xs)) → (is_read {T = Unit {0}} (Err e) ≡ true → Moves b c ReadsPart)
+    → is_cut {T = Deck × ℕ} (Err e) ≡ true → Moves a c Unread
 later_cut a b c n d (errors.Deck m fault) told refused part h = cc
-later_cut a b c n d errors.OutOfMemory told refused part h = Moves-trans a b c (ReadsOn n d) (λ xs ys. ⊥) Unread (λ xs ys zs p q. absurd q) told refused
+later_cut a b c n d errors.OutOfMemory told refused part h =
+    Moves-trans a b c (ReadsOn n d) (λ xs ys. ⊥) Unread (λ xs ys zs p q. absurd q) told refused
 later_cut a b c n d errors.Read told refused part h =
     Moves-trans a b c (ReadsOn n d) ReadsPart Unread (λ xs ys zs p q.
-    subst (EndsWithin (length zs)) (sym p) (from_within (length zs) n (sketch d) (lines_of ys) (rw q.2 (after_part q.0 zs q.1)))) told (part refl)
+    subst (EndsWithin (length zs)) (sym p)
+    (from_within (length zs) n (sketch d) (lines_of ys) (rw q.2 (after_part q.0 zs q.1)))) told (part refl)
 
-pub later_taken : (a b c : Option (List ℕ)) (n : ℕ) (d : Draft) (text : List ℕ) → Moves a b (ReadsOn n d) → Moves b c (Taken text) → Moves a c Unread
+pub later_taken : (a b c : Option (List ℕ)) (n : ℕ) (d : Draft) (text : List ℕ) → Moves a b (ReadsOn n d)
+    → Moves b c (Taken text) → Moves a c Unread
 later_taken a b c n d text told taken =
     Moves-trans a b c (ReadsOn n d) (Taken text) Unread (λ xs ys zs p q.
-    subst (EndsWithin (length zs)) (sym p) (from_within (length zs) n (sketch d) (lines_of ys) (subst (Behind (length zs)) (sym q) (omega arith, after_lines zs)))) told taken
+    subst (EndsWithin (length zs)) (sym p)
+    (from_within (length zs) n (sketch d) (lines_of ys)
+    (subst (Behind (length zs)) (sym q) (omega arith, after_lines zs)))) told taken

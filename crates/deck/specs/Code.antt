@@ -52,4 +52,5 @@ parcel_or_pass parcels n = slice_index_or parcels n (slice_index (parcels_of Pas
 
 -- the word of at most four parcels, filled up with `NO`
 abbrev pub word_of : List ℕ → ℕ
-word_of parcels = joined (parcel_or_pass parcels 0 ∷ parcel_or_pass parcels 1 ∷ parcel_or_pass parcels 2 ∷ parcel_or_pass parcels 3 ∷ [])
+word_of parcels = joined (parcel_or_pass parcels 0 ∷ parcel_or_pass parcels 1 ∷ parcel_or_pass parcels 2
+    ∷ parcel_or_pass parcels 3 ∷ [])

@@ -57,7 +57,8 @@ said_code rest = if nat_lt 1 (length rest) then SaysCode rest else SaysNothing
 
 -- what a line says
 abbrev pub said_in : List ℕ → Said
-said_in text = if begins_with (codes "code") (fields_of text) then said_code (from_space text) else said_of (fields_of text)
+said_in text =
+    if begins_with (codes "code") (fields_of text) then said_code (from_space text) else said_of (fields_of text)
 
 -- a deck: the words of memory, the package of the first exchange, those of the later ones, each with how many
 -- instructions are issued before it is asked for, and what is shown
@@ -103,7 +104,9 @@ is_no_size n = nat_lt n 32 || nat_lt 131072 n
 -- what a `core` line does as the first line; its faults are `unknown` for a wrong number of fields, `number` and
 -- `size`
 abbrev pub judged_core : Said → Judged
-judged_core (SaysCore w) = with_number (number_of 10 6 w) (λ n. refuse_if (is_no_size n) faults.Size (Goes (record { image = blank n; place = 0; start = None; asks = []; shows = [] })))
+judged_core (SaysCore w) = with_number (number_of 10 6 w)
+    (λ n. refuse_if (is_no_size n) faults.Size
+    (Goes (record { image = blank n; place = 0; start = None; asks = []; shows = [] })))
 judged_core other = Faulty faults.Unknown
 
 -- what an `end` line does: the deck is whole, or the fault is `no start`
@@ -128,26 +131,35 @@ coded s (Some parcels) = refuse_if (nat_lt 4 (length parcels)) faults.Full (Goes
 -- what a later line does, or the first of its faults in this order: `unknown`, `number`, `size`, `repeated`, `many`,
 -- `range`, `package`, `instruction`, `full`, `no start`
 abbrev pub judged : Sketch → Said → Judged
-judged s (SaysCore w) = with_number (number_of 10 6 w) (λ n. refuse_if (is_no_size n) faults.Size (Faulty faults.Repeated))
-judged s (SaysAt a) = with_number (number_of 8 6 a) (λ n. refuse_if (nat_le (size s) n) faults.Range (Goes (record s { place = n })))
+judged s (SaysCore w) =
+    with_number (number_of 10 6 w) (λ n. refuse_if (is_no_size n) faults.Size (Faulty faults.Repeated))
+judged s (SaysAt a) =
+    with_number (number_of 8 6 a) (λ n. refuse_if (nat_le (size s) n) faults.Range (Goes (record s { place = n })))
 judged s (SaysWord v) =
     with_number (from_octal 20 v) (λ w. refuse_if (nat_le (size s) s.place) faults.Range (Goes (with_word s w)))
 judged s (SaysCode texts) = refuse_if (nat_le (size s) s.place) faults.Range (coded s (parcels_in (items_of texts)))
 judged s (SaysStart a) =
-    with_number (number_of 8 6 a) (λ n. refuse_if (is_some s.start) faults.Repeated (refuse_if (nat_lt (size s) (n + 16)) faults.Package (Goes (record s { start = Some n }))))
+    with_number (number_of 8 6 a)
+    (λ n. refuse_if (is_some s.start) faults.Repeated
+    (refuse_if (nat_lt (size s) (n + 16)) faults.Package (Goes (record s { start = Some n }))))
 judged s (SaysShow a b) =
     with_number (number_of 8 6 a) (λ low. with_number (number_of 8 6 b) (λ high.
-    refuse_if (nat_le 64 (length s.shows)) faults.Many (refuse_if (nat_le (size s) high || nat_lt high low) faults.Range (Goes (record s { shows = s.shows ++ (low, high) ∷ [] })))))
+    refuse_if (nat_le 64 (length s.shows)) faults.Many
+    (refuse_if (nat_le (size s) high || nat_lt high low) faults.Range
+    (Goes (record s { shows = s.shows ++ (low, high) ∷ [] })))))
 judged s (SaysAsk a k) =
     with_number (number_of 8 6 a) (λ n. with_number (number_of 10 8 k) (λ count.
-    refuse_if (nat_lt 10000000 count) faults.Number (refuse_if (nat_le 64 (length s.asks)) faults.Many (refuse_if (nat_lt (size s) (n + 16)) faults.Package (Goes (record s { asks = s.asks ++ (n, count) ∷ [] }))))))
+    refuse_if (nat_lt 10000000 count) faults.Number
+    (refuse_if (nat_le 64 (length s.asks)) faults.Many
+    (refuse_if (nat_lt (size s) (n + 16)) faults.Package (Goes (record s { asks = s.asks ++ (n, count) ∷ [] }))))))
 judged s SaysEnd = ended s s.start
 judged s SaysNothing = Faulty faults.Unknown
 
 -- the first line: how long it is (`long`), its first field (`first`), and then what it says
 abbrev pub judged_first : List ℕ → Judged
 judged_first text =
-    refuse_if (nat_lt 200 (length text)) faults.Long (refuse_if (not (begins_with (codes "core") (fields_of text))) faults.First (judged_core (said_in text)))
+    refuse_if (nat_lt 200 (length text)) faults.Long
+    (refuse_if (not (begins_with (codes "core") (fields_of text))) faults.First (judged_core (said_in text)))
 
 -- a later line: how long it is (`long`), and then what it says
 abbrev pub judged_line : Sketch → List ℕ → Judged
@@ -169,7 +181,8 @@ read_on n (Faulty fault) rest next = Bad n fault
 -- and where no line is left before that it is `no end`
 abbrev pub read_from : ℕ → Sketch → List (List ℕ × List ℕ) → Reading
 read_from n s [] = Bad n (if nat_lt 10000000 n then faults.Lines else faults.NoEnd)
-read_from n s (line ∷ lines) = if nat_lt 10000000 n then Bad n faults.Lines else read_on n (judged_line s line.0) line.1 (λ t. read_from (n + 1) t lines)
+read_from n s (line ∷ lines) = if nat_lt 10000000 n then Bad n faults.Lines
+    else read_on n (judged_line s line.0) line.1 (λ t. read_from (n + 1) t lines)
 
 -- reading a deck from its first line on; where there is no line the fault is `no end` in line 1
 abbrev pub read_all : List (List ℕ × List ℕ) → Reading

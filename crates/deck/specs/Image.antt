@@ -15,4 +15,5 @@ blank n = record { memory = replicate n 0; placed = replicate n false }
 
 -- the same with a word placed at an address
 abbrev pub placed_at : Placed → ℕ → ℕ → Placed
-placed_at image address word = record { memory = slice_set image.memory address word; placed = slice_set image.placed address true }
+placed_at image address word =
+    record { memory = slice_set image.memory address word; placed = slice_set image.placed address true }

@@ -47,7 +47,8 @@ fn put_item(parcels: &mut Parcels, item: &[u8]) -> bool
 /// them. None where one is no instruction's text.
 pub fn parcels_in(texts: &[u8]) -> Option<Parcels>
     requires { length texts.now ≤ 200 }
-    ensures parcels { MatchOption result (parcels_in (items_of texts.now) ≡ None) (λ found. parcels_in (items_of texts.now) ≡ Some found.items) }
+    ensures parcels { MatchOption result (parcels_in (items_of texts.now) ≡ None)
+        (λ found. parcels_in (items_of texts.now) ≡ Some found.items) }
     ensures bits { IfSome result (λ found. All (λ p. p < 2 ^ 15) found.items) }
 {
     let mut parcels = ArrayVec::new();

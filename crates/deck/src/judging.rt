@@ -1,7 +1,7 @@
 ghost use Rattle.std.specs.Prelude.{◌≡◌, ◌≤◌, ℕ, List, [], length, vec_len};
 ghost use Rattle.deck.specs.Deck.{judged, judged_core, judged_first, judged_line, SaysCore, SaysAt, SaysWord, SaysCode, SaysStart, SaysShow, SaysAsk, SaysEnd};
-ghost use Rattle.deck.specs.Said.{said};
-ghost use Rattle.deck.specs.Views.{sketch, Answers};
+ghost use Rattle.deck.specs.inner.Said.{said};
+ghost use Rattle.deck.specs.inner.Views.{sketch, Answers};
 
 use crate::Image;
 use crate::coding::{parcels_in, word_of};

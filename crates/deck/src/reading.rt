@@ -2,7 +2,7 @@ ghost use Rattle.std.specs.Prelude.{◌≡◌, ◌||◌, ◌≤◌, ◌∷◌, �
 ghost use Rattle.device_text.specs.Device.{Moves};
 ghost use Rattle.deck.specs.Deck.{deck, Judged};
 ghost use Rattle.device_text.specs.Line.{ReadsPart, lines_of};
-ghost use Rattle.deck.specs.Views.{Answers};
+ghost use Rattle.deck.specs.inner.Views.{Answers};
 ghost use Rattle.deck.specs.Reading.{EndsWithin, Gives, GivesDeck, GivesRefusal, Refuses, Follows, is_cut, is_read};
 
 use crate::deck::{Deck, DeckError, LineError, Step};
@@ -20,14 +20,16 @@ fn next_line<I: Input>(
     number: u32,
 ) -> Result<(), DeckError>
     ensures text { OnOk result (length line.new.items ≤ 200) }
-    ensures ok { OnOk result (Moves (I.remaining input.old) (I.remaining input.new) (λ xs ys. lines_of xs ≡ (line.new.items, ys) ∷ lines_of ys)) }
-    ensures err { IfErr result (λ e. Moves (I.remaining input.old) (I.remaining input.new) (λ xs ys. Refuses number e (lines_of xs))) }
+    ensures ok { OnOk result (Moves (I.remaining input.old) (I.remaining input.new)
+        (λ xs ys. lines_of xs ≡ (line.new.items, ys) ∷ lines_of ys)) }
+    ensures err { IfErr result (λ e. Moves (I.remaining input.old) (I.remaining input.new)
+        (λ xs ys. Refuses number e (lines_of xs))) }
     ensures part { is_read result ≡ true → Moves (I.remaining input.old) (I.remaining input.new) ReadsPart }
     ensures failure { I.has_failed input.new ≡ (I.has_failed input.old || is_read result) }
     ensures same { I.lender input.new ≡ I.lender input.old }
 {
     match read_line(input, line) {
-        Ok(Took::Processor) => Ok(()),
+        Ok(Took::Whole) => Ok(()),
         Ok(Took::Long) => Err(DeckError::Deck {
             line: number,
             fault: DeckFault::Long,
@@ -63,7 +65,8 @@ fn located(number: u32, step: Result<Step, LineError>) -> Result<Step, DeckError
 pub fn read_deck_from<I: Input>(alloc: Global, input: &mut I) -> Result<(Deck, u32), DeckError>
     ensures deck { Moves (I.remaining input.old) (I.remaining input.new) (λ xs ys. Gives result (deck xs) ys) }
     ensures number { IfOk result (λ found. found.1 ≤ 10000000) }
-    ensures unread { is_cut result ≡ true → Moves (I.remaining input.old) (I.remaining input.new) (λ xs ys. EndsWithin (length ys) (deck xs)) }
+    ensures unread { is_cut result ≡ true
+        → Moves (I.remaining input.old) (I.remaining input.new) (λ xs ys. EndsWithin (length ys) (deck xs)) }
     ensures failure { I.has_failed input.new ≡ (I.has_failed input.old || is_read result) }
     ensures same { I.lender input.new ≡ I.lender input.old }
 {

@@ -14,13 +14,15 @@ pub Moves-refl : (a : Option (List ℕ)) (P : List ℕ → List ℕ → Type 0) 
 Moves-refl None P h = tt
 Moves-refl (Some xs) P h = h xs
 
-pub Moves-trans : (a b c : Option (List ℕ)) (P Q R : List ℕ → List ℕ → Type 0) → ((xs ys zs : List ℕ) → P xs ys → Q ys zs → R xs zs) → Moves a b P → Moves b c Q → Moves a c R
+pub Moves-trans : (a b c : Option (List ℕ)) (P Q R : List ℕ → List ℕ → Type 0)
+    → ((xs ys zs : List ℕ) → P xs ys → Q ys zs → R xs zs) → Moves a b P → Moves b c Q → Moves a c R
 Moves-trans None b c P Q R h p q = tt
 Moves-trans (Some xs) None c P Q R h p q = absurd p
 Moves-trans (Some xs) (Some ys) None P Q R h p q = absurd q
 Moves-trans (Some xs) (Some ys) (Some zs) P Q R h p q = h xs ys zs p q
 
-pub Moves-weaker : (a b : Option (List ℕ)) (P Q : List ℕ → List ℕ → Type 0) → ((xs ys : List ℕ) → P xs ys → Q xs ys) → Moves a b P → Moves a b Q
+pub Moves-weaker : (a b : Option (List ℕ)) (P Q : List ℕ → List ℕ → Type 0) → ((xs ys : List ℕ) → P xs ys → Q xs ys)
+    → Moves a b P → Moves a b Q
 Moves-weaker None b P Q h p = tt
 Moves-weaker (Some xs) None P Q h p = absurd p
 Moves-weaker (Some xs) (Some ys) P Q h p = h xs ys p
@@ -30,9 +32,11 @@ pub one_more : (text : List ℕ) (b : ℕ) (xs ys zs : List ℕ) → xs ≡ text
 one_more text b xs ys zs p q = p ∙ ap (λ l. text ++ l) q ∙ sym (append_assoc text (b ∷ []) zs)
 
 -- the writer took the first w bytes, and then n of the rest
-pub written : (a b c : Option (List ℕ)) (bytes : List ℕ) (w n : ℕ) → Appends a b (take w bytes) → Appends b c (take n (take (length bytes - w) (drop w bytes))) → Appends a c (take (w + n) bytes)
+pub written : (a b c : Option (List ℕ)) (bytes : List ℕ) (w n : ℕ) → Appends a b (take w bytes)
+    → Appends b c (take n (take (length bytes - w) (drop w bytes))) → Appends a c (take (w + n) bytes)
 written a b c bytes w n p q =
-    subst (Appends a c) (sym (take-add w n bytes)) (Appends-trans a b c _ _ p (subst (λ l. Appends b c (take n l)) (take_rest bytes w) q))
+    subst (Appends a c) (sym (take-add w n bytes))
+    (Appends-trans a b c _ _ p (subst (λ l. Appends b c (take n l)) (take_rest bytes w) q))
 
 -- ---- texts in pieces
 
@@ -40,13 +44,23 @@ pub nothing_written : (a : Option (List ℕ)) (all : List ℕ) → WritesAllBut 
 nothing_written a all = ([], refl, Appends-nil a)
 
 -- one more piece
-pub piece_written : (a b c : Option (List ℕ)) (piece rest all : List ℕ) → WritesAllBut (piece ++ rest) a b all → Appends b c piece → WritesAllBut rest a c all
-piece_written a b c piece rest all h p = (h.0 ++ piece, h.1 ∙ sym (append_assoc h.0 piece rest), Appends-trans a b c h.0 piece h.2 p)
+pub piece_written : (a b c : Option (List ℕ)) (piece rest all : List ℕ) → WritesAllBut (piece ++ rest) a b all
+    → Appends b c piece → WritesAllBut rest a c all
+piece_written a b c piece rest all h p =
+    (h.0 ++ piece, h.1 ∙ sym (append_assoc h.0 piece rest), Appends-trans a b c h.0 piece h.2 p)
 
 -- an error in a piece
-pub piece_cut : (a b c : Option (List ℕ)) (piece rest all : List ℕ) → WritesAllBut (piece ++ rest) a b all → WritesFront b c piece → WritesFront a c all
-piece_cut a b c piece rest all h p =
-    (p.0 ++ rest, (h.0 ++ p.1.0, h.1 ∙ ap (λ l. h.0 ++ l) (ap (λ l. l ++ rest) p.1.1 ∙ append_assoc p.1.0 p.0 rest) ∙ sym (append_assoc h.0 p.1.0 (p.0 ++ rest)), Appends-trans a b c h.0 p.1.0 h.2 p.1.2))
+pub piece_cut : (a b c : Option (List ℕ)) (piece rest all : List ℕ) → WritesAllBut (piece ++ rest) a b all
+    → WritesFront b c piece → WritesFront a c all
+piece_cut a b c piece rest all h p = (
+  p.0 ++ rest,
+  (
+    h.0 ++ p.1.0,
+    h.1 ∙ ap (λ l. h.0 ++ l) (ap (λ l. l ++ rest) p.1.1 ∙ append_assoc p.1.0 p.0 rest)
+        ∙ sym (append_assoc h.0 p.1.0 (p.0 ++ rest)),
+    Appends-trans a b c h.0 p.1.0 h.2 p.1.2,
+  ),
+)
 
 -- all was written
 pub all_written : (a b : Option (List ℕ)) (all : List ℕ) → WritesAllBut [] a b all → Appends a b all
@@ -54,14 +68,24 @@ all_written a b all h = subst (Appends a b) (sym (h.1 ∙ append-nil h.0)) h.2
 
 -- ---- a text for each item of a list
 
-each_left : {X : Type 0} (f : X → List ℕ) (xs : List X) (i : ℕ) (d : X) → i < length xs → flat_map f (drop i xs) ≡ f (get_or xs i d) ++ flat_map f (drop (i + 1) xs)
-each_left f xs i d h = ap (flat_map f) (drop-cons xs i d h) ∙ flat_map-cons f (get_or xs i d) (drop (suc i) xs) ∙ ap (λ j. f (get_or xs i d) ++ flat_map f (drop j xs)) (sym (add-one i))
+each_left : {X : Type 0} (f : X → List ℕ) (xs : List X) (i : ℕ) (d : X) → i < length xs
+    → flat_map f (drop i xs) ≡ f (get_or xs i d) ++ flat_map f (drop (i + 1) xs)
+each_left f xs i d h = ap (flat_map f) (drop-cons xs i d h) ∙ flat_map-cons f (get_or xs i d) (drop (suc i) xs)
+    ∙ ap (λ j. f (get_or xs i d) ++ flat_map f (drop j xs)) (sym (add-one i))
 
-pub each_written : {X : Type 0} (f : X → List ℕ) (xs : List X) (i : ℕ) (d : X) (a b c : Option (List ℕ)) (all : List ℕ) → i < length xs → WritesAllBut (flat_map f (drop i xs)) a b all → Appends b c (f (get_or xs i d)) → WritesAllBut (flat_map f (drop (i + 1) xs)) a c all
-each_written f xs i d a b c all h w p = piece_written a b c (f (get_or xs i d)) (flat_map f (drop (i + 1) xs)) all (subst (λ l. WritesAllBut l a b all) (each_left f xs i d h) w) p
+pub each_written : {X : Type 0} (f : X → List ℕ) (xs : List X) (i : ℕ) (d : X) (a b c : Option (List ℕ)) (all : List ℕ)
+    → i < length xs → WritesAllBut (flat_map f (drop i xs)) a b all → Appends b c (f (get_or xs i d))
+    → WritesAllBut (flat_map f (drop (i + 1) xs)) a c all
+each_written f xs i d a b c all h w p =
+    piece_written a b c (f (get_or xs i d)) (flat_map f (drop (i + 1) xs)) all
+    (subst (λ l. WritesAllBut l a b all) (each_left f xs i d h) w) p
 
-pub each_cut : {X : Type 0} (f : X → List ℕ) (xs : List X) (i : ℕ) (d : X) (a b c : Option (List ℕ)) (all : List ℕ) → i < length xs → WritesAllBut (flat_map f (drop i xs)) a b all → WritesFront b c (f (get_or xs i d)) → WritesFront a c all
-each_cut f xs i d a b c all h w p = piece_cut a b c (f (get_or xs i d)) (flat_map f (drop (i + 1) xs)) all (subst (λ l. WritesAllBut l a b all) (each_left f xs i d h) w) p
+pub each_cut : {X : Type 0} (f : X → List ℕ) (xs : List X) (i : ℕ) (d : X) (a b c : Option (List ℕ)) (all : List ℕ)
+    → i < length xs → WritesAllBut (flat_map f (drop i xs)) a b all → WritesFront b c (f (get_or xs i d))
+    → WritesFront a c all
+each_cut f xs i d a b c all h w p =
+    piece_cut a b c (f (get_or xs i d)) (flat_map f (drop (i + 1) xs)) all
+    (subst (λ l. WritesAllBut l a b all) (each_left f xs i d h) w) p
 
 -- ---- texts one after another, as calls with `?` write them
 
@@ -70,18 +94,23 @@ pub cut_in : (a b : Option (List ℕ)) (t rest : List ℕ) → WritesFront a b t
 cut_in a b t rest w = (w.0 ++ rest, (w.1.0, ap (λ l. l ++ rest) w.1.1 ∙ append_assoc w.1.0 w.0 rest, w.1.2))
 
 -- an error after the first text
-pub cut_after : (a b c : Option (List ℕ)) (t rest : List ℕ) → Appends a b t → WritesFront b c rest → WritesFront a c (t ++ rest)
-cut_after a b c t rest p w = (w.0, (t ++ w.1.0, ap (λ l. t ++ l) w.1.1 ∙ sym (append_assoc t w.1.0 w.0), Appends-trans a b c t w.1.0 p w.1.2))
+pub cut_after : (a b c : Option (List ℕ)) (t rest : List ℕ) → Appends a b t → WritesFront b c rest
+    → WritesFront a c (t ++ rest)
+cut_after a b c t rest p w =
+    (w.0, (t ++ w.1.0, ap (λ l. t ++ l) w.1.1 ∙ sym (append_assoc t w.1.0 w.0), Appends-trans a b c t w.1.0 p w.1.2))
 
-pub writes_after : {E : Type 0} (r : Result (Unit {0}) E) (a b c : Option (List ℕ)) (t rest : List ℕ) → Appends a b t → Writes r b c rest → Writes r a c (t ++ rest)
+pub writes_after : {E : Type 0} (r : Result (Unit {0}) E) (a b c : Option (List ℕ)) (t rest : List ℕ) → Appends a b t
+    → Writes r b c rest → Writes r a c (t ++ rest)
 writes_after (Ok x) a b c t rest p w = Appends-trans a b c t rest p w
 writes_after (Err e) a b c t rest p w = cut_after a b c t rest p w
 
 -- the last text, as `concat` has it
-pub writes_last : {E : Type 0} (r : Result (Unit {0}) E) (a b : Option (List ℕ)) (t : List ℕ) → Writes r a b t → Writes r a b (t ++ [])
+pub writes_last : {E : Type 0} (r : Result (Unit {0}) E) (a b : Option (List ℕ)) (t : List ℕ) → Writes r a b t
+    → Writes r a b (t ++ [])
 writes_last r a b t w = subst (Writes r a b) (sym (append-nil t)) w
 
 -- a flush after all was written
-pub flushed : {E : Type 0} (r : Result (Unit {0}) E) (a b c : Option (List ℕ)) (all : List ℕ) → Appends a b all → Keeps b c → Writes r a c all
+pub flushed : {E : Type 0} (r : Result (Unit {0}) E) (a b c : Option (List ℕ)) (all : List ℕ) → Appends a b all
+    → Keeps b c → Writes r a c all
 flushed (Ok x) a b c all p k = Appends-kept a b c all p k
 flushed (Err e) a b c all p k = ([], (all, sym (append-nil all), Appends-kept a b c all p k))

@@ -2,7 +2,7 @@
 -- Source: ours.
 use Rattle.std.specs.Prelude.{◌≡◌, ◌≢◌, ℕ, ◌≤◌, ◌<◌, List, [], ◌∷◌, ◌++◌, length, All, ◌⊎◌, ◌==◌, if◌then◌else◌}
 use Rattle.device_text.specs.declared.line.Took.{Took}
-use Rattle.device_text.specs.declared.line.Took.TheVariants.{Processor, Long, Nothing}
+use Rattle.device_text.specs.declared.line.Took.TheVariants.{Whole, Long, Nothing}
 
 -- a byte goes onto the first line
 abbrev pub onto : ℕ → List (List ℕ × List ℕ) → List (List ℕ × List ℕ)
@@ -25,12 +25,12 @@ ReadsPart xs ys = (part : List ℕ) × IsText part × (xs ≡ part ++ ys)
 
 -- the text that a reading of a line leaves
 abbrev pub LineText : Took → List ℕ → Type 0
-LineText Processor text = IsText text × (length text ≤ 200)
+LineText Whole text = IsText text × (length text ≤ 200)
 LineText Long text = IsText text × (length text ≡ 201)
 LineText Nothing text = text ≡ []
 
 -- what a reading of a line took from xs, and left as ys
 abbrev pub LineTaken : Took → List ℕ → List ℕ → List ℕ → Type 0
-LineTaken Processor text xs ys = (xs ≡ text ++ 10 ∷ ys) ⊎ ((0 < length text) × (xs ≡ text) × (ys ≡ []))
+LineTaken Whole text xs ys = (xs ≡ text ++ 10 ∷ ys) ⊎ ((0 < length text) × (xs ≡ text) × (ys ≡ []))
 LineTaken Long text xs ys = xs ≡ text ++ ys
 LineTaken Nothing text xs ys = (xs ≡ []) × (ys ≡ [])

@@ -17,7 +17,8 @@ from_space text = drop (position_or_len (λ b. b == 32) text) text
 -- the number that the digits are, where there are 1 to `most` and all are of the base
 abbrev pub number_of : ℕ → ℕ → List ℕ → Option ℕ
 number_of base most text =
-    if nat_lt 0 (length text) && nat_le (length text) most && list_all (λ c. is_digit c base) text then Some (digits_value base text) else None
+    if nat_lt 0 (length text) && nat_le (length text) most && list_all (λ c. is_digit c base) text
+    then Some (digits_value base text) else None
 
 -- the parts in what comes after a separator, if one came
 abbrev pub other_parts : ℕ → Option (Bor (List ℕ)) → List (List ℕ)

@@ -9,7 +9,7 @@ use arrayvec::ArrayVec;
 #[derive(Clone, Copy, Debug, PartialEq, Eq)]
 pub enum Took {
     /// A whole line of at most 200 bytes.
-    Processor,
+    Whole,
     /// 201 bytes of a longer line, and no more of it.
     Long,
     /// Nothing: the input has ended.
@@ -22,8 +22,10 @@ pub enum Took {
 /// Where a read fails; the line then has the bytes that were read before.
 pub fn read_line<I: Input>(input: &mut I, line: &mut ArrayVec<u8, 201>) -> Result<Took, ReadFailed>
     ensures text { IfOk result (λ took. LineText took line.new.items) }
-    ensures ok { IfOk result (λ took. Moves (I.remaining input.old) (I.remaining input.new) (LineTaken took line.new.items)) }
-    ensures err { OnErr result (Moves (I.remaining input.old) (I.remaining input.new) (λ xs ys. xs ≡ line.new.items ++ ys)) }
+    ensures ok { IfOk result (λ took. Moves (I.remaining input.old) (I.remaining input.new)
+        (LineTaken took line.new.items)) }
+    ensures err { OnErr result (Moves (I.remaining input.old) (I.remaining input.new)
+        (λ xs ys. xs ≡ line.new.items ++ ys)) }
     ensures part { OnErr result (IsText line.new.items) }
     ensures failure { I.has_failed input.new ≡ failed_after (I.has_failed input.old) result }
     ensures same { I.lender input.new ≡ I.lender input.old }
@@ -35,10 +37,10 @@ pub fn read_line<I: Input>(input: &mut I, line: &mut ArrayVec<u8, 201>) -> Resul
                 return Ok(if line.is_empty() {
                     Took::Nothing
                 } else {
-                    Took::Processor
+                    Took::Whole
                 });
             }
-            Some(b'\n') => return Ok(Took::Processor),
+            Some(b'\n') => return Ok(Took::Whole),
             Some(byte) => line.push(byte),
         }
     }

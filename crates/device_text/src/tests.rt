@@ -82,9 +82,9 @@ fn lines(rt: HostRuntime) -> Result<(), Fail> {
     let mut buffer = WatchedBuffer::new(&mut buffered);
     let mut line = ArrayVec::new();
     for (took, text) in [
-        (Took::Processor, "one"),
-        (Took::Processor, ""),
-        (Took::Processor, "last"),
+        (Took::Whole, "one"),
+        (Took::Whole, ""),
+        (Took::Whole, "last"),
         (Took::Nothing, ""),
     ] {
         assert!(rt; read_line(&mut watched, &mut line) == Ok(took));
@@ -98,7 +98,7 @@ fn lines(rt: HostRuntime) -> Result<(), Fail> {
 /// A line of 200 bytes is whole, and of a longer one 201 bytes are taken.
 #[test]
 fn long_lines(rt: HostRuntime) -> Result<(), Fail> {
-    for (length, took) in [(200u32, Took::Processor), (201, Took::Long)] {
+    for (length, took) in [(200u32, Took::Whole), (201, Took::Long)] {
         let mut text = Vec::new(rt.alloc());
         for _ in 0..length {
             text.push(b'7')?;

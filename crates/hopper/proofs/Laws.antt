@@ -17,7 +17,7 @@ use Rattle.hopper.specs.declared.reference.Reference.{Reference}
 use Rattle.hopper.specs.declared.waiting.Waiting.{Waiting}
 use Rattle.hopper.specs.Hopper.{bank_of, free_place}
 use Rattle.hopper.specs.Queue.{stands_at, reference_at, is_taken, place_for, waits_for_bank, accept_answer, accepted, stores_here}
-use Rattle.hopper.specs.View.{entered_in, place_of, before, queue_of, IsRight, holds, is_older, holds_older, holds_store, lower, lowered, acceptance}
+use Rattle.hopper.specs.inner.View.{entered_in, place_of, before, queue_of, IsRight, holds, is_older, holds_older, holds_store, lower, lowered, acceptance}
 use Rattle.hopper.proofs.Standing.{elsewhere, stands_here, first_same, first_free}
 use Rattle.hopper.proofs.Lowering.{sort_lowered, entered_lowered, apart_lowered, counted_lowered, somes_lowered, placed_lowered}
 

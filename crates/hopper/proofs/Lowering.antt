@@ -5,7 +5,7 @@ use Rattle.instructions.specs.Each.{Each, Pairs}
 use Rattle.instructions.specs.Order.{insert_by, sort_by, somes, IsSeated}
 use Rattle.instructions.proofs.Sorted.{sort_each}
 use Rattle.hopper.specs.declared.waiting.Waiting.{Waiting}
-use Rattle.hopper.specs.View.{entered_in, before, low, lower, lowered, place_of}
+use Rattle.hopper.specs.inner.View.{entered_in, before, low, lower, lowered, place_of}
 
 -- ---- numbers ----
 

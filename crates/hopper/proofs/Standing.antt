@@ -6,7 +6,7 @@ use Rattle.instructions.specs.Order.{somes}
 use Rattle.hopper.specs.declared.waiting.Waiting.{Waiting}
 use Rattle.hopper.specs.Hopper.{first_place}
 use Rattle.hopper.specs.Queue.{reference_at}
-use Rattle.hopper.specs.View.{entered_in, place_of, one_if_taken}
+use Rattle.hopper.specs.inner.View.{entered_in, place_of, one_if_taken}
 
 -- ---- the one that is sought ----
 

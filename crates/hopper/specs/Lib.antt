@@ -2,4 +2,4 @@
 -- 60100000, central memory.
 pub mod Hopper
 pub mod Queue
-pub mod View
+pub mod inner

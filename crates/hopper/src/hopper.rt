@@ -24,7 +24,7 @@ impl Model for Hopper {
 
     ghost Value = { Queue };
 
-    ghost use Rattle.hopper.specs.View.{queue_of, IsRight};
+    ghost use Rattle.hopper.specs.inner.View.{queue_of, IsRight};
 
     ghost view = { λ h. queue_of h.places h.busy };
 

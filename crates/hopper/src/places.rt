@@ -2,7 +2,7 @@ ghost use Rattle.std.specs.Prelude.{◌≡◌, ◌≤◌, None, false, length, m
 ghost use Rattle.std.specs.List.{list_any};
 ghost use Rattle.instructions.specs.Order.{somes};
 ghost use Rattle.hopper.specs.Hopper.{free_place};
-ghost use Rattle.hopper.specs.View.{holds_older, holds_store, lowered, acceptance, holds, one_if_taken};
+ghost use Rattle.hopper.specs.inner.View.{holds_older, holds_store, lowered, acceptance, holds, one_if_taken};
 
 use crate::bank_of;
 use crate::waiting::{Waiting, holds_older, holds_store, lowered};
@@ -62,7 +62,7 @@ pub fn any_store(places: &[Option<Waiting>], address: u32) -> bool
 }
 
 /// What stands in the place, if its bank takes it.
-#[tactic(auto, unfolding(crate::specs::View::acceptance))]
+#[tactic(auto, unfolding(crate::specs::inner::View::acceptance))]
 pub fn acceptance(places: &[Option<Waiting>], busy: &[bool], place: u8) -> Result<Waiting, Refusal>
     ensures { result ≡ acceptance places.now busy.now (slice_index_or places.now place None) }
 {
@@ -94,7 +94,7 @@ pub fn all_lowered(places: &[Option<Waiting>], number: u8) -> [Option<Waiting>; 
 }
 
 /// 1 where something stands.
-#[tactic(auto, unfolding(crate::specs::View::one_if_taken))]
+#[tactic(auto, unfolding(crate::specs::inner::View::one_if_taken))]
 fn one_if_taken(place: &Option<Waiting>) -> u8
     ensures value { result ≡ one_if_taken place.now }
     ensures range { result ≤ 1 }

@@ -1,5 +1,5 @@
 ghost use Rattle.std.specs.Prelude.{◌≡◌};
-ghost use Rattle.hopper.specs.View.{low, lowered, holds_older, holds_store};
+ghost use Rattle.hopper.specs.inner.View.{low, lowered, holds_older, holds_store};
 
 use crate::Entered;
 
@@ -12,7 +12,7 @@ pub struct Waiting {
 }
 
 /// Whether what stands in the place entered before the one of the number, and waits for the bank.
-#[tactic(auto, unfolding(crate::specs::View::holds_older, crate::specs::Queue::waits_for_bank))]
+#[tactic(auto, unfolding(crate::specs::inner::View::holds_older, crate::specs::Queue::waits_for_bank))]
 pub fn holds_older(place: &Option<Waiting>, number: u8, bank: u8) -> bool
     ensures { result ≡ holds_older number bank place.now }
 {
@@ -23,7 +23,7 @@ pub fn holds_older(place: &Option<Waiting>, number: u8, bank: u8) -> bool
 }
 
 /// Whether what stands in the place stores to an absolute address.
-#[tactic(auto, unfolding(crate::specs::View::holds_store, crate::specs::Queue::stores_here))]
+#[tactic(auto, unfolding(crate::specs::inner::View::holds_store, crate::specs::Queue::stores_here))]
 pub fn holds_store(place: &Option<Waiting>, address: u32) -> bool
     ensures { result ≡ holds_store address place.now }
 {
@@ -34,7 +34,7 @@ pub fn holds_store(place: &Option<Waiting>, address: u32) -> bool
 }
 
 /// How many entered before one, once the one of the number has left.
-#[tactic(auto, unfolding(crate::specs::View::low))]
+#[tactic(auto, unfolding(crate::specs::inner::View::low))]
 fn low(before: u8, number: u8) -> u8
     ensures { result ≡ low number before }
 {
@@ -42,7 +42,7 @@ fn low(before: u8, number: u8) -> u8
 }
 
 /// What stands in the place, once the one of the number has left.
-#[tactic(auto, unfolding(crate::specs::View::lowered))]
+#[tactic(auto, unfolding(crate::specs::inner::View::lowered))]
 pub fn lowered(place: &Option<Waiting>, number: u8) -> Option<Waiting>
     ensures { result ≡ lowered number place.now }
 {

@@ -13,7 +13,7 @@ use Rattle.relocation.specs.declared.area.Access.TheVariants.{Store}
 use Rattle.scoreboard.specs.Issued.{channel_of}
 use Rattle.in_flight.specs.declared.flight.Rest.{Rest}
 use Rattle.in_flight.specs.declared.flight.Rest.TheVariants.{Enters}
-use Rattle.in_flight.specs.Board.{left_to_return}
+use Rattle.in_flight.specs.inner.Board.{left_to_return}
 use Rattle.in_flight.specs.Pending.{returning}
 use Rattle.in_flight.specs.declared.pending.Pending.{Pending}
 use Rattle.in_flight.specs.declared.pending.Stage.{Stage}
@@ -26,23 +26,36 @@ boot = record { pending = []; busy = replicate 32 false; last = 0 }
 reserved : (f g : Flight) (i : Instr) (at : ℕ) → f ≡ boot → g ≡ reserved_in f i at → g ≡ reserved_in boot i at
 reserved f g i at p q = q ∙ ap (λ (x : Flight). reserved_in x i at) p
 
-pub alone_room : (f g : Flight) (i : Instr) (at : ℕ) → f ≡ boot → g ≡ reserved_in f i at → is_none (place_for g.pending) ≡ false
+pub alone_room : (f g : Flight) (i : Instr) (at : ℕ) → f ≡ boot → g ≡ reserved_in f i at
+    → is_none (place_for g.pending) ≡ false
 unfolding place_for free_place first_place in_place entry_at entry_in
-alone_room f g i at p q = subst (λ (x : Flight). is_none (place_for x.pending) ≡ false) (sym (reserved f g i at p q)) refl
+alone_room f g i at p q =
+    subst (λ (x : Flight). is_none (place_for x.pending) ≡ false) (sym (reserved f g i at p q)) refl
 
-one_rest : (o : Option Stage) (m : Pending) (rest : Option Rest) → IsRestOf (shape_of m.instr) rest → IfSome (sought (found_here o m [] None)) (λ s. IsRestOf (shape_of s.member.instr) rest)
+one_rest : (o : Option Stage) (m : Pending) (rest : Option Rest) → IsRestOf (shape_of m.instr) rest
+    → IfSome (sought (found_here o m [] None)) (λ s. IsRestOf (shape_of s.member.instr) rest)
 unfolding sought found_here found_further
 one_rest None m rest h = tt
 one_rest (Some t) m rest h = h
 
-pub alone_rest : (f g : Flight) (i : Instr) (at : ℕ) (u : FunctionalUnit) (rest : Option Rest) → f ≡ boot → g ≡ reserved_in f i at → IsRestOf (shape_of i) rest → IfSome (sought (seek (stage_at u) g.pending)) (λ s. IsRestOf (shape_of s.member.instr) rest)
+pub alone_rest : (f g : Flight) (i : Instr) (at : ℕ) (u : FunctionalUnit) (rest : Option Rest) → f ≡ boot
+    → g ≡ reserved_in f i at → IsRestOf (shape_of i) rest
+    → IfSome (sought (seek (stage_at u) g.pending)) (λ s. IsRestOf (shape_of s.member.instr) rest)
 unfolding seek
-alone_rest f g i at u rest p q h = subst (λ (x : Flight). IfSome (sought (seek (stage_at u) x.pending)) (λ s. IsRestOf (shape_of s.member.instr) rest)) (sym (reserved f g i at p q)) (one_rest (stage_at u (record { instr = i; at = at; number = 1; unit = _; phase = _ })) _ rest h)
+alone_rest f g i at u rest p q h =
+    subst (λ (x : Flight). IfSome (sought (seek (stage_at u) x.pending))
+    (λ s. IsRestOf (shape_of s.member.instr) rest)) (sym (reserved f g i at p q)) (one_rest
+    (stage_at u (record { instr = i; at = at; number = 1; unit = _; phase = _ })) _ rest h)
 
 pub sum_rest : (n : ℕ) (addends : Addends) → IsRestOf (shape_of (Increment TargetX n addends)) None
 unfolding shape_of has_reference channel_of left_to_return outstanding_of enters
 sum_rest n addends = record { returns = refl; refers = λ e. e }
 
-pub store_rest : (n : ℕ) (addends : Addends) (address word : ℕ) → n ≡ 6 → IsRestOf (shape_of (Increment TargetA n addends)) (Some (Enters (record { address = address; access = Store word })))
+pub store_rest : (n : ℕ) (addends : Addends) (address word : ℕ) → n ≡ 6
+    → IsRestOf (shape_of (Increment TargetA n addends))
+    (Some (Enters (record { address = address; access = Store word })))
 unfolding shape_of has_reference channel_of left_to_return outstanding_of returning enters
-store_rest n addends address word h = subst (λ x. IsRestOf (shape_of (Increment TargetA x addends)) (Some (Enters (record { address = address; access = Store word })))) (sym h) (record { returns = refl; refers = λ e. e })
+store_rest n addends address word h =
+    subst (λ x. IsRestOf (shape_of (Increment TargetA x addends))
+    (Some (Enters (record { address = address; access = Store word })))) (sym
+    h) (record { returns = refl; refers = λ e. e })

@@ -38,16 +38,20 @@ use Rattle.in_flight.specs.declared.pending.Stage.TheVariants.{Waiting, Read, Fi
 use Rattle.in_flight.specs.Pending.{has_read, returning, progress_of, row_of}
 use Rattle.instructions.specs.Finding.{Found, found_further, found_here, seek, put_back, replaced}
 use Rattle.in_flight.specs.Lookup.{arrival_in, stage_in, stage_at, entry_at, arrival_at, in_phase, kept}
-use Rattle.in_flight.specs.Board.{issued_of, kept_on, on_board, left_to_return}
+use Rattle.in_flight.specs.inner.Board.{issued_of, kept_on, on_board, left_to_return}
 use Rattle.instructions.proofs.Finding.{some_inj, seek_splits, seek_around}
 use Rattle.in_flight.proofs.Finding.{stage_found, entry_in_found}
 
 -- the one that was found, as it is found on the board
 unfoldable pub found_on_board : {K : Type 0} → Option (Found Pending K) → Option (Found Issued Instr)
 found_on_board None = None
-found_on_board (Some f) = Some (record { earlier = on_board f.earlier; member = issued_of f.member; answer = f.member.instr; later = on_board f.later })
-
--- ---- who was found ----
+found_on_board (Some f) = Some
+    (record {
+      earlier = on_board f.earlier;
+      member = issued_of f.member;
+      answer = f.member.instr;
+      later = on_board f.later;
+    })
 
 -- ---- the board's part of a list ----
 
@@ -56,18 +60,23 @@ unfolding on_board kept_on
 board-append [] ys = refl
 board-append (m ∷ xs) ys = by_progress (row_of m).progress (board-append xs ys)
   where
-    by_progress : (p : Progress) → on_board (xs ++ ys) ≡ on_board xs ++ on_board ys → kept_on p (on_board (xs ++ ys)) (issued_of m) ≡ kept_on p (on_board xs) (issued_of m) ++ on_board ys
+    by_progress : (p : Progress) → on_board (xs ++ ys) ≡ on_board xs ++ on_board ys
+        → kept_on p (on_board (xs ++ ys)) (issued_of m) ≡ kept_on p (on_board xs) (issued_of m) ++ on_board ys
     by_progress (Reserved b) e = ap (λ l. issued_of m ∷ l) e
     by_progress (Left (Some n)) e = ap (λ l. issued_of m ∷ l) e
     by_progress (Left None) e = e
 
 -- a test that an entered store fails
-pub board_any : (t : Row → Bool) → ((row : Row) → row.progress ≡ Left None → t row ≡ false) → (ms : List Pending) → list_any (λ x. t (row_of_issued x)) (on_board ms) ≡ list_any (λ m. t (row_of m)) ms
+pub board_any : (t : Row → Bool) → ((row : Row) → row.progress ≡ Left None → t row ≡ false) → (ms : List Pending)
+    → list_any (λ x. t (row_of_issued x)) (on_board ms) ≡ list_any (λ m. t (row_of m)) ms
 unfolding on_board kept_on issued_of row_of_issued
 board_any t h [] = refl
 board_any t h (m ∷ ms) = by_progress (row_of m).progress refl (board_any t h ms)
   where
-    by_progress : (p : Progress) → (row_of m).progress ≡ p → list_any (λ x. t (row_of_issued x)) (on_board ms) ≡ list_any (λ x. t (row_of x)) ms → list_any (λ x. t (row_of_issued x)) (kept_on p (on_board ms) (issued_of m)) ≡ (t (row_of m) || list_any (λ x. t (row_of x)) ms)
+    by_progress : (p : Progress) → (row_of m).progress ≡ p
+        → list_any (λ x. t (row_of_issued x)) (on_board ms) ≡ list_any (λ x. t (row_of x)) ms
+        → list_any (λ x. t (row_of_issued x)) (kept_on p (on_board ms) (issued_of m))
+        ≡ (t (row_of m) || list_any (λ x. t (row_of x)) ms)
     by_progress (Reserved b) e k = ap (λ b. t (row_of m) || b) k
     by_progress (Left (Some n)) e k = ap (λ b. t (row_of m) || b) k
     by_progress (Left None) e k = k ∙ ap (λ b. b || list_any (λ x. t (row_of x)) ms) (sym (h (row_of m) e))
@@ -107,14 +116,18 @@ pub same_held : (ms : List Pending) (u : FunctionalUnit) → is_held row_of_issu
 unfolding is_held
 same_held ms u = board_any (holds u) (no_unit u) ms
 
-first_free_same : (f g : FunctionalUnit → Bool) → ((u : FunctionalUnit) → f u ≡ g u) → (us : List FunctionalUnit) → first_free f us ≡ first_free g us
+first_free_same : (f g : FunctionalUnit → Bool) → ((u : FunctionalUnit) → f u ≡ g u) → (us : List FunctionalUnit)
+    → first_free f us ≡ first_free g us
 unfolding first_free
 first_free_same f g h [] = refl
-first_free_same f g h (u ∷ us) = ap (λ b. cond b (first_free f us) (Some u)) (h u) ∙ ap (λ o. cond (g u) o (Some u)) (first_free_same f g h us)
+first_free_same f g h (u ∷ us) =
+    ap (λ b. cond b (first_free f us) (Some u)) (h u) ∙ ap (λ o. cond (g u) o (Some u)) (first_free_same f g h us)
 
-pub same_free : (kind : UnitKind) (ms : List Pending) → free_unit row_of_issued (on_board ms) kind ≡ free_unit row_of ms kind
+pub same_free : (kind : UnitKind) (ms : List Pending)
+    → free_unit row_of_issued (on_board ms) kind ≡ free_unit row_of ms kind
 unfolding free_unit
-same_free kind ms = first_free_same (is_held row_of_issued (on_board ms)) (is_held row_of ms) (same_held ms) (units_of kind)
+same_free kind ms =
+    first_free_same (is_held row_of_issued (on_board ms)) (is_held row_of ms) (same_held ms) (units_of kind)
 
 -- ---- the one that holds a unit ----
 
@@ -122,10 +135,13 @@ kept_nothing : (l : List Issued) (x : Issued) → kept_on (Left None) l x ≡ l
 unfolding kept_on
 kept_nothing l x = refl
 
-after_off : {K : Type 0} (m : Pending) (o : Option (Found Pending K)) → (row_of m).progress ≡ Left None → found_on_board (found_further m o) ≡ found_on_board o
+after_off : {K : Type 0} (m : Pending) (o : Option (Found Pending K)) → (row_of m).progress ≡ Left None
+    → found_on_board (found_further m o) ≡ found_on_board o
 unfolding found_on_board found_further on_board
 after_off m None e = refl
-after_off m (Some f) e = ap (λ l. Some (record { earlier = l; member = issued_of f.member; answer = f.member.instr; later = on_board f.later })) (ap (λ p. kept_on p (on_board f.earlier) (issued_of m)) e ∙ kept_nothing (on_board f.earlier) (issued_of m))
+after_off m (Some f) e = ap (λ l. Some
+    (record { earlier = l; member = issued_of f.member; answer = f.member.instr; later = on_board f.later })) (ap
+    (λ p. kept_on p (on_board f.earlier) (issued_of m)) e ∙ kept_nothing (on_board f.earlier) (issued_of m))
 
 kept_here : (p : Progress) (l : List Issued) (x : Issued) → (p ≡ Left None → ⊥) → kept_on p l x ≡ x ∷ l
 unfolding kept_on
@@ -133,18 +149,32 @@ kept_here (Reserved b) l x h = refl
 kept_here (Left (Some n)) l x h = refl
 kept_here (Left None) l x h = absurd (h refl)
 
-after_on : {K : Type 0} (m : Pending) (o : Option (Found Pending K)) → ((row_of m).progress ≡ Left None → ⊥) → found_on_board (found_further m o) ≡ found_further (issued_of m) (found_on_board o)
+after_on : {K : Type 0} (m : Pending) (o : Option (Found Pending K)) → ((row_of m).progress ≡ Left None → ⊥)
+    → found_on_board (found_further m o) ≡ found_further (issued_of m) (found_on_board o)
 unfolding found_on_board found_further on_board
 after_on m None h = refl
-after_on m (Some f) h = ap (λ l. Some (record { earlier = l; member = issued_of f.member; answer = f.member.instr; later = on_board f.later })) (kept_here (row_of m).progress (on_board f.earlier) (issued_of m) h)
+after_on m (Some f) h = ap (λ l. Some
+    (record {
+      earlier = l;
+      member = issued_of f.member;
+      answer = f.member.instr;
+      later = on_board f.later;
+    })) (kept_here (row_of m).progress (on_board f.earlier) (issued_of m) h)
 
 -- the one that is sought by its row is the one that is sought among the pending
-board_seek : {K : Type 0} (f : Pending → Option K) (g : Issued → Option Instr) → ((m : Pending) (k : K) → f m ≡ Some k → g (issued_of m) ≡ Some m.instr) → ((m : Pending) → f m ≡ None → g (issued_of m) ≡ None) → ((m : Pending) (k : K) → f m ≡ Some k → (row_of m).progress ≡ Left None → ⊥) → (ms : List Pending) → seek g (on_board ms) ≡ found_on_board (seek f ms)
+board_seek : {K : Type 0} (f : Pending → Option K) (g : Issued → Option Instr)
+    → ((m : Pending) (k : K) → f m ≡ Some k → g (issued_of m) ≡ Some m.instr)
+    → ((m : Pending) → f m ≡ None → g (issued_of m) ≡ None)
+    → ((m : Pending) (k : K) → f m ≡ Some k → (row_of m).progress ≡ Left None → ⊥) → (ms : List Pending)
+    → seek g (on_board ms) ≡ found_on_board (seek f ms)
 unfolding seek found_here found_on_board on_board
 board_seek f g pass fail stay [] = refl
-board_seek {K} f g pass fail stay (m ∷ ms) = by_answer (f m) refl (row_of m).progress refl (board_seek f g pass fail stay ms)
+board_seek {K} f g pass fail stay (m ∷ ms) =
+    by_answer (f m) refl (row_of m).progress refl (board_seek f g pass fail stay ms)
   where
-    by_answer : (o : Option K) → f m ≡ o → (p : Progress) → (row_of m).progress ≡ p → seek g (on_board ms) ≡ found_on_board (seek f ms) → seek g (kept_on p (on_board ms) (issued_of m)) ≡ found_on_board (found_here o m ms (seek f ms))
+    by_answer : (o : Option K) → f m ≡ o → (p : Progress) → (row_of m).progress ≡ p
+        → seek g (on_board ms) ≡ found_on_board (seek f ms)
+        → seek g (kept_on p (on_board ms) (issued_of m)) ≡ found_on_board (found_here o m ms (seek f ms))
     by_answer (Some k) e p ep ih =
         ap (seek g) (kept_here p (on_board ms) (issued_of m) (λ q. stay m k e (ep ∙ q)))
         ∙ ap (λ o. found_here o (issued_of m) (on_board ms) (seek g (on_board ms))) (pass m k e)
@@ -161,7 +191,8 @@ board_seek {K} f g pass fail stay (m ∷ ms) = by_answer (f m) refl (row_of m).p
     by_answer None e (Left None) ep ih =
         ap (seek g) (kept_nothing (on_board ms) (issued_of m)) ∙ ih ∙ sym (after_off m (seek f ms) ep)
 
-unit_here_in : (u v : FunctionalUnit) (p : Phase) (t : Stage) → cond (same_unit v u) (stage_in p) None ≡ Some t → (same_unit v u && is_reserved (progress_of p)) ≡ true
+unit_here_in : (u v : FunctionalUnit) (p : Phase) (t : Stage) → cond (same_unit v u) (stage_in p) None ≡ Some t
+    → (same_unit v u && is_reserved (progress_of p)) ≡ true
 unfolding stage_in is_reserved progress_of
 unit_here_in u v (Before s) t h = by_test (same_unit v u) h
   where
@@ -174,7 +205,8 @@ unit_here_in u v (After l) t h = by_test (same_unit v u) h
     by_test true k = cc
     by_test false k = cc
 
-unit_not_in : (u v : FunctionalUnit) (p : Phase) → cond (same_unit v u) (stage_in p) None ≡ None → (same_unit v u && is_reserved (progress_of p)) ≡ false
+unit_not_in : (u v : FunctionalUnit) (p : Phase) → cond (same_unit v u) (stage_in p) None ≡ None
+    → (same_unit v u && is_reserved (progress_of p)) ≡ false
 unfolding stage_in is_reserved progress_of
 unit_not_in u v (Before s) h = by_test (same_unit v u) h
   where
@@ -189,7 +221,8 @@ unit_on_in true (Before s) t h e = cc
 unit_on_in true (After l) t h e = cc
 unit_on_in false p t h e = cc
 
-pub unit_found : (u : FunctionalUnit) (ms : List Pending) → seek (held_in u) (on_board ms) ≡ found_on_board (seek (stage_at u) ms)
+pub unit_found : (u : FunctionalUnit) (ms : List Pending)
+    → seek (held_in u) (on_board ms) ≡ found_on_board (seek (stage_at u) ms)
 unfolding held_in holds issued_of row_of stage_at
 unit_found u ms =
     board_seek (stage_at u) (held_in u)
@@ -205,24 +238,37 @@ any_same f g h (r ∷ rs) = ap (λ b. b || list_any f rs) (h r) ∙ ap (λ b. g 
 
 pub find_same : (f g : Reg → Bool) → ((r : Reg) → f r ≡ g r) → (rs : List Reg) → find f rs ≡ find g rs
 find_same f g h [] = refl
-find_same f g h (r ∷ rs) = ap (λ b. cond b (Some r) (find f rs)) (h r) ∙ ap (λ o. cond (g r) (Some r) o) (find_same f g h rs)
+find_same f g h (r ∷ rs) =
+    ap (λ b. cond b (Some r) (find f rs)) (h r) ∙ ap (λ o. cond (g r) (Some r) o) (find_same f g h rs)
 
-unless_same : (f g : Reg → Bool) (rs : List Reg) (k : Reg → Refusal) → ((r : Reg) → f r ≡ g r) → unless (list_any f rs) (k (first_such f rs)) ≡ unless (list_any g rs) (k (first_such g rs))
-unless_same f g rs k h = ap (λ b. unless b (k (first_such f rs))) (any_same f g h rs) ∙ ap (λ o. unless (list_any g rs) (k (unwrap_or o (B 0)))) (find_same f g h rs)
+unless_same : (f g : Reg → Bool) (rs : List Reg) (k : Reg → Refusal) → ((r : Reg) → f r ≡ g r)
+    → unless (list_any f rs) (k (first_such f rs)) ≡ unless (list_any g rs) (k (first_such g rs))
+unless_same f g rs k h = ap (λ b. unless b (k (first_such f rs))) (any_same f g h rs)
+    ∙ ap (λ o. unless (list_any g rs) (k (unwrap_or o (B 0)))) (find_same f g h rs)
 
-pub read_of_all : (u : FunctionalUnit) (ms : List Pending) (f : Found Pending Stage) → seek (stage_at u) ms ≡ Some f → read_answer (seek (held_in u) (on_board ms)) ≡ unless (list_any (awaited row_of f.earlier) (sources_of f.member.instr)) (OperandAwaited (first_such (awaited row_of f.earlier) (sources_of f.member.instr)))
+pub read_of_all : (u : FunctionalUnit) (ms : List Pending) (f : Found Pending Stage) → seek (stage_at u) ms ≡ Some f
+    → read_answer (seek (held_in u) (on_board ms))
+    ≡ unless (list_any (awaited row_of f.earlier) (sources_of f.member.instr))
+    (OperandAwaited (first_such (awaited row_of f.earlier) (sources_of f.member.instr)))
 unfolding read_answer found_on_board issued_of row_of
 read_of_all u ms f h =
     ap read_answer (unit_found u ms ∙ ap found_on_board h)
-    ∙ unless_same (awaited row_of_issued (on_board f.earlier)) (awaited row_of f.earlier) (sources_of f.member.instr) OperandAwaited (same_awaited f.earlier)
+    ∙ unless_same (awaited row_of_issued (on_board f.earlier)) (awaited row_of f.earlier) (sources_of f.member.instr)
+    OperandAwaited (same_awaited f.earlier)
 
-pub store_of_all : (u : FunctionalUnit) (ms : List Pending) (f : Found Pending Stage) → seek (stage_at u) ms ≡ Some f → store_answer (seek (held_in u) (on_board ms)) ≡ unless (list_any (to_be_read row_of f.earlier) (puts_of (shape_of f.member.instr))) (ResultHeld (first_such (to_be_read row_of f.earlier) (puts_of (shape_of f.member.instr))))
+pub store_of_all : (u : FunctionalUnit) (ms : List Pending) (f : Found Pending Stage) → seek (stage_at u) ms ≡ Some f
+    → store_answer (seek (held_in u) (on_board ms))
+    ≡ unless (list_any (to_be_read row_of f.earlier) (puts_of (shape_of f.member.instr)))
+    (ResultHeld (first_such (to_be_read row_of f.earlier) (puts_of (shape_of f.member.instr))))
 unfolding store_answer found_on_board issued_of row_of
 store_of_all u ms f h =
     ap store_answer (unit_found u ms ∙ ap found_on_board h)
-    ∙ unless_same (to_be_read row_of_issued (on_board f.earlier)) (to_be_read row_of f.earlier) (puts_of (shape_of f.member.instr)) ResultHeld (same_to_be_read f.earlier)
+    ∙ unless_same (to_be_read row_of_issued (on_board f.earlier)) (to_be_read row_of f.earlier)
+    (puts_of (shape_of f.member.instr)) ResultHeld (same_to_be_read f.earlier)
 
-pub turn_of_all : (u : FunctionalUnit) (ms : List Pending) (f : Found Pending Stage) → seek (stage_at u) ms ≡ Some f → turn_answer (seek (held_in u) (on_board ms)) ≡ unless (has_reference (shape_of f.member.instr) && out_of_turn row_of f.earlier) OutOfTurn
+pub turn_of_all : (u : FunctionalUnit) (ms : List Pending) (f : Found Pending Stage) → seek (stage_at u) ms ≡ Some f
+    → turn_answer (seek (held_in u) (on_board ms))
+    ≡ unless (has_reference (shape_of f.member.instr) && out_of_turn row_of f.earlier) OutOfTurn
 unfolding turn_answer found_on_board issued_of row_of
 turn_of_all u ms f h =
     ap turn_answer (unit_found u ms ∙ ap found_on_board h)
@@ -236,8 +282,10 @@ arrival_in_there c (Before t) x h = cc
 arrival_in_there c (After (Entered slot a access)) x h = cc
 arrival_in_there c (After (Accepted n v)) x h = by_test (eqb n c) refl h
   where
-    by_test : (b : Bool) → eqb n c ≡ b → cond b (Some (record { channel = n; word = v })) None ≡ Some x → After (Accepted n v) ≡ After (Accepted c x.word)
-    by_test true e k = ap (λ m. After (Accepted m v)) (eqb-true n c e) ∙ ap (λ (y : Arrival). After (Accepted c y.word)) (some_inj _ x k)
+    by_test : (b : Bool) → eqb n c ≡ b → cond b (Some (record { channel = n; word = v })) None ≡ Some x
+        → After (Accepted n v) ≡ After (Accepted c x.word)
+    by_test true e k = ap (λ m. After (Accepted m v)) (eqb-true n c e)
+        ∙ ap (λ (y : Arrival). After (Accepted c y.word)) (some_inj _ x k)
     by_test false e k = cc
 
 arrival_progress : (c : ℕ) (m : Pending) (x : Arrival) → arrival_at c m ≡ Some x → (row_of m).progress ≡ Left (Some c)
@@ -248,45 +296,61 @@ not_reserved : (n : ℕ) (e : Pending) (b : Bool) → (row_of e).progress ≡ Re
 unfolding returning_by returns_in issued_of
 not_reserved n e b h = ap (λ p. cond (returns_in n p) (Some (row_of e).instr) None) h
 
-not_that : (n m : ℕ) (e : Pending) → (row_of e).progress ≡ Left (Some m) → comes (X n) (row_of e) ≡ false → returning_by n (issued_of e) ≡ None
+not_that : (n m : ℕ) (e : Pending) → (row_of e).progress ≡ Left (Some m) → comes (X n) (row_of e) ≡ false
+    → returning_by n (issued_of e) ≡ None
 unfolding returning_by returns_in issued_of comes to_come to_come_in returning_to is_in
 not_that n m e h k =
     ap (λ p. cond (returns_in n p) (Some (row_of e).instr) None) h
-    ∙ ap (λ b. cond b (Some (row_of e).instr) None) (ne_eqb m n (λ q. let z : (eqb n m || false) ≡ false = sym (ap (λ p. is_in (to_come_in (shape_of (row_of e).instr) p) (X n)) h) ∙ k in let y : (eqb n m || false) ≡ true = ap (λ b. b || false) (eq-eqb n m (sym q)) in cc))
+    ∙ ap (λ b. cond b (Some (row_of e).instr) None)
+    (ne_eqb m n (λ q. let z : (eqb n m || false)
+    ≡ false = sym (ap (λ p. is_in (to_come_in (shape_of (row_of e).instr) p) (X n)) h)
+    ∙ k in let y : (eqb n m || false) ≡ true = ap (λ b. b || false) (eq-eqb n m (sym q)) in cc))
 
-silent_returns : (n : ℕ) (es : List Pending) → awaited row_of es (X n) ≡ false → Each (λ x. returning_by n x ≡ None) (on_board es)
+silent_returns : (n : ℕ) (es : List Pending) → awaited row_of es (X n) ≡ false
+    → Each (λ x. returning_by n x ≡ None) (on_board es)
 unfolding awaited on_board kept_on
 silent_returns n [] h = tt
 silent_returns n (e ∷ es) h =
     let p = or_parts (comes (X n) (row_of e)) (list_any (λ m. comes (X n) (row_of m)) es) h in
     by_progress n (row_of e).progress refl (issued_of e) (on_board es) refl p.0 (silent_returns n es p.1)
   where
-    by_progress : (n : ℕ) (p : Progress) → (row_of e).progress ≡ p → (x : Issued) (l : List Issued) → x ≡ issued_of e → comes (X n) (row_of e) ≡ false → Each (λ x. returning_by n x ≡ None) l → Each (λ x. returning_by n x ≡ None) (kept_on p l x)
+    by_progress : (n : ℕ) (p : Progress) → (row_of e).progress ≡ p → (x : Issued) (l : List Issued) → x ≡ issued_of e
+        → comes (X n) (row_of e) ≡ false → Each (λ x. returning_by n x ≡ None) l
+        → Each (λ x. returning_by n x ≡ None) (kept_on p l x)
     by_progress n (Reserved b) ep x l ex h k = (ap (returning_by n) ex ∙ not_reserved n e b ep, k)
     by_progress n (Left (Some m)) ep x l ex h k = (ap (returning_by n) ex ∙ not_that n m e ep h, k)
     by_progress n (Left None) ep x l ex h k = subst (Each (λ x. returning_by n x ≡ None)) (sym (kept_nothing l x)) k
 
-returning_here : (n : ℕ) (m : Pending) (x : Arrival) → arrival_at n m ≡ Some x → returning_by n (issued_of m) ≡ Some m.instr
+returning_here : (n : ℕ) (m : Pending) (x : Arrival) → arrival_at n m ≡ Some x
+    → returning_by n (issued_of m) ≡ Some m.instr
 unfolding returning_by returns_in issued_of row_of
 returning_here n m x h =
     ap (λ p. cond (returns_in n p) (Some m.instr) None) (arrival_progress n m x h)
     ∙ ap (λ b. cond b (Some m.instr) None) (eq-eqb n n refl)
 
--- the board's part of a list round a member that it has
-board_around : (es : List Pending) (m : Pending) (ls : List Pending) → ((row_of m).progress ≡ Left None → ⊥) → on_board (es ++ m ∷ ls) ≡ on_board es ++ issued_of m ∷ on_board ls
+-- the board's part of a list round an instruction that it has
+board_around : (es : List Pending) (m : Pending) (ls : List Pending) → ((row_of m).progress ≡ Left None → ⊥)
+    → on_board (es ++ m ∷ ls) ≡ on_board es ++ issued_of m ∷ on_board ls
 unfolding on_board
-board_around es m ls h = board-append es (m ∷ ls) ∙ ap (λ l. on_board es ++ l) (kept_here (row_of m).progress (on_board ls) (issued_of m) h)
+board_around es m ls h =
+    board-append es (m ∷ ls) ∙ ap (λ l. on_board es ++ l) (kept_here (row_of m).progress (on_board ls) (issued_of m) h)
 
 -- a load that returns, as it is found on the board
-pub return_found : (n : ℕ) (ms : List Pending) (f : Found Pending Arrival) → seek (arrival_at n) ms ≡ Some f → awaited row_of f.earlier (X n) ≡ false → seek (returning_by n) (on_board ms) ≡ found_on_board (Some f)
+pub return_found : (n : ℕ) (ms : List Pending) (f : Found Pending Arrival) → seek (arrival_at n) ms ≡ Some f
+    → awaited row_of f.earlier (X n) ≡ false → seek (returning_by n) (on_board ms) ≡ found_on_board (Some f)
 unfolding found_on_board
 return_found n ms f h k =
     let p = seek_splits (arrival_at n) ms f h in
     let q = arrival_progress n f.member f.answer p.1 in
-    ap (seek (returning_by n)) (ap on_board p.0 ∙ board_around f.earlier f.member f.later (λ z. let y : Left (Some n) ≡ Left None = sym q ∙ z in cc))
-    ∙ seek_around (returning_by n) (on_board f.earlier) (issued_of f.member) f.member.instr (on_board f.later) (silent_returns n f.earlier k) (returning_here n f.member f.answer p.1)
+    ap (seek (returning_by n)) (ap on_board p.0
+    ∙ board_around f.earlier f.member f.later (λ z. let y : Left (Some n) ≡ Left None = sym q ∙ z in cc))
+    ∙ seek_around (returning_by n) (on_board f.earlier) (issued_of f.member) f.member.instr (on_board f.later)
+    (silent_returns n f.earlier k) (returning_here n f.member f.answer p.1)
 
-pub return_of_all : (n : ℕ) (ms : List Pending) (f : Found Pending Arrival) → seek (arrival_at n) ms ≡ Some f → awaited row_of f.earlier (X n) ≡ false → return_answer n (seek (returning_by n) (on_board ms)) ≡ unless (to_be_read row_of f.earlier (X n)) (ResultHeld (X n))
+pub return_of_all : (n : ℕ) (ms : List Pending) (f : Found Pending Arrival) → seek (arrival_at n) ms ≡ Some f
+    → awaited row_of f.earlier (X n) ≡ false
+    → return_answer n (seek (returning_by n) (on_board ms))
+    ≡ unless (to_be_read row_of f.earlier (X n)) (ResultHeld (X n))
 unfolding return_answer found_on_board
 return_of_all n ms f h k =
     ap (return_answer n) (return_found n ms f h k)
@@ -294,11 +358,14 @@ return_of_all n ms f h k =
 
 -- ---- what the board's calls follow ----
 
-board_put : {K : Type 0} (f : Found Pending K) (xs : List Pending) → on_board (put_back f xs) ≡ on_board f.earlier ++ (on_board xs ++ on_board f.later)
+board_put : {K : Type 0} (f : Found Pending K) (xs : List Pending) → on_board (put_back f xs) ≡ on_board f.earlier
+    ++ (on_board xs ++ on_board f.later)
 unfolding put_back
 board_put f xs = board-append f.earlier (xs ++ f.later) ∙ ap (λ l. on_board f.earlier ++ l) (board-append xs f.later)
 
-unit_changed : (u : FunctionalUnit) (ms : List Pending) (f : Found Pending Stage) (g : Issued → List Issued) → seek (stage_at u) ms ≡ Some f → replaced (seek (held_in u) (on_board ms)) (on_board ms) g ≡ on_board f.earlier ++ (g (issued_of f.member) ++ on_board f.later)
+unit_changed : (u : FunctionalUnit) (ms : List Pending) (f : Found Pending Stage) (g : Issued → List Issued)
+    → seek (stage_at u) ms ≡ Some f → replaced (seek (held_in u) (on_board ms)) (on_board ms) g ≡ on_board f.earlier
+    ++ (g (issued_of f.member) ++ on_board f.later)
 unfolding replaced put_back found_on_board
 unit_changed u ms f g h = ap (λ o. replaced o (on_board ms) g) (unit_found u ms ∙ ap found_on_board h)
 
@@ -306,71 +373,105 @@ read_put : (m : Pending) (os : Operands) → on_board (in_phase m (Before (Read 
 unfolding on_board kept_on read issued_of row_of in_progress in_phase progress_of has_read
 read_put m os = refl
 
-pub read_follows : (u : FunctionalUnit) (ms : List Pending) (f : Found Pending Stage) (os : Operands) → seek (stage_at u) ms ≡ Some f → on_board (put_back f (in_phase f.member (Before (Read os)) ∷ [])) ≡ replaced (seek (held_in u) (on_board ms)) (on_board ms) read
+pub read_follows : (u : FunctionalUnit) (ms : List Pending) (f : Found Pending Stage) (os : Operands)
+    → seek (stage_at u) ms ≡ Some f
+    → on_board (put_back f (in_phase f.member (Before (Read os)) ∷ []))
+    ≡ replaced (seek (held_in u) (on_board ms)) (on_board ms) read
 read_follows u ms f os h =
     board_put f (in_phase f.member (Before (Read os)) ∷ [])
     ∙ ap (λ l. on_board f.earlier ++ (l ++ on_board f.later)) (read_put f.member os)
     ∙ sym (unit_changed u ms f read h)
 
--- a list whose changed member is seen as before
-same_put : {K : Type 0} (g : Pending → Option K) (ms : List Pending) (f : Found Pending K) (xs : List Pending) → seek g ms ≡ Some f → on_board xs ≡ on_board (f.member ∷ []) → on_board (put_back f xs) ≡ on_board ms
+-- a list whose changed instruction is seen as before
+same_put : {K : Type 0} (g : Pending → Option K) (ms : List Pending) (f : Found Pending K) (xs : List Pending)
+    → seek g ms ≡ Some f → on_board xs ≡ on_board (f.member ∷ []) → on_board (put_back f xs) ≡ on_board ms
 same_put g ms f xs h e =
     board_put f xs
     ∙ ap (λ l. on_board f.earlier ++ (l ++ on_board f.later)) e
-    ∙ sym (ap on_board (seek_splits g ms f h).0 ∙ board-append f.earlier (f.member ∷ f.later) ∙ ap (λ l. on_board f.earlier ++ l) (board-append (f.member ∷ []) f.later))
+    ∙ sym (ap on_board (seek_splits g ms f h).0 ∙ board-append f.earlier (f.member ∷ f.later)
+    ∙ ap (λ l. on_board f.earlier ++ l) (board-append (f.member ∷ []) f.later))
 
 seen_alike : (m n : Pending) → issued_of m ≡ issued_of n → on_board (m ∷ []) ≡ on_board (n ∷ [])
 unfolding on_board issued_of
 seen_alike m n e = ap (λ (x : Issued). kept_on x.row.progress [] x) e
 
--- a member that has read comes to another stage in which it has
-pub stage_follows : (u : FunctionalUnit) (ms : List Pending) (f : Found Pending Stage) (v : UnitValue) → seek (stage_at u) ms ≡ Some f → has_read f.answer ≡ true → on_board (put_back f (in_phase f.member (Before (Finished v)) ∷ [])) ≡ on_board ms
+-- an instruction that has read comes to another stage in which it has
+pub stage_follows : (u : FunctionalUnit) (ms : List Pending) (f : Found Pending Stage) (v : UnitValue)
+    → seek (stage_at u) ms ≡ Some f → has_read f.answer ≡ true
+    → on_board (put_back f (in_phase f.member (Before (Finished v)) ∷ [])) ≡ on_board ms
 unfolding issued_of row_of in_phase progress_of has_read
 stage_follows u ms f v h e =
     let p = seek_splits (stage_at u) ms f h in
-    let q : progress_of f.member.phase ≡ Reserved true = ap progress_of (stage_found u f.member f.answer p.1) ∙ ap Reserved e in
+    let q : progress_of f.member.phase ≡ Reserved true =
+    ap progress_of (stage_found u f.member f.answer p.1) ∙ ap Reserved e in
     same_put (stage_at u) ms f (in_phase f.member (Before (Finished v)) ∷ []) h
-    (seen_alike (in_phase f.member (Before (Finished v))) f.member (sym (ap (λ z. record { number = f.member.number; row = record { instr = f.member.instr; unit = f.member.unit; progress = z } }) q)))
+    (seen_alike (in_phase f.member (Before (Finished v))) f.member
+    (sym (ap (λ z. record {
+      number = f.member.number;
+      row = record { instr = f.member.instr; unit = f.member.unit; progress = z };
+    }) q)))
 
 kept_put : (m : Pending) (l : Option Outstanding) → on_board (kept m l) ≡ left_with (issued_of m) (left_to_return l)
 unfolding on_board kept kept_on left_with issued_of row_of in_progress in_phase progress_of left_to_return
 kept_put m None = refl
 kept_put m (Some l) = by_register (returning l)
   where
-    by_register : (o : Option ℕ) → kept_on (Left o) [] (record { number = m.number; row = record { instr = m.instr; unit = m.unit; progress = Left o } }) ≡ left_with (issued_of m) o
+    by_register : (o : Option ℕ) → kept_on (Left o) []
+        (record { number = m.number; row = record { instr = m.instr; unit = m.unit; progress = Left o } })
+        ≡ left_with (issued_of m) o
     by_register None = refl
     by_register (Some n) = refl
 
-pub store_follows : (u : FunctionalUnit) (ms : List Pending) (f : Found Pending Stage) (l : Option Outstanding) → seek (stage_at u) ms ≡ Some f → left_to_return l ≡ channel_of (shape_of f.member.instr) → on_board (put_back f (kept f.member l)) ≡ replaced (seek (held_in u) (on_board ms)) (on_board ms) left
+pub store_follows : (u : FunctionalUnit) (ms : List Pending) (f : Found Pending Stage) (l : Option Outstanding)
+    → seek (stage_at u) ms ≡ Some f → left_to_return l ≡ channel_of (shape_of f.member.instr)
+    → on_board (put_back f (kept f.member l)) ≡ replaced (seek (held_in u) (on_board ms)) (on_board ms) left
 unfolding left issued_of row_of
 store_follows u ms f l h e =
     board_put f (kept f.member l)
-    ∙ ap (λ k. on_board f.earlier ++ (k ++ on_board f.later)) (kept_put f.member l ∙ ap (left_with (issued_of f.member)) e)
+    ∙ ap (λ k. on_board f.earlier ++ (k ++ on_board f.later))
+    (kept_put f.member l ∙ ap (left_with (issued_of f.member)) e)
     ∙ sym (unit_changed u ms f left h)
 
-pub load_follows : (p : ℕ) (ms : List Pending) (f : Found Pending HopperEntry) (n w : ℕ) → seek (entry_at p) ms ≡ Some f → f.answer.access ≡ Load n → on_board (put_back f (in_phase f.member (After (Accepted n w)) ∷ [])) ≡ on_board ms
+pub load_follows : (p : ℕ) (ms : List Pending) (f : Found Pending HopperEntry) (n w : ℕ)
+    → seek (entry_at p) ms ≡ Some f → f.answer.access ≡ Load n
+    → on_board (put_back f (in_phase f.member (After (Accepted n w)) ∷ [])) ≡ on_board ms
 unfolding entry_at issued_of row_of in_phase progress_of returning
 load_follows p ms f n w h e =
     let q = entry_in_found p f.member.phase f.answer (seek_splits (entry_at p) ms f h).1 in
     same_put (entry_at p) ms f (in_phase f.member (After (Accepted n w)) ∷ []) h
-    (seen_alike (in_phase f.member (After (Accepted n w))) f.member (sym (ap (λ z. record { number = f.member.number; row = record { instr = f.member.instr; unit = f.member.unit; progress = progress_of z } }) (q.1 ∙ ap (λ x. After (Entered q.0 f.answer.a x)) e))))
+    (seen_alike (in_phase f.member (After (Accepted n w))) f.member
+    (sym (ap (λ z. record {
+      number = f.member.number;
+      row = record {
+        instr = f.member.instr;
+        unit = f.member.unit;
+        progress = progress_of z;
+      };
+    }) (q.1 ∙ ap (λ x. After (Entered q.0 f.answer.a x)) e))))
 
 unseen : (m : Pending) → (row_of m).progress ≡ Left None → [] ≡ on_board (m ∷ [])
 unfolding on_board kept_on
 unseen m e = sym (ap (λ p. kept_on p [] (issued_of m)) e)
 
-pub stored_follows : (p : ℕ) (ms : List Pending) (f : Found Pending HopperEntry) (w : ℕ) → seek (entry_at p) ms ≡ Some f → f.answer.access ≡ Store w → on_board (put_back f []) ≡ on_board ms
+pub stored_follows : (p : ℕ) (ms : List Pending) (f : Found Pending HopperEntry) (w : ℕ)
+    → seek (entry_at p) ms ≡ Some f → f.answer.access ≡ Store w → on_board (put_back f []) ≡ on_board ms
 unfolding entry_at row_of progress_of returning on_board
 stored_follows p ms f w h e =
     let q = entry_in_found p f.member.phase f.answer (seek_splits (entry_at p) ms f h).1 in
-    same_put (entry_at p) ms f [] h (unseen f.member (ap progress_of (q.1 ∙ ap (λ x. After (Entered q.0 f.answer.a x)) e)))
+    same_put (entry_at p) ms f [] h
+    (unseen f.member (ap progress_of (q.1 ∙ ap (λ x. After (Entered q.0 f.answer.a x)) e)))
 
-pub return_follows : (n : ℕ) (ms : List Pending) (f : Found Pending Arrival) → seek (arrival_at n) ms ≡ Some f → awaited row_of f.earlier (X n) ≡ false → on_board (put_back f []) ≡ replaced (seek (returning_by n) (on_board ms)) (on_board ms) gone
+pub return_follows : (n : ℕ) (ms : List Pending) (f : Found Pending Arrival) → seek (arrival_at n) ms ≡ Some f
+    → awaited row_of f.earlier (X n) ≡ false
+    → on_board (put_back f []) ≡ replaced (seek (returning_by n) (on_board ms)) (on_board ms) gone
 unfolding gone on_board replaced put_back found_on_board
 return_follows n ms f h k =
     board_put f []
     ∙ sym (ap (λ o. replaced o (on_board ms) gone) (return_found n ms f h k))
 
-pub issue_follows : (ms : List Pending) (i : Instr) (at number : ℕ) (u : FunctionalUnit) → on_board (ms ++ record { instr = i; at = at; number = number; unit = u; phase = Before Waiting } ∷ []) ≡ on_board ms ++ new_issued i u number ∷ []
+pub issue_follows : (ms : List Pending) (i : Instr) (at number : ℕ) (u : FunctionalUnit)
+    → on_board (ms ++ record { instr = i; at = at; number = number; unit = u; phase = Before Waiting } ∷ [])
+    ≡ on_board ms ++ new_issued i u number ∷ []
 unfolding on_board kept_on issued_of row_of progress_of has_read new_issued
-issue_follows ms i at number u = board-append ms (record { instr = i; at = at; number = number; unit = u; phase = Before Waiting } ∷ [])
+issue_follows ms i at number u =
+    board-append ms (record { instr = i; at = at; number = number; unit = u; phase = Before Waiting } ∷ [])

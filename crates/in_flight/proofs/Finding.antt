@@ -1,4 +1,4 @@
--- The member that an event names, and the tests that its answer passed.
+-- The pending instruction that an event names, and the tests that its answer passed.
 use Rattle.std.proofs.Common.{◌≡◌, ℕ, Bool, true, false, cond, List, [], ◌∷◌, Some, None, refl, ap, eqb}
 use Rattle.instructions.specs.Each.{Each}
 use Rattle.instructions.specs.Finding.{Found}
@@ -22,7 +22,8 @@ unfolding refusal_of
 refusal_none [] h = tt
 refusal_none (t ∷ ts) h = head_first (refusal_none ts) t.fails refl h
   where
-    head_first : (refusal_of ts ≡ None → Each (λ t. t.fails ≡ false) ts) → (f : Bool) → t.fails ≡ f → cond f (Some t.refusal) (refusal_of ts) ≡ None → (t.fails ≡ false) × Each (λ t. t.fails ≡ false) ts
+    head_first : (refusal_of ts ≡ None → Each (λ t. t.fails ≡ false) ts) → (f : Bool) → t.fails ≡ f
+        → cond f (Some t.refusal) (refusal_of ts) ≡ None → (t.fails ≡ false) × Each (λ t. t.fails ≡ false) ts
     head_first rest true e k = cc
     head_first rest false e k = (e, rest k)
 
@@ -30,7 +31,7 @@ pub not_nothing : refusal_of nothing ≡ None → ⊥
 unfolding refusal_of nothing
 not_nothing h = cc
 
--- the member that was sought is the one that was found
+-- the instruction that was sought is the one that was found
 pub sought_member : {K : Type 0} (f : Found Pending K) (s : Sought K) → sought (Some f) ≡ Some s → f.member ≡ s.member
 unfolding sought
 sought_member {K} f s h = ap (λ (x : Sought K). x.member) (some_inj _ s h)
@@ -56,30 +57,36 @@ stage_found u m t h = by_test (same_unit m.unit u) h
     by_test true k = stage_in_found m.phase t k
     by_test false k = cc
 
-pub entry_in_found : (p : ℕ) (q : Phase) (e : HopperEntry) → entry_in p q ≡ Some e → (slot : ℕ) × (q ≡ After (Entered slot e.a e.access))
+pub entry_in_found : (p : ℕ) (q : Phase) (e : HopperEntry) → entry_in p q ≡ Some e → (slot : ℕ)
+    × (q ≡ After (Entered slot e.a e.access))
 unfolding entry_in
 entry_in_found p (Before t) e h = cc
 entry_in_found p (After (Accepted n w)) e h = cc
 entry_in_found p (After (Entered slot a access)) e h = by_test (eqb slot p) h
   where
-    by_test : (f : Bool) → cond f (Some (record { a = a; access = access })) None ≡ Some e → (k : ℕ) × (After (Entered slot a access) ≡ After (Entered k e.a e.access))
+    by_test : (f : Bool) → cond f (Some (record { a = a; access = access })) None ≡ Some e → (k : ℕ)
+        × (After (Entered slot a access) ≡ After (Entered k e.a e.access))
     by_test true k = (slot, ap (λ (y : HopperEntry). After (Entered slot y.a y.access)) (some_inj _ e k))
     by_test false k = cc
 
-pub entry_found : (p : ℕ) (m : Pending) (e : HopperEntry) → entry_at p m ≡ Some e → (slot : ℕ) × (m.phase ≡ After (Entered slot e.a e.access))
+pub entry_found : (p : ℕ) (m : Pending) (e : HopperEntry) → entry_at p m ≡ Some e → (slot : ℕ)
+    × (m.phase ≡ After (Entered slot e.a e.access))
 unfolding entry_at
 entry_found p m e h = entry_in_found p m.phase e h
 
-pub arrival_in_found : (c : ℕ) (q : Phase) (x : Arrival) → arrival_in c q ≡ Some x → q ≡ After (Accepted x.channel x.word)
+pub arrival_in_found : (c : ℕ) (q : Phase) (x : Arrival) → arrival_in c q ≡ Some x
+    → q ≡ After (Accepted x.channel x.word)
 unfolding arrival_in
 arrival_in_found c (Before t) x h = cc
 arrival_in_found c (After (Entered slot a access)) x h = cc
 arrival_in_found c (After (Accepted n v)) x h = by_test (eqb n c) h
   where
-    by_test : (f : Bool) → cond f (Some (record { channel = n; word = v })) None ≡ Some x → After (Accepted n v) ≡ After (Accepted x.channel x.word)
+    by_test : (f : Bool) → cond f (Some (record { channel = n; word = v })) None ≡ Some x
+        → After (Accepted n v) ≡ After (Accepted x.channel x.word)
     by_test true k = ap (λ (y : Arrival). After (Accepted y.channel y.word)) (some_inj _ x k)
     by_test false k = cc
 
-pub arrival_found : (c : ℕ) (m : Pending) (x : Arrival) → arrival_at c m ≡ Some x → m.phase ≡ After (Accepted x.channel x.word)
+pub arrival_found : (c : ℕ) (m : Pending) (x : Arrival) → arrival_at c m ≡ Some x
+    → m.phase ≡ After (Accepted x.channel x.word)
 unfolding arrival_at
 arrival_found c m x h = arrival_in_found c m.phase x h

@@ -1,4 +1,4 @@
--- What a phase says of the member in it, for any instruction.
+-- What a phase says of the instruction in it, whichever that is.
 use Rattle.std.proofs.Common.{◌≡◌, ℕ, Bool, true, false, List, [], Option, Some, None, refl}
 use Rattle.std.specs.Prelude.{◌+◌, ◌&&◌, ◌||◌, ◌==◌, not}
 use Rattle.instructions.specs.declared.instr.Reg.{Reg}
@@ -13,7 +13,7 @@ use Rattle.in_flight.specs.declared.pending.Phase.{Phase}
 use Rattle.in_flight.specs.declared.pending.Phase.TheVariants.{Before, After}
 use Rattle.in_flight.specs.declared.pending.Pending.{Pending}
 use Rattle.in_flight.specs.Pending.{returning, progress_of, row_of, is_branch, stores_in, delays_fetch}
-use Rattle.in_flight.specs.Slots.{unit_slot}
+use Rattle.in_flight.specs.inner.Slots.{unit_slot}
 use Rattle.instructions.specs.declared.instr.Unit.{Unit as FunctionalUnit}
 
 unfoldable pub to_come_in : Shape → Phase → List Reg
@@ -43,7 +43,7 @@ unfoldable pub targets_left : Option Outstanding → List Reg
 targets_left None = []
 targets_left (Some l) = target_of l
 
--- the slot of a member: units have the slots 0 to 6, places 7 to 10, channels 11 to 15
+-- the slot of a pending instruction: units have the slots 0 to 6, places 7 to 10, channels 11 to 15
 unfoldable pub slot_in : FunctionalUnit → Phase → ℕ
 slot_in unit (Before t) = unit_slot unit
 slot_in unit (After (Entered place a access)) = 7 + place
@@ -57,14 +57,17 @@ no_store false g x h k = refl
 no_store true true x h k = cc
 no_store true false x h k = cc
 
-may_store_none : (f g : Bool) (a : ℕ) (p : Phase) → (((is_reserved (progress_of p) && f) && not g) || stores_in a p) ≡ false → (is_reserved (progress_of p) && g) ≡ false → may_store_in f a p ≡ false
+may_store_none : (f g : Bool) (a : ℕ) (p : Phase)
+    → (((is_reserved (progress_of p) && f) && not g) || stores_in a p) ≡ false
+    → (is_reserved (progress_of p) && g) ≡ false → may_store_in f a p ≡ false
 unfolding progress_of is_reserved stores_in stores_to may_store_in
 may_store_none f g a (Before t) h k = no_store f g false h k
 may_store_none f g a (After (Entered place b (StoreWord w))) h k = h
 may_store_none f g a (After (Entered place b (LoadInto n))) h k = refl
 may_store_none f g a (After (Accepted n w)) h k = refl
 
--- a member that delays no fetch of a word, and is no branch, stores nothing there
+-- an instruction that delays no fetch of a word, and is no branch, stores nothing there
 pub stores_nothing : (a : ℕ) (m : Pending) → delays_fetch a m ≡ false → is_branch m ≡ false → may_store a m ≡ false
 unfolding delays_fetch is_branch row_of row.has_store_turn row.is_branch may_store
-stores_nothing a m h k = may_store_none (has_store (shape_of m.instr)) (is_branch_shape (shape_of m.instr)) a m.phase h k
+stores_nothing a m h k =
+    may_store_none (has_store (shape_of m.instr)) (is_branch_shape (shape_of m.instr)) a m.phase h k

@@ -22,7 +22,7 @@ use Rattle.in_flight.specs.declared.pending.Pending.{Pending}
 use Rattle.in_flight.specs.declared.pending.Phase.{Phase}
 use Rattle.in_flight.specs.declared.pending.Phase.TheVariants.{Before, After}
 use Rattle.in_flight.specs.declared.pending.Stage.TheVariants.{Waiting}
-use Rattle.in_flight.specs.Board.{on_board, left_to_return}
+use Rattle.in_flight.specs.inner.Board.{on_board, left_to_return}
 use Rattle.in_flight.specs.Tests.{unit_for}
 use Rattle.in_flight.specs.Lookup.{enters}
 
@@ -42,7 +42,8 @@ flight_of ms queue standing = record { pending = ms; busy = queue.busy; last = s
 -- the reference of an instruction in that phase, if it waits in the hopper
 unfoldable pub waiting_in : Phase → List Entered
 waiting_in (Before t) = []
-waiting_in (After (HasEntered place a access)) = record { place = place; reference = record { address = a; access = access } } ∷ []
+waiting_in (After (HasEntered place a access)) =
+    record { place = place; reference = record { address = a; access = access } } ∷ []
 waiting_in (After (Accepted n word)) = []
 
 -- the references of the pending instructions that wait in the hopper
@@ -81,7 +82,8 @@ rest_at free (Some (Arrives n)) = Some (Accepted n 0)
 -- the hopper when the reference has entered a free place
 unfoldable pub queue_with : Queue → Option ℕ → Reference → Queue
 queue_with queue None reference = queue
-queue_with queue (Some place) reference = record queue { entered = queue.entered ++ record { place = place; reference = reference } ∷ [] }
+queue_with queue (Some place) reference =
+    record queue { entered = queue.entered ++ record { place = place; reference = reference } ∷ [] }
 
 -- the hopper after the store event of an instruction that leaves this
 unfoldable pub queue_after : Queue → Option ℕ → Option Rest → Queue
@@ -110,7 +112,13 @@ unit_taken f i = unwrap_or (unit_for f.pending (row i).unit) Branch
 -- one instruction more, which waits in its unit
 abbrev pub reserved_in : Flight → Instr → ℕ → Flight
 reserved_in f i at = record f {
-  pending = f.pending ++ record { instr = i; at = at; number = suc f.last; unit = unit_taken f i; phase = Before Waiting } ∷ [];
+  pending = f.pending ++ record {
+    instr = i;
+    at = at;
+    number = suc f.last;
+    unit = unit_taken f i;
+    phase = Before Waiting;
+  } ∷ [];
   last = suc f.last;
 }
 

@@ -4,7 +4,5 @@ pub mod Pending
 pub mod Lookup
 pub mod Tests
 pub mod Apart
-pub mod Slots
-pub mod Seats
-pub mod Board
 pub mod Flight
+pub mod inner

@@ -63,7 +63,10 @@ row_tests ms (Halting h place) = []
 row_tests ms (Passing place) = []
 row_tests ms (Taking i place) =
     record { fails = is_none (unit_for ms (row i).unit); refusal = UnitBusy (first_unit (row i).unit) }
-    ∷ record { fails = result_reserved row_of ms (results (shape_of i)); refusal = ResultReserved (first_such (awaited ms) (results (shape_of i))) }
+    ∷ record {
+      fails = result_reserved row_of ms (results (shape_of i));
+      refusal = ResultReserved (first_such (awaited ms) (results (shape_of i)));
+    }
     ∷ []
 
 -- ---- the events of a unit ----
@@ -72,7 +75,10 @@ row_tests ms (Taking i place) =
 -- where it has read before
 unfoldable pub read_tests : Stage → List Pending → Instr → List Test
 read_tests Waiting earlier i =
-    record { fails = operand_awaited row_of earlier (sources_of i); refusal = OperandAwaited (first_such (awaited earlier) (sources_of i)) } ∷ []
+    record {
+      fails = operand_awaited row_of earlier (sources_of i);
+      refusal = OperandAwaited (first_such (awaited earlier) (sources_of i));
+    } ∷ []
 read_tests (HasRead os) earlier i = nothing
 read_tests (Finished v) earlier i = nothing
 
@@ -80,7 +86,10 @@ read_tests (Finished v) earlier i = nothing
 -- an earlier reference has not come to its store event
 abbrev pub store_conflicts : List Pending → List Pending → Instr → Bool → List Test
 store_conflicts ms earlier i entering =
-    record { fails = result_held row_of earlier (puts_of (shape_of i)); refusal = ResultHeld (first_such (to_be_read earlier) (puts_of (shape_of i))) }
+    record {
+      fails = result_held row_of earlier (puts_of (shape_of i));
+      refusal = ResultHeld (first_such (to_be_read earlier) (puts_of (shape_of i)));
+    }
     ∷ record { fails = entering && is_none (place_for ms); refusal = HopperFull }
     ∷ record { fails = has_reference (shape_of i) && out_of_turn row_of earlier; refusal = OutOfTurn }
     ∷ []

@@ -15,7 +15,7 @@ ghost use Rattle.in_flight.specs.Flight.{left_by, outstanding_of, IsRestOf, unit
 ghost use Rattle.in_flight.specs.Pending.{has_read, is_branch, delays_fetch};
 ghost use Rattle.in_flight.specs.Lookup.{first_of, sought, stage_at, entry_at, arrival_at, in_phase, kept, enters, place_for, is_pending};
 ghost use Rattle.instructions.specs.Finding.{replaced, Found, seek};
-ghost use Rattle.in_flight.specs.Slots.{IsSlotted};
+ghost use Rattle.in_flight.specs.inner.Slots.{IsSlotted};
 ghost use Rattle.in_flight.specs.Apart.{IsApart};
 
 use crate::slots::Slots;
@@ -164,9 +164,12 @@ impl InFlight {
     /// `UnitBusy`, `ResultReserved`.
     pub fn reserve(&mut self, instr: &Instr, at: Word18) -> Result<(Unit, u64), Refusal>
         requires number { self.old.last + 1 < 2 ^ 64 }
-        ensures answer { (place : SomePlace) → refusal_of (row_tests self.old.pending (Taking instr.now place)) ≡ refusal_in result }
-        ensures reservation { IfOk result (λ reserved. (reserved.0 ≡ unit_taken self.old instr.now) × (reserved.1 ≡ suc self.old.last)) }
-        ensures after { MatchResult result (λ reserved. self.new ≡ reserved_in self.old instr.now at) (λ refusal. self.new ≡ self.old) }
+        ensures answer { (place : SomePlace)
+            → refusal_of (row_tests self.old.pending (Taking instr.now place)) ≡ refusal_in result }
+        ensures reservation { IfOk result
+            (λ reserved. (reserved.0 ≡ unit_taken self.old instr.now) × (reserved.1 ≡ suc self.old.last)) }
+        ensures after { MatchResult result (λ reserved. self.new ≡ reserved_in self.old instr.now at)
+            (λ refusal. self.new ≡ self.old) }
     {
         if unit_kind(instr).is_none() {
             return Err(Refusal::UnitBusy(Unit::Branch));
@@ -195,11 +198,15 @@ impl InFlight {
         unit: Unit,
         registers: &RegisterFile,
     ) -> Result<(Pending, Operands), Refusal>
-        ensures answer { refusal_of (tests_found (seek (stage_at unit) self.old.pending) (λ f. read_tests f.answer f.earlier f.member.instr)) ≡ refusal_in result }
-        ensures member { IfOk result (λ read. sought (seek (stage_at unit) self.old.pending) ≡ Some (record { member = read.0; answer = Waiting })) }
+        ensures answer { refusal_of (tests_found (seek (stage_at unit) self.old.pending)
+            (λ f. read_tests f.answer f.earlier f.member.instr)) ≡ refusal_in result }
+        ensures member { IfOk result (λ read. sought (seek (stage_at unit) self.old.pending)
+            ≡ Some (record { member = read.0; answer = Waiting })) }
         ensures operands { IfOk result (λ read. read.1 ≡ operands read.0.instr read.0.at registers.now) }
         ensures after { MatchResult result
-            (λ read. self.new ≡ with_pending self.old (replaced (seek (stage_at unit) self.old.pending) self.old.pending (λ m. in_phase m (Before (Read read.1)) ∷ [])))
+            (λ read. self.new ≡ with_pending self.old
+            (replaced (seek (stage_at unit) self.old.pending) self.old.pending
+            (λ m. in_phase m (Before (Read read.1)) ∷ [])))
             (λ refusal. self.new ≡ self.old) }
     {
         let Some(found) = self.slots.find_stage(unit) else {
@@ -220,7 +227,9 @@ impl InFlight {
     /// The unit's instruction, which has read its operands, has its value.
     pub fn finish(&mut self, unit: Unit, value: UnitValue)
         requires { IfSome (sought (seek (stage_at unit) self.old.pending)) (λ s. has_read s.answer ≡ true) }
-        ensures { self.new ≡ with_pending self.old (replaced (seek (stage_at unit) self.old.pending) self.old.pending (λ m. in_phase m (Before (Finished value)) ∷ [])) }
+        ensures { self.new ≡ with_pending self.old
+            (replaced (seek (stage_at unit) self.old.pending) self.old.pending
+            (λ m. in_phase m (Before (Finished value)) ∷ [])) }
     {
         self.slots.set_stage(unit, Stage::Finished(value));
     }
@@ -230,7 +239,8 @@ impl InFlight {
     /// # Errors
     /// `ResultHeld`, `HopperFull`, `OutOfTurn`.
     pub fn may_store(&self, unit: Unit, enters: bool) -> Result<(), Refusal>
-        ensures { (f : Found Pending SomeStage) → seek (stage_at unit) self.now.pending ≡ Some f → refusal_of (store_conflicts self.now.pending f.earlier f.member.instr enters) ≡ refusal_in result }
+        ensures { (f : Found Pending SomeStage) → seek (stage_at unit) self.now.pending ≡ Some f
+            → refusal_of (store_conflicts self.now.pending f.earlier f.member.instr enters) ≡ refusal_in result }
     {
         if let Err(refusal) = self.board.may_store(unit) {
             return Err(refusal);
@@ -244,9 +254,12 @@ impl InFlight {
     /// The unit's instruction leaves it; what is left of it enters the hopper or waits in its channel.
     pub fn leave(&mut self, unit: Unit, rest: &Option<Rest>)
         requires apart { Pairs IsApart self.old.pending }
-        requires rest { IfSome (sought (seek (stage_at unit) self.old.pending)) (λ s. IsRestOf (shape_of s.member.instr) rest.now) }
+        requires rest { IfSome (sought (seek (stage_at unit) self.old.pending))
+            (λ s. IsRestOf (shape_of s.member.instr) rest.now) }
         requires room { enters (outstanding_of 0 rest.now) ≡ true → is_none (place_for self.old.pending) ≡ false }
-        ensures { self.new ≡ with_pending self.old (replaced (seek (stage_at unit) self.old.pending) self.old.pending (λ m. kept m (outstanding_of (unwrap_or (place_for self.old.pending) 0) rest.now))) }
+        ensures { self.new ≡ with_pending self.old
+            (replaced (seek (stage_at unit) self.old.pending) self.old.pending
+            (λ m. kept m (outstanding_of (unwrap_or (place_for self.old.pending) 0) rest.now))) }
     {
         if self.slots.find_stage(unit).is_none() {
             return;
@@ -264,11 +277,14 @@ impl InFlight {
     pub fn accept(&mut self, place: u8, memory: &Storage) -> Result<Reference, Refusal>
         requires apart { Pairs IsApart self.old.pending }
         requires slotted { IsSlotted (length memory.now) self.old.pending }
-        ensures answer { refusal_of (tests_found (seek (entry_at place) self.old.pending) (λ f. accept_tests self.old.busy f.earlier f.answer)) ≡ refusal_in result }
-        ensures entry { IfOk result (λ reference. IfSome (seek (entry_at place) self.old.pending) (λ f. f.answer ≡ record { a = reference.address; access = reference.access })) }
+        ensures answer { refusal_of (tests_found (seek (entry_at place) self.old.pending)
+            (λ f. accept_tests self.old.busy f.earlier f.answer)) ≡ refusal_in result }
+        ensures entry { IfOk result (λ reference. IfSome (seek (entry_at place) self.old.pending)
+            (λ f. f.answer ≡ record { a = reference.address; access = reference.access })) }
         ensures after { MatchResult result
             (λ reference. self.new ≡ record self.old {
-              pending = replaced (seek (entry_at place) self.old.pending) self.old.pending (λ m. kept m (left_by memory.now reference.address reference.access));
+              pending = replaced (seek (entry_at place) self.old.pending) self.old.pending
+                  (λ m. kept m (left_by memory.now reference.address reference.access));
               busy = slice_set self.old.busy (bank_of reference.address) true;
             })
             (λ refusal. self.new ≡ self.old) }
@@ -288,10 +304,13 @@ impl InFlight {
     /// `Nothing`, `ResultHeld`.
     pub fn return_load(&mut self, channel: u8) -> Result<Arrival, Refusal>
         requires apart { Pairs IsApart self.old.pending }
-        ensures answer { refusal_of (tests_found (seek (arrival_at channel) self.old.pending) (λ f. return_tests f.earlier f.answer)) ≡ refusal_in result }
-        ensures arrival { IfOk result (λ arrival. IfSome (seek (arrival_at channel) self.old.pending) (λ f. f.answer ≡ arrival)) }
+        ensures answer { refusal_of (tests_found (seek (arrival_at channel) self.old.pending)
+            (λ f. return_tests f.earlier f.answer)) ≡ refusal_in result }
+        ensures arrival { IfOk result
+            (λ arrival. IfSome (seek (arrival_at channel) self.old.pending) (λ f. f.answer ≡ arrival)) }
         ensures after { MatchResult result
-            (λ arrival. self.new ≡ with_pending self.old (replaced (seek (arrival_at channel) self.old.pending) self.old.pending (λ m. [])))
+            (λ arrival. self.new ≡ with_pending self.old
+            (replaced (seek (arrival_at channel) self.old.pending) self.old.pending (λ m. [])))
             (λ refusal. self.new ≡ self.old) }
     {
         let Some(found) = self.slots.find_arrival(channel) else {
@@ -311,7 +330,9 @@ impl InFlight {
     /// `Nothing`.
     pub fn bank_free(&mut self, bank: u8) -> Result<(), Refusal>
         ensures answer { refusal_of (free_tests self.old.busy bank) ≡ refusal_in result }
-        ensures after { MatchResult result (λ freed. self.new ≡ record self.old { busy = slice_set self.old.busy bank false }) (λ refusal. self.new ≡ self.old) }
+        ensures after { MatchResult result
+            (λ freed. self.new ≡ record self.old { busy = slice_set self.old.busy bank false })
+            (λ refusal. self.new ≡ self.old) }
     {
         self.hopper.bank_free(bank)
     }

@@ -1,5 +1,5 @@
-//! The instructions in flight: the members of the list of pending instructions by the unit, the place of the hopper or
-//! the channel that each has, beside the scoreboard and the hopper, which answer for them.
+//! The instructions in flight, which are the pending ones: by the unit, the place of the hopper or the channel that
+//! each has, beside the scoreboard and the hopper, which answer for them.
 #![tactic(auto)]
 
 mod flight;

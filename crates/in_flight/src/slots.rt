@@ -6,14 +6,14 @@ ghost use Rattle.in_flight.specs.declared.pending.Phase.TheVariants.{Before, Aft
 ghost use Rattle.in_flight.specs.declared.pending.Stage.TheVariants.{Waiting};
 ghost use Rattle.instructions.specs.Finding.{seek, replaced};
 ghost use Rattle.in_flight.specs.Lookup.{stage_at, entry_at, arrival_at, in_phase, kept, sought, first_of};
-ghost use Rattle.in_flight.specs.Seats.{HasRoom, places_with, channels_with, has_none, lower_of, lowest_of};
+ghost use Rattle.in_flight.specs.inner.Seats.{HasRoom, places_with, channels_with, has_none, lower_of, lowest_of};
 
 use crate::{Arrival, HopperEntry, Outstanding, Pending, Phase, Stage};
 use instruction_table::Unit;
 use scoreboard::unit_number;
 use std::marker::Model;
 
-/// A member that was sought, with what was asked of it.
+/// A pending instruction that was sought, with its answer to what was asked.
 #[derive(Clone, Copy, Drop)]
 pub struct Sought<K> {
     pub member: Pending,
@@ -35,7 +35,7 @@ impl Model for Slots {
 
     ghost Value = { List Pending };
 
-    ghost use Rattle.in_flight.specs.Seats.{seats, in_order, IsRight};
+    ghost use Rattle.in_flight.specs.inner.Seats.{seats, in_order, IsRight};
 
     ghost view = { λ p. in_order (seats p.units p.places p.channels) };
 
@@ -51,7 +51,7 @@ fn index_of(unit: Unit) -> usize
 }
 
 impl Pending {
-    /// The member in another phase.
+    /// The instruction in another phase.
     #[tactic(auto, unfolding(crate::specs::Lookup::in_phase))]
     fn in_phase(&self, phase: Phase) -> Pending
         ensures { result ≡ in_phase self.now phase }
@@ -60,8 +60,8 @@ impl Pending {
     }
 }
 
-/// What is left of a member goes to its place or its channel.
-#[tactic(auto, unfolding(crate::specs::Seats::places_with, crate::specs::Seats::channels_with))]
+/// What is left of an instruction goes to its place or its channel.
+#[tactic(auto, unfolding(crate::specs::inner::Seats::places_with, crate::specs::inner::Seats::channels_with))]
 fn put_rest(
     places: &mut [Option<Pending>],
     channels: &mut [Option<Pending>],
@@ -105,7 +105,7 @@ fn none_held(seats: &[Option<Pending>]) -> bool
 }
 
 /// The one with the lower number, or the only one.
-#[tactic(auto, unfolding(crate::specs::Seats::lower_of))]
+#[tactic(auto, unfolding(crate::specs::inner::Seats::lower_of))]
 fn lower(first: &Option<Pending>, second: &Option<Pending>) -> Option<Pending>
     ensures { result ≡ lower_of first.now second.now }
 {
@@ -160,7 +160,7 @@ impl Slots {
         none_held(&self.channels)
     }
 
-    /// The member with the lowest number.
+    /// The pending instruction with the lowest number.
     pub fn oldest(&self) -> Option<Pending>
         ensures { result ≡ first_of self.now }
     {
@@ -168,7 +168,7 @@ impl Slots {
         lower(&lowest(&self.units), &referring)
     }
 
-    /// The member that holds the unit, with its stage.
+    /// The instruction that holds the unit, with its stage.
     pub fn find_stage(&self, unit: Unit) -> Option<Sought<Stage>>
         ensures { result ≡ sought (seek (stage_at unit) self.now) }
     {
@@ -183,7 +183,7 @@ impl Slots {
         }
     }
 
-    /// The member that holds the unit comes to another stage.
+    /// The instruction that holds the unit comes to another stage.
     pub fn set_stage(&mut self, unit: Unit, stage: Stage)
         ensures { self.new ≡ replaced (seek (stage_at unit) self.old) self.old (λ m. in_phase m (Before stage) ∷ []) }
     {
@@ -193,7 +193,7 @@ impl Slots {
         }
     }
 
-    /// The member that holds the unit leaves it; what is left of it goes to its place or its channel.
+    /// The instruction that holds the unit leaves it; what is left of it goes to its place or its channel.
     pub fn leave(&mut self, unit: Unit, later: &Option<Outstanding>)
         requires { HasRoom later.now self.old }
         ensures { self.new ≡ replaced (seek (stage_at unit) self.old) self.old (λ m. kept m later.now) }
@@ -207,7 +207,7 @@ impl Slots {
         put_rest(&mut self.places, &mut self.channels, &member, later);
     }
 
-    /// The member that stands in a place of the hopper, with its reference.
+    /// The instruction that stands in a place of the hopper, with its reference.
     pub fn find_entry(&self, place: u8) -> Option<Sought<HopperEntry>>
         requires { place < 4 }
         ensures { result ≡ sought (seek (entry_at place) self.now) }
@@ -222,7 +222,7 @@ impl Slots {
         }
     }
 
-    /// The member in the place leaves it; what is left of it goes to its channel.
+    /// The instruction in the place leaves it; what is left of it goes to its channel.
     pub fn accept(&mut self, place: u8, later: &Option<Outstanding>)
         requires place { place < 4 }
         requires room { HasRoom later.now self.old }
@@ -237,7 +237,7 @@ impl Slots {
         put_rest(&mut self.places, &mut self.channels, &member, later);
     }
 
-    /// The member that waits in a channel, with its word.
+    /// The instruction that waits in a channel, with its word.
     pub fn find_arrival(&self, channel: u8) -> Option<Sought<Arrival>>
         ensures found { result ≡ sought (seek (arrival_at channel) self.now) }
         ensures range { IfSome result (λ s. channel < 8) }
@@ -252,7 +252,7 @@ impl Slots {
         }
     }
 
-    /// The member in the channel has returned.
+    /// The instruction in the channel has returned.
     pub fn returned(&mut self, channel: u8)
         requires { channel < 8 }
         ensures { self.new ≡ replaced (seek (arrival_at channel) self.old) self.old (λ m. []) }
@@ -265,7 +265,7 @@ impl Slots {
         self.channels[index] = None;
     }
 
-    /// A new member, with a number above all, goes to its unit, which is free.
+    /// A new instruction, with a number above all, goes to its unit, which is free.
     pub fn push(&mut self, member: Pending)
         requires waits { member.phase ≡ Before Waiting }
         requires free { seek (stage_at member.unit) self.old ≡ None }

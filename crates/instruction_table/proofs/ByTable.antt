@@ -42,7 +42,8 @@ abbrev AgreeFrom : (ℕ → ℕ) → ℕ → ℕ → List TableEntry → Type 0
 AgreeFrom g n q [] = ⊤
 AgreeFrom g n q (e ∷ es) = Agrees (g n) q e × AgreeFrom g (suc n) q es
 
-agrees_at : (g : ℕ → ℕ) (es : List TableEntry) (c n m q : ℕ) → n ≡ c + m → m < length es → AgreeFrom g c q es → Agrees (g n) q (entry es m)
+agrees_at : (g : ℕ → ℕ) (es : List TableEntry) (c n m q : ℕ) → n ≡ c + m → m < length es → AgreeFrom g c q es
+    → Agrees (g n) q (entry es m)
 agrees_at g [] c n m q h l a = absurd (omega (arith, l))
 agrees_at g (e ∷ es) c n zero q h l a = subst (λ x. Agrees (g x) q e) (omega (arith, h)) a.0
 agrees_at g (e ∷ es) c n (suc m) q h l a = agrees_at g es (suc c) n m q (omega (arith, h)) (omega (arith, l)) a.1
@@ -52,10 +53,13 @@ abbrev AgreeRows : (ℕ → ℕ) → ℕ → ℕ → List (List TableEntry) → 
 AgreeRows g n q [] = ⊤
 AgreeRows g n q (row ∷ rs) = ((length row ≡ 8) × AgreeFrom g n q row) × AgreeRows g (n + 8) q rs
 
-agrees_in : (g : ℕ → ℕ) (rs : List (List TableEntry)) (c n f m q : ℕ) → n ≡ c + (8 * f + m) → f < length rs → m < 8 → AgreeRows g c q rs → Agrees (g n) q (entry (get_or rs f []) m)
+agrees_in : (g : ℕ → ℕ) (rs : List (List TableEntry)) (c n f m q : ℕ) → n ≡ c + (8 * f + m) → f < length rs → m < 8
+    → AgreeRows g c q rs → Agrees (g n) q (entry (get_or rs f []) m)
 agrees_in g [] c n f m q h l k a = absurd (omega (arith, l))
-agrees_in g (row ∷ rs) c n zero m q h l k a = let d : length row ≡ 8 = a.0.0 in agrees_at g row c n m q (omega (arith, h)) (omega (arith, k, d)) a.0.1
-agrees_in g (row ∷ rs) c n (suc f) m q h l k a = agrees_in g rs (c + 8) n f m q (omega (arith, h)) (omega (arith, l)) k a.1
+agrees_in g (row ∷ rs) c n zero m q h l k a =
+    let d : length row ≡ 8 = a.0.0 in agrees_at g row c n m q (omega (arith, h)) (omega (arith, k, d)) a.0.1
+agrees_in g (row ∷ rs) c n (suc f) m q h l k a =
+    agrees_in g rs (c + 8) n f m q (omega (arith, h)) (omega (arith, l)) k a.1
 
 -- ---- each opcode ----
 
@@ -71,7 +75,8 @@ all_rows i j k K =
     ∷ increments TargetX i j k K
     ∷ []
 
-plain_op : (c i j k : ℕ) → c < 64 → i < 8 → j < 8 → k < 8 → c ≢ 1 → c ≢ 3 → Plain (c / 8) (c % 8) ≡ op_at (parcel c i j k)
+plain_op : (c i j k : ℕ) → c < 64 → i < 8 → j < 8 → k < 8 → c ≢ 1 → c ≢ 3
+    → Plain (c / 8) (c % 8) ≡ op_at (parcel c i j k)
 plain_op c i j k hc hi hj hk h1 h3 =
     let code : parcel c i j k / 2 ^ 9 ≡ c = omega (arith, hi, hj, hk) in
     let f : parcel c i j k / 2 ^ 12 ≡ c / 8 = omega (arith, hi, hj, hk) in
@@ -234,9 +239,13 @@ pub entry_agrees : (p q : ℕ) → p < 2 ^ 15 → q < 2 ^ 15 → Agrees p q (ent
 unfolding entry_of
 entry_agrees p q hp hq =
     let again : parcel (p / 2 ^ 9) (p / 2 ^ 6 % 8) (p / 2 ^ 3 % 8) (p % 8) ≡ p = omega (arith, hp) in
-    subst (λ x. Agrees x q (entry (rows (p / 2 ^ 12) (p / 2 ^ 6 % 8) (p / 2 ^ 3 % 8) (p % 8) (p % 8 * 2 ^ 15 + q)) (p / 2 ^ 9 % 8))) again
-    (agrees_in (λ c. parcel c (p / 2 ^ 6 % 8) (p / 2 ^ 3 % 8) (p % 8)) (all_rows (p / 2 ^ 6 % 8) (p / 2 ^ 3 % 8) (p % 8) (p % 8 * 2 ^ 15 + q)) 0 (p / 2 ^ 9) (p / 2 ^ 12) (p / 2 ^ 9 % 8) q (omega (arith, hp)) (omega (arith, hp)) (omega arith)
-    (table (p / 2 ^ 6 % 8) (p / 2 ^ 3 % 8) (p % 8) q (p % 8 * 2 ^ 15 + q) (omega arith) (omega arith) (omega arith) hq refl))
+    subst (λ x. Agrees x q (entry (rows (p / 2 ^ 12) (p / 2 ^ 6 % 8) (p / 2 ^ 3 % 8) (p % 8) (p % 8 * 2 ^ 15 + q))
+    (p / 2 ^ 9 % 8))) again
+    (agrees_in (λ c. parcel c (p / 2 ^ 6 % 8) (p / 2 ^ 3 % 8) (p % 8))
+    (all_rows (p / 2 ^ 6 % 8) (p / 2 ^ 3 % 8) (p % 8) (p % 8 * 2 ^ 15 + q)) 0 (p / 2 ^ 9) (p / 2 ^ 12)
+    (p / 2 ^ 9 % 8) q (omega (arith, hp)) (omega (arith, hp)) (omega arith)
+    (table (p / 2 ^ 6 % 8) (p / 2 ^ 3 % 8) (p % 8) q (p % 8 * 2 ^ 15 + q) (omega arith) (omega arith) (omega arith) hq
+    refl))
 
 -- ---- in a word ----
 
@@ -255,16 +264,19 @@ pub by_table : (word place : ℕ) → place < 4 → IsByTable word place (readin
 unfolding reading_at
 by_table word place l =
     by_entry (entry_of (parcel_at word place) (following_at word place)) refl
-    (entry_agrees (parcel_at word place) (following_at word place) (parcel_small word place) (following_small word place))
+    (entry_agrees (parcel_at word place) (following_at word place) (parcel_small word place)
+    (following_small word place))
   where
     by_length : (instr : Instr) (b : Bool) → nat_lt place 3 ≡ b
         → IsReadAs instr (parcel_at word place ∷ cond b (parcel_at word (place + 1)) 0 ∷ [])
         → IsByTable word place (cond b (Legal instr (place + 2)) Straddle)
-    by_length instr true t a = subst (λ n. IsReadAs instr (parcels_from word place n)) (let d : 2 ≡ place + 2 - place = omega arith in d) a
+    by_length instr true t a =
+        subst (λ n. IsReadAs instr (parcels_from word place n)) (let d : 2 ≡ place + 2 - place = omega arith in d) a
     by_length instr false t a = let f = ltb-false place 3 t in (omega (arith, l, f), (instr, a))
 
     by_entry : (e : TableEntry) → entry_of (parcel_at word place) (following_at word place) ≡ e
         → Agrees (parcel_at word place) (following_at word place) e → IsByTable word place (settled e place)
-    by_entry (Short instr) h a = subst (λ n. IsReadAs instr (parcels_from word place n)) (let d : 1 ≡ place + 1 - place = omega arith in d) a
+    by_entry (Short instr) h a =
+        subst (λ n. IsReadAs instr (parcels_from word place n)) (let d : 1 ≡ place + 1 - place = omega arith in d) a
     by_entry (Long instr) h a = by_length instr (nat_lt place 3) refl a
     by_entry (Refused op) h a = (a, no_code (parcel_at word place) (following_at word place) op h a)

@@ -65,7 +65,8 @@ module _ (t : List ℕ) where
   unfolding HasFields
   shift_by direction = (digit 2, count 4)
 
-  shift_nominal : (direction : Direction) → HasFields (ShiftNominal direction (digit_of t 2) (digit_of t 5) (digit_of t 8))
+  shift_nominal : (direction : Direction)
+      → HasFields (ShiftNominal direction (digit_of t 2) (digit_of t 5) (digit_of t 8))
   unfolding HasFields
   shift_nominal direction = (digit 2, digit 5, digit 8)
 
@@ -107,8 +108,10 @@ module _ (t : List ℕ) where
       let plus = slice_index t 6 == 43 in
       let a = either_addends plus _ _ (registers APlusB) (registers AMinusB) in
       let b = either_addends plus _ _ (registers BPlusB) (registers BMinusB) in
-      let pair = either_addends (slice_index t 4 == 88) _ _ (registers XPlusB) (either_addends (slice_index t 4 == 65) _ _ a b) in
-      let address = either_addends (slice_index t 4 == 65) _ _ (base_address BaseA) (either_addends (slice_index t 4 == 66) _ _ (base_address BaseB) (base_address BaseX)) in
+      let pair = either_addends (slice_index t 4 == 88) _ _ (registers XPlusB)
+      (either_addends (slice_index t 4 == 65) _ _ a b) in
+      let address = either_addends (slice_index t 4 == 65) _ _ (base_address BaseA)
+      (either_addends (slice_index t 4 == 66) _ _ (base_address BaseB) (base_address BaseX)) in
       either_addends (slice_index t 7 == 66) _ _ pair address
 
   increment : (target : Target) → HasFields (increment_in t target)
@@ -140,7 +143,8 @@ module _ (t : List ℕ) where
   count_ones = (digit 2, digit 5)
 
   in_i : HasFields (after_i t)
-  in_i = either _ _ _ (branch_x Indefinite) (either _ _ _ (branch_x InRange) (either _ _ _ (long_add Sum) (long_add Difference)))
+  in_i = either _ _ _ (branch_x Indefinite)
+      (either _ _ _ (branch_x InRange) (either _ _ _ (long_add Sum) (long_add Difference)))
 
   in_l : HasFields (after_l t)
   in_l = either _ _ _ (branch_b Less) (shift Left)
@@ -154,13 +158,22 @@ module _ (t : List ℕ) where
   in_s : HasFields (after_s t)
   in_s = either _ _ _ (increment TargetA) (either _ _ _ (increment TargetB) (increment TargetX))
 
-  from_n : HasFields (if slice_index t 0 == 78 then after_n t else (if slice_index t 0 == 79 then branch_x_in t OutOfRange else (if slice_index t 0 == 80 then after_p t else (if slice_index t 0 == 82 then ReturnJump (number_of t 3) else (if slice_index t 0 == 83 then after_s t else branch_x_in t Zero)))))
-  from_n = either _ _ _ in_n (either _ _ _ (branch_x OutOfRange) (either _ _ _ in_p (either _ _ _ return_jump (either _ _ _ in_s (branch_x Zero)))))
+  from_n : HasFields (if slice_index t 0 == 78 then after_n t
+      else (if slice_index t 0 == 79 then branch_x_in t OutOfRange
+      else (if slice_index t 0 == 80 then after_p t
+      else (if slice_index t 0 == 82 then ReturnJump (number_of t 3)
+      else (if slice_index t 0 == 83 then after_s t else branch_x_in t Zero)))))
+  from_n = either _ _ _ in_n (either _ _ _ (branch_x OutOfRange)
+      (either _ _ _ in_p (either _ _ _ return_jump (either _ _ _ in_s (branch_x Zero)))))
 
   fields : HasFields (candidate_in t)
   unfolding candidate_in
   fields =
-      either _ _ _ (shift Right) (either _ _ _ boolean (either _ _ _ count_ones (either _ _ _ (branch_x Definite) (either _ _ _ (branch_b Equal) (either _ _ _ (branch_b GreaterOrEqual) (either _ _ _ in_i (either _ _ _ jump (either _ _ _ in_l (either _ _ _ mask from_n)))))))))
+      either _ _ _ (shift Right) (either _ _ _ boolean
+      (either _ _ _ count_ones (either _ _ _ (branch_x Definite)
+      (either _ _ _ (branch_b Equal)
+      (either _ _ _ (branch_b GreaterOrEqual)
+      (either _ _ _ in_i (either _ _ _ jump (either _ _ _ in_l (either _ _ _ mask from_n)))))))))
 
   pub candidate_fields : IsInstr (candidate_in t)
   unfolding HasFields

@@ -20,7 +20,8 @@ refused_at [] m = refl
 refused_at (x ∷ xs) zero = refl
 refused_at (x ∷ xs) (suc m) = refused_at xs m
 
-refused_in_row : (xss : List (List TableEntry)) (f m : ℕ) → refused_op (entry (get_or xss f []) m) ≡ get_or (get_or (map (map refused_op) xss) f []) m None
+refused_in_row : (xss : List (List TableEntry)) (f m : ℕ)
+    → refused_op (entry (get_or xss f []) m) ≡ get_or (get_or (map (map refused_op) xss) f []) m None
 refused_in_row [] f m = refl
 refused_in_row (xs ∷ xss) zero m = refused_at xs m
 refused_in_row (xs ∷ xss) (suc f) m = refused_in_row xss f m
@@ -38,10 +39,12 @@ upper_rows i j k K =
     ∷ []
 
 -- i counts after 01, no other field does
-same_refusal : (f m i i' j j' k k' K K' : ℕ) → (f ≡ 0 → m ≡ 1 → i ≡ i') → refused_op (entry (rows f i j k K) m) ≡ refused_op (entry (rows f i' j' k' K') m)
+same_refusal : (f m i i' j j' k k' K K' : ℕ) → (f ≡ 0 → m ≡ 1 → i ≡ i')
+    → refused_op (entry (rows f i j k K) m) ≡ refused_op (entry (rows f i' j' k' K') m)
 same_refusal zero zero i i' j j' k k' K K' h = refl
 same_refusal zero (suc zero) i i' j j' k k' K K' h =
-    refused_at (rows_01 K) i ∙ ap (λ n. get_or (map refused_op (rows_01 K)) n None) (h refl refl) ∙ sym (refused_at (rows_01 K') i')
+    refused_at (rows_01 K) i ∙ ap (λ n. get_or (map refused_op (rows_01 K)) n None) (h refl refl)
+    ∙ sym (refused_at (rows_01 K') i')
 same_refusal zero (suc (suc m)) i i' j j' k k' K K' h =
     refused_at (drop 2 (branches i j K)) m ∙ sym (refused_at (drop 2 (branches i' j' K')) m)
 same_refusal (suc f) m i i' j j' k k' K K' h =
@@ -57,8 +60,11 @@ refusal_by_code p q = by_test (eqb (p / 2 ^ 9) 1 || eqb (p / 2 ^ 9) 3) refl
   where
     by_test : (b : Bool) → (eqb (p / 2 ^ 9) 1 || eqb (p / 2 ^ 9) 3) ≡ b
         → refused_op (entry_of p q)
-        ≡ refusal_of (cond b (Extended (p / 2 ^ 12) (p / 2 ^ 9 % 8) (p / 2 ^ 6 % 8)) (Plain (p / 2 ^ 12) (p / 2 ^ 9 % 8)))
-    by_test true e = same_refusal (p / 2 ^ 12) (p / 2 ^ 9 % 8) (p / 2 ^ 6 % 8) (p / 2 ^ 6 % 8) (p / 2 ^ 3 % 8) 0 (p % 8) 0 _ 0 (λ g h. refl)
+        ≡ refusal_of (cond b (Extended (p / 2 ^ 12) (p / 2 ^ 9 % 8) (p / 2 ^ 6 % 8))
+        (Plain (p / 2 ^ 12) (p / 2 ^ 9 % 8)))
+    by_test true e = same_refusal (p / 2 ^ 12) (p / 2 ^ 9 % 8) (p / 2 ^ 6 % 8) (p / 2 ^ 6 % 8) (p / 2 ^ 3 % 8) 0
+        (p % 8) 0 _ 0 (λ g h. refl)
     by_test false e =
         same_refusal (p / 2 ^ 12) (p / 2 ^ 9 % 8) (p / 2 ^ 6 % 8) 0 (p / 2 ^ 3 % 8) 0 (p % 8) 0 _ 0
-        (λ g h. absurd (eqb-false (p / 2 ^ 9) 1 (or_parts (eqb (p / 2 ^ 9) 1) (eqb (p / 2 ^ 9) 3) e).0 (omega (arith, g, h))))
+        (λ g h. absurd (eqb-false (p / 2 ^ 9) 1 (or_parts (eqb (p / 2 ^ 9) 1) (eqb (p / 2 ^ 9) 3) e).0
+        (omega (arith, g, h))))

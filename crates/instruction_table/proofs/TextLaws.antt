@@ -29,4 +29,5 @@ spelling_of_instr t instr found =
 pub fields_of_instr : (t : List ℕ) (instr : Instr) → instr_of t ≡ Some instr → IsInstr instr
 unfolding instr_of
 fields_of_instr t instr found =
-    subst IsInstr (cond_some (bytes_eq (spelling (candidate_in t)) t) (candidate_in t) instr found).1 (candidate_fields t)
+    subst IsInstr (cond_some (bytes_eq (spelling (candidate_in t)) t) (candidate_in t) instr found).1
+    (candidate_fields t)

@@ -144,7 +144,8 @@ rows f i j k K = get_or
 -- the reading of a parcel that is followed by another, which has the low 15 bits of K
 unfoldable pub entry_of : ℕ → ℕ → TableEntry
 entry_of parcel following =
-    entry (rows (parcel / 2 ^ 12) (parcel / 2 ^ 6 % 8) (parcel / 2 ^ 3 % 8) (parcel % 8) (parcel % 8 * 2 ^ 15 + following)) (parcel / 2 ^ 9 % 8)
+    entry (rows (parcel / 2 ^ 12) (parcel / 2 ^ 6 % 8) (parcel / 2 ^ 3 % 8) (parcel % 8)
+    (parcel % 8 * 2 ^ 15 + following)) (parcel / 2 ^ 9 % 8)
 
 -- a reading at a place of a word: an instruction and the place after it, a refused opcode, or a straddle
 abbrev pub settled : TableEntry → ℕ → Decoded

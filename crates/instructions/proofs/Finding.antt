@@ -15,7 +15,8 @@ unfolding seek found_here found_further
 seek_splits f [] x h = cc
 seek_splits {M} {K} f (m ∷ ms) x h = here (seek_splits f ms) (f m) refl (seek f ms) refl h
   where
-    here : ((y : Found M K) → seek f ms ≡ Some y → Splits f ms y) → (o : Option K) → f m ≡ o → (rest : Option (Found M K)) → seek f ms ≡ rest → found_here o m ms rest ≡ Some x → Splits f (m ∷ ms) x
+    here : ((y : Found M K) → seek f ms ≡ Some y → Splits f ms y) → (o : Option K) → f m ≡ o
+        → (rest : Option (Found M K)) → seek f ms ≡ rest → found_here o m ms rest ≡ Some x → Splits f (m ∷ ms) x
     here ih (Some y) e rest er k = subst (Splits f (m ∷ ms)) (some_inj _ x k) (refl, e, tt)
     here ih None e None er k = cc
     here ih None e (Some y) er k =
@@ -23,10 +24,13 @@ seek_splits {M} {K} f (m ∷ ms) x h = here (seek_splits f ms) (f m) refl (seek 
         subst (Splits f (m ∷ ms)) (some_inj _ x k) (ap (λ l. m ∷ l) p.0, p.1, (e, p.2))
 
 -- one is found where none before it answers
-pub seek_around : {M K : Type 0} (f : M → Option K) (es : List M) (m : M) (x : K) (ls : List M) → Each (λ e. f e ≡ None) es → f m ≡ Some x → seek f (es ++ m ∷ ls) ≡ Some (record { earlier = es; member = m; answer = x; later = ls })
+pub seek_around : {M K : Type 0} (f : M → Option K) (es : List M) (m : M) (x : K) (ls : List M)
+    → Each (λ e. f e ≡ None) es → f m ≡ Some x
+    → seek f (es ++ m ∷ ls) ≡ Some (record { earlier = es; member = m; answer = x; later = ls })
 unfolding seek found_here found_further
 seek_around f [] m x ls h e = ap (λ o. found_here o m ls (seek f ls)) e
-seek_around f (y ∷ es) m x ls h e = ap (λ o. found_here o y (es ++ m ∷ ls) (seek f (es ++ m ∷ ls))) h.0 ∙ ap (found_further y) (seek_around f es m x ls h.1 e)
+seek_around f (y ∷ es) m x ls h e = ap (λ o. found_here o y (es ++ m ∷ ls) (seek f (es ++ m ∷ ls))) h.0
+    ∙ ap (found_further y) (seek_around f es m x ls h.1 e)
 
 pub seek_nobody : {M K : Type 0} (f : M → Option K) (ms : List M) → Each (λ m. f m ≡ None) ms → seek f ms ≡ None
 unfolding seek found_here found_further
@@ -34,10 +38,12 @@ seek_nobody f [] h = refl
 seek_nobody f (m ∷ ms) h = ap (λ o. found_here o m ms (seek f ms)) h.0 ∙ ap (found_further m) (seek_nobody f ms h.1)
 
 -- others stand in its place
-pub replaced_around : {M K : Type 0} (f : M → Option K) (g : M → List M) (es : List M) (m : M) (x : K) (ls : List M) → Each (λ e. f e ≡ None) es → f m ≡ Some x → replaced (seek f (es ++ m ∷ ls)) (es ++ m ∷ ls) g ≡ es ++ (g m ++ ls)
+pub replaced_around : {M K : Type 0} (f : M → Option K) (g : M → List M) (es : List M) (m : M) (x : K) (ls : List M)
+    → Each (λ e. f e ≡ None) es → f m ≡ Some x → replaced (seek f (es ++ m ∷ ls)) (es ++ m ∷ ls) g ≡ es ++ (g m ++ ls)
 unfolding replaced put_back
 replaced_around f g es m x ls h e = ap (λ o. replaced o (es ++ m ∷ ls) g) (seek_around f es m x ls h e)
 
-pub replaced_nobody : {M K : Type 0} (f : M → Option K) (g : M → List M) (ms : List M) → Each (λ m. f m ≡ None) ms → replaced (seek f ms) ms g ≡ ms
+pub replaced_nobody : {M K : Type 0} (f : M → Option K) (g : M → List M) (ms : List M) → Each (λ m. f m ≡ None) ms
+    → replaced (seek f ms) ms g ≡ ms
 unfolding replaced
 replaced_nobody f g ms h = ap (λ o. replaced o ms g) (seek_nobody f ms h)

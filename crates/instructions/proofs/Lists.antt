@@ -16,13 +16,15 @@ any_right f [] ys h = h
 any_right f (x ∷ xs) ys h = any_right f xs ys (or_parts (f x) (list_any f (xs ++ ys)) h).1
 
 -- a test that fails at all gives each
-pub each_of_any : {X : Type 0} (f : X → Bool) (P : X → Type 0) → ((x : X) → f x ≡ false → P x) → (xs : List X) → list_any f xs ≡ false → Each P xs
+pub each_of_any : {X : Type 0} (f : X → Bool) (P : X → Type 0) → ((x : X) → f x ≡ false → P x) → (xs : List X)
+    → list_any f xs ≡ false → Each P xs
 each_of_any f P step [] h = tt
 each_of_any f P step (x ∷ xs) h =
     let p = or_parts (f x) (list_any f xs) h in
     (step x p.0, each_of_any f P step xs p.1)
 
-pub any_of_each : {X : Type 0} (f : X → Bool) (P : X → Type 0) → ((x : X) → P x → f x ≡ false) → (xs : List X) → Each P xs → list_any f xs ≡ false
+pub any_of_each : {X : Type 0} (f : X → Bool) (P : X → Type 0) → ((x : X) → P x → f x ≡ false) → (xs : List X)
+    → Each P xs → list_any f xs ≡ false
 any_of_each f P step [] h = refl
 any_of_each f P step (x ∷ xs) h = or_from (f x) (list_any f xs) (step x h.0) (any_of_each f P step xs h.1)
 
@@ -30,7 +32,8 @@ pub each_map : {X : Type 0} (P Q : X → Type 0) → ((x : X) → P x → Q x) �
 each_map P Q step [] h = tt
 each_map P Q step (x ∷ xs) h = (step x h.0, each_map P Q step xs h.1)
 
-pub each_both : {X : Type 0} (P Q R : X → Type 0) → ((x : X) → P x → Q x → R x) → (xs : List X) → Each P xs → Each Q xs → Each R xs
+pub each_both : {X : Type 0} (P Q R : X → Type 0) → ((x : X) → P x → Q x → R x) → (xs : List X) → Each P xs → Each Q xs
+    → Each R xs
 each_both P Q R step [] h k = tt
 each_both P Q R step (x ∷ xs) h k = (step x h.0 k.0, each_both P Q R step xs h.1 k.1)
 
@@ -47,7 +50,8 @@ each_append P [] ys h k = k
 each_append P (x ∷ xs) ys h k = (h.0, each_append P xs ys h.1 k)
 
 -- each element before a place has the relation to the one there
-pub pairs_before : {X : Type 0} (R : X → X → Type 0) (xs : List X) (y : X) (ys : List X) → Pairs R (xs ++ y ∷ ys) → Each (λ x. R x y) xs
+pub pairs_before : {X : Type 0} (R : X → X → Type 0) (xs : List X) (y : X) (ys : List X) → Pairs R (xs ++ y ∷ ys)
+    → Each (λ x. R x y) xs
 pairs_before R [] y ys h = tt
 pairs_before R (x ∷ xs) y ys h = ((each_right (R x) xs (y ∷ ys) h.0).0, pairs_before R xs y ys h.1)
 
@@ -56,23 +60,31 @@ pairs_right R [] ys h = h
 pairs_right R (x ∷ xs) ys h = pairs_right R xs ys h.1
 
 -- an element taken out
-pub pairs_without : {X : Type 0} (R : X → X → Type 0) (xs : List X) (y : X) (ys : List X) → Pairs R (xs ++ y ∷ ys) → Pairs R (xs ++ ys)
+pub pairs_without : {X : Type 0} (R : X → X → Type 0) (xs : List X) (y : X) (ys : List X) → Pairs R (xs ++ y ∷ ys)
+    → Pairs R (xs ++ ys)
 pairs_without R [] y ys h = h.1
-pairs_without R (x ∷ xs) y ys h =
-    (each_append (R x) xs ys (each_left (R x) xs (y ∷ ys) h.0) (each_right (R x) xs (y ∷ ys) h.0).1, pairs_without R xs y ys h.1)
+pairs_without R (x ∷ xs) y ys h = (
+  each_append (R x) xs ys (each_left (R x) xs (y ∷ ys) h.0) (each_right (R x) xs (y ∷ ys) h.0).1,
+  pairs_without R xs y ys h.1,
+)
 
 -- an element put for another
-pub pairs_with : {X : Type 0} (R : X → X → Type 0) (xs : List X) (y z : X) (ys : List X) → Pairs R (xs ++ y ∷ ys) → Each (λ x. R x z) xs → ((x : X) → R y x → R z x) → Pairs R (xs ++ z ∷ ys)
+pub pairs_with : {X : Type 0} (R : X → X → Type 0) (xs : List X) (y z : X) (ys : List X) → Pairs R (xs ++ y ∷ ys)
+    → Each (λ x. R x z) xs → ((x : X) → R y x → R z x) → Pairs R (xs ++ z ∷ ys)
 pairs_with R [] y z ys h k step = (each_map (R y) (R z) step ys h.0, h.1)
-pairs_with R (x ∷ xs) y z ys h k step =
-    (each_append (R x) xs (z ∷ ys) (each_left (R x) xs (y ∷ ys) h.0) (k.0, (each_right (R x) xs (y ∷ ys) h.0).1), pairs_with R xs y z ys h.1 k.1 step)
+pairs_with R (x ∷ xs) y z ys h k step = (
+  each_append (R x) xs (z ∷ ys) (each_left (R x) xs (y ∷ ys) h.0) (k.0, (each_right (R x) xs (y ∷ ys) h.0).1),
+  pairs_with R xs y z ys h.1 k.1 step,
+)
 
 -- one more at the end
-pub pairs_push : {X : Type 0} (R : X → X → Type 0) (xs : List X) (y : X) → Pairs R xs → Each (λ x. R x y) xs → Pairs R (xs ++ y ∷ [])
+pub pairs_push : {X : Type 0} (R : X → X → Type 0) (xs : List X) (y : X) → Pairs R xs → Each (λ x. R x y) xs
+    → Pairs R (xs ++ y ∷ [])
 pairs_push R [] y h k = (tt, tt)
 pairs_push R (x ∷ xs) y h k = (each_append (R x) xs (y ∷ []) h.0 (k.0, tt), pairs_push R xs y h.1 k.1)
 
 -- a test over what is made of each
-pub any_map : {X Y : Type 0} (f : Y → Bool) (g : X → Y) (xs : List X) → list_any f (map g xs) ≡ list_any (λ x. f (g x)) xs
+pub any_map : {X Y : Type 0} (f : Y → Bool) (g : X → Y) (xs : List X)
+    → list_any f (map g xs) ≡ list_any (λ x. f (g x)) xs
 any_map f g [] = refl
 any_map f g (x ∷ xs) = ap (λ b. f (g x) || b) (any_map f g xs)

@@ -21,104 +21,146 @@ within (o ∷ os) (suc i) x h = let k : i < length os = within os i x h in omega
 abbrev pub HasOwnKeys : {K : Type 0} → (K → ℕ) → List K → Type 0
 HasOwnKeys key xs = Pairs (λ a b. key a ≢ key b) xs
 
-pairs_insert : {K : Type 0} (R : K → K → Type 0) (xs : List K) (y : K) (ys : List K) → Pairs R (xs ++ ys) → Each (λ x. R x y) xs → Each (R y) ys → Pairs R (xs ++ y ∷ ys)
+pairs_insert : {K : Type 0} (R : K → K → Type 0) (xs : List K) (y : K) (ys : List K) → Pairs R (xs ++ ys)
+    → Each (λ x. R x y) xs → Each (R y) ys → Pairs R (xs ++ y ∷ ys)
 pairs_insert R [] y ys h k l = (l, h)
-pairs_insert R (x ∷ xs) y ys h k l = (each_append (R x) xs (y ∷ ys) (each_left (R x) xs ys h.0) (k.0, each_right (R x) xs ys h.0), pairs_insert R xs y ys h.1 k.1 l)
+pairs_insert R (x ∷ xs) y ys h k l = (
+  each_append (R x) xs (y ∷ ys) (each_left (R x) xs ys h.0) (k.0, each_right (R x) xs ys h.0),
+  pairs_insert R xs y ys h.1 k.1 l,
+)
 
 -- the others, once it is taken out
-pub others_differ : {K : Type 0} (key : K → ℕ) (os : List (Option K)) (i : ℕ) (m : K) → get_or os i None ≡ Some m → HasOwnKeys key (somes os) → Each (λ x. key x ≢ key m) (somes (set os i None))
+pub others_differ : {K : Type 0} (key : K → ℕ) (os : List (Option K)) (i : ℕ) (m : K) → get_or os i None ≡ Some m
+    → HasOwnKeys key (somes os) → Each (λ x. key x ≢ key m) (somes (set os i None))
 others_differ key os i m h own =
     let split = subst (HasOwnKeys key) (somes-at os i m h) own in
     subst (Each (λ x. key x ≢ key m)) (sym (somes-set_none os i (within os i m h)))
     (each_append (λ x. key x ≢ key m) (before_place os i) (after_place os i)
     (pairs_before (λ a b. key a ≢ key b) (before_place os i) m (after_place os i) split)
-    (each_map (λ x. key m ≢ key x) (λ x. key x ≢ key m) (λ x k. λ e. k (sym e)) (after_place os i) (pairs_right (λ a b. key a ≢ key b) (before_place os i) (m ∷ after_place os i) split).0))
+    (each_map (λ x. key m ≢ key x) (λ x. key x ≢ key m) (λ x k. λ e. k (sym e)) (after_place os i)
+    (pairs_right (λ a b. key a ≢ key b) (before_place os i) (m ∷ after_place os i) split).0))
 
-pub own_taken : {K : Type 0} (key : K → ℕ) (os : List (Option K)) (i : ℕ) (m : K) → get_or os i None ≡ Some m → HasOwnKeys key (somes os) → HasOwnKeys key (somes (set os i None))
+pub own_taken : {K : Type 0} (key : K → ℕ) (os : List (Option K)) (i : ℕ) (m : K) → get_or os i None ≡ Some m
+    → HasOwnKeys key (somes os) → HasOwnKeys key (somes (set os i None))
 own_taken key os i m h own =
     subst (HasOwnKeys key) (sym (somes-set_none os i (within os i m h)))
-    (pairs_without (λ a b. key a ≢ key b) (before_place os i) m (after_place os i) (subst (HasOwnKeys key) (somes-at os i m h) own))
+    (pairs_without (λ a b. key a ≢ key b) (before_place os i) m (after_place os i)
+    (subst (HasOwnKeys key) (somes-at os i m h) own))
 
-pub own_put : {K : Type 0} (key : K → ℕ) (os : List (Option K)) (i : ℕ) (m : K) → get_or os i None ≡ None → i < length os → Each (λ x. key x ≢ key m) (somes os) → HasOwnKeys key (somes os) → HasOwnKeys key (somes (set os i (Some m)))
+pub own_put : {K : Type 0} (key : K → ℕ) (os : List (Option K)) (i : ℕ) (m : K) → get_or os i None ≡ None
+    → i < length os → Each (λ x. key x ≢ key m) (somes os) → HasOwnKeys key (somes os)
+    → HasOwnKeys key (somes (set os i (Some m)))
 own_put key os i m h l d own =
     let e = somes-empty os i h l in
     let dd = subst (Each (λ x. key x ≢ key m)) e d in
     subst (HasOwnKeys key) (sym (somes-set_some os i m l))
     (pairs_insert (λ a b. key a ≢ key b) (before_place os i) m (after_place os i) (subst (HasOwnKeys key) e own)
     (each_left (λ x. key x ≢ key m) (before_place os i) (after_place os i) dd)
-    (each_map (λ x. key x ≢ key m) (λ x. key m ≢ key x) (λ x k. λ i. k (sym i)) (after_place os i) (each_right (λ x. key x ≢ key m) (before_place os i) (after_place os i) dd)))
+    (each_map (λ x. key x ≢ key m) (λ x. key m ≢ key x) (λ x k. λ i. k (sym i)) (after_place os i)
+    (each_right (λ x. key x ≢ key m) (before_place os i) (after_place os i) dd)))
 
 -- one taken out of its seat
-pub sort_take : {K : Type 0} (key : K → ℕ) (os : List (Option K)) (i : ℕ) (m : K) → get_or os i None ≡ Some m → HasOwnKeys key (somes os) → sort_by key (somes os) ≡ insert_by key m (sort_by key (somes (set os i None)))
+pub sort_take : {K : Type 0} (key : K → ℕ) (os : List (Option K)) (i : ℕ) (m : K) → get_or os i None ≡ Some m
+    → HasOwnKeys key (somes os) → sort_by key (somes os) ≡ insert_by key m (sort_by key (somes (set os i None)))
 sort_take key os i m h own =
     ap (sort_by key) (somes-at os i m h)
-    ∙ sort_around key (before_place os i) m (after_place os i) (pairs_before (λ a b. key a ≢ key b) (before_place os i) m (after_place os i) (subst (HasOwnKeys key) (somes-at os i m h) own))
+    ∙ sort_around key (before_place os i) m (after_place os i)
+    (pairs_before (λ a b. key a ≢ key b) (before_place os i) m (after_place os i)
+    (subst (HasOwnKeys key) (somes-at os i m h) own))
     ∙ ap (λ l. insert_by key m (sort_by key l)) (sym (somes-set_none os i (within os i m h)))
 
 -- one put into an empty seat
-pub sort_put : {K : Type 0} (key : K → ℕ) (os : List (Option K)) (i : ℕ) (m : K) → get_or os i None ≡ None → i < length os → Each (λ x. key x ≢ key m) (somes os) → sort_by key (somes (set os i (Some m))) ≡ insert_by key m (sort_by key (somes os))
+pub sort_put : {K : Type 0} (key : K → ℕ) (os : List (Option K)) (i : ℕ) (m : K) → get_or os i None ≡ None
+    → i < length os → Each (λ x. key x ≢ key m) (somes os)
+    → sort_by key (somes (set os i (Some m))) ≡ insert_by key m (sort_by key (somes os))
 sort_put key os i m h l d =
     let e = somes-empty os i h l in
     ap (sort_by key) (somes-set_some os i m l)
-    ∙ sort_around key (before_place os i) m (after_place os i) (each_left (λ x. key x ≢ key m) (before_place os i) (after_place os i) (subst (Each (λ x. key x ≢ key m)) e d))
+    ∙ sort_around key (before_place os i) m (after_place os i)
+    (each_left (λ x. key x ≢ key m) (before_place os i) (after_place os i) (subst (Each (λ x. key x ≢ key m)) e d))
     ∙ ap (λ q. insert_by key m (sort_by key q)) (sym e)
 
 -- the list in order with it, and without it
-pub taken_with : {K : Type 0} (key : K → ℕ) (os : List (Option K)) (i : ℕ) (m : K) → get_or os i None ≡ Some m → HasOwnKeys key (somes os) → sort_by key (somes os) ≡ below key (key m) (sort_by key (somes (set os i None))) ++ m ∷ above key (key m) (sort_by key (somes (set os i None)))
+pub taken_with : {K : Type 0} (key : K → ℕ) (os : List (Option K)) (i : ℕ) (m : K) → get_or os i None ≡ Some m
+    → HasOwnKeys key (somes os) → sort_by key (somes os) ≡ below key (key m) (sort_by key (somes (set os i None))) ++ m
+    ∷ above key (key m) (sort_by key (somes (set os i None)))
 taken_with key os i m h own = sort_take key os i m h own ∙ insert_splits key m (sort_by key (somes (set os i None)))
 
-pub taken_without : {K : Type 0} (key : K → ℕ) (n : ℕ) (os : List (Option K)) (i : ℕ) → sort_by key (somes (set os i None)) ≡ below key n (sort_by key (somes (set os i None))) ++ above key n (sort_by key (somes (set os i None)))
+pub taken_without : {K : Type 0} (key : K → ℕ) (n : ℕ) (os : List (Option K)) (i : ℕ)
+    → sort_by key (somes (set os i None)) ≡ below key n (sort_by key (somes (set os i None)))
+    ++ above key n (sort_by key (somes (set os i None)))
 taken_without key n os i = below-above key n (sort_by key (somes (set os i None)))
 
 -- taken out of one seat, and put back into another under its number
-pub moved_with : {K : Type 0} (key : K → ℕ) (os : List (Option K)) (i j : ℕ) (m m' : K) → get_or os i None ≡ Some m → key m' ≡ key m → get_or (set os i None) j None ≡ None → j < length (set os i None) → HasOwnKeys key (somes os) → sort_by key (somes (set (set os i None) j (Some m'))) ≡ below key (key m) (sort_by key (somes (set os i None))) ++ m' ∷ above key (key m) (sort_by key (somes (set os i None)))
+pub moved_with : {K : Type 0} (key : K → ℕ) (os : List (Option K)) (i j : ℕ) (m m' : K) → get_or os i None ≡ Some m
+    → key m' ≡ key m → get_or (set os i None) j None ≡ None → j < length (set os i None) → HasOwnKeys key (somes os)
+    → sort_by key (somes (set (set os i None) j (Some m'))) ≡ below key (key m) (sort_by key (somes (set os i None)))
+    ++ m' ∷ above key (key m) (sort_by key (somes (set os i None)))
 moved_with key os i j m m' h e f l own =
-    sort_put key (set os i None) j m' f l (each_map (λ x. key x ≢ key m) (λ x. key x ≢ key m') (λ x k. λ q. k (q ∙ e)) (somes (set os i None)) (others_differ key os i m h own))
+    sort_put key (set os i None) j m' f l
+    (each_map (λ x. key x ≢ key m) (λ x. key x ≢ key m') (λ x k. λ q. k (q ∙ e)) (somes (set os i None))
+    (others_differ key os i m h own))
     ∙ insert_splits key m' (sort_by key (somes (set os i None)))
-    ∙ ap (λ n. below key n (sort_by key (somes (set os i None))) ++ m' ∷ above key n (sort_by key (somes (set os i None)))) e
+    ∙ ap (λ n. below key n (sort_by key (somes (set os i None))) ++ m'
+    ∷ above key n (sort_by key (somes (set os i None)))) e
 
 -- a new one, with a number above all, goes to the end
-pub sort_new : {K : Type 0} (key : K → ℕ) (os : List (Option K)) (i : ℕ) (m : K) → get_or os i None ≡ None → i < length os → Each (λ x. key x < key m) (somes os) → sort_by key (somes (set os i (Some m))) ≡ sort_by key (somes os) ++ m ∷ []
+pub sort_new : {K : Type 0} (key : K → ℕ) (os : List (Option K)) (i : ℕ) (m : K) → get_or os i None ≡ None
+    → i < length os → Each (λ x. key x < key m) (somes os)
+    → sort_by key (somes (set os i (Some m))) ≡ sort_by key (somes os) ++ m ∷ []
 sort_new key os i m h l d =
     sort_put key os i m h l (each_map (λ x. key x < key m) (λ x. key x ≢ key m) (λ x k. omega arith) (somes os) d)
     ∙ insert_last key m (sort_by key (somes os)) (sort_each key (λ x. key x < key m) (somes os) d)
 
 -- ---- each in its own seat ----
 
-seated_from : {K : Type 0} (seat_of : K → ℕ) (os : List (Option K)) (k v : ℕ) → v < k → IsSeated seat_of k os → Each (λ y. seat_of y ≢ v) (somes os)
+seated_from : {K : Type 0} (seat_of : K → ℕ) (os : List (Option K)) (k v : ℕ) → v < k → IsSeated seat_of k os
+    → Each (λ y. seat_of y ≢ v) (somes os)
 unfolding somes
 seated_from seat_of [] k v h s = tt
 seated_from seat_of (None ∷ os) k v h s = seated_from seat_of os (suc k) v (omega arith) s
-seated_from seat_of (Some x ∷ os) k v h s = (λ e. let q : seat_of x ≡ k = s.0 in omega (arith, e, q, h), seated_from seat_of os (suc k) v (omega arith) s.1)
+seated_from seat_of (Some x ∷ os) k v h s =
+    (λ e. let q : seat_of x ≡ k = s.0 in omega (arith, e, q, h), seated_from seat_of os (suc k) v (omega arith) s.1)
 
 -- no other sits there
-pub seated_others : {K : Type 0} (seat_of : K → ℕ) (os : List (Option K)) (k i v : ℕ) → v ≡ k + i → IsSeated seat_of k os → Each (λ y. seat_of y ≢ v) (somes (set os i None))
+pub seated_others : {K : Type 0} (seat_of : K → ℕ) (os : List (Option K)) (k i v : ℕ) → v ≡ k + i
+    → IsSeated seat_of k os → Each (λ y. seat_of y ≢ v) (somes (set os i None))
 unfolding somes
 seated_others seat_of [] k i v e s = tt
 seated_others seat_of (None ∷ os) k zero v e s = seated_from seat_of os (suc k) v (omega (arith, e)) s
 seated_others seat_of (Some x ∷ os) k zero v e s = seated_from seat_of os (suc k) v (omega (arith, e)) s.1
 seated_others seat_of (None ∷ os) k (suc i) v e s = seated_others seat_of os (suc k) i v (omega (arith, e)) s
-seated_others seat_of (Some x ∷ os) k (suc i) v e s = (λ q. let p : seat_of x ≡ k = s.0 in omega (arith, e, q, p), seated_others seat_of os (suc k) i v (omega (arith, e)) s.1)
+seated_others seat_of (Some x ∷ os) k (suc i) v e s = (
+  λ q. let p : seat_of x ≡ k = s.0 in omega (arith, e, q, p),
+  seated_others seat_of os (suc k) i v (omega (arith, e)) s.1,
+)
 
 -- and nobody at all where it is empty
-pub seated_nobody : {K : Type 0} (seat_of : K → ℕ) (os : List (Option K)) (i : ℕ) → get_or os i None ≡ None → IsSeated seat_of 0 os → Each (λ y. seat_of y ≢ i) (somes os)
-seated_nobody seat_of os i h s = subst (λ l. Each (λ y. seat_of y ≢ i) (somes l)) (ap (set os i) (sym h) ∙ set-get_or os i None) (seated_others seat_of os 0 i i (omega arith) s)
+pub seated_nobody : {K : Type 0} (seat_of : K → ℕ) (os : List (Option K)) (i : ℕ) → get_or os i None ≡ None
+    → IsSeated seat_of 0 os → Each (λ y. seat_of y ≢ i) (somes os)
+seated_nobody seat_of os i h s =
+    subst (λ l. Each (λ y. seat_of y ≢ i) (somes l)) (ap (set os i) (sym h) ∙ set-get_or os i None)
+    (seated_others seat_of os 0 i i (omega arith) s)
 
-pub seated_here : {K : Type 0} (seat_of : K → ℕ) (os : List (Option K)) (k i : ℕ) (x : K) → get_or os i None ≡ Some x → IsSeated seat_of k os → seat_of x ≡ k + i
+pub seated_here : {K : Type 0} (seat_of : K → ℕ) (os : List (Option K)) (k i : ℕ) (x : K) → get_or os i None ≡ Some x
+    → IsSeated seat_of k os → seat_of x ≡ k + i
 seated_here seat_of [] k i x h s = cc
 seated_here seat_of (None ∷ os) k zero x h s = cc
-seated_here seat_of (Some y ∷ os) k zero x h s = let e : y ≡ x = cc in let q : seat_of y ≡ k = s.0 in ap seat_of (sym e) ∙ q ∙ omega arith
+seated_here seat_of (Some y ∷ os) k zero x h s =
+    let e : y ≡ x = cc in let q : seat_of y ≡ k = s.0 in ap seat_of (sym e) ∙ q ∙ omega arith
 seated_here seat_of (None ∷ os) k (suc i) x h s = seated_here seat_of os (suc k) i x h s ∙ omega arith
 seated_here seat_of (Some y ∷ os) k (suc i) x h s = seated_here seat_of os (suc k) i x h s.1 ∙ omega arith
 
-pub seated_empty : {K : Type 0} (seat_of : K → ℕ) (os : List (Option K)) (k i : ℕ) → IsSeated seat_of k os → IsSeated seat_of k (set os i None)
+pub seated_empty : {K : Type 0} (seat_of : K → ℕ) (os : List (Option K)) (k i : ℕ) → IsSeated seat_of k os
+    → IsSeated seat_of k (set os i None)
 seated_empty seat_of [] k i s = tt
 seated_empty seat_of (None ∷ os) k zero s = s
 seated_empty seat_of (Some x ∷ os) k zero s = s.1
 seated_empty seat_of (None ∷ os) k (suc i) s = seated_empty seat_of os (suc k) i s
 seated_empty seat_of (Some x ∷ os) k (suc i) s = (s.0, seated_empty seat_of os (suc k) i s.1)
 
-pub seated_fill : {K : Type 0} (seat_of : K → ℕ) (os : List (Option K)) (k i : ℕ) (y : K) → seat_of y ≡ k + i → IsSeated seat_of k os → IsSeated seat_of k (set os i (Some y))
+pub seated_fill : {K : Type 0} (seat_of : K → ℕ) (os : List (Option K)) (k i : ℕ) (y : K) → seat_of y ≡ k + i
+    → IsSeated seat_of k os → IsSeated seat_of k (set os i (Some y))
 seated_fill seat_of [] k i y e s = tt
 seated_fill seat_of (None ∷ os) k zero y e s = (e ∙ omega arith, s)
 seated_fill seat_of (Some x ∷ os) k zero y e s = (e ∙ omega arith, s.1)
@@ -126,7 +168,8 @@ seated_fill seat_of (None ∷ os) k (suc i) y e s = seated_fill seat_of os (suc 
 seated_fill seat_of (Some x ∷ os) k (suc i) y e s = (s.0, seated_fill seat_of os (suc k) i y (e ∙ omega arith) s.1)
 
 -- a seat in which none of them sits is empty
-pub seat_empty : {K : Type 0} (seat_of : K → ℕ) (os : List (Option K)) (k i v : ℕ) → v ≡ k + i → IsSeated seat_of k os → Each (λ y. seat_of y ≢ v) (somes os) → get_or os i None ≡ None
+pub seat_empty : {K : Type 0} (seat_of : K → ℕ) (os : List (Option K)) (k i v : ℕ) → v ≡ k + i → IsSeated seat_of k os
+    → Each (λ y. seat_of y ≢ v) (somes os) → get_or os i None ≡ None
 unfolding somes
 seat_empty seat_of [] k i v e s h = refl
 seat_empty seat_of (None ∷ os) k zero v e s h = refl
@@ -135,21 +178,28 @@ seat_empty seat_of (None ∷ os) k (suc i) v e s h = seat_empty seat_of os (suc 
 seat_empty seat_of (Some x ∷ os) k (suc i) v e s h = seat_empty seat_of os (suc k) i v (omega (arith, e)) s.1 h.1
 
 -- each seat has a number below how many there are
-pub seats_below : {K : Type 0} (seat_of : K → ℕ) (os : List (Option K)) (k n : ℕ) → k + length os ≤ n → IsSeated seat_of k os → Each (λ y. seat_of y < n) (somes os)
+pub seats_below : {K : Type 0} (seat_of : K → ℕ) (os : List (Option K)) (k n : ℕ) → k + length os ≤ n
+    → IsSeated seat_of k os → Each (λ y. seat_of y < n) (somes os)
 unfolding somes
 seats_below seat_of [] k n h s = tt
 seats_below seat_of (None ∷ os) k n h s = seats_below seat_of os (suc k) n (omega (arith, h)) s
-seats_below seat_of (Some x ∷ os) k n h s = (let q : seat_of x ≡ k = s.0 in omega (arith, h, q), seats_below seat_of os (suc k) n (omega (arith, h)) s.1)
+seats_below seat_of (Some x ∷ os) k n h s =
+    (let q : seat_of x ≡ k = s.0 in omega (arith, h, q), seats_below seat_of os (suc k) n (omega (arith, h)) s.1)
 
-nobody_seated : {K : Type 0} (seat_of : K → ℕ) (os : List (Option K)) (k v : ℕ) → v < k → IsSeated seat_of k os → list_any (λ x. eqb (seat_of x) v) (somes os) ≡ false
-nobody_seated seat_of os k v h s = any_of_each (λ x. eqb (seat_of x) v) (λ x. seat_of x ≢ v) (λ x. ne_eqb (seat_of x) v) (somes os) (seated_from seat_of os k v h s)
+nobody_seated : {K : Type 0} (seat_of : K → ℕ) (os : List (Option K)) (k v : ℕ) → v < k → IsSeated seat_of k os
+    → list_any (λ x. eqb (seat_of x) v) (somes os) ≡ false
+nobody_seated seat_of os k v h s =
+    any_of_each (λ x. eqb (seat_of x) v) (λ x. seat_of x ≢ v) (λ x. ne_eqb (seat_of x) v) (somes os)
+    (seated_from seat_of os k v h s)
 
 -- whether a seat is taken
-pub seat_taken : {K : Type 0} (seat_of : K → ℕ) (os : List (Option K)) (k i v : ℕ) → v ≡ k + i → IsSeated seat_of k os → list_any (λ x. eqb (seat_of x) v) (somes os) ≡ is_some (get_or os i None)
+pub seat_taken : {K : Type 0} (seat_of : K → ℕ) (os : List (Option K)) (k i v : ℕ) → v ≡ k + i → IsSeated seat_of k os
+    → list_any (λ x. eqb (seat_of x) v) (somes os) ≡ is_some (get_or os i None)
 unfolding somes
 seat_taken seat_of [] k i v e s = refl
 seat_taken seat_of (None ∷ os) k zero v e s = nobody_seated seat_of os (suc k) v (omega (arith, e)) s
-seat_taken seat_of (Some x ∷ os) k zero v e s = let q : seat_of x ≡ k = s.0 in ap (λ b. b || list_any (λ y. eqb (seat_of y) v) (somes os)) (eq-eqb (seat_of x) v (omega (arith, e, q)))
+seat_taken seat_of (Some x ∷ os) k zero v e s = let q : seat_of x ≡ k =
+    s.0 in ap (λ b. b || list_any (λ y. eqb (seat_of y) v) (somes os)) (eq-eqb (seat_of x) v (omega (arith, e, q)))
 seat_taken seat_of (None ∷ os) k (suc i) v e s = seat_taken seat_of os (suc k) i v (omega (arith, e)) s
 seat_taken seat_of (Some x ∷ os) k (suc i) v e s =
     let q : seat_of x ≡ k = s.0 in
@@ -165,19 +215,30 @@ before_seat key os i x = below key (key x) (sort_by key (somes (set os i None)))
 abbrev pub after_seat : {K : Type 0} → (K → ℕ) → List (Option K) → ℕ → K → List K
 after_seat key os i x = above key (key x) (sort_by key (somes (set os i None)))
 
-pub each_before : {K : Type 0} (key : K → ℕ) (P : K → Type 0) (os : List (Option K)) (i : ℕ) (x : K) → Each P (somes (set os i None)) → Each P (before_seat key os i x)
-each_before key P os i x h = each_left P (before_seat key os i x) (after_seat key os i x) (subst (Each P) (below-above key (key x) (sort_by key (somes (set os i None)))) (sort_each key P (somes (set os i None)) h))
+pub each_before : {K : Type 0} (key : K → ℕ) (P : K → Type 0) (os : List (Option K)) (i : ℕ) (x : K)
+    → Each P (somes (set os i None)) → Each P (before_seat key os i x)
+each_before key P os i x h = each_left P (before_seat key os i x) (after_seat key os i x)
+    (subst (Each P) (below-above key (key x) (sort_by key (somes (set os i None))))
+    (sort_each key P (somes (set os i None)) h))
 
-pub found_there : {K W : Type 0} (key : K → ℕ) (f : K → Option W) (os : List (Option K)) (i : ℕ) (m : K) (answer : W) → get_or os i None ≡ Some m → HasOwnKeys key (somes os) → f m ≡ Some answer → Each (λ y. f y ≡ None) (somes (set os i None)) → seek f (sort_by key (somes os)) ≡ Some (record { earlier = before_seat key os i m; member = m; answer = answer; later = after_seat key os i m })
+pub found_there : {K W : Type 0} (key : K → ℕ) (f : K → Option W) (os : List (Option K)) (i : ℕ) (m : K) (answer : W)
+    → get_or os i None ≡ Some m → HasOwnKeys key (somes os) → f m ≡ Some answer
+    → Each (λ y. f y ≡ None) (somes (set os i None))
+    → seek f (sort_by key (somes os))
+    ≡ Some (record { earlier = before_seat key os i m; member = m; answer = answer; later = after_seat key os i m })
 found_there key f os i m answer h own e s =
-    ap (seek f) (taken_with key os i m h own) ∙ seek_around f (before_seat key os i m) m answer (after_seat key os i m) (each_before key (λ y. f y ≡ None) os i m s) e
+    ap (seek f) (taken_with key os i m h own)
+    ∙ seek_around f (before_seat key os i m) m answer (after_seat key os i m)
+    (each_before key (λ y. f y ≡ None) os i m s) e
 
-pub found_nobody : {K W : Type 0} (key : K → ℕ) (f : K → Option W) (os : List (Option K)) → Each (λ y. f y ≡ None) (somes os) → seek f (sort_by key (somes os)) ≡ None
+pub found_nobody : {K W : Type 0} (key : K → ℕ) (f : K → Option W) (os : List (Option K))
+    → Each (λ y. f y ≡ None) (somes os) → seek f (sort_by key (somes os)) ≡ None
 found_nobody key f os s = seek_nobody f (sort_by key (somes os)) (sort_each key (λ y. f y ≡ None) (somes os) s)
 
 -- ---- each, and how many, when a seat is filled or emptied ----
 
-pub each_put : {K : Type 0} (P : K → Type 0) (os : List (Option K)) (i : ℕ) (y : K) → get_or os i None ≡ None → i < length os → P y → Each P (somes os) → Each P (somes (set os i (Some y)))
+pub each_put : {K : Type 0} (P : K → Type 0) (os : List (Option K)) (i : ℕ) (y : K) → get_or os i None ≡ None
+    → i < length os → P y → Each P (somes os) → Each P (somes (set os i (Some y)))
 unfolding somes
 each_put P [] i y h l p k = absurd (omega arith)
 each_put P (None ∷ os) zero y h l p k = (p, k)
@@ -185,7 +246,8 @@ each_put P (Some x ∷ os) zero y h l p k = cc
 each_put P (None ∷ os) (suc i) y h l p k = each_put P os i y h (omega arith) p k
 each_put P (Some x ∷ os) (suc i) y h l p k = (k.0, each_put P os i y h (omega arith) p k.1)
 
-pub length_put : {K : Type 0} (os : List (Option K)) (i : ℕ) (y : K) → get_or os i None ≡ None → i < length os → length (somes (set os i (Some y))) ≡ suc (length (somes os))
+pub length_put : {K : Type 0} (os : List (Option K)) (i : ℕ) (y : K) → get_or os i None ≡ None → i < length os
+    → length (somes (set os i (Some y))) ≡ suc (length (somes os))
 unfolding somes
 length_put [] i y h l = absurd (omega arith)
 length_put (None ∷ os) zero y h l = refl
@@ -193,7 +255,8 @@ length_put (Some x ∷ os) zero y h l = cc
 length_put (None ∷ os) (suc i) y h l = length_put os i y h (omega arith)
 length_put (Some x ∷ os) (suc i) y h l = ap suc (length_put os i y h (omega arith))
 
-pub each_taken : {K : Type 0} (P : K → Type 0) (os : List (Option K)) (i : ℕ) → Each P (somes os) → Each P (somes (set os i None))
+pub each_taken : {K : Type 0} (P : K → Type 0) (os : List (Option K)) (i : ℕ) → Each P (somes os)
+    → Each P (somes (set os i None))
 unfolding somes
 each_taken P [] i k = tt
 each_taken P (None ∷ os) zero k = k
@@ -201,7 +264,8 @@ each_taken P (Some x ∷ os) zero k = k.1
 each_taken P (None ∷ os) (suc i) k = each_taken P os i k
 each_taken P (Some x ∷ os) (suc i) k = (k.0, each_taken P os i k.1)
 
-pub each_at : {K : Type 0} (P : K → Type 0) (os : List (Option K)) (i : ℕ) (y : K) → get_or os i None ≡ Some y → Each P (somes os) → P y
+pub each_at : {K : Type 0} (P : K → Type 0) (os : List (Option K)) (i : ℕ) (y : K) → get_or os i None ≡ Some y
+    → Each P (somes os) → P y
 unfolding somes
 each_at P [] i y h k = cc
 each_at P (None ∷ os) zero y h k = cc
@@ -209,7 +273,8 @@ each_at P (Some x ∷ os) zero y h k = let e : x ≡ y = cc in subst P e k.0
 each_at P (None ∷ os) (suc i) y h k = each_at P os i y h k
 each_at P (Some x ∷ os) (suc i) y h k = each_at P os i y h k.1
 
-pub length_taken : {K : Type 0} (os : List (Option K)) (i : ℕ) (y : K) → get_or os i None ≡ Some y → length (somes os) ≡ suc (length (somes (set os i None)))
+pub length_taken : {K : Type 0} (os : List (Option K)) (i : ℕ) (y : K) → get_or os i None ≡ Some y
+    → length (somes os) ≡ suc (length (somes (set os i None)))
 unfolding somes
 length_taken [] i y h = cc
 length_taken (None ∷ os) zero y h = cc

@@ -68,7 +68,13 @@ pair_reg BMinusB j = B j
 -- a row of 50 to 77
 abbrev pub increment : Target → ℕ → Option Reg → Option Reg → Row
 increment target i first second =
-    record { unit = Some IncrementKind; first = first; second = second; outgoing = stored target i; results = set_by target i }
+    record {
+      unit = Some IncrementKind;
+      first = first;
+      second = second;
+      outgoing = stored target i;
+      results = set_by target i;
+    }
 
 -- the rows: unit, first operand, second operand, results
 abbrev pub row : Instr → Row

@@ -47,7 +47,7 @@ pub enum DeckFault {
 }
 
 /// Why something was refused. The program prints the numbers of what an event of a schedule may be refused for, and
-/// for some faults of its own; where several apply, the lowest is answered.
+/// those of some faults of its own; where several apply, the lowest is answered.
 #[derive(Clone, Copy, Debug, Drop, PartialEq, Eq)]
 pub enum Refusal {
     /// E1, issue: the machine is halted.

@@ -14,12 +14,15 @@ pub before_none : (found : Option (List LogStep)) → found ≡ put_steps [] fou
 before_none None = refl
 before_none (Some steps) = refl
 
-put_twice : (before more : List LogStep) (found : Option (List LogStep)) → put_steps before (put_steps more found) ≡ put_steps (before ++ more) found
+put_twice : (before more : List LogStep) (found : Option (List LogStep))
+    → put_steps before (put_steps more found) ≡ put_steps (before ++ more) found
 put_twice before more None = refl
 put_twice before more (Some steps) = ap Some (sym (append_assoc before more steps))
 
 -- an entry that may come goes after the steps before
-pub entry_on : (before now : List LogStep) (left : Allowance) (field : List ℕ) (entry : Entry) (more : List (List ℕ)) → entry_in left field ≡ Some entry → now ≡ before ++ steps_of (entry ∷ []) → put_steps before (steps_in left (field ∷ more)) ≡ put_steps now (steps_in (spent left entry) more)
+pub entry_on : (before now : List LogStep) (left : Allowance) (field : List ℕ) (entry : Entry) (more : List (List ℕ))
+    → entry_in left field ≡ Some entry → now ≡ before ++ steps_of (entry ∷ [])
+    → put_steps before (steps_in left (field ∷ more)) ≡ put_steps now (steps_in (spent left entry) more)
 entry_on before now left field entry more found same =
     ap (λ e. put_steps before (with_entry e (λ f. steps_in (spent left f) more))) found
     ∙ put_twice before (steps_of (entry ∷ [])) (steps_in (spent left entry) more)
@@ -31,7 +34,9 @@ entry_issued (Exchange n) = refl
 entry_issued (Count n) = ap issued (append-nil (replicate n Issued)) ∙ issued-replicate n
 
 -- the instructions so far and those that may still come
-pub count_on : (before now : List LogStep) (left : Allowance) (entry : Entry) → now ≡ before ++ steps_of (entry ∷ []) → entry_count entry ≤ left.instructions → issued before + left.instructions ≤ 10000000 → issued now + (spent left entry).instructions ≤ 10000000
+pub count_on : (before now : List LogStep) (left : Allowance) (entry : Entry) → now ≡ before ++ steps_of (entry ∷ [])
+    → entry_count entry ≤ left.instructions → issued before + left.instructions ≤ 10000000
+    → issued now + (spent left entry).instructions ≤ 10000000
 count_on before now left (Exchange n) same within few =
     let a = ap issued same ∙ issued-append before (steps_of (Exchange n ∷ [])) in
     let b = entry_issued (Exchange n) in
@@ -41,6 +46,7 @@ count_on before now left (Count n) same within few =
     let b = entry_issued (Count n) in
     omega (arith, a, b)
 
-pub added : {P : Type 0} (Q : Refusal → Type 0) (result : Result (Unit {0}) Refusal) → is_err result ≡ false → MatchResult result (λ _. P) Q → P
+pub added : {P : Type 0} (Q : Refusal → Type 0) (result : Result (Unit {0}) Refusal) → is_err result ≡ false
+    → MatchResult result (λ _. P) Q → P
 added Q (Ok x) ok h = h
 added Q (Err e) ok h = cc

@@ -36,7 +36,8 @@ refusal_text other = []
 -- the line of an answer: `ok`, with a reservation's unit and number where an issue made one; or the refusal's number
 -- and what it says
 abbrev pub answer_line : Result Done Refusal → List ℕ
-answer_line (Ok (Issued (Some note))) = concat (codes "ok " ∷ unit_text note.unit ∷ codes " " ∷ decimal note.number ∷ codes "\n" ∷ [])
+answer_line (Ok (Issued (Some note))) =
+    concat (codes "ok " ∷ unit_text note.unit ∷ codes " " ∷ decimal note.number ∷ codes "\n" ∷ [])
 answer_line (Ok (Issued None)) = codes "ok\n"
 answer_line (Ok Made) = codes "ok\n"
 answer_line (Err refusal) = concat (refusal_text refusal ∷ codes "\n" ∷ [])

@@ -19,7 +19,8 @@ held_text (Some word) = octal_text 20 word
 
 -- the line `P p PARCEL n HELD w`
 abbrev pub place_line : Place → List ℕ
-place_line place = concat (codes "P " ∷ octal_text 6 place.p ∷ codes " PARCEL " ∷ ((48 + place.parcel) ∷ []) ∷ codes " HELD " ∷ held_text place.held ∷ codes "\n" ∷ [])
+place_line place = concat (codes "P " ∷ octal_text 6 place.p ∷ codes " PARCEL " ∷ ((48 + place.parcel) ∷ [])
+    ∷ codes " HELD " ∷ held_text place.held ∷ codes "\n" ∷ [])
 
 -- the first half of the line `HALT h FAULT f`: `running`, or why the machine is halted
 abbrev pub halt_text : Option Halt → List ℕ
@@ -33,7 +34,8 @@ fault_text false = codes " FAULT none\n"
 
 -- the line `RA r FL l EM m`
 abbrev pub area_line : Area → List ℕ
-area_line area = concat (codes "RA " ∷ octal_text 6 area.ra ∷ codes " FL " ∷ octal_text 6 area.fl ∷ codes " EM " ∷ octal_text 6 area.mode ∷ codes "\n" ∷ [])
+area_line area = concat (codes "RA " ∷ octal_text 6 area.ra ∷ codes " FL " ∷ octal_text 6 area.fl ∷ codes " EM "
+    ∷ octal_text 6 area.mode ∷ codes "\n" ∷ [])
 
 -- a number in six digits, with a space before it
 abbrev pub spaced_index : ℕ → List ℕ
@@ -66,7 +68,8 @@ register_lines r = concat (index_line (codes "A") r.a ∷ index_line (codes "B 0
 
 -- the line `M a w` of the word at an address
 abbrev pub word_line : List ℕ → ℕ → List ℕ
-word_line memory a = concat (codes "M " ∷ octal_text 6 a ∷ codes " " ∷ octal_text 20 (slice_index_or memory a 0) ∷ codes "\n" ∷ [])
+word_line memory a =
+    concat (codes "M " ∷ octal_text 6 a ∷ codes " " ∷ octal_text 20 (slice_index_or memory a 0) ∷ codes "\n" ∷ [])
 
 -- the words from the first to the last, both shown
 abbrev pub show_lines : List ℕ → ℕ × ℕ → List ℕ
@@ -88,4 +91,5 @@ log_line log = concat (codes "LOG" ∷ log_text log ∷ codes "\n" ∷ [])
 
 -- the state, the words of each `show` line, and the log
 unfoldable pub dump_text : State → List Entry → List (ℕ × ℕ) → List ℕ
-dump_text s log shows = concat (state_lines s ∷ register_lines s.registers ∷ flat_map (show_lines s.memory) shows ∷ log_line log ∷ [])
+dump_text s log shows =
+    concat (state_lines s ∷ register_lines s.registers ∷ flat_map (show_lines s.memory) shows ∷ log_line log ∷ [])

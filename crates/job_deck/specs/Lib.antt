@@ -1,5 +1,5 @@
--- What the program prints and answers, and what it reads besides decks. Told and Holding tie the answers of a session's
--- parts to that.
+-- What the program prints and answers, and what it reads besides decks. Told says what holding a session answers;
+-- Holding, in inner, ties the answers of its parts to that.
 -- Source: ours.
 pub mod Dump
 pub mod Listing
@@ -9,4 +9,4 @@ pub mod Schedule
 pub mod AnswerText
 pub mod Session
 pub mod Told
-pub mod Holding
+pub mod inner

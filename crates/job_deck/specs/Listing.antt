@@ -36,7 +36,8 @@ separator parcel = if parcel == 0 then [] else codes "; "
 abbrev pub items_from : ℕ → ℕ → ℕ → List ℕ
 items_from zero word parcel = []
 items_from (suc more) word parcel =
-    if nat_lt parcel 4 then separator parcel ++ (item_text (reading_at word parcel) ++ items_from more word (after parcel (reading_at word parcel))) else []
+    if nat_lt parcel 4 then separator parcel
+    ++ (item_text (reading_at word parcel) ++ items_from more word (after parcel (reading_at word parcel))) else []
 
 -- the items of a word, which has at most four
 unfoldable pub items_text : ℕ → List ℕ
@@ -52,7 +53,8 @@ listed_word address word = concat (placed_word address word ∷ items_text word 
 
 -- the line of a word that the deck placed; the others have none
 abbrev pub listed : Placed → ℕ → List ℕ
-listed image address = if slice_index_or image.placed address false then listed_word address (slice_index_or image.memory address 0) else []
+listed image address = if slice_index_or image.placed address false
+    then listed_word address (slice_index_or image.memory address 0) else []
 
 -- the lines of the words that the deck placed, in order of address
 abbrev pub listing : Placed → List ℕ

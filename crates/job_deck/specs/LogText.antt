@@ -49,7 +49,8 @@ entry_count (Count n) = n
 
 -- what may come after an entry
 abbrev pub spent : Allowance → Entry → Allowance
-spent left (Exchange n) = record { after_count = false; instructions = left.instructions; exchanges = left.exchanges - 1 }
+spent left (Exchange n) =
+    record { after_count = false; instructions = left.instructions; exchanges = left.exchanges - 1 }
 spent left (Count n) = record { after_count = true; instructions = left.instructions - n; exchanges = left.exchanges }
 
 -- these steps and then the others, if the others are steps of a log

@@ -38,16 +38,20 @@ replayed plan text = replayed_steps plan.image.memory (log_in text)
 -- the dump of the state that is reached, or at a failed write a beginning of it; else nothing
 abbrev pub Prints : Result (Option State) Refusal → Replayed → List (ℕ × ℕ) → Option (List ℕ) → Option (List ℕ) → Type 0
 Prints (Ok None) BadLog shows old new = Keeps old new
-Prints (Ok (Some s)) (Reaches state steps) shows old new = (s ≡ state) × Appends old new (dump_text state (entries_of steps) shows)
+Prints (Ok (Some s)) (Reaches state steps) shows old new =
+    (s ≡ state) × Appends old new (dump_text state (entries_of steps) shows)
 Prints (Err refusals.PackageRange) Undefined shows old new = Keeps old new
-Prints (Err refusals.Write) (Reaches state steps) shows old new = WritesFront old new (dump_text state (entries_of steps) shows)
+Prints (Err refusals.Write) (Reaches state steps) shows old new =
+    WritesFront old new (dump_text state (entries_of steps) shows)
 Prints (Err refusals.OutOfMemory) replayed shows old new = Keeps old new
 Prints other replayed shows old new = ⊥
 
 -- the same from a deck's bytes on, of which these are left; a fault of the deck comes before one of the log
-abbrev pub Replays : Result (Option State) Refusal → Reading → List ℕ → List ℕ → Option (List ℕ) → Option (List ℕ) → Type 0
+abbrev pub Replays : Result (Option State) Refusal → Reading → List ℕ → List ℕ → Option (List ℕ) → Option (List ℕ)
+    → Type 0
 Replays (Err (refusals.Deck m fault)) reading rest text old new = (reading ≡ Bad m fault) × Keeps old new
 Replays (Err refusals.Read) reading rest text old new = Keeps old new
 Replays (Err refusals.OutOfMemory) reading rest text old new = Keeps old new
-Replays result (Good plan n after) rest text old new = (rest ≡ after) × Prints result (replayed plan text) plan.shows old new
+Replays result (Good plan n after) rest text old new =
+    (rest ≡ after) × Prints result (replayed plan text) plan.shows old new
 Replays result (Bad n fault) rest text old new = ⊥

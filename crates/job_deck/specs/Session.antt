@@ -67,7 +67,8 @@ not_drained_text w = concat (codes "NOT DRAINED\n" ∷ log_line (entries_of w.lo
 abbrev pub IsReply : Spoken → Processor → List (ℕ × ℕ) → List ℕ → Type 0
 IsReply (Makes e) w shows text = (answer : Result Done Refusal) × IsAnswer w e answer × (text ≡ answer_line answer)
 IsReply Ends w shows text = IsDump w shows text ⊎ ((is_pending w.pending ≡ true) × (text ≡ not_drained_text w))
-IsReply Drains w shows text = (v : Processor) × (count : ℕ) × Works w v count × GoesOnByWork w count v × IsDump v shows text
+IsReply Drains w shows text =
+    (v : Processor) × (count : ℕ) × Works w v count × GoesOnByWork w count v × IsDump v shows text
 IsReply (Faulty fault) w shows text = ⊥
 
 -- the line ends the session: it says `end` or `drain`

@@ -22,20 +22,24 @@ IsTaken lines rest = (line : List ℕ) × (lines ≡ (line, rest) ∷ lines_of r
 
 -- the first text was written, and a beginning of the second
 abbrev pub WritesCut : Option (List ℕ) → Option (List ℕ) → List ℕ → List ℕ → Type 0
-WritesCut old new text last = (front : List ℕ) × (rest : List ℕ) × (last ≡ front ++ rest) × Appends old new (text ++ front)
+WritesCut old new text last =
+    (front : List ℕ) × (rest : List ℕ) × (last ≡ front ++ rest) × Appends old new (text ++ front)
 
 -- a session with machine w from line n on: an `Ok` has written it all, and leaves what follows its last line; at a
 -- fault, a failed read and want of memory for the dump each line before has its whole answer; a failed write has cut
 -- the reply to the line that was read last. IsLed is what holds of the events, the answers and the machine so far
-abbrev pub Tells : Result (Unit {0}) SessionError → (List Event → List (Result Done Refusal) → Processor → Type 0) → Processor
+abbrev pub Tells : Result (Unit {0}) SessionError → (List Event → List (Result Done Refusal) → Processor → Type 0)
+    → Processor
     → ℕ → List (ℕ × ℕ) → List ℕ → List ℕ → Option (List ℕ) → Option (List ℕ) → Type 0
 Tells (Ok x) IsLed w n shows xs rest old new =
     (s : Session IsLed w n (lines_of xs)) × (text : List ℕ) × IsLast (heard s.number s.left)
     × IsReply (heard s.number s.left) s.machine shows text × IsTaken s.left rest × Appends old new (s.text ++ text)
 Tells (Err (errors.Line m fault)) IsLed w n shows xs rest old new =
-    (s : Session IsLed w n (lines_of xs)) × (m ≡ s.number) × (heard s.number s.left ≡ Faulty fault) × Appends old new s.text
+    (s : Session IsLed w n (lines_of xs)) × (m ≡ s.number) × (heard s.number s.left ≡ Faulty fault)
+    × Appends old new s.text
 Tells (Err errors.OutOfMemory) IsLed w n shows xs rest old new =
-    (s : Session IsLed w n (lines_of xs)) × IsLast (heard s.number s.left) × IsTaken s.left rest × Appends old new s.text
+    (s : Session IsLed w n (lines_of xs)) × IsLast (heard s.number s.left) × IsTaken s.left rest
+    × Appends old new s.text
 Tells (Err errors.Read) IsLed w n shows xs rest old new =
     (s : Session IsLed w n (lines_of xs)) × (part : List ℕ) × IsText part × (s.left ≡ lines_of (part ++ rest))
     × Appends old new s.text
@@ -52,7 +56,8 @@ HasNotBegun after rest old new = (length after ≤ length rest) × Keeps old new
 abbrev pub TellsFromBoot : Result (Unit {0}) SessionError → ℕ → Plan → ℕ → List ℕ → List ℕ → Option (List ℕ)
     → Option (List ℕ) → Type 0
 TellsFromBoot result budget plan n after rest old new =
-    Tells result (IsReached plan.image.memory budget) (boot_processor plan.image.memory budget) (n + 1) plan.shows after rest
+    Tells result (IsReached plan.image.memory budget) (boot_processor plan.image.memory budget) (n + 1) plan.shows
+    after rest
     old new
 
 -- the same of a deck with its schedule; memory may run out and a read may fail before the session begins

@@ -3,7 +3,7 @@ ghost use Rattle.std.specs.List.{flat_map};
 ghost use Rattle.device_text.specs.Device.{Writes, failed_after};
 ghost use Rattle.job_deck.specs.Dump.{held_text, place_line, halt_text, fault_text, area_line, spaced_index, index_line, x_line, x_lines, state_lines, register_lines, word_line, show_lines, log_text, log_line, spaced_entry, dump_text};
 ghost use Rattle.device_text.specs.Pieces.{text_of};
-ghost use Rattle.deck.specs.Views.{shown_of, shown};
+ghost use Rattle.deck.specs.inner.Views.{shown_of, shown};
 ghost use Rattle.instructions.specs.declared.refusal.Refusal.TheVariants.{Write as WriteRefusal};
 ghost use Rattle.sequential.specs.Log.{entries_of};
 
@@ -93,7 +93,8 @@ fn put_area<O: Output>(output: &mut O, area: &Area) -> Result<(), WriteFailed>
 
 /// Writes numbers of six digits, with a space before each.
 fn put_indexes<O: Output>(output: &mut O, indexes: &[Word18]) -> Result<(), WriteFailed>
-    ensures written { Writes result (O.contents output.old) (O.contents output.new) (flat_map spaced_index indexes.now) }
+    ensures written { Writes result (O.contents output.old) (O.contents output.new)
+        (flat_map spaced_index indexes.now) }
     ensures failure { O.has_failed output.new ≡ failed_after (O.has_failed output.old) result }
     ensures same { O.lender output.new ≡ O.lender output.old }
 {
@@ -204,7 +205,8 @@ fn put_word<O: Output>(output: &mut O, memory: &Storage, address: Word18) -> Res
 
 /// Writes the words of a `show` line.
 fn put_show<O: Output>(output: &mut O, memory: &Storage, show: Show) -> Result<(), WriteFailed>
-    ensures written { Writes result (O.contents output.old) (O.contents output.new) (show_lines memory.now (shown_of show)) }
+    ensures written { Writes result (O.contents output.old) (O.contents output.new)
+        (show_lines memory.now (shown_of show)) }
     ensures failure { O.has_failed output.new ≡ failed_after (O.has_failed output.old) result }
     ensures same { O.lender output.new ≡ O.lender output.old }
 {
@@ -216,7 +218,8 @@ fn put_show<O: Output>(output: &mut O, memory: &Storage, show: Show) -> Result<(
 
 /// Writes the words of all `show` lines.
 fn put_shows<O: Output>(output: &mut O, memory: &Storage, shows: &[Show]) -> Result<(), WriteFailed>
-    ensures written { Writes result (O.contents output.old) (O.contents output.new) (flat_map (λ show. show_lines memory.now (shown_of show)) shows.now) }
+    ensures written { Writes result (O.contents output.old) (O.contents output.new)
+        (flat_map (λ show. show_lines memory.now (shown_of show)) shows.now) }
     ensures failure { O.has_failed output.new ≡ failed_after (O.has_failed output.old) result }
     ensures same { O.lender output.new ≡ O.lender output.old }
 {
@@ -243,7 +246,8 @@ fn put_entry<O: Output>(output: &mut O, entry: Entry) -> Result<(), WriteFailed>
 
 /// Writes the entries of a log with a space before each.
 fn put_entries<O: Output>(output: &mut O, entries: &[Entry]) -> Result<(), WriteFailed>
-    ensures written { Writes result (O.contents output.old) (O.contents output.new) (flat_map spaced_entry entries.now) }
+    ensures written { Writes result (O.contents output.old) (O.contents output.new)
+        (flat_map spaced_entry entries.now) }
     ensures failure { O.has_failed output.new ≡ failed_after (O.has_failed output.old) result }
     ensures same { O.lender output.new ≡ O.lender output.old }
 {
@@ -283,7 +287,8 @@ fn put_dump<O: Output>(
     entries: &[Entry],
     shows: &[Show],
 ) -> Result<(), WriteFailed>
-    ensures written { Writes result (O.contents output.old) (O.contents output.new) (dump_text state.now entries.now (map shown_of shows.now)) }
+    ensures written { Writes result (O.contents output.old) (O.contents output.new)
+        (dump_text state.now entries.now (map shown_of shows.now)) }
     ensures failure { O.has_failed output.new ≡ failed_after (O.has_failed output.old) result }
     ensures same { O.lender output.new ≡ O.lender output.old }
 {
@@ -303,7 +308,8 @@ pub fn dump_to<O: Output>(
     log: &Log,
     deck: &Deck,
 ) -> Result<(), WriteFailed>
-    ensures written { Writes result (O.contents output.old) (O.contents output.new) (dump_text state.now (entries_of log.now.steps) (shown deck.now.shows.items)) }
+    ensures written { Writes result (O.contents output.old) (O.contents output.new)
+        (dump_text state.now (entries_of log.now.steps) (shown deck.now.shows.items)) }
     ensures failure { O.has_failed output.new ≡ failed_after (O.has_failed output.old) result }
     ensures same { O.lender output.new ≡ O.lender output.old }
 {
@@ -316,7 +322,8 @@ pub fn dump_to<O: Output>(
 /// # Errors
 /// `Write` where a write or the flush fails; a beginning of the text is then written.
 pub fn dump<W: Write>(state: &State, log: &Log, deck: &Deck, writer: &mut W) -> Result<(), Refusal>
-    ensures written { Writes result (W.contents writer.old) (W.contents writer.new) (dump_text state.now (entries_of log.now.steps) (shown deck.now.shows.items)) }
+    ensures written { Writes result (W.contents writer.old) (W.contents writer.new)
+        (dump_text state.now (entries_of log.now.steps) (shown deck.now.shows.items)) }
     ensures refusal { OnErr result (result ≡ Err WriteRefusal) }
 {
     let mut output = Tracked::new(writer);

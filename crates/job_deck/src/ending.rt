@@ -4,8 +4,8 @@ ghost use Rattle.sequential.specs.Log.{entries_of};
 ghost use Rattle.device_text.specs.Device.{Writes, failed_after};
 ghost use Rattle.job_deck.specs.Dump.{log_line};
 ghost use Rattle.job_deck.specs.Session.{IsReply, not_drained_text};
-ghost use Rattle.job_deck.specs.Holding.{Closes, Dumps, is_write_error, last_said};
-ghost use Rattle.deck.specs.Views.{shown};
+ghost use Rattle.job_deck.specs.inner.Holding.{Closes, Dumps, is_write_error, last_said};
+ghost use Rattle.deck.specs.inner.Views.{shown};
 
 use crate::dumping::{dump_to, put_log_line};
 use crate::session::SessionError;
@@ -23,7 +23,8 @@ fn put_drained<O: Output>(
     deck: &Deck,
 ) -> Result<(), SessionError>
     requires { is_pending machine.now.pending ≡ false }
-    ensures closed { Dumps result machine.now (shown deck.now.shows.items) (O.contents output.old) (O.contents output.new) }
+    ensures closed { Dumps result machine.now (shown deck.now.shows.items) (O.contents output.old)
+        (O.contents output.new) }
     ensures write { O.has_failed output.new ≡ (O.has_failed output.old || is_write_error result) }
     ensures same { O.lender output.new ≡ O.lender output.old }
 {
@@ -61,7 +62,8 @@ fn print_not_drained<O: Output>(output: &mut O, machine: &Machine) -> Result<(),
 /// # Errors
 /// As `put_drained`.
 fn put_end<O: Output>(output: &mut O, machine: &Machine, deck: &Deck) -> Result<(), SessionError>
-    ensures closed { Closes result (last_said false) machine.now (shown deck.now.shows.items) (O.contents output.old) (O.contents output.new) }
+    ensures closed { Closes result (last_said false) machine.now (shown deck.now.shows.items) (O.contents output.old)
+        (O.contents output.new) }
     ensures write { O.has_failed output.new ≡ (O.has_failed output.old || is_write_error result) }
     ensures same { O.lender output.new ≡ O.lender output.old }
 {
@@ -84,7 +86,8 @@ pub fn finish<O: Output>(
     deck: &Deck,
     drains: bool,
 ) -> Result<(), SessionError>
-    ensures closed { Closes result (last_said drains) machine.old (shown deck.now.shows.items) (O.contents output.old) (O.contents output.new) }
+    ensures closed { Closes result (last_said drains) machine.old (shown deck.now.shows.items) (O.contents output.old)
+        (O.contents output.new) }
     ensures write { O.has_failed output.new ≡ (O.has_failed output.old || is_write_error result) }
     ensures same { O.lender output.new ≡ O.lender output.old }
 {

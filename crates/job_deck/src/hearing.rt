@@ -1,7 +1,7 @@
 ghost use Rattle.std.specs.Prelude.{◌≡◌, ◌≤◌, IfOk, OnErr};
 ghost use Rattle.device_text.specs.Device.{Moves, failed_after};
 ghost use Rattle.device_text.specs.Line.{ReadsPart};
-ghost use Rattle.job_deck.specs.Holding.{Hears};
+ghost use Rattle.job_deck.specs.inner.Holding.{Hears};
 
 use crate::schedule::{Spoken, spoken_in};
 use arrayvec::ArrayVec;
@@ -15,14 +15,15 @@ use instruction_table::DeckFault;
 /// Where a read fails.
 pub fn hear<I: Input>(input: &mut I, number: u32) -> Result<Spoken, ReadFailed>
     requires { number ≤ 10000000 }
-    ensures heard { IfOk result (λ spoken. Moves (I.remaining input.old) (I.remaining input.new) (Hears number spoken)) }
+    ensures heard { IfOk result (λ spoken. Moves (I.remaining input.old) (I.remaining input.new)
+        (Hears number spoken)) }
     ensures part { OnErr result (Moves (I.remaining input.old) (I.remaining input.new) ReadsPart) }
     ensures failure { I.has_failed input.new ≡ failed_after (I.has_failed input.old) result }
     ensures same { I.lender input.new ≡ I.lender input.old }
 {
     let mut line = ArrayVec::new();
     match read_line(input, &mut line) {
-        Ok(Took::Processor) => Ok(spoken_in(line.as_slice())),
+        Ok(Took::Whole) => Ok(spoken_in(line.as_slice())),
         Ok(Took::Long) => Ok(Spoken::Faulty(DeckFault::Long)),
         Ok(Took::Nothing) => Ok(Spoken::Faulty(DeckFault::NoEnd)),
         Err(error) => Err(error),

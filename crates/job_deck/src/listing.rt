@@ -134,7 +134,8 @@ pub fn list_to<I: Input, O: Output>(
     input: &mut I,
     output: &mut O,
 ) -> Result<(), Refusal>
-    ensures listed { Moves (I.remaining input.old) (I.remaining input.new) (λ xs ys. Lists result (deck xs) ys (O.contents output.old) (O.contents output.new)) }
+    ensures listed { Moves (I.remaining input.old) (I.remaining input.new)
+        (λ xs ys. Lists result (deck xs) ys (O.contents output.old) (O.contents output.new)) }
     ensures read { I.has_failed input.new ≡ (I.has_failed input.old || is_read_refusal result) }
     ensures write { O.has_failed output.new ≡ (O.has_failed output.old || is_write_refusal result) }
     ensures input { I.lender input.new ≡ I.lender input.old }
@@ -154,7 +155,8 @@ pub fn list_to<I: Input, O: Output>(
 /// # Errors
 /// As `list_to`.
 pub fn list<R: Read, W: Write>(alloc: Global, reader: &mut R, writer: &mut W) -> Result<(), Refusal>
-    ensures { Moves (R.remaining reader.old) (R.remaining reader.new) (λ xs ys. Lists result (deck xs) ys (W.contents writer.old) (W.contents writer.new)) }
+    ensures { Moves (R.remaining reader.old) (R.remaining reader.new)
+        (λ xs ys. Lists result (deck xs) ys (W.contents writer.old) (W.contents writer.new)) }
 {
     let mut input = Watched::new(reader);
     let mut output = Tracked::new(writer);

@@ -124,7 +124,8 @@ fn plain_decimal(digits: &[u8]) -> Option<u64>
 #[tactic(auto, unfolding(sequential::specs::Log::steps_of))]
 fn add_entry(log: &mut Log, entry: Entry) -> Result<(), Refusal>
     requires { issued log.old.steps + entry_count entry < 2 ^ 64 }
-    ensures { MatchResult result (λ _. log.new.steps ≡ log.old.steps ++ steps_of (entry ∷ [])) (λ refusal. refusal ≡ OutOfMemory) }
+    ensures { MatchResult result (λ _. log.new.steps ≡ log.old.steps ++ steps_of (entry ∷ []))
+        (λ refusal. refusal ≡ OutOfMemory) }
 {
     if log.reserve(1).is_err() {
         return Err(Refusal::OutOfMemory);
@@ -141,7 +142,8 @@ fn add_entry(log: &mut Log, entry: Entry) -> Result<(), Refusal>
 /// # Errors
 /// `OutOfMemory`.
 fn read_entries(alloc: Global, text: &[u8]) -> Result<Option<Log>, Refusal>
-    ensures { MatchResult result (λ found. LogHas found (steps_in whole_allowance (fields_of text.now))) (λ refusal. refusal ≡ OutOfMemory) }
+    ensures { MatchResult result (λ found. LogHas found (steps_in whole_allowance (fields_of text.now)))
+        (λ refusal. refusal ≡ OutOfMemory) }
 {
     let mut log = Log::new(alloc);
     let mut left = Allowance::whole();

@@ -3,7 +3,7 @@ ghost use Rattle.deck.specs.Deck.{deck};
 ghost use Rattle.device_text.specs.Device.{Moves, failed_after};
 ghost use Rattle.job_deck.specs.Listing.{is_read_refusal, is_write_refusal};
 ghost use Rattle.job_deck.specs.Replaying.{replayed, Prints, Replays};
-ghost use Rattle.deck.specs.Views.{plan, shown};
+ghost use Rattle.deck.specs.inner.Views.{plan, shown};
 
 use crate::dumping::dump_to;
 use crate::logs::read_log;
@@ -26,7 +26,8 @@ fn print_replay<O: Output>(
     deck: &Deck,
     text: &str,
 ) -> Result<Option<State>, Refusal>
-    ensures printed { Prints result (replayed (plan deck.now) text.now) (shown deck.now.shows.items) (O.contents output.old) (O.contents output.new) }
+    ensures printed { Prints result (replayed (plan deck.now) text.now) (shown deck.now.shows.items)
+        (O.contents output.old) (O.contents output.new) }
     ensures failure { O.has_failed output.new ≡ (O.has_failed output.old || is_write_refusal result) }
     ensures same { O.lender output.new ≡ O.lender output.old }
 {
@@ -63,7 +64,8 @@ pub fn replay_to<I: Input, O: Output>(
     output: &mut O,
     text: &str,
 ) -> Result<Option<State>, Refusal>
-    ensures replayed { Moves (I.remaining input.old) (I.remaining input.new) (λ xs ys. Replays result (deck xs) ys text.now (O.contents output.old) (O.contents output.new)) }
+    ensures replayed { Moves (I.remaining input.old) (I.remaining input.new)
+        (λ xs ys. Replays result (deck xs) ys text.now (O.contents output.old) (O.contents output.new)) }
     ensures read { I.has_failed input.new ≡ (I.has_failed input.old || is_read_refusal result) }
     ensures write { O.has_failed output.new ≡ (O.has_failed output.old || is_write_refusal result) }
     ensures input { I.lender input.new ≡ I.lender input.old }
@@ -85,7 +87,8 @@ pub fn replay<R: Read, W: Write>(
     writer: &mut W,
     text: &str,
 ) -> Result<Option<State>, Refusal>
-    ensures { Moves (R.remaining reader.old) (R.remaining reader.new) (λ xs ys. Replays result (deck xs) ys text.now (W.contents writer.old) (W.contents writer.new)) }
+    ensures { Moves (R.remaining reader.old) (R.remaining reader.new)
+        (λ xs ys. Replays result (deck xs) ys text.now (W.contents writer.old) (W.contents writer.new)) }
 {
     let mut input = Watched::new(reader);
     let mut output = Tracked::new(writer);

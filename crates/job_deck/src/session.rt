@@ -5,9 +5,9 @@ ghost use Rattle.program_order.specs.Processor.{boot_processor};
 ghost use Rattle.deck.specs.Deck.{deck};
 ghost use Rattle.device_text.specs.Device.{Moves, failed_after};
 ghost use Rattle.job_deck.specs.Listing.{is_read_refusal, is_write_refusal};
-ghost use Rattle.job_deck.specs.Holding.{Converses, IsMade, is_read_error, is_write_error, refusal_of};
+ghost use Rattle.job_deck.specs.inner.Holding.{Converses, IsMade, is_read_error, is_write_error, refusal_of};
 ghost use Rattle.job_deck.specs.Told.{Performs, Tells};
-ghost use Rattle.deck.specs.Views.{shown};
+ghost use Rattle.deck.specs.inner.Views.{shown};
 
 use crate::answering::put_answer;
 use crate::ending::finish;
@@ -55,7 +55,9 @@ fn converse<I: Input, O: Output>(
     before: u32,
 ) -> Result<bool, SessionError>
     requires { before ≤ 10000000 }
-    ensures told { Moves (I.remaining input.old) (I.remaining input.new) (λ xs ys. Converses result machine.old machine.new (before + 1) xs ys (O.contents output.old) (O.contents output.new)) }
+    ensures told { Moves (I.remaining input.old) (I.remaining input.new)
+        (λ xs ys. Converses result machine.old machine.new (before + 1) xs ys (O.contents output.old)
+        (O.contents output.new)) }
     ensures read { I.has_failed input.new ≡ (I.has_failed input.old || is_read_error result) }
     ensures write { O.has_failed output.new ≡ (O.has_failed output.old || is_write_error result) }
     ensures input { I.lender input.new ≡ I.lender input.old }
@@ -97,7 +99,9 @@ fn hold<I: Input, O: Output>(
     before: u32,
 ) -> Result<(), SessionError>
     requires { before ≤ 10000000 }
-    ensures told { Moves (I.remaining input.old) (I.remaining input.new) (λ xs ys. Tells result (GoesOn machine.old) machine.old (before + 1) (shown deck.now.shows.items) xs ys (O.contents output.old) (O.contents output.new)) }
+    ensures told { Moves (I.remaining input.old) (I.remaining input.new)
+        (λ xs ys. Tells result (GoesOn machine.old) machine.old (before + 1) (shown deck.now.shows.items) xs ys
+        (O.contents output.old) (O.contents output.new)) }
     ensures read { I.has_failed input.new ≡ (I.has_failed input.old || is_read_error result) }
     ensures write { O.has_failed output.new ≡ (O.has_failed output.old || is_write_error result) }
     ensures input { I.lender input.new ≡ I.lender input.old }
@@ -115,7 +119,8 @@ fn hold<I: Input, O: Output>(
 /// `OutOfMemory`.
 fn booted(alloc: Global, deck: &Deck, budget: u64) -> Result<Machine, Refusal>
     requires { budget ≤ 10000000 }
-    ensures machine { MatchResult result (λ machine. machine ≡ boot_processor deck.now.image.memory budget) (λ refusal. refusal ≡ OutOfMemory) }
+    ensures machine { MatchResult result (λ machine. machine ≡ boot_processor deck.now.image.memory budget)
+        (λ refusal. refusal ≡ OutOfMemory) }
     ensures reached { IfOk result (λ machine. IsReached deck.now.image.memory budget [] [] machine) }
 {
     match deck.image.memory().copy() {
@@ -150,7 +155,8 @@ pub fn events_to<I: Input, O: Output>(
     budget: u64,
 ) -> Result<(), Refusal>
     requires { budget ≤ 10000000 }
-    ensures performed { Moves (I.remaining input.old) (I.remaining input.new) (λ xs ys. Performs result budget (deck xs) ys (O.contents output.old) (O.contents output.new)) }
+    ensures performed { Moves (I.remaining input.old) (I.remaining input.new)
+        (λ xs ys. Performs result budget (deck xs) ys (O.contents output.old) (O.contents output.new)) }
     ensures read { I.has_failed input.new ≡ (I.has_failed input.old || is_read_refusal result) }
     ensures write { O.has_failed output.new ≡ (O.has_failed output.old || is_write_refusal result) }
     ensures input { I.lender input.new ≡ I.lender input.old }
@@ -181,7 +187,8 @@ pub fn events<R: Read, W: Write>(
     budget: u64,
 ) -> Result<(), Refusal>
     requires { budget ≤ 10000000 }
-    ensures { Moves (R.remaining reader.old) (R.remaining reader.new) (λ xs ys. Performs result budget (deck xs) ys (W.contents writer.old) (W.contents writer.new)) }
+    ensures { Moves (R.remaining reader.old) (R.remaining reader.new)
+        (λ xs ys. Performs result budget (deck xs) ys (W.contents writer.old) (W.contents writer.new)) }
 {
     let mut input = Watched::new(reader);
     let mut output = Tracked::new(writer);

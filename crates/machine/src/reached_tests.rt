@@ -47,7 +47,8 @@ fn ran(alloc: Global, memory: Storage, events: &[Event]) -> Result<(Machine, Vec
 
 /// Takes a reservation from claim to store; the seat alone where a call refuses.
 fn serve(machine: &mut Machine, seat: Seat, note: Note) -> Result<Seat, Seat>
-    ensures { IfOk result (λ stored. GoesOn machine.old (Read seat.unit ∷ Finish seat.unit ∷ Store seat.unit ∷ []) (Ok Made ∷ Ok Made ∷ Ok Made ∷ []) machine.new) }
+    ensures { IfOk result (λ stored. GoesOn machine.old (Read seat.unit ∷ Finish seat.unit ∷ Store seat.unit ∷ [])
+        (Ok Made ∷ Ok Made ∷ Ok Made ∷ []) machine.new) }
 {
     let reserved = match machine.claim(seat, note) {
         Err((_, seat)) => return Err(seat),
@@ -72,7 +73,8 @@ fn serve(machine: &mut Machine, seat: Seat, note: Note) -> Result<Seat, Seat>
 fn shown(alloc: Global, memory: Storage) -> Result<Snapshot, Refusal>
     ensures { IfOk result (λ snapshot. (snapshot.boot_memory ≡ memory)
         × (replay (boot memory) snapshot.log ≡ Some snapshot.state)
-        × ((more : List SomeEvent) × ((answers : List (Result SomeDone SomeRefusal)) × (snapshot.log ≡ log_of (Ask 32 ∷ Exchange ∷ Issue ∷ more) answers)))) }
+        × ((more : List SomeEvent) × ((answers : List (Result SomeDone SomeRefusal))
+        × (snapshot.log ≡ log_of (Ask 32 ∷ Exchange ∷ Issue ∷ more) answers)))) }
 {
     let mut machine = match Machine::boot(alloc, memory, 100) {
         Ok(machine) => machine,

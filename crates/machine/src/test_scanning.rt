@@ -49,7 +49,7 @@ struct ScanningMachine {
     accepted: Accepted,
 }
 
-// ---- what is asked of a member, and of a list of members ----
+// ---- what is asked of a pending instruction, and of a list of them ----
 
 /// What the scoreboard sees of it.
 fn row(member: &Pending) -> Row {
@@ -123,7 +123,7 @@ fn delays_fetch(member: &Pending, address: u32) -> bool {
     }
 }
 
-/// The members before the one in this place of the list.
+/// Those before the one in this place of the list.
 fn before(members: &[Pending], index: usize) -> &[Pending] {
     if index < members.len() {
         &members[..index]
@@ -132,7 +132,7 @@ fn before(members: &[Pending], index: usize) -> &[Pending] {
     }
 }
 
-/// The first of the registers that is a result still to come of one of the members.
+/// The first of the registers that is a result still to come of one of them.
 fn first_awaited(members: &[Pending], registers: &[Reg]) -> Option<Reg> {
     for register in registers {
         if members
@@ -145,7 +145,7 @@ fn first_awaited(members: &[Pending], registers: &[Reg]) -> Option<Reg> {
     None
 }
 
-/// The first of the registers that one of the members has still to read.
+/// The first of the registers that one of them has still to read.
 fn first_to_be_read(members: &[Pending], registers: &[Reg]) -> Option<Reg> {
     for register in registers {
         if members
@@ -158,7 +158,7 @@ fn first_to_be_read(members: &[Pending], registers: &[Reg]) -> Option<Reg> {
     None
 }
 
-/// Whether one of the members holds the unit.
+/// Whether one of them holds the unit.
 fn is_held(members: &[Pending], unit: Unit) -> bool {
     members.iter().any(|member| row(member).holds(unit))
 }
@@ -201,7 +201,7 @@ fn place_for(members: &[Pending]) -> Option<u8> {
     None
 }
 
-/// The member that holds the unit, with its place in the list and its stage.
+/// The one that holds the unit, with its place in the list and its stage.
 fn find_stage(members: &[Pending], unit: Unit) -> Option<(usize, Pending, Stage)> {
     for index in 0..members.len() {
         if let Some(stage) = stage_in(&members[index], unit) {
@@ -211,7 +211,7 @@ fn find_stage(members: &[Pending], unit: Unit) -> Option<(usize, Pending, Stage)
     None
 }
 
-/// The member in the place of the hopper, with its place in the list and its reference.
+/// The one in the place of the hopper, with its place in the list and its reference.
 fn find_entry(members: &[Pending], place: u8) -> Option<(usize, HopperEntry)> {
     for index in 0..members.len() {
         if let Some(entry) = entry_in(&members[index], place) {
@@ -221,7 +221,7 @@ fn find_entry(members: &[Pending], place: u8) -> Option<(usize, HopperEntry)> {
     None
 }
 
-/// The member in the channel, with its place in the list and its word.
+/// The one in the channel, with its place in the list and its word.
 fn find_arrival(members: &[Pending], channel: u8) -> Option<(usize, Arrival)> {
     for index in 0..members.len() {
         if let Some(arrival) = arrival_in(&members[index], channel) {
@@ -369,7 +369,7 @@ impl ScanningMachine {
         Ok(Done::Issued(note))
     }
 
-    /// Puts the member in this place of the list into another phase, or takes it out where nothing is left of it.
+    /// Puts the one in this place of the list into another phase, or takes it out where nothing is left of it.
     fn put(&mut self, index: usize, phase: Option<Phase>) {
         if index >= self.pending.len() {
             return;

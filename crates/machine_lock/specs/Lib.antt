@@ -1,3 +1,3 @@
 -- The definitions of the machine under a lock: what the lock keeps.
 -- Source: ours.
-pub mod Kept
+pub mod inner

@@ -2,11 +2,12 @@ ghost use Rattle.std.specs.Prelude.{◌≡◌, ◌||◌, ◌⊎◌, true, false,
 ghost use Rattle.instructions.specs.declared.refusal.Refusal.TheVariants.{NotDrained, OutOfMemory, Stranger};
 ghost use Rattle.sequential.specs.Replay.{boot, replay};
 ghost use Rattle.program_order.specs.declared.event.Event.TheVariants.{Read, Finish, Store};
+ghost use Rattle.program_order.specs.Headline.{IsFaultedRun};
 ghost use Rattle.program_order.specs.Refusals.{may_refuse, is_stranger, is_read_refusal, is_store_refusal};
 ghost use Rattle.program_order.specs.Run.{IsAnswer, settled};
 ghost use Rattle.machine.specs.Tokens.{one_more};
 ghost use Rattle.program_order.specs.Events.{after};
-ghost use Rattle.machine_lock.specs.Kept.{with_whole};
+ghost use Rattle.machine_lock.specs.inner.Kept.{with_whole};
 
 use instruction_table::Refusal;
 use machine::{Answer, Computed, Event, Finished, Loaded, Machine, Note, Reserved, Seat, Snapshot};
@@ -22,7 +23,7 @@ pub(crate) struct Locked {
 }
 
 impl Model for Locked {
-    ghost use Rattle.machine_lock.specs.Kept.{Kept, KeepsReplay};
+    ghost use Rattle.machine_lock.specs.inner.Kept.{Kept, KeepsReplay};
 
     ghost Value = { Kept };
 
@@ -76,9 +77,12 @@ impl Locked {
     /// # Errors
     /// `OperandAwaited` or `Stranger`, with the token.
     pub(crate) fn read(&mut self, token: Reserved) -> Result<Loaded, (Refusal, Reserved)>
-        ensures after { MatchResult result (λ loaded. self.new ≡ with_whole self.old (after self.old.whole (Read token.seat.unit))) (λ back. self.new ≡ self.old) }
+        ensures after { MatchResult result
+            (λ loaded. self.new ≡ with_whole self.old (after self.old.whole (Read token.seat.unit)))
+            (λ back. self.new ≡ self.old) }
         ensures loaded { IfOk result (λ loaded. (loaded.seat ≡ token.seat) × (loaded.number ≡ token.number)) }
-        ensures given_back { IfErr result (λ back. (back.1 ≡ token) × ((is_stranger back.0 || is_read_refusal back.0) ≡ true)) }
+        ensures given_back { IfErr result
+            (λ back. (back.1 ≡ token) × ((is_stranger back.0 || is_read_refusal back.0) ≡ true)) }
     {
         let read = self.machine.read(token);
         self.machine.keeps_replay();
@@ -90,7 +94,9 @@ impl Locked {
     /// # Errors
     /// `Stranger` with the token.
     pub(crate) fn finish(&mut self, token: Computed) -> Result<Finished, (Refusal, Computed)>
-        ensures after { MatchResult result (λ finished. self.new ≡ with_whole self.old (after self.old.whole (Finish token.seat.unit))) (λ back. self.new ≡ self.old) }
+        ensures after { MatchResult result
+            (λ finished. self.new ≡ with_whole self.old (after self.old.whole (Finish token.seat.unit)))
+            (λ back. self.new ≡ self.old) }
         ensures finished { IfOk result (λ finished. finished ≡ record { seat = token.seat; number = token.number }) }
         ensures given_back { IfErr result (λ back. (back.1 ≡ token) × (back.0 ≡ Stranger)) }
     {
@@ -104,9 +110,12 @@ impl Locked {
     /// # Errors
     /// `ResultHeld`, `HopperFull`, `OutOfTurn` or `Stranger`, with the token.
     pub(crate) fn store(&mut self, token: Finished) -> Result<Seat, (Refusal, Finished)>
-        ensures after { MatchResult result (λ seat. self.new ≡ with_whole self.old (after self.old.whole (Store token.seat.unit))) (λ back. self.new ≡ self.old) }
+        ensures after { MatchResult result
+            (λ seat. self.new ≡ with_whole self.old (after self.old.whole (Store token.seat.unit)))
+            (λ back. self.new ≡ self.old) }
         ensures seat { IfOk result (λ seat. seat ≡ one_more token) }
-        ensures given_back { IfErr result (λ back. (back.1 ≡ token) × ((is_stranger back.0 || is_store_refusal back.0) ≡ true)) }
+        ensures given_back { IfErr result
+            (λ back. (back.1 ≡ token) × ((is_stranger back.0 || is_store_refusal back.0) ≡ true)) }
     {
         let stored = self.machine.store(token);
         self.machine.keeps_replay();
@@ -118,7 +127,10 @@ impl Locked {
     /// # Errors
     /// `NotDrained` or `OutOfMemory`.
     pub(crate) fn snapshot(&self) -> Result<Snapshot, Refusal>
-        ensures replay { IfOk result (λ snapshot. replay (boot snapshot.boot_memory) snapshot.log ≡ Some snapshot.state) }
+        ensures replay { IfOk result (λ snapshot. replay (boot snapshot.boot_memory) snapshot.log
+            ≡ Some snapshot.state) }
+        ensures fault { IfOk result (λ snapshot. snapshot.state.fault ≡ true
+            → IsFaultedRun snapshot.log snapshot.boot_memory snapshot.state) }
         ensures named { IfErr result (λ refusal. (refusal ≡ NotDrained) ⊎ (refusal ≡ OutOfMemory)) }
     {
         self.machine.snapshot()

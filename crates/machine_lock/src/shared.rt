@@ -110,7 +110,8 @@ impl Shared {
     /// `OperandAwaited` or `Stranger`, with the token.
     pub fn read<R: Wait>(&self, rt: &R, token: Reserved) -> Result<Loaded, (Refusal, Reserved)>
         ensures loaded { IfOk result (λ loaded. (loaded.seat ≡ token.seat) × (loaded.number ≡ token.number)) }
-        ensures given_back { IfErr result (λ back. (back.1 ≡ token) × ((is_stranger back.0 || is_read_refusal back.0) ≡ true)) }
+        ensures given_back { IfErr result
+            (λ back. (back.1 ≡ token) × ((is_stranger back.0 || is_read_refusal back.0) ≡ true)) }
     {
         self.locked.lock(rt).read(token)
     }
@@ -132,7 +133,8 @@ impl Shared {
     /// `ResultHeld`, `HopperFull`, `OutOfTurn` or `Stranger`, with the token.
     pub fn store<R: Wait>(&self, rt: &R, token: Finished) -> Result<Seat, (Refusal, Finished)>
         ensures seat { IfOk result (λ seat. seat ≡ one_more token) }
-        ensures given_back { IfErr result (λ back. (back.1 ≡ token) × ((is_stranger back.0 || is_store_refusal back.0) ≡ true)) }
+        ensures given_back { IfErr result
+            (λ back. (back.1 ≡ token) × ((is_stranger back.0 || is_store_refusal back.0) ≡ true)) }
     {
         self.locked.lock(rt).store(token)
     }
@@ -177,8 +179,10 @@ impl Shared {
     /// # Errors
     /// `NotDrained` or `OutOfMemory`.
     pub fn snapshot<R: Wait>(&self, rt: &R, _seen: &mut Seen) -> Result<Snapshot, Refusal>
-        ensures replay { IfOk result (λ snapshot. replay (boot snapshot.boot_memory) snapshot.log ≡ Some snapshot.state) }
-        ensures fault { IfOk result (λ snapshot. snapshot.state.fault ≡ true → IsFaultedRun snapshot.log snapshot.boot_memory snapshot.state) }
+        ensures replay { IfOk result (λ snapshot. replay (boot snapshot.boot_memory) snapshot.log
+            ≡ Some snapshot.state) }
+        ensures fault { IfOk result (λ snapshot. snapshot.state.fault ≡ true
+            → IsFaultedRun snapshot.log snapshot.boot_memory snapshot.state) }
         ensures named { IfErr result (λ refusal. (refusal ≡ NotDrained) ⊎ (refusal ≡ OutOfMemory)) }
     {
         self.locked.lock(rt).snapshot()

@@ -36,7 +36,8 @@ impl Requests {
     /// # Errors
     /// No memory was to be had.
     pub fn new(alloc: Global, start: u32, asks: &[Ask]) -> Result<Requests, AllocError>
-        ensures left { IfOk result (λ requests. KeepsTies (record { at = start; after = 0 } ∷ asks.now) requests.left.items) }
+        ensures left { IfOk result (λ requests. KeepsTies (record { at = start; after = 0 } ∷ asks.now)
+            requests.left.items) }
         ensures issued { IfOk result (λ requests. requests.issued ≡ 0) }
         ensures is_waiting { IfOk result (λ requests. requests.is_waiting ≡ false) }
     {

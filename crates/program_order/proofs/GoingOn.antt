@@ -165,7 +165,8 @@ and_false false = refl
 
 fetch_goes : (b : Bounds) (place : Place) → fetch_waits b place [] ≡ false
 unfolding fetch_waits
-fetch_goes b place = ap (λ x. is_none place.held && x) (nothing_delays (absolute b place.p)) ∙ and_false (is_none place.held)
+fetch_goes b place =
+    ap (λ x. is_none place.held && x) (nothing_delays (absolute b place.p)) ∙ and_false (is_none place.held)
 
 held_or_unasked : (r h : Option ℕ) → (is_none r || is_some h) ≡ true → (is_some r && is_none h) ≡ false
 held_or_unasked None h e = refl
@@ -182,10 +183,12 @@ budget_left budget count h = by_test (nat_le budget count) refl
     by_test false e = e
     by_test true e = let k : budget ≤ count = leb-true budget count e in absurd (omega (arith, h, k))
 
-pub issue_accepted : (w : Processor) → is_pending w.pending ≡ false → w.state.halt ≡ None → w.state.fault ≡ false → issued w.log < w.budget → (is_none w.request || is_some w.state.place.held) ≡ true → allowed w Issue ≡ None
+pub issue_accepted : (w : Processor) → is_pending w.pending ≡ false → w.state.halt ≡ None → w.state.fault ≡ false
+    → issued w.log < w.budget → (is_none w.request || is_some w.state.place.held) ≡ true → allowed w Issue ≡ None
 unfolding allowed tests_of issue_tests
 issue_accepted w p h f b r =
-    ap (λ (ms : List Pending). refusal_of (issue_tests w.state ms w.request w.budget (issued w.log))) (not_pending w.pending p)
+    ap (λ (ms : List Pending). refusal_of (issue_tests w.state ms w.request w.budget (issued w.log)))
+    (not_pending w.pending p)
     ∙ none_fails (issue_tests w.state [] w.request w.budget (issued w.log)) (
       some_of w.state.halt h,
       (
@@ -198,7 +201,8 @@ issue_accepted w p h f b r =
               held_or_unasked w.request w.state.place.held r,
               (
                 fetch_goes (bounds_of w.state) w.state.place,
-                row_passes (fetch (bounds_of w.state) w.state.memory w.state.place) (fetched_unit (bounds_of w.state) w.state.memory w.state.place),
+                row_passes (fetch (bounds_of w.state) w.state.memory w.state.place)
+                    (fetched_unit (bounds_of w.state) w.state.memory w.state.place),
               ),
             ),
           ),
@@ -206,6 +210,8 @@ issue_accepted w p h f b r =
       ),
     )
 
-pub exchange_accepted : (w : Processor) (at : ℕ) → is_pending w.pending ≡ false → w.request ≡ Some at → (is_none w.state.halt && (not w.state.fault && is_some w.state.place.held)) ≡ false → allowed w MakeExchange ≡ None
+pub exchange_accepted : (w : Processor) (at : ℕ) → is_pending w.pending ≡ false → w.request ≡ Some at
+    → (is_none w.state.halt && (not w.state.fault && is_some w.state.place.held)) ≡ false
+    → allowed w MakeExchange ≡ None
 unfolding allowed tests_of exchange_tests
 exchange_accepted w at p r m = none_fails (exchange_tests w.request w.pending w.state) (ap is_none r, (p, (m, tt)))

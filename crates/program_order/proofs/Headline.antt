@@ -55,10 +55,12 @@ nil_right : (xs : List LogStep) → xs ≡ xs ++ []
 nil_right [] = refl
 nil_right (x ∷ xs) = ap (λ l. x ∷ l) (nil_right xs)
 
-books_same : (w v : Processor) → v.log ≡ w.log → v.request ≡ w.request → v.boot_memory ≡ w.boot_memory → Books w v w.request []
+books_same : (w v : Processor) → v.log ≡ w.log → v.request ≡ w.request → v.boot_memory ≡ w.boot_memory
+    → Books w v w.request []
 books_same w v a b c = record { log = a ∙ nil_right w.log; request = b; boot = c }
 
-books_found : {K : Type 0} (w : Processor) (o : Option (Found Pending K)) (f : Found Pending K → Processor) → ((x : Found Pending K) → Books w (f x) w.request []) → Books w (after_found w o f) w.request []
+books_found : {K : Type 0} (w : Processor) (o : Option (Found Pending K)) (f : Found Pending K → Processor)
+    → ((x : Found Pending K) → Books w (f x) w.request []) → Books w (after_found w o f) w.request []
 unfolding after_found
 books_found w None f h = books_same w w refl refl refl
 books_found w (Some x) f h = h x
@@ -69,7 +71,8 @@ books_store w f Waiting = books_same w _ refl refl refl
 books_store w f (HasRead os) = books_same w _ refl refl refl
 books_store w f (Finished v) = books_same w _ refl refl refl
 
-books_accept : (w : Processor) (f : Found Pending HopperEntry) (a : ℕ) (access : Access) → Books w (after_accept w f a access) w.request []
+books_accept : (w : Processor) (f : Found Pending HopperEntry) (a : ℕ) (access : Access)
+    → Books w (after_accept w f a access) w.request []
 unfolding after_accept
 books_accept w f a (LoadInto n) = books_same w _ refl refl refl
 books_accept w f a (StoreWord v) = books_same w _ refl refl refl
@@ -97,12 +100,14 @@ books_after w (BankFree k) = books_same w _ refl refl refl
 books_after w (Ask n) = record { log = nil_right w.log; request = refl; boot = refl }
 books_after w Exchange = books_exchange w w.request refl
 
-books_by : (w : Processor) (e : Event) (a : Result Done Refusal) → Books w (settled w e a) (request_by a w.request e) (steps_by a w.request e)
+books_by : (w : Processor) (e : Event) (a : Result Done Refusal)
+    → Books w (settled w e a) (request_by a w.request e) (steps_by a w.request e)
 unfolding settled request_by steps_by
 books_by w e (Ok done) = books_after w e
 books_by w e (Err k) = books_same w w refl refl refl
 
-pub run_log : (w : Processor) (es : List Event) (given : List (Result Done Refusal)) → (settled_all w es given).log ≡ w.log ++ logged w.request es given
+pub run_log : (w : Processor) (es : List Event) (given : List (Result Done Refusal))
+    → (settled_all w es given).log ≡ w.log ++ logged w.request es given
 unfolding settled_all logged
 run_log w [] given = nil_right w.log
 run_log w (e ∷ es) [] = nil_right w.log
@@ -113,7 +118,8 @@ run_log w (e ∷ es) (a ∷ given) =
     ∙ append_assoc w.log _ _
     ∙ ap (λ r. w.log ++ (steps_by a w.request e ++ logged r es given)) b.request
 
-pub run_boot : (w : Processor) (es : List Event) (given : List (Result Done Refusal)) → (settled_all w es given).boot_memory ≡ w.boot_memory
+pub run_boot : (w : Processor) (es : List Event) (given : List (Result Done Refusal))
+    → (settled_all w es given).boot_memory ≡ w.boot_memory
 unfolding settled_all
 run_boot w [] given = refl
 run_boot w (e ∷ es) [] = refl
@@ -131,22 +137,32 @@ pub record IsCourse (c : Course) (xs : List LogStep) (t : State) : Type 0 where
   pub is_item : t ≡ item course
   pub no_fault : course.start.fault ≡ false
 
-pub replay_course : (c : Course) (xs : List LogStep) (t : State) → c.start.fault ≡ false → replay (item c) xs ≡ Some t → IsCourse c xs t
+pub replay_course : (c : Course) (xs : List LogStep) (t : State) → c.start.fault ≡ false → replay (item c) xs ≡ Some t
+    → IsCourse c xs t
 unfolding replay course_of then_replay then_course course_after do_log_step item steps
 replay_course c [] t f h = record { course = c; is_course = refl; is_item = cc; no_fault = f }
 replay_course c (x ∷ xs) t f h = next x (λ d g k. replay_course d xs t g k) h
   where
-    by_test : (n : ℕ) (b : Bool) → ((d : Course) → d.start.fault ≡ false → replay (item d) xs ≡ Some t → IsCourse d xs t) → then_replay (cond b (Some (swap n (item c))) None) (λ u. replay u xs) ≡ Some t → IsCourse (record { start = swap n (item c); count = 0 }) xs t × (b ≡ true)
+    by_test : (n : ℕ) (b : Bool) → ((d : Course) → d.start.fault ≡ false → replay (item d) xs ≡ Some t
+        → IsCourse d xs t) → then_replay (cond b (Some (swap n (item c))) None) (λ u. replay u
+        xs) ≡ Some t → IsCourse (record { start = swap n (item c); count = 0 }) xs t × (b ≡ true)
     by_test n true ih k = (ih (record { start = swap n (item c); count = 0 }) (swap-no_fault n (item c)) k, refl)
     by_test n false ih k = cc
 
-    next : (y : LogStep) → ((d : Course) → d.start.fault ≡ false → replay (item d) xs ≡ Some t → IsCourse d xs t) → then_replay (do_log_step (item c) y) (λ u. replay u xs) ≡ Some t → IsCourse c (y ∷ xs) t
+    next : (y : LogStep) → ((d : Course) → d.start.fault ≡ false → replay (item d) xs ≡ Some t → IsCourse d xs t)
+        → then_replay (do_log_step (item c) y) (λ u. replay u xs) ≡ Some t → IsCourse c (y ∷ xs) t
     next Issued ih k =
         let r = ih (record { start = c.start; count = suc c.count }) f k in
         record { course = r.course; is_course = r.is_course; is_item = r.is_item; no_fault = r.no_fault }
     next (Exchanged n) ih k =
         let r = by_test n (package_fits n (length (item c).memory)) ih k in
-        record { course = r.0.course; is_course = ap (λ b. then_course (cond b (Some (record { start = swap n (item c); count = 0 })) None) (λ d. course_of d xs)) r.1 ∙ r.0.is_course; is_item = r.0.is_item; no_fault = r.0.no_fault }
+        record {
+          course = r.0.course;
+          is_course = ap (λ b. then_course (cond b (Some (record { start = swap n (item c); count = 0 })) None)
+              (λ d. course_of d xs)) r.1 ∙ r.0.is_course;
+          is_item = r.0.is_item;
+          no_fault = r.0.no_fault;
+        }
 
 -- ---- a fault stays ----
 
@@ -173,7 +189,8 @@ do_fetched-fault : (b : Bounds) (s : State) (at : ℕ) (g : Fetched) → s.fault
 unfolding do_fetched do_instruction do_parts halt_by move_to
 do_fetched-fault b s at (Halting k place) h = h
 do_fetched-fault b s at (Passing place) h = h
-do_fetched-fault b s at (Taking i place) h = ap (λ y. y.fault) (do_work-is b (record s { place = place }) _) ∙ do_option-fault _ _ ∙ do_now-fault b (record s { place = place }) _ h
+do_fetched-fault b s at (Taking i place) h = ap (λ y. y.fault) (do_work-is b (record s { place = place }) _)
+    ∙ do_option-fault _ _ ∙ do_now-fault b (record s { place = place }) _ h
 
 step-fault : (s : State) → s.fault ≡ true → (step s).fault ≡ true
 unfolding step step_unless
@@ -187,10 +204,12 @@ step-fault s h = by_halt s.halt
 steps-fault : (s : State) (n k : ℕ) → (steps n s).fault ≡ true → (steps (k + n) s).fault ≡ true
 unfolding steps
 steps-fault s n zero h = subst (λ m. (steps m s).fault ≡ true) (let e : n ≡ 0 + n = omega arith in e) h
-steps-fault s n (suc k) h = subst (λ m. (steps m s).fault ≡ true) (let e : suc (k + n) ≡ suc k + n = omega arith in e) (step-fault (steps (k + n) s) (steps-fault s n k h))
+steps-fault s n (suc k) h = subst (λ m. (steps m s).fault ≡ true) (let e : suc (k + n) ≡ suc k + n = omega arith in e)
+    (step-fault (steps (k + n) s) (steps-fault s n k h))
 
 steps-fault_from : (s : State) (n m : ℕ) → n ≤ m → (steps n s).fault ≡ true → (steps m s).fault ≡ true
-steps-fault_from s n m l h = subst (λ k. (steps k s).fault ≡ true) (let e : (m - n) + n ≡ m = omega arith in e) (steps-fault s n (m - n) h)
+steps-fault_from s n m l h =
+    subst (λ k. (steps k s).fault ≡ true) (let e : (m - n) + n ≡ m = omega arith in e) (steps-fault s n (m - n) h)
 
 steps-no_fault_until : (s : State) (n m : ℕ) → n ≤ m → (steps m s).fault ≡ false → (steps n s).fault ≡ false
 steps-no_fault_until s n m l h = by_test (steps n s).fault refl
@@ -200,10 +219,10 @@ steps-no_fault_until s n m l h = by_test (steps n s).fault refl
     by_test true e = let k = steps-fault_from s n m l e in cc
 
 pub record FirstFault (n : ℕ) (s : State) : Type 0 where
-  pub place : ℕ
-  pub issued : place < n
-  pub before : (steps place s).fault ≡ false
-  pub after : (steps (suc place) s).fault ≡ true
+  pub earlier : ℕ
+  pub issued : earlier < n
+  pub before : (steps earlier s).fault ≡ false
+  pub after : (steps (suc earlier) s).fault ≡ true
 
 pub first_fault : (n : ℕ) (s : State) → s.fault ≡ false → (steps n s).fault ≡ true → FirstFault n s
 unfolding steps
@@ -211,21 +230,30 @@ first_fault zero s f h = cc
 first_fault (suc n) s f h = by_test (steps n s).fault refl (first_fault n s f)
   where
     by_test : (b : Bool) → (steps n s).fault ≡ b → ((steps n s).fault ≡ true → FirstFault n s) → FirstFault (suc n) s
-    by_test false e ih = record { place = n; issued = omega arith; before = e; after = h }
-    by_test true e ih = let r = ih e in record { place = r.place; issued = let k : r.place < n = r.issued in omega arith; before = r.before; after = r.after }
+    by_test false e ih = record { earlier = n; issued = omega arith; before = e; after = h }
+    by_test true e ih = let r = ih e
+        in record {
+          earlier = r.earlier;
+          issued = let k : r.earlier < n = r.issued in omega arith;
+          before = r.before;
+          after = r.after;
+        }
 
-fault_found : {K : Type 0} (w : Processor) (o : Option (Found Pending K)) (f : Found Pending K → Processor) → ((x : Found Pending K) → (f x).state.fault ≡ true) → w.state.fault ≡ true → (after_found w o f).state.fault ≡ true
+fault_found : {K : Type 0} (w : Processor) (o : Option (Found Pending K)) (f : Found Pending K → Processor)
+    → ((x : Found Pending K) → (f x).state.fault ≡ true) → w.state.fault ≡ true → (after_found w o f).state.fault ≡ true
 unfolding after_found
 fault_found w None f h k = k
 fault_found w (Some x) f h k = h x
 
-fault_store : (w : Processor) (f : Found Pending Stage) (t : Stage) → w.state.fault ≡ true → (after_store w f t).state.fault ≡ true
+fault_store : (w : Processor) (f : Found Pending Stage) (t : Stage) → w.state.fault ≡ true
+    → (after_store w f t).state.fault ≡ true
 unfolding after_store after_work
 fault_store w f Waiting h = h
 fault_store w f (HasRead os) h = h
 fault_store w f (Finished v) h = do_now-fault (bounds_of w.state) w.state _ h
 
-fault_accept : (w : Processor) (f : Found Pending HopperEntry) (a : ℕ) (access : Access) → w.state.fault ≡ true → (after_accept w f a access).state.fault ≡ true
+fault_accept : (w : Processor) (f : Found Pending HopperEntry) (a : ℕ) (access : Access) → w.state.fault ≡ true
+    → (after_accept w f a access).state.fault ≡ true
 unfolding after_accept poke
 fault_accept w f a (LoadInto n) h = h
 fault_accept w f a (StoreWord v) h = h
@@ -236,7 +264,8 @@ fault_issue w (Halting k place) h = h
 fault_issue w (Passing place) h = h
 fault_issue w (Taking i place) h = h
 
-pub fault_after : (w : Processor) (e : Event) → is_exchange e ≡ false → w.state.fault ≡ true → (after w e).state.fault ≡ true
+pub fault_after : (w : Processor) (e : Event) → is_exchange e ≡ false → w.state.fault ≡ true
+    → (after w e).state.fault ≡ true
 unfolding after is_exchange after_read after_finish after_return write
 fault_after w Issue n h = fault_issue w _ h
 fault_after w (Read u) n h = fault_found w _ _ (λ f. h) h
@@ -251,9 +280,12 @@ fault_after w Exchange n h = cc
 -- what an issue is refused for while the fault is set
 issue_at_fault : (w : Processor) → w.state.fault ≡ true → allowed w Issue ≡ Some (refusal_at_fault w.state.halt)
 unfolding allowed tests_of issue_tests refusal_of refusal_at_fault
-issue_at_fault w h = by_halt w.state.halt w.state.fault (drop 2 (issue_tests w.state w.pending w.request w.budget (issued w.log))) h
+issue_at_fault w h =
+    by_halt w.state.halt w.state.fault (drop 2 (issue_tests w.state w.pending w.request w.budget (issued w.log))) h
   where
-    by_halt : (o : Option Halt) (f : Bool) (rest : List Test) → f ≡ true → refusal_of (record { fails = is_some o; refusal = Halted (unwrap_or o Stop) } ∷ record { fails = f; refusal = Faulted } ∷ rest) ≡ Some (refusal_at_fault o)
+    by_halt : (o : Option Halt) (f : Bool) (rest : List Test) → f ≡ true
+        → refusal_of (record { fails = is_some o; refusal = Halted (unwrap_or o Stop) }
+        ∷ record { fails = f; refusal = Faulted } ∷ rest) ≡ Some (refusal_at_fault o)
     by_halt None true rest e = refl
     by_halt None false rest e = cc
     by_halt (Some k) f rest e = refl
@@ -261,7 +293,8 @@ issue_at_fault w h = by_halt w.state.halt w.state.fault (drop 2 (issue_tests w.s
 -- ---- no exchange while the fault is set ----
 
 -- an allowed event that is no exchange adds nothing to the log while the fault is set
-no_steps : (w : Processor) (r : Option ℕ) (e : Event) → w.state.fault ≡ true → allowed w e ≡ None → is_exchange e ≡ false → made_steps r e ≡ []
+no_steps : (w : Processor) (r : Option ℕ) (e : Event) → w.state.fault ≡ true → allowed w e ≡ None
+    → is_exchange e ≡ false → made_steps r e ≡ []
 unfolding made_steps is_exchange
 no_steps w r Issue f h n = let k : Some (refusal_at_fault w.state.halt) ≡ None = sym (issue_at_fault w f) ∙ h in cc
 no_steps w r (Read u) f h n = refl
@@ -277,14 +310,20 @@ no_steps w r Exchange f h n = cc
 abbrev StaysFaulted : Processor → Processor → Type 0
 StaysFaulted w v = (v.log ≡ w.log) × (v.state.fault ≡ true)
 
-fault_settled : (w : Processor) (e : Event) (a : Result Done Refusal) → w.state.fault ≡ true → IsAnswer w e a → exchanges e a ≡ false → StaysFaulted w (settled w e a)
+fault_settled : (w : Processor) (e : Event) (a : Result Done Refusal) → w.state.fault ≡ true → IsAnswer w e a
+    → exchanges e a ≡ false → StaysFaulted w (settled w e a)
 unfolding settled exchanges
 fault_settled w e (Ok done) f h n =
-    let none = made_allowed w e done h in
-    ((books_after w e).log ∙ ap (λ xs. w.log ++ xs) (no_steps w w.request e f none n) ∙ sym (nil_right w.log), fault_after w e n f)
+    let none = made_allowed w e done h in (
+      (books_after w e).log ∙ ap (λ xs. w.log ++ xs) (no_steps w w.request e f none n)
+          ∙ sym (nil_right w.log),
+      fault_after w e n f,
+    )
 fault_settled w e (Err k) f h n = (refl, f)
 
-pub fault_run : (w : Processor) (es : List Event) (given : List (Result Done Refusal)) → w.state.fault ≡ true → IsAnswered w es given → makes_no_exchange es given ≡ true → ((settled_all w es given).log ≡ w.log) × ((settled_all w es given).state.fault ≡ true)
+pub fault_run : (w : Processor) (es : List Event) (given : List (Result Done Refusal)) → w.state.fault ≡ true
+    → IsAnswered w es given → makes_no_exchange es given ≡ true → ((settled_all w es given).log ≡ w.log)
+    × ((settled_all w es given).state.fault ≡ true)
 unfolding settled_all makes_no_exchange
 fault_run w [] given f h n = (refl, f)
 fault_run w (e ∷ es) [] f h n = (refl, f)
@@ -296,37 +335,62 @@ fault_run w (e ∷ es) (a ∷ given) f h n =
 
 -- ---- the headline ----
 
-run_log_from_boot : (memory : List ℕ) (budget : ℕ) (events : List Event) (given : List (Result Done Refusal)) → (settled_all (boot_processor memory budget) events given).log ≡ log_of events given
+run_log_from_boot : (memory : List ℕ) (budget : ℕ) (events : List Event) (given : List (Result Done Refusal))
+    → (settled_all (boot_processor memory budget) events given).log ≡ log_of events given
 unfolding boot_processor
 run_log_from_boot memory budget events given = run_log (boot_processor memory budget) events given
 
-boot_memory_from_boot : (memory : List ℕ) (budget : ℕ) (events : List Event) (given : List (Result Done Refusal)) → (settled_all (boot_processor memory budget) events given).boot_memory ≡ memory
+boot_memory_from_boot : (memory : List ℕ) (budget : ℕ) (events : List Event) (given : List (Result Done Refusal))
+    → (settled_all (boot_processor memory budget) events given).boot_memory ≡ memory
 unfolding boot_processor
 boot_memory_from_boot memory budget events given = run_boot (boot_processor memory budget) events given
 
-run_from_boot : (memory : List ℕ) (budget : ℕ) (events : List Event) (given : List (Result Done Refusal)) (w : Processor) → IsAnswered (boot_processor memory budget) events given → w ≡ settled_all (boot_processor memory budget) events given → w.pending ≡ [] → replay (boot memory) (log_of events given) ≡ Some w.state
+run_from_boot : (memory : List ℕ) (budget : ℕ) (events : List Event) (given : List (Result Done Refusal))
+    (w : Processor) → IsAnswered (boot_processor memory budget) events given
+    → w ≡ settled_all (boot_processor memory budget) events given → w.pending ≡ []
+    → replay (boot memory) (log_of events given) ≡ Some w.state
 run_from_boot memory budget events given w h l e =
     ap (replay (boot memory)) (sym (ap (λ x. x.log) l ∙ run_log_from_boot memory budget events given))
-    ∙ ap (λ m. replay (boot m) w.log) (sym (ap (λ x. x.boot_memory) l ∙ boot_memory_from_boot memory budget events given))
-    ∙ drained_replay w (subst IsRight (sym l) (run_kept (boot_processor memory budget) events given h (boot_right memory budget))) e
+    ∙ ap (λ m. replay (boot m) w.log)
+    (sym (ap (λ x. x.boot_memory) l ∙ boot_memory_from_boot memory budget events given))
+    ∙ drained_replay w (subst IsRight (sym l)
+    (run_kept (boot_processor memory budget) events given h (boot_right memory budget))) e
 
-course_from_boot : (memory : List ℕ) (log : List LogStep) (t : State) → replay (boot memory) log ≡ Some t → IsCourse (record { start = boot memory; count = 0 }) log t
+course_from_boot : (memory : List ℕ) (log : List LogStep) (t : State) → replay (boot memory) log ≡ Some t
+    → IsCourse (record { start = boot memory; count = 0 }) log t
 unfolding boot item steps
 course_from_boot memory log t h = replay_course (record { start = boot memory; count = 0 }) log t refl h
 
-faulted_run : (log : List LogStep) (memory : List ℕ) (t : State) → t.fault ≡ true → IsCourse (record { start = boot memory; count = 0 }) log t → IsFaultedRun log memory t
+faulted_run : (log : List LogStep) (memory : List ℕ) (t : State) → t.fault ≡ true
+    → IsCourse (record { start = boot memory; count = 0 }) log t → IsFaultedRun log memory t
 unfolding item
 faulted_run log memory t f c =
     let k = first_fault c.course.count c.course.start c.no_fault (ap (λ s. s.fault) (sym c.is_item) ∙ f) in
-    record { course = c.course; is_course = c.is_course; is_item = c.is_item; no_fault_at_start = c.no_fault; place = k.place; issued = k.issued; before = k.before; after = k.after; never_before = λ n l. steps-no_fault_until c.course.start n k.place l k.before; always_after = λ n l. steps-fault_from c.course.start (suc k.place) n l k.after }
+    record {
+      course = c.course;
+      is_course = c.is_course;
+      is_item = c.is_item;
+      no_fault_at_start = c.no_fault;
+      earlier = k.earlier;
+      issued = k.issued;
+      before = k.before;
+      after = k.after;
+      never_before =
+          λ n l. steps-no_fault_until c.course.start n k.earlier l k.before;
+      always_after =
+          λ n l. steps-fault_from c.course.start (suc k.earlier) n l k.after;
+    }
 
 -- a state with the fault lies on such a run whenever it is the replay of the log: nothing else need be known of it
-pub replay_faulted : (log : List LogStep) (memory : List ℕ) (t : State) → replay (boot memory) log ≡ Some t → t.fault ≡ true → IsFaultedRun log memory t
+pub replay_faulted : (log : List LogStep) (memory : List ℕ) (t : State) → replay (boot memory) log ≡ Some t
+    → t.fault ≡ true → IsFaultedRun log memory t
 replay_faulted log memory t h f = faulted_run log memory t f (course_from_boot memory log t h)
 
-pub faithful : (memory : List ℕ) (budget : ℕ) (events : List Event) (given : List (Result Done Refusal)) (w : Processor) → IsReached memory budget events given w → IsFaithful memory events given w
+pub faithful : (memory : List ℕ) (budget : ℕ) (events : List Event) (given : List (Result Done Refusal))
+    (w : Processor) → IsReached memory budget events given w → IsFaithful memory events given w
 faithful memory budget events given w r =
-    let replays : w.pending ≡ [] → replay (boot memory) (log_of events given) ≡ Some w.state = run_from_boot memory budget events given (without_seats w) r.answered r.left in
+    let replays : w.pending ≡ [] → replay (boot memory) (log_of events given) ≡ Some w.state =
+    run_from_boot memory budget events given (without_seats w) r.answered r.left in
     record {
       replays = replays;
       log = ap (λ (x : Processor). x.log) r.left ∙ run_log_from_boot memory budget events given;

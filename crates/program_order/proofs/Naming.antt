@@ -28,17 +28,21 @@ some_inj : (x y : Refusal) → Some x ≡ Some y → x ≡ y
 some_inj x y i = cc
 
 -- what is refused by a list of tests is one of their refusals
-pub one_of : (p : Refusal → Bool) (ts : List Test) (k : Refusal) → Each (λ t. p t.refusal ≡ true) ts → refusal_of ts ≡ Some k → p k ≡ true
+pub one_of : (p : Refusal → Bool) (ts : List Test) (k : Refusal) → Each (λ t. p t.refusal ≡ true) ts
+    → refusal_of ts ≡ Some k → p k ≡ true
 unfolding refusal_of
 one_of p [] k h e = cc
 one_of p (t ∷ ts) k h e = by_test (one_of p ts k h.1) t.fails e
   where
-    by_test : (refusal_of ts ≡ Some k → p k ≡ true) → (f : Bool) → cond f (Some t.refusal) (refusal_of ts) ≡ Some k → p k ≡ true
+    by_test : (refusal_of ts ≡ Some k → p k ≡ true) → (f : Bool) → cond f (Some t.refusal) (refusal_of ts) ≡ Some k
+        → p k ≡ true
     by_test rest true i = ap p (sym (some_inj t.refusal k i)) ∙ h.0
     by_test rest false i = rest i
 
 -- where nobody is found there is nothing to act on
-found_one_of : {K : Type 0} (p : Refusal → Bool) (o : Option (Found Pending K)) (f : Found Pending K → List Test) (k : Refusal) → ((x : Found Pending K) → Each (λ t. (is_nothing t.refusal || p t.refusal) ≡ true) (f x)) → refusal_of (tests_found o f) ≡ Some k → (is_nothing k || p k) ≡ true
+found_one_of : {K : Type 0} (p : Refusal → Bool) (o : Option (Found Pending K)) (f : Found Pending K → List Test)
+    (k : Refusal) → ((x : Found Pending K) → Each (λ t. (is_nothing t.refusal || p t.refusal) ≡ true) (f x))
+    → refusal_of (tests_found o f) ≡ Some k → (is_nothing k || p k) ≡ true
 unfolding tests_found nothing is_nothing
 found_one_of p None f k h e = one_of (λ r. is_nothing r || p r) nothing k (refl, tt) e
 found_one_of p (Some x) f k h e = one_of (λ r. is_nothing r || p r) (f x) k (h x) e
@@ -49,7 +53,8 @@ row_named ms (Halting h place) = tt
 row_named ms (Passing place) = tt
 row_named ms (Taking i place) = (refl, (refl, tt))
 
-read_named : (t : Stage) (x : Found Pending Stage) → Each (λ t. (is_nothing t.refusal || is_read_refusal t.refusal) ≡ true) (read_tests t x.earlier x.member.instr)
+read_named : (t : Stage) (x : Found Pending Stage)
+    → Each (λ t. (is_nothing t.refusal || is_read_refusal t.refusal) ≡ true) (read_tests t x.earlier x.member.instr)
 unfolding read_tests nothing is_nothing is_read_refusal
 read_named Waiting x = (refl, tt)
 read_named (HasRead os) x = (refl, tt)
@@ -61,7 +66,9 @@ finish_named Waiting = (refl, tt)
 finish_named (HasRead os) = tt
 finish_named (Finished v) = (refl, tt)
 
-store_named : (b : Bounds) (ms : List Pending) (t : Stage) (x : Found Pending Stage) → Each (λ t. (is_nothing t.refusal || is_store_refusal t.refusal) ≡ true) (store_tests b ms t x.earlier x.member.instr)
+store_named : (b : Bounds) (ms : List Pending) (t : Stage) (x : Found Pending Stage)
+    → Each (λ t. (is_nothing t.refusal || is_store_refusal t.refusal) ≡ true)
+    (store_tests b ms t x.earlier x.member.instr)
 unfolding store_tests nothing is_nothing is_store_refusal
 store_named b ms Waiting x = (refl, tt)
 store_named b ms (HasRead os) x = (refl, tt)
@@ -73,15 +80,21 @@ or_false false h = cc
 
 pub refusal_named : (w : Processor) (e : Event) (k : Refusal) → allowed w e ≡ Some k → may_refuse e k ≡ true
 unfolding allowed tests_of may_refuse issue_tests accept_tests return_tests free_tests ask_tests exchange_tests is_issue_refusal is_nothing is_accept_refusal is_return_refusal is_ask_refusal is_exchange_refusal
-refusal_named w Issue k h = one_of is_issue_refusal (issue_tests w.state w.pending w.request w.budget _) k (refl, (refl, (refl, (refl, (refl, (refl, row_named w.pending _)))))) h
-refusal_named w (Read u) k h = found_one_of is_read_refusal (seek (stage_at u) w.pending) _ k (λ x. read_named x.answer x) h
-refusal_named w (Finish u) k h = or_false (is_nothing k) (found_one_of (λ r. false) (seek (stage_at u) w.pending) _ k (λ x. finish_named x.answer) h)
-refusal_named w (Store u) k h = found_one_of is_store_refusal (seek (stage_at u) w.pending) _ k (λ x. store_named (bounds_of w.state) w.pending x.answer x) h
+refusal_named w Issue k h = one_of is_issue_refusal (issue_tests w.state w.pending w.request w.budget _) k
+    (refl, (refl, (refl, (refl, (refl, (refl, row_named w.pending _)))))) h
+refusal_named w (Read u) k h =
+    found_one_of is_read_refusal (seek (stage_at u) w.pending) _ k (λ x. read_named x.answer x) h
+refusal_named w (Finish u) k h =
+    or_false (is_nothing k) (found_one_of (λ r. false) (seek (stage_at u) w.pending) _ k (λ x. finish_named x.answer) h)
+refusal_named w (Store u) k h =
+    found_one_of is_store_refusal (seek (stage_at u) w.pending) _ k
+    (λ x. store_named (bounds_of w.state) w.pending x.answer x) h
 refusal_named w (Accept p) k h = found_one_of is_accept_refusal _ _ k (λ x. (refl, (refl, tt))) h
 refusal_named w (Return c) k h = found_one_of is_return_refusal _ _ k (λ x. (refl, tt)) h
 refusal_named w (BankFree b) k h = one_of is_nothing (free_tests w.busy b) k (refl, tt) h
 refusal_named w (Ask n) k h = one_of is_ask_refusal (ask_tests w.asked w.request _ n) k (refl, (refl, (refl, tt))) h
-refusal_named w Exchange k h = one_of is_exchange_refusal (exchange_tests w.request w.pending w.state) k (refl, (refl, (refl, tt))) h
+refusal_named w Exchange k h =
+    one_of is_exchange_refusal (exchange_tests w.request w.pending w.state) k (refl, (refl, (refl, tt))) h
 
 -- only a request wants memory
 ask_named : (e : Event) → is_ask e ≡ true → may_refuse e OutOfMemory ≡ true
@@ -104,7 +117,8 @@ unfolding answer_by
 answered_err d None k e = cc
 answered_err d (Some x) k e = cc
 
-pub answer_named : (w : Processor) (e : Event) (a : Result Done Refusal) → IsAnswer w e a → IfErr a (λ k. may_refuse e k ≡ true)
+pub answer_named : (w : Processor) (e : Event) (a : Result Done Refusal) → IsAnswer w e a
+    → IfErr a (λ k. may_refuse e k ≡ true)
 unfolding answer_of answer_by
 answer_named w e (Ok d) h = tt
 answer_named w e (Err k) (inl h) = refusal_named w e k (answered_err _ (allowed w e) k h)

@@ -17,14 +17,16 @@ use Rattle.program_order.proofs.Draining.{Eases, saved_of, next_works, nothing_n
 -- ---- a run ----
 
 -- two runs, one after the other
-pub answered_append : (w : Processor) (es fs : List Event) (given more : List (Result Done Refusal)) → IsAnswered w es given → IsAnswered (settled_all w es given) fs more → IsAnswered w (es ++ fs) (given ++ more)
+pub answered_append : (w : Processor) (es fs : List Event) (given more : List (Result Done Refusal))
+    → IsAnswered w es given → IsAnswered (settled_all w es given) fs more → IsAnswered w (es ++ fs) (given ++ more)
 unfolding settled_all
 answered_append w [] fs [] more h k = k
 answered_append w [] fs (a ∷ given) more h k = absurd h
 answered_append w (e ∷ es) fs [] more h k = absurd h
 answered_append w (e ∷ es) fs (a ∷ given) more h k = (h.0, answered_append (settled w e a) es fs given more h.1 k)
 
-pub settled_append : (w : Processor) (es fs : List Event) (given more : List (Result Done Refusal)) → IsAnswered w es given → settled_all (settled_all w es given) fs more ≡ settled_all w (es ++ fs) (given ++ more)
+pub settled_append : (w : Processor) (es fs : List Event) (given more : List (Result Done Refusal))
+    → IsAnswered w es given → settled_all (settled_all w es given) fs more ≡ settled_all w (es ++ fs) (given ++ more)
 unfolding settled_all
 settled_append w [] fs [] more h = refl
 settled_append w [] fs (a ∷ given) more h = absurd h
@@ -32,7 +34,8 @@ settled_append w (e ∷ es) fs [] more h = absurd h
 settled_append w (e ∷ es) fs (a ∷ given) more h = settled_append (settled w e a) es fs given more h.1
 
 -- what is left of a run after its first part
-pub answered_rest : (w : Processor) (es fs : List Event) (given more : List (Result Done Refusal)) → IsAnswered w es given → IsAnswered w (es ++ fs) (given ++ more) → IsAnswered (settled_all w es given) fs more
+pub answered_rest : (w : Processor) (es fs : List Event) (given more : List (Result Done Refusal))
+    → IsAnswered w es given → IsAnswered w (es ++ fs) (given ++ more) → IsAnswered (settled_all w es given) fs more
 unfolding settled_all
 answered_rest w [] fs [] more h k = k
 answered_rest w [] fs (a ∷ given) more h k = absurd h
@@ -54,29 +57,44 @@ pub record Running (w v : Processor) (events : List Event) (old new : List (Resu
   pub answered : IsAnswered w events given
   pub left : v ≡ settled_all w events given
 
-pub running_none : (w : Processor) (events : List Event) (old new : List (Result Done Refusal)) → new ≡ old → Running w w (take 0 events) old new
+pub running_none : (w : Processor) (events : List Event) (old new : List (Result Done Refusal)) → new ≡ old
+    → Running w w (take 0 events) old new
 unfolding settled_all
 running_none w events old new e = record { given = []; added = e ∙ sym (append-nil old); answered = tt; left = refl }
 
-pub running_more : (w v x : Processor) (events : List Event) (i : ℕ) (d : Event) (a : Result Done Refusal) (old now new : List (Result Done Refusal)) → Running w v (take i events) old now → i < length events → IsAnswer v (get_or events i d) a → x ≡ settled v (get_or events i d) a → new ≡ now ++ a ∷ [] → Running w x (take (i + 1) events) old new
+pub running_more : (w v x : Processor) (events : List Event) (i : ℕ) (d : Event) (a : Result Done Refusal)
+    (old now new : List (Result Done Refusal)) → Running w v (take i events) old now → i < length events
+    → IsAnswer v (get_or events i d) a → x ≡ settled v (get_or events i d) a → new ≡ now ++ a ∷ []
+    → Running w x (take (i + 1) events) old new
 unfolding settled_all
 running_more w v x events i d a old now new r l k s n =
     let left = r.left in
     record {
       given = r.given ++ a ∷ [];
       added = n ∙ ap (λ z. z ++ a ∷ []) r.added ∙ append_assoc old r.given (a ∷ []);
-      answered = subst (λ es. IsAnswered w es (r.given ++ a ∷ [])) (sym (take_next events i d l)) (answered_append w (take i events) (get_or events i d ∷ []) r.given (a ∷ []) r.answered (subst (λ y. IsAnswer y (get_or events i d) a) left k, tt));
-      left = s ∙ ap (λ y. settled y (get_or events i d) a) left ∙ settled_append w (take i events) (get_or events i d ∷ []) r.given (a ∷ []) r.answered ∙ ap (λ es. settled_all w es (r.given ++ a ∷ [])) (sym (take_next events i d l));
+      answered = subst (λ es. IsAnswered w es (r.given ++ a ∷ [])) (sym (take_next events i d l))
+          (answered_append w (take i events) (get_or events i d ∷ []) r.given (a ∷ []) r.answered
+          (subst (λ y. IsAnswer y (get_or events i d) a) left k, tt));
+      left = s ∙ ap (λ y. settled y (get_or events i d) a) left
+          ∙ settled_append w (take i events) (get_or events i d ∷ []) r.given (a ∷ []) r.answered
+          ∙ ap (λ es. settled_all w es (r.given ++ a ∷ [])) (sym (take_next events i d l));
     }
 
-pub run_done : (w v : Processor) (events : List Event) (i : ℕ) (old new : List (Result Done Refusal)) → length events ≤ i → Running w v (take i events) old new → IsRun w v events old new
+pub run_done : (w v : Processor) (events : List Event) (i : ℕ) (old new : List (Result Done Refusal))
+    → length events ≤ i → Running w v (take i events) old new → IsRun w v events old new
 run_done w v events i old new l r =
     let e = take_all i events l in
-    record { given = r.given; added = r.added; answered = subst (λ es. IsAnswered w es r.given) e r.answered; left = r.left ∙ ap (λ es. settled_all w es r.given) e }
+    record {
+      given = r.given;
+      added = r.added;
+      answered = subst (λ es. IsAnswered w es r.given) e r.answered;
+      left = r.left ∙ ap (λ es. settled_all w es r.given) e;
+    }
 
 -- ---- a drain ----
 
-accepts_more : (w : Processor) (es : List Event) (e : Event) → Accepts w es → allowed (leads_to w es) e ≡ None → is_work e ≡ true → Accepts w (es ++ e ∷ [])
+accepts_more : (w : Processor) (es : List Event) (e : Event) → Accepts w es → allowed (leads_to w es) e ≡ None
+    → is_work e ≡ true → Accepts w (es ++ e ∷ [])
 unfolding leads_to
 accepts_more w [] e h a k = (a, k, tt)
 accepts_more w (x ∷ es) e h a k = (h.0, h.1, accepts_more (after w x) es e h.2 a k)
@@ -90,7 +108,8 @@ works_none : (w : Processor) → Works w w 0
 unfolding leads_to
 works_none w = record { events = []; accepted = tt; leads = refl; counted = refl; limit = omega arith }
 
-works_more : (w v x : Processor) (n : ℕ) (e : Event) (d : Done) (a : Result Done Refusal) → Works w v n → n < 40 → a ≡ Ok d → IsAnswer v e a → x ≡ settled v e a → is_work e ≡ true → Works w x (n + 1)
+works_more : (w v x : Processor) (n : ℕ) (e : Event) (d : Done) (a : Result Done Refusal) → Works w v n → n < 40
+    → a ≡ Ok d → IsAnswer v e a → x ≡ settled v e a → is_work e ≡ true → Works w x (n + 1)
 unfolding settled
 works_more w v x n e d a k l o h s i =
     let none : allowed v e ≡ None = made_allowed v e d (subst (λ y. IsAnswer v e y) o h) in
@@ -113,11 +132,13 @@ pub record Draining (w v : Processor) (made : ℕ) : Type 0 where
 pub draining_none : (w : Processor) → Draining w w 0
 draining_none w = record { works = works_none w; left = λ h. absurd (omega (arith, h)) }
 
-eased : (v x : Processor) (n : ℕ) → (0 < n → n + work_left v.pending ≤ 40 + saved_of v.pending v.busy) → work_left v.pending ≤ 40 → Eases v x → n + 1 + work_left x.pending ≤ 40 + saved_of x.pending x.busy
+eased : (v x : Processor) (n : ℕ) → (0 < n → n + work_left v.pending ≤ 40 + saved_of v.pending v.busy)
+    → work_left v.pending ≤ 40 → Eases v x → n + 1 + work_left x.pending ≤ 40 + saved_of x.pending x.busy
 eased v x zero h l e = omega (arith, l, e)
 eased v x (suc n) h l e = let k = h (omega arith) in omega (arith, k, e)
 
-some_event : (o : Option Event) (e : Event) (v : Processor) → o ≡ next_of v.pending v.busy → o ≡ Some e → next_of v.pending v.busy ≡ Some e
+some_event : (o : Option Event) (e : Event) (v : Processor) → o ≡ next_of v.pending v.busy → o ≡ Some e
+    → next_of v.pending v.busy ≡ Some e
 some_event o e v h k = sym h ∙ k
 
 no_request : (e : Event) → is_work e ≡ true → is_ask e ≡ true → ⊥
@@ -133,12 +154,15 @@ no_request (Ask n) h k = cc
 no_request Exchange h k = cc
 
 -- an allowed event that works on what is pending is made
-surely_made : (v : Processor) (e : Event) (a : Result Done Refusal) → allowed v e ≡ None → is_work e ≡ true → IsAnswer v e a → a ≡ Ok (done_by v e)
+surely_made : (v : Processor) (e : Event) (a : Result Done Refusal) → allowed v e ≡ None → is_work e ≡ true
+    → IsAnswer v e a → a ≡ Ok (done_by v e)
 unfolding answer_of answer_by
 surely_made v e a h i (inl k) = k ∙ ap (answer_by (done_by v e)) h
 surely_made v e a h i (inr k) = absurd (no_request e i k.ask)
 
-pub draining_more : (w v x : Processor) (n : ℕ) (o : Option Event) (e : Event) (a : Result Done Refusal) → Draining w v n → n < 40 → work_left v.pending ≤ 40 → allowed v e ≡ None → o ≡ next_of v.pending v.busy → o ≡ Some e → IsAnswer v e a → x ≡ settled v e a → Draining w x (n + 1)
+pub draining_more : (w v x : Processor) (n : ℕ) (o : Option Event) (e : Event) (a : Result Done Refusal)
+    → Draining w v n → n < 40 → work_left v.pending ≤ 40 → allowed v e ≡ None → o ≡ next_of v.pending v.busy
+    → o ≡ Some e → IsAnswer v e a → x ≡ settled v e a → Draining w x (n + 1)
 unfolding settled
 draining_more w v x n o e a k l b h oh oe s i =
     let next = some_event o e v oh oe in
@@ -150,7 +174,8 @@ draining_more w v x n o e a k l b h oh oe s i =
     }
 
 -- nothing is next
-pub nothing_left : (v : Processor) (o : Option Event) → o ≡ next_of v.pending v.busy → o ≡ None → is_pending v.pending ≡ false
+pub nothing_left : (v : Processor) (o : Option Event) → o ≡ next_of v.pending v.busy → o ≡ None
+    → is_pending v.pending ≡ false
 nothing_left v o h k = nothing_next v.pending v.busy (sym h ∙ k)
 
 -- forty events were made
@@ -160,4 +185,5 @@ forty_made w v n d l =
     all_done v.pending v.busy (omega (arith, k, l))
 
 pub forty_works : (w v : Processor) (n : ℕ) → Draining w v n → 40 ≤ n → Works w v 40
-forty_works w v n d l = let most = d.works.limit in subst (Works w v) (let e : n ≡ 40 = omega (arith, l, most) in e) d.works
+forty_works w v n d l =
+    let most = d.works.limit in subst (Works w v) (let e : n ≡ 40 = omega (arith, l, most) in e) d.works

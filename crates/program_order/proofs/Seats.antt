@@ -59,7 +59,8 @@ same_allowed b w Exchange = refl
 
 same_answer : (b : Bool) (w : Processor) (e : Event) → answer_of (seated b w) e ≡ answer_of w e
 unfolding answer_of
-same_answer b w e = ap (λ d. answer_by d (allowed (seated b w) e)) (same_done b w e) ∙ ap (answer_by (done_by w e)) (same_allowed b w e)
+same_answer b w e =
+    ap (λ d. answer_by d (allowed (seated b w) e)) (same_done b w e) ∙ ap (answer_by (done_by w e)) (same_allowed b w e)
 
 issue_after : (b : Bool) (w : Processor) (f : Fetched) → after_issue (seated b w) f ≡ seated b (after_issue w f)
 unfolding after_issue
@@ -67,24 +68,29 @@ issue_after b w (Halting h place) = refl
 issue_after b w (Passing place) = refl
 issue_after b w (Taking i place) = refl
 
--- what is made of the member that was found
-found_after : {K : Type 0} (b : Bool) (w : Processor) (o : Option (Found Pending K)) (f g : Found Pending K → Processor) → ((x : Found Pending K) → f x ≡ seated b (g x)) → after_found (seated b w) o f ≡ seated b (after_found w o g)
+-- what is made of the instruction that was found
+found_after : {K : Type 0} (b : Bool) (w : Processor) (o : Option (Found Pending K))
+    (f g : Found Pending K → Processor) → ((x : Found Pending K) → f x ≡ seated b (g x))
+    → after_found (seated b w) o f ≡ seated b (after_found w o g)
 unfolding after_found
 found_after b w None f g h = refl
 found_after b w (Some x) f g h = h x
 
-store_after : (b : Bool) (w : Processor) (f : Found Pending Stage) (t : Stage) → after_store (seated b w) f t ≡ seated b (after_store w f t)
+store_after : (b : Bool) (w : Processor) (f : Found Pending Stage) (t : Stage)
+    → after_store (seated b w) f t ≡ seated b (after_store w f t)
 unfolding after_store after_work
 store_after b w f Waiting = refl
 store_after b w f (HasRead os) = refl
 store_after b w f (Finished v) = refl
 
-accept_after : (b : Bool) (w : Processor) (f : Found Pending HopperEntry) (a : ℕ) (access : Access) → after_accept (seated b w) f a access ≡ seated b (after_accept w f a access)
+accept_after : (b : Bool) (w : Processor) (f : Found Pending HopperEntry) (a : ℕ) (access : Access)
+    → after_accept (seated b w) f a access ≡ seated b (after_accept w f a access)
 unfolding after_accept
 accept_after b w f a (LoadInto n) = refl
 accept_after b w f a (StoreWord v) = refl
 
-exchange_after : (b : Bool) (w : Processor) (r : Option ℕ) → after_exchange (seated b w) r ≡ seated b (after_exchange w r)
+exchange_after : (b : Bool) (w : Processor) (r : Option ℕ)
+    → after_exchange (seated b w) r ≡ seated b (after_exchange w r)
 unfolding after_exchange
 exchange_after b w None = refl
 exchange_after b w (Some n) = refl
@@ -101,24 +107,34 @@ same_after b w (BankFree k) = refl
 same_after b w (Ask n) = refl
 same_after b w Exchange = exchange_after b w w.request
 
-same_settled : (b : Bool) (w : Processor) (e : Event) (a : Result Done Refusal) → settled (seated b w) e a ≡ seated b (settled w e a)
+same_settled : (b : Bool) (w : Processor) (e : Event) (a : Result Done Refusal)
+    → settled (seated b w) e a ≡ seated b (settled w e a)
 unfolding settled
 same_settled b w e (Ok d) = same_after b w e
 same_settled b w e (Err k) = refl
 
-pub same_run : (b : Bool) (w : Processor) (events : List Event) (answers : List (Result Done Refusal)) → settled_all (seated b w) events answers ≡ seated b (settled_all w events answers)
+pub same_run : (b : Bool) (w : Processor) (events : List Event) (answers : List (Result Done Refusal))
+    → settled_all (seated b w) events answers ≡ seated b (settled_all w events answers)
 unfolding settled_all
 same_run b w [] answers = refl
 same_run b w (e ∷ events) [] = refl
-same_run b w (e ∷ events) (a ∷ answers) = ap (λ x. settled_all x events answers) (same_settled b w e a) ∙ same_run b (settled w e a) events answers
+same_run b w (e ∷ events) (a ∷ answers) =
+    ap (λ x. settled_all x events answers) (same_settled b w e a) ∙ same_run b (settled w e a) events answers
 
 -- an answer that may be given may be given whether or not the seats were given out
-seated_answer : (b : Bool) (w : Processor) (e : Event) (a : Result Done Refusal) → IsAnswer w e a → IsAnswer (seated b w) e a
+seated_answer : (b : Bool) (w : Processor) (e : Event) (a : Result Done Refusal) → IsAnswer w e a
+    → IsAnswer (seated b w) e a
 seated_answer b w e a (inl h) = inl (h ∙ sym (same_answer b w e))
-seated_answer b w e a (inr r) = inr (record { want = r.want; ask = r.ask; otherwise_allowed = same_allowed b w e ∙ r.otherwise_allowed })
+seated_answer b w e a (inr r) =
+    inr (record { want = r.want; ask = r.ask; otherwise_allowed = same_allowed b w e ∙ r.otherwise_allowed })
 
-pub seated_answers : (b : Bool) (w : Processor) (events : List Event) (answers : List (Result Done Refusal)) → IsAnswered w events answers → IsAnswered (seated b w) events answers
+pub seated_answers : (b : Bool) (w : Processor) (events : List Event) (answers : List (Result Done Refusal))
+    → IsAnswered w events answers → IsAnswered (seated b w) events answers
 seated_answers b w [] [] h = h
 seated_answers b w [] (a ∷ answers) h = h
 seated_answers b w (e ∷ events) [] h = h
-seated_answers b w (e ∷ events) (a ∷ answers) h = (seated_answer b w e a h.0, subst (λ x. IsAnswered x events answers) (sym (same_settled b w e a)) (seated_answers b (settled w e a) events answers h.1))
+seated_answers b w (e ∷ events) (a ∷ answers) h = (
+  seated_answer b w e a h.0,
+  subst (λ x. IsAnswered x events answers) (sym (same_settled b w e a))
+      (seated_answers b (settled w e a) events answers h.1),
+)

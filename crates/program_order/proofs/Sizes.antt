@@ -35,7 +35,8 @@ pub package_within : (n size : ℕ) → package_fits n size ≡ true → n + 16 
 unfolding package_fits
 package_within n size h = leb-true (n + 16) size h
 
-pub swap_size : (s : State) (n : ℕ) → package_fits n (length s.memory) ≡ true → length (swap n s).memory ≡ length s.memory
+pub swap_size : (s : State) (n : ℕ) → package_fits n (length s.memory) ≡ true
+    → length (swap n s).memory ≡ length s.memory
 unfolding swap begun words_of
 swap_size s n h = length-overwritten s.memory n (words_of (package_of s)) (package_within n (length s.memory) h)
 
@@ -44,7 +45,8 @@ unfolding do_log_step
 log_step_size s Issued t h = sym (ap (λ o. length (unwrap_or o s).memory) h) ∙ step_size s
 log_step_size s (Exchanged n) t h = by_fit (package_fits n (length s.memory)) refl h
   where
-    by_fit : (b : Bool) → package_fits n (length s.memory) ≡ b → cond b (Some (swap n s)) None ≡ Some t → length t.memory ≡ length s.memory
+    by_fit : (b : Bool) → package_fits n (length s.memory) ≡ b → cond b (Some (swap n s)) None ≡ Some t
+        → length t.memory ≡ length s.memory
     by_fit true f e = sym (ap (λ o. length (unwrap_or o s).memory) e) ∙ swap_size s n f
     by_fit false f e = absurd (false≢true (ap is_some e))
 
@@ -53,7 +55,9 @@ unfolding replay then_replay
 replay_size s [] t h = sym (ap (λ o. length (unwrap_or o s).memory) h)
 replay_size s (x ∷ xs) t h = after (do_log_step s x) refl (λ u. replay_size u xs t) h
   where
-    after : (o : Option State) → do_log_step s x ≡ o → ((u : State) → replay u xs ≡ Some t → length t.memory ≡ length u.memory) → then_replay o (λ u. replay u xs) ≡ Some t → length t.memory ≡ length s.memory
+    after : (o : Option State) → do_log_step s x ≡ o
+        → ((u : State) → replay u xs ≡ Some t → length t.memory ≡ length u.memory)
+        → then_replay o (λ u. replay u xs) ≡ Some t → length t.memory ≡ length s.memory
     after None e ih k = absurd (false≢true (ap is_some k))
     after (Some u) e ih k = ih u k ∙ log_step_size s x u e
 
@@ -65,5 +69,6 @@ boot_size w r =
     ∙ ap (λ (d : Bounds). d.size) (complete-bounds (bounds_of w.state) w.state w.pending)
 
 -- the package of a request lies in memory
-pub request_within : (w : Processor) (at : ℕ) → Fits w.request (length w.state.memory) → w.request ≡ Some at → package_fits at (length w.state.memory) ≡ true
+pub request_within : (w : Processor) (at : ℕ) → Fits w.request (length w.state.memory) → w.request ≡ Some at
+    → package_fits at (length w.state.memory) ≡ true
 request_within w at f e = subst (λ o. Fits o (length w.state.memory)) e f

@@ -1,4 +1,4 @@
--- Each event keeps the members apart, and keeps the completed state the replay of the log.
+-- Each event keeps the pending instructions apart, and keeps the completed state the replay of the log.
 use Rattle.std.proofs.Common.{Bool, ◌≡◌, ℕ, false, List, [], ◌∷◌, ◌++◌, Option, Some, None, cond, refl, sym, ap, ◌∙◌, subst, subst₂, length, inl, inr}
 use Rattle.std.specs.Prelude.{is_some, Result, Ok, Err}
 use Rattle.std.proofs.lemmas.List.{length-set}
@@ -55,57 +55,72 @@ use Rattle.sequential.specs.declared.state.State.{State}
 abbrev pub IsRight : Processor → Type 0
 IsRight w = IsSound w × IsReplay w
 
-from_kept : (w w' : Processor) (ms : List Pending) → w.pending ≡ ms → IsKept (bounds_of w.state) w.state w'.state ms w'.pending → bounds_of w'.state ≡ bounds_of w.state → replayed w' ≡ replayed w → w'.request ≡ w.request → IsRight w → IsRight w'
+from_kept : (w w' : Processor) (ms : List Pending) → w.pending ≡ ms
+    → IsKept (bounds_of w.state) w.state w'.state ms w'.pending → bounds_of w'.state ≡ bounds_of w.state
+    → replayed w' ≡ replayed w → w'.request ≡ w.request → IsRight w → IsRight w'
 unfolding completed bounds_of
 from_kept w w' ms e k eb er eq r = (
   record {
     apart = k.apart;
     request_fits = subst₂ Fits (sym eq) (sym (ap (λ b. b.size) eb)) r.0.request_fits;
   },
-  er ∙ r.1 ∙ ap Some (sym (ap (λ d. complete d w'.state w'.pending) eb ∙ k.same ∙ ap (complete (bounds_of w.state) w.state) (sym e))),
+  er ∙ r.1 ∙ ap Some (sym (ap (λ d. complete d w'.state w'.pending) eb ∙ k.same
+      ∙ ap (complete (bounds_of w.state) w.state) (sym e))),
 )
 
 -- ---- read ----
 
-read_allowed : (t : Stage) (es : List Pending) (i : Instr) → refusal_of (read_tests t es i) ≡ None → list_any (awaited es) (sources_of i) ≡ false
+read_allowed : (t : Stage) (es : List Pending) (i : Instr) → refusal_of (read_tests t es i) ≡ None
+    → list_any (awaited es) (sources_of i) ≡ false
 unfolding read_tests
 read_allowed Waiting es i h = (refusal_none _ h).0
 read_allowed (HasRead os) es i h = absurd (not_nothing h)
 read_allowed (Finished v) es i h = absurd (not_nothing h)
 
-read_kept : (w : Processor) (u : FunctionalUnit) (o : Option (Found Pending Stage)) → seek (stage_at u) w.pending ≡ o → refusal_of (tests_found o (λ f. read_tests f.answer f.earlier f.member.instr)) ≡ None → IsRight w → IsRight (after_found w o (after_read w))
+read_kept : (w : Processor) (u : FunctionalUnit) (o : Option (Found Pending Stage)) → seek (stage_at u) w.pending ≡ o
+    → refusal_of (tests_found o (λ f. read_tests f.answer f.earlier f.member.instr)) ≡ None → IsRight w
+    → IsRight (after_found w o (after_read w))
 unfolding tests_found after_found after_read put_back replayed
 read_kept w u None e h r = absurd (not_nothing h)
 read_kept w u (Some f) e h r =
     let p = seek_splits (stage_at u) w.pending f e in
     from_kept w _ _ p.0
-    (read_event (bounds_of w.state) w.state f.earlier f.member f.later f.answer (stage_found u f.member f.answer p.1) (read_allowed f.answer f.earlier f.member.instr h) (subst (Pairs IsApart) p.0 r.0.apart))
+    (read_event (bounds_of w.state) w.state f.earlier f.member f.later f.answer (stage_found u f.member f.answer p.1)
+    (read_allowed f.answer f.earlier f.member.instr h) (subst (Pairs IsApart) p.0 r.0.apart))
     refl refl refl r
 
 -- ---- finish ----
 
-finish_kept : (w : Processor) (u : FunctionalUnit) (o : Option (Found Pending Stage)) → seek (stage_at u) w.pending ≡ o → refusal_of (tests_found o (λ f. finish_tests f.answer)) ≡ None → IsRight w → IsRight (after_found w o (after_finish w))
+finish_kept : (w : Processor) (u : FunctionalUnit) (o : Option (Found Pending Stage)) → seek (stage_at u) w.pending ≡ o
+    → refusal_of (tests_found o (λ f. finish_tests f.answer)) ≡ None → IsRight w
+    → IsRight (after_found w o (after_finish w))
 unfolding tests_found after_found after_finish put_back replayed
 finish_kept w u None e h r = absurd (not_nothing h)
 finish_kept w u (Some f) e h r =
     let p = seek_splits (stage_at u) w.pending f e in
     from_kept w _ _ p.0
-    (finish_event (bounds_of w.state) w.state f.earlier f.member f.later f.answer (stage_found u f.member f.answer p.1) (subst (Pairs IsApart) p.0 r.0.apart))
+    (finish_event (bounds_of w.state) w.state f.earlier f.member f.later f.answer (stage_found u f.member f.answer p.1)
+    (subst (Pairs IsApart) p.0 r.0.apart))
     refl refl refl r
 
 -- ---- store ----
 
-store_at : (w : Processor) (f : Found Pending Stage) (t : Stage) → w.pending ≡ f.earlier ++ f.member ∷ f.later → f.member.phase ≡ Before t → refusal_of (store_tests (bounds_of w.state) w.pending t f.earlier f.member.instr) ≡ None → IsRight w → IsRight (after_store w f t)
+store_at : (w : Processor) (f : Found Pending Stage) (t : Stage) → w.pending ≡ f.earlier ++ f.member ∷ f.later
+    → f.member.phase ≡ Before t → refusal_of (store_tests (bounds_of w.state) w.pending t f.earlier f.member.instr)
+    ≡ None → IsRight w → IsRight (after_store w f t)
 unfolding has_turn store_tests after_store after_work put_back replayed
 store_at w f Waiting s e h r = absurd (not_nothing h)
 store_at w f (HasRead os) s e h r = absurd (not_nothing h)
 store_at w f (Finished v) s e h r =
     let t = refusal_none _ h in
     from_kept w _ _ s
-    (store_event (bounds_of w.state) w.state f.earlier f.member f.later v _ e t.0 t.1.1.0 (subst (Pairs IsApart) s r.0.apart))
+    (store_event (bounds_of w.state) w.state f.earlier f.member f.later v _ e t.0 t.1.1.0
+    (subst (Pairs IsApart) s r.0.apart))
     (do_now-bounds (bounds_of w.state) w.state (work_of (shape_of f.member.instr) v)) refl refl r
 
-store_kept : (w : Processor) (u : FunctionalUnit) (o : Option (Found Pending Stage)) → seek (stage_at u) w.pending ≡ o → refusal_of (tests_found o (λ f. store_tests (bounds_of w.state) w.pending f.answer f.earlier f.member.instr)) ≡ None → IsRight w → IsRight (after_found w o (λ f. after_store w f f.answer))
+store_kept : (w : Processor) (u : FunctionalUnit) (o : Option (Found Pending Stage)) → seek (stage_at u) w.pending ≡ o
+    → refusal_of (tests_found o (λ f. store_tests (bounds_of w.state) w.pending f.answer f.earlier f.member.instr))
+    ≡ None → IsRight w → IsRight (after_found w o (λ f. after_store w f f.answer))
 unfolding tests_found after_found
 store_kept w u None e h r = absurd (not_nothing h)
 store_kept w u (Some f) e h r =
@@ -118,18 +133,25 @@ poke-bounds : (s : State) (a v : ℕ) → bounds_of (poke s a v) ≡ bounds_of s
 unfolding bounds_of poke
 poke-bounds s a v = ap (λ n. record { area = s.area; size = n }) (length-set s.memory a v)
 
-accept_at : (w : Processor) (f : Found Pending HopperEntry) (slot a : ℕ) (access : Access) (busy : List Bool) → w.pending ≡ f.earlier ++ f.member ∷ f.later → f.member.phase ≡ After (Entered slot a access) → refusal_of (accept_tests busy f.earlier (record { a = a; access = access })) ≡ None → IsRight w → IsRight (after_accept w f a access)
+accept_at : (w : Processor) (f : Found Pending HopperEntry) (slot a : ℕ) (access : Access) (busy : List Bool)
+    → w.pending ≡ f.earlier ++ f.member ∷ f.later → f.member.phase ≡ After (Entered slot a access)
+    → refusal_of (accept_tests busy f.earlier (record { a = a; access = access })) ≡ None → IsRight w
+    → IsRight (after_accept w f a access)
 unfolding accept_tests after_accept put_back replayed
 accept_at w f slot a (LoadInto n) busy s e h r =
     from_kept w _ _ s
-    (accept_load_event (bounds_of w.state) w.state f.earlier f.member f.later slot a n e (refusal_none _ h).1.0 (subst (Pairs IsApart) s r.0.apart))
+    (accept_load_event (bounds_of w.state) w.state f.earlier f.member f.later slot a n e (refusal_none _ h).1.0
+    (subst (Pairs IsApart) s r.0.apart))
     refl refl refl r
 accept_at w f slot a (StoreWord v) busy s e h r =
     from_kept w _ _ s
-    (accept_store_event (bounds_of w.state) w.state f.earlier f.member f.later slot a v e (refusal_none _ h).1.0 (subst (Pairs IsApart) s r.0.apart))
+    (accept_store_event (bounds_of w.state) w.state f.earlier f.member f.later slot a v e (refusal_none _ h).1.0
+    (subst (Pairs IsApart) s r.0.apart))
     (poke-bounds w.state a v) refl refl r
 
-accept_kept : (w : Processor) (p : ℕ) (o : Option (Found Pending HopperEntry)) → seek (entry_at p) w.pending ≡ o → refusal_of (tests_found o (λ f. accept_tests w.busy f.earlier f.answer)) ≡ None → IsRight w → IsRight (after_found w o (λ f. after_accept w f f.answer.a f.answer.access))
+accept_kept : (w : Processor) (p : ℕ) (o : Option (Found Pending HopperEntry)) → seek (entry_at p) w.pending ≡ o
+    → refusal_of (tests_found o (λ f. accept_tests w.busy f.earlier f.answer)) ≡ None → IsRight w
+    → IsRight (after_found w o (λ f. after_accept w f f.answer.a f.answer.access))
 unfolding tests_found after_found
 accept_kept w p None e h r = absurd (not_nothing h)
 accept_kept w p (Some f) e h r =
@@ -139,13 +161,16 @@ accept_kept w p (Some f) e h r =
 
 -- ---- return ----
 
-return_kept : (w : Processor) (c : ℕ) (o : Option (Found Pending Arrival)) → seek (arrival_at c) w.pending ≡ o → refusal_of (tests_found o (λ f. return_tests f.earlier f.answer)) ≡ None → IsRight w → IsRight (after_found w o (after_return w))
+return_kept : (w : Processor) (c : ℕ) (o : Option (Found Pending Arrival)) → seek (arrival_at c) w.pending ≡ o
+    → refusal_of (tests_found o (λ f. return_tests f.earlier f.answer)) ≡ None → IsRight w
+    → IsRight (after_found w o (after_return w))
 unfolding tests_found after_found after_return return_tests put_back replayed bounds_of write
 return_kept w c None e h r = absurd (not_nothing h)
 return_kept w c (Some f) e h r =
     let q = seek_splits (arrival_at c) w.pending f e in
     from_kept w _ _ q.0
-    (return_event (bounds_of w.state) w.state f.earlier f.member f.later f.answer.channel f.answer.word (arrival_found c f.member f.answer q.1) (refusal_none _ h).0 (subst (Pairs IsApart) q.0 r.0.apart))
+    (return_event (bounds_of w.state) w.state f.earlier f.member f.later f.answer.channel f.answer.word
+    (arrival_found c f.member f.answer q.1) (refusal_none _ h).0 (subst (Pairs IsApart) q.0 r.0.apart))
     refl refl refl r
 
 -- ---- issue ----
@@ -154,25 +179,30 @@ is_some_none : {K : Type 0} (o : Option K) → is_some o ≡ false → o ≡ Non
 is_some_none None h = refl
 is_some_none (Some x) h = cc
 
-issue_completed : (w : Processor) (g : Fetched) → list_any is_branch w.pending ≡ false → completed (after_issue w g) ≡ do_fetched (bounds_of w.state) (completed w) w.state.place.p g
+issue_completed : (w : Processor) (g : Fetched) → list_any is_branch w.pending ≡ false
+    → completed (after_issue w g) ≡ do_fetched (bounds_of w.state) (completed w) w.state.place.p g
 unfolding completed after_issue do_fetched bounds_of move_to halt_by
 issue_completed w (Halting k place) nb = issue_halting _ w.state w.pending place k nb
 issue_completed w (Passing place) nb = complete-move _ w.state w.pending place (each_no_branch w.pending nb)
 issue_completed w (Taking i place) nb = issue_taking _ w.state w.pending place _ refl nb
 
-issue_sound : (w : Processor) (g : Fetched) → list_any is_branch w.pending ≡ false → Each (λ t. t.fails ≡ false) (row_tests w.pending g) → IsSound w → IsSound (after_issue w g)
+issue_sound : (w : Processor) (g : Fetched) → list_any is_branch w.pending ≡ false
+    → Each (λ t. t.fails ≡ false) (row_tests w.pending g) → IsSound w → IsSound (after_issue w g)
 unfolding after_issue row_tests move_to halt_by
 issue_sound w (Halting k place) nb h s = record { apart = s.apart; request_fits = s.request_fits }
 issue_sound w (Passing place) nb h s = record { apart = s.apart; request_fits = s.request_fits }
-issue_sound w (Taking i place) nb h s = record { apart = new_apart w.pending _ refl nb h.1.0 s.apart; request_fits = s.request_fits }
+issue_sound w (Taking i place) nb h s =
+    record { apart = new_apart w.pending _ refl nb h.1.0 s.apart; request_fits = s.request_fits }
 
-issue_replayed : (w : Processor) (g : Fetched) (t : State) → replayed w ≡ Some t → replayed (after_issue w g) ≡ Some (step t)
+issue_replayed : (w : Processor) (g : Fetched) (t : State) → replayed w ≡ Some t
+    → replayed (after_issue w g) ≡ Some (step t)
 unfolding replayed after_issue do_log_step
 issue_replayed w (Halting k place) t h = replay_more _ t w.log Issued h
 issue_replayed w (Passing place) t h = replay_more _ t w.log Issued h
 issue_replayed w (Taking i place) t h = replay_more _ t w.log Issued h
 
-issue_kept : (w : Processor) → refusal_of (issue_tests w.state w.pending w.request w.budget (issued w.log)) ≡ None → IsRight w → IsRight (after_issue w (fetch (bounds_of w.state) w.state.memory w.state.place))
+issue_kept : (w : Processor) → refusal_of (issue_tests w.state w.pending w.request w.budget (issued w.log)) ≡ None
+    → IsRight w → IsRight (after_issue w (fetch (bounds_of w.state) w.state.memory w.state.place))
 unfolding issue_tests completed
 issue_kept w h r =
     let t = refusal_none _ h in
@@ -200,7 +230,8 @@ pub drained_completed : (w : Processor) → w.pending ≡ [] → completed w ≡
 unfolding completed
 drained_completed w e = complete_none (bounds_of w.state) w.state w.pending e
 
-exchange_at : (w : Processor) (o : Option ℕ) → w.pending ≡ [] → Fits o (length w.state.memory) → IsRight w → IsRight (after_exchange w o)
+exchange_at : (w : Processor) (o : Option ℕ) → w.pending ≡ [] → Fits o (length w.state.memory) → IsRight w
+    → IsRight (after_exchange w o)
 unfolding after_exchange replayed do_log_step
 exchange_at w None e f r = r
 exchange_at w (Some n) e f r = (
@@ -238,12 +269,14 @@ made_allowed w e done (inl h) = by_refusal (allowed w e) refl h
     by_refusal (Some r) i k = absurd (not_refused (done_by w e) done r k)
 made_allowed w e done (inr h) = h.otherwise_allowed
 
-pub settled_kept : (w : Processor) (e : Event) (a : Result Done Refusal) → IsAnswer w e a → IsRight w → IsRight (settled w e a)
+pub settled_kept : (w : Processor) (e : Event) (a : Result Done Refusal) → IsAnswer w e a → IsRight w
+    → IsRight (settled w e a)
 unfolding settled
 settled_kept w e (Ok done) h r = event_kept w e (made_allowed w e done h) r
 settled_kept w e (Err k) h r = r
 
-pub run_kept : (w : Processor) (es : List Event) (given : List (Result Done Refusal)) → IsAnswered w es given → IsRight w → IsRight (settled_all w es given)
+pub run_kept : (w : Processor) (es : List Event) (given : List (Result Done Refusal)) → IsAnswered w es given
+    → IsRight w → IsRight (settled_all w es given)
 unfolding settled_all
 run_kept w [] given h r = r
 run_kept w (e ∷ es) [] h r = r

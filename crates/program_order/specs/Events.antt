@@ -24,7 +24,8 @@ unfoldable pub tests_of : Processor → Event → List Test
 tests_of w Issue = issue_tests w.state w.pending w.request w.budget (issued w.log)
 tests_of w (Read u) = tests_found (seek (stage_at u) w.pending) (λ f. read_tests f.answer f.earlier f.member.instr)
 tests_of w (Finish u) = tests_found (seek (stage_at u) w.pending) (λ f. finish_tests f.answer)
-tests_of w (Store u) = tests_found (seek (stage_at u) w.pending) (λ f. store_tests (bounds_of w.state) w.pending f.answer f.earlier f.member.instr)
+tests_of w (Store u) = tests_found (seek (stage_at u) w.pending)
+    (λ f. store_tests (bounds_of w.state) w.pending f.answer f.earlier f.member.instr)
 tests_of w (Accept p) = tests_found (seek (entry_at p) w.pending) (λ f. accept_tests w.busy f.earlier f.answer)
 tests_of w (Return c) = tests_found (seek (arrival_at c) w.pending) (λ f. return_tests f.earlier f.answer)
 tests_of w (BankFree k) = free_tests w.busy k
@@ -38,7 +39,8 @@ allowed w e = refusal_of (tests_of w e)
 -- ---- what a made event leaves ----
 
 -- what is left by the one that was found; nothing changes where none was
-unfoldable pub after_found : {K : Type 0} → Processor → Option (Found Pending K) → (Found Pending K → Processor) → Processor
+unfoldable pub after_found : {K : Type 0} → Processor → Option (Found Pending K) → (Found Pending K → Processor)
+    → Processor
 after_found w None f = w
 after_found w (Some x) f = f x
 

@@ -81,7 +81,8 @@ item c = steps c.count c.start
 -- the course since the last exchange; it starts at the state after that exchange, whose package has to lie in memory
 unfoldable pub course_after : Course → LogStep → Option Course
 course_after c Issued = Some (record { start = c.start; count = suc c.count })
-course_after c (Exchanged n) = if package_fits n (length (item c).memory) then Some (record { start = swap n (item c); count = 0 }) else None
+course_after c (Exchanged n) =
+    if package_fits n (length (item c).memory) then Some (record { start = swap n (item c); count = 0 }) else None
 
 -- a course goes on, if there is one
 unfoldable pub then_course : Option Course → (Course → Option Course) → Option Course
@@ -102,14 +103,14 @@ pub record IsFaultedRun (log : List LogStep) (memory : List ℕ) (s : State) : T
   pub is_item : s ≡ item course
   pub no_fault_at_start : course.start.fault ≡ false
   -- how many instructions of the course come before the one that sets the fault first
-  pub place : ℕ
-  pub issued : place < course.count
+  pub earlier : ℕ
+  pub issued : earlier < course.count
   -- the fault is not set before that instruction, and set after it
-  pub before : (steps place course.start).fault ≡ false
-  pub after : (steps (suc place) course.start).fault ≡ true
+  pub before : (steps earlier course.start).fault ≡ false
+  pub after : (steps (suc earlier) course.start).fault ≡ true
   -- it is the first: before it the fault is never set, and after it always
-  pub never_before : (n : ℕ) → n ≤ place → (steps n course.start).fault ≡ false
-  pub always_after : (n : ℕ) → place < n → (steps n course.start).fault ≡ true
+  pub never_before : (n : ℕ) → n ≤ earlier → (steps n course.start).fault ≡ false
+  pub always_after : (n : ℕ) → earlier < n → (steps n course.start).fault ≡ true
 
 -- the event is an exchange
 unfoldable pub is_exchange : Event → Bool
@@ -147,7 +148,8 @@ abbrev pub log_of : List Event → List (Result Done Refusal) → List LogStep
 log_of events answers = logged None events answers
 
 -- what holds of a machine to which these events with these answers have led from boot
-pub record IsFaithful (memory : List ℕ) (events : List Event) (answers : List (Result Done Refusal)) (w : Processor) : Type 0 where
+pub record IsFaithful (memory : List ℕ) (events : List Event) (answers : List (Result Done Refusal))
+    (w : Processor) : Type 0 where
   -- whenever it is drained, its whole state is the replay of what was issued and exchanged
   pub replays : w.pending ≡ [] → replay (boot memory) (log_of events answers) ≡ Some w.state
   -- its log is just that
@@ -157,4 +159,5 @@ pub record IsFaithful (memory : List ℕ) (events : List Event) (answers : List 
   -- where it is drained with the fault set, its state lies on the program's run since the last exchange
   pub fault : w.pending ≡ [] → w.state.fault ≡ true → IsFaultedRun (log_of events answers) memory w.state
   -- while the fault is set nothing is issued, and only an exchange clears it
-  pub held : w.state.fault ≡ true → (allowed w Issue ≡ Some (refusal_at_fault w.state.halt)) × ((e : Event) → is_exchange e ≡ false → (after w e).state.fault ≡ true)
+  pub held : w.state.fault ≡ true → (allowed w Issue ≡ Some (refusal_at_fault w.state.halt))
+      × ((e : Event) → is_exchange e ≡ false → (after w e).state.fault ≡ true)

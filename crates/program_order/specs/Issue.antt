@@ -52,7 +52,13 @@ after_issue w (Halting h place) = record w { state = halt_by (move_to w.state pl
 after_issue w (Passing place) = record w { state = move_to w.state place; log = w.log ++ Issued ∷ [] }
 after_issue w (Taking i place) = record w {
   state = move_to w.state place;
-  pending = w.pending ++ record { instr = i; at = w.state.place.p; number = suc w.last; unit = unwrap_or (unit_for w.pending (row i).unit) Branch; phase = Before Waiting } ∷ [];
+  pending = w.pending ++ record {
+    instr = i;
+    at = w.state.place.p;
+    number = suc w.last;
+    unit = unwrap_or (unit_for w.pending (row i).unit) Branch;
+    phase = Before Waiting;
+  } ∷ [];
   log = w.log ++ Issued ∷ [];
   last = suc w.last;
 }

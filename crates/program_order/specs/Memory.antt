@@ -22,7 +22,8 @@ after_accept w f a (Load n) = record w {
   pending = put_back f (in_phase f.member (After (Accepted n (slice_index_or w.state.memory a 0))) ∷ []);
   busy = slice_set w.busy (bank_of a) true;
 }
-after_accept w f a (StoreWord v) = record w { state = poke w.state a v; pending = put_back f []; busy = slice_set w.busy (bank_of a) true }
+after_accept w f a (StoreWord v) =
+    record w { state = poke w.state a v; pending = put_back f []; busy = slice_set w.busy (bank_of a) true }
 
 -- the loaded word is written to its X register
 unfoldable pub after_return : Processor → Found Pending Arrival → Processor

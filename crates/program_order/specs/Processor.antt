@@ -34,7 +34,19 @@ pub record Processor : Type 0 where
 
 -- the machine at boot: nothing is pending, no bank is busy, no exchange is asked for, and the log is empty
 unfoldable pub boot_processor : List ℕ → ℕ → Processor
-boot_processor memory budget = record { state = boot memory; pending = []; busy = replicate 32 false; request = None; log = []; budget = budget; asked = 0; last = 0; boot_memory = memory; seats_given = false }
+boot_processor memory budget =
+    record {
+      state = boot memory;
+      pending = [];
+      busy = replicate 32 false;
+      request = None;
+      log = [];
+      budget = budget;
+      asked = 0;
+      last = 0;
+      boot_memory = memory;
+      seats_given = false;
+    }
 
 -- the effects so far with those still to come
 unfoldable pub completed : Processor → State

@@ -14,7 +14,8 @@ abbrev pub without_seats : Processor → Processor
 without_seats w = record w { seats_given = false }
 
 -- these events with these answers lead from boot to the machine, whether or not its seats were given out
-pub record IsReached (memory : List ℕ) (budget : ℕ) (events : List Event) (answers : List (Result Done Refusal)) (w : Processor) : Type 0 where
+pub record IsReached (memory : List ℕ) (budget : ℕ) (events : List Event) (answers : List (Result Done Refusal))
+    (w : Processor) : Type 0 where
   -- each event has an answer that may be given
   pub answered : IsAnswered (boot_processor memory budget) events answers
   -- and the machine is what these answers leave, but for its seats
@@ -33,7 +34,8 @@ StaysReached w v =
     → IsReached memory budget events answers w → IsReached memory budget events answers v
 
 -- what leads to the machine, with so many events more, each made and none an issue or about an exchange
-pub record IsReachedByWork (memory : List ℕ) (budget : ℕ) (events : List Event) (answers : List (Result Done Refusal)) (count : ℕ) (w : Processor) : Type 0 where
+pub record IsReachedByWork (memory : List ℕ) (budget : ℕ) (events : List Event) (answers : List (Result Done Refusal))
+    (count : ℕ) (w : Processor) : Type 0 where
   pub more : List Event
   -- each of them works on what is pending
   pub work : Each (λ e. is_work e ≡ true) more

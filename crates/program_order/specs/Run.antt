@@ -21,7 +21,8 @@ use Rattle.in_flight.specs.Tests.{unit_for}
 unfoldable pub note_by : Processor → Fetched → Option Note
 note_by w (Halting halt place) = None
 note_by w (Passing place) = None
-note_by w (Taking i place) = Some (record { unit = unwrap_or (unit_for w.pending (row i).unit) Branch; number = suc w.last })
+note_by w (Taking i place) =
+    Some (record { unit = unwrap_or (unit_for w.pending (row i).unit) Branch; number = suc w.last })
 
 -- what a made event is answered: an issue's reservation, or that the event was made
 unfoldable pub done_by : Processor → Event → Done

@@ -45,7 +45,8 @@ rest_of b place (Some r) = entering place (absolute b r.address) r.access
 unfoldable pub store_tests : Bounds → List Pending → Stage → List Pending → Instr → List Test
 store_tests b ms Waiting earlier i = nothing
 store_tests b ms (HasRead os) earlier i = nothing
-store_tests b ms (Finished v) earlier i = store_conflicts ms earlier i (enters (rest_of b 0 (work_of (shape_of i) v).reference))
+store_tests b ms (Finished v) earlier i =
+    store_conflicts ms earlier i (enters (rest_of b 0 (work_of (shape_of i) v).reference))
 
 -- ---- what they leave ----
 
@@ -63,11 +64,15 @@ stage_after_finish i (Finished v) = Finished v
 
 -- all operands are read in one step
 unfoldable pub after_read : Processor → Found Pending Stage → Processor
-after_read w f = record w { pending = put_back f (in_phase f.member (Before (stage_after_read w.state.registers f.member.instr f.member.at f.answer)) ∷ []) }
+after_read w f = record w {
+  pending = put_back f
+      (in_phase f.member (Before (stage_after_read w.state.registers f.member.instr f.member.at f.answer)) ∷ []);
+}
 
 -- the unit has its value, that of the operands that were read
 unfoldable pub after_finish : Processor → Found Pending Stage → Processor
-after_finish w f = record w { pending = put_back f (in_phase f.member (Before (stage_after_finish f.member.instr f.answer)) ∷ []) }
+after_finish w f =
+    record w { pending = put_back f (in_phase f.member (Before (stage_after_finish f.member.instr f.answer)) ∷ []) }
 
 -- the result is written and the jump made, a reference in range enters the hopper, and the unit is released; a
 -- reference out of range may set the fault flag

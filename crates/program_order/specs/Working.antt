@@ -38,7 +38,7 @@ unfoldable pub leads_to : Processor → List Event → Processor
 leads_to w [] = w
 leads_to w (e ∷ events) = leads_to (after w e) events
 
--- so many such events, at most forty, lead from one whole to the other
+-- so many such events, at most forty, lead from one machine to the other
 pub record Works (w v : Processor) (count : ℕ) : Type 0 where
   pub events : List Event
   pub accepted : Accepts w events

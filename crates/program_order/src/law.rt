@@ -14,7 +14,8 @@ ghost use Rattle.in_flight.specs.Lookup.{is_pending};
 /// Whatever led from boot to a machine, by whichever of its calls, its log is what was issued and exchanged; and where
 /// it is drained, it is the machine that does one instruction at a time, after that log.
 pub fn what_is_reached_is_faithful()
-    ensures { (memory : List ℕ) → (budget : ℕ) → (events : List SomeEvent) → (answers : List (Result SomeDone Refusal)) → (w : SomeProcessor)
+    ensures { (memory : List ℕ) → (budget : ℕ) → (events : List SomeEvent) → (answers : List (Result SomeDone Refusal))
+        → (w : SomeProcessor)
         → IsReached memory budget events answers w → IsFaithful memory events answers w }
 {}
 
@@ -24,7 +25,9 @@ pub fn a_fault_stops_the_log()
     ensures run { (w : SomeProcessor) → (events : List SomeEvent) → (answers : List (Result SomeDone Refusal))
         → w.state.fault ≡ true → IsAnswered w events answers → makes_no_exchange events answers ≡ true
         → ((settled_all w events answers).log ≡ w.log) × ((settled_all w events answers).state.fault ≡ true) }
-    ensures reached { (memory : List ℕ) → (budget : ℕ) → (events : List SomeEvent) → (more : List SomeEvent) → (answers : List (Result SomeDone Refusal)) → (given : List (Result SomeDone Refusal)) → (w : SomeProcessor) → (v : SomeProcessor)
+    ensures reached { (memory : List ℕ) → (budget : ℕ) → (events : List SomeEvent) → (more : List SomeEvent)
+        → (answers : List (Result SomeDone Refusal)) → (given : List (Result SomeDone Refusal)) → (w : SomeProcessor)
+        → (v : SomeProcessor)
         → IsReached memory budget events answers w → w.state.fault ≡ true
         → IsReached memory budget (events ++ more) (answers ++ given) v → makes_no_exchange more given ≡ true
         → (v.log ≡ w.log) × (v.state.fault ≡ true) }
@@ -34,8 +37,10 @@ pub fn a_fault_stops_the_log()
 /// exchange is asked for and no word is held; and it accepts the exchange that is asked for, unless it runs without
 /// fault in mid word.
 pub fn a_drained_machine_goes_on()
-    ensures issue { (w : SomeProcessor) → is_pending w.pending ≡ false → w.state.halt ≡ None → w.state.fault ≡ false → issued w.log < w.budget
+    ensures issue { (w : SomeProcessor) → is_pending w.pending ≡ false → w.state.halt ≡ None → w.state.fault ≡ false
+        → issued w.log < w.budget
         → (is_none w.request || is_some w.state.place.held) ≡ true → allowed w Issue ≡ None }
     ensures exchange { (w : SomeProcessor) → (at : ℕ) → is_pending w.pending ≡ false → w.request ≡ Some at
-        → (is_none w.state.halt && (not w.state.fault && is_some w.state.place.held)) ≡ false → allowed w MakeExchange ≡ None }
+        → (is_none w.state.halt && (not w.state.fault && is_some w.state.place.held)) ≡ false
+        → allowed w MakeExchange ≡ None }
 {}

@@ -26,14 +26,17 @@ reg_eq_same (A m) (B n) h = cc
 reg_eq_same (B m) (X n) h = cc
 reg_eq_same (B m) (A n) h = cc
 
-get_set : (os : List (Option Writer)) (m n : ℕ) (o : Option Writer) → length os ≡ 8 → m < 8 → get_or (set os m o) n None ≡ cond (eqb n m) o (get_or os n None)
+get_set : (os : List (Option Writer)) (m n : ℕ) (o : Option Writer) → length os ≡ 8 → m < 8
+    → get_or (set os m o) n None ≡ cond (eqb n m) o (get_or os n None)
 get_set os m n o l b = by_test (eqb n m) refl
   where
     by_test : (t : Bool) → eqb n m ≡ t → get_or (set os m o) n None ≡ cond t o (get_or os n None)
-    by_test true e = ap (λ k. get_or (set os m o) k None) (eqb-true n m e) ∙ get_or-set_same os m o None (omega (arith, l, b))
+    by_test true e =
+        ap (λ k. get_or (set os m o) k None) (eqb-true n m e) ∙ get_or-set_same os m o None (omega (arith, l, b))
     by_test false e = get_or-set_other os m n o None (eqb-false n m e)
 
-pub set_gives : (ws : Writers) (s r : Reg) (o : Option Writer) → AreSized ws → IsRegister s → writer_at (set_writer ws s o) r ≡ cond (reg_eq r s) o (writer_at ws r)
+pub set_gives : (ws : Writers) (s r : Reg) (o : Option Writer) → AreSized ws → IsRegister s
+    → writer_at (set_writer ws s o) r ≡ cond (reg_eq r s) o (writer_at ws r)
 unfolding writer_at set_writer
 set_gives ws (X m) (X n) o l b = get_set ws.x m n o l.0 b
 set_gives ws (X m) (A n) o l b = refl
@@ -55,7 +58,8 @@ pub each_sized : (rs : List Reg) (ws : Writers) (o : Option Writer) → AreSized
 each_sized [] ws o l = l
 each_sized (r ∷ rs) ws o l = each_sized rs (set_writer ws r o) o (set_sized ws r o l)
 
-pub each_gives : (rs : List Reg) (ws : Writers) (r : Reg) (o : Option Writer) → AreSized ws → Each IsRegister rs → writer_at (set_each ws rs o) r ≡ cond (is_in rs r) o (writer_at ws r)
+pub each_gives : (rs : List Reg) (ws : Writers) (r : Reg) (o : Option Writer) → AreSized ws → Each IsRegister rs
+    → writer_at (set_each ws rs o) r ≡ cond (is_in rs r) o (writer_at ws r)
 unfolding is_in
 each_gives [] ws r o l v = refl
 each_gives (s ∷ rs) ws r o l v =

@@ -50,13 +50,15 @@ unless refused refusal = if refused then Err refusal else Ok tt
 unfoldable pub read_answer : Option (Found Issued Instr) → Result (Unit {0}) Refusal
 read_answer None = Ok tt
 read_answer (Some f) =
-    unless (operand_awaited row_of f.earlier (sources_of f.answer)) (OperandAwaited (first_such (awaited row_of f.earlier) (sources_of f.answer)))
+    unless (operand_awaited row_of f.earlier (sources_of f.answer))
+    (OperandAwaited (first_such (awaited row_of f.earlier) (sources_of f.answer)))
 
 -- E10, result held (third order): an earlier instruction has still to read what the store event writes
 unfoldable pub store_answer : Option (Found Issued Instr) → Result (Unit {0}) Refusal
 store_answer None = Ok tt
 store_answer (Some f) =
-    unless (result_held row_of f.earlier (puts_of (shape_of f.answer))) (ResultHeld (first_such (to_be_read row_of f.earlier) (puts_of (shape_of f.answer))))
+    unless (result_held row_of f.earlier (puts_of (shape_of f.answer)))
+    (ResultHeld (first_such (to_be_read row_of f.earlier) (puts_of (shape_of f.answer))))
 
 -- E10, result held (third order): an earlier instruction has still to read the X register that the load's return
 -- writes
@@ -74,13 +76,16 @@ turn_answer (Some f) = unless (has_reference (shape_of f.answer) && out_of_turn 
 unfoldable pub reserve_answer : Standing → Instr → Option FunctionalUnit → Result (FunctionalUnit × ℕ) Refusal
 reserve_answer s i None = Err (UnitBusy (first_unit (row i).unit))
 reserve_answer s i (Some unit) =
-    if result_reserved row_of s.issued (results (shape_of i)) then Err (ResultReserved (first_such (awaited row_of s.issued) (results (shape_of i)))) else Ok (unit, suc s.last)
+    if result_reserved row_of s.issued (results (shape_of i))
+    then Err (ResultReserved (first_such (awaited row_of s.issued) (results (shape_of i))))
+    else Ok (unit, suc s.last)
 
 -- ---- the changes ----
 
 -- a new reservation: it holds its unit and has still to read its operands
 unfoldable pub new_issued : Instr → FunctionalUnit → ℕ → Issued
-new_issued i unit number = record { number = number; row = record { instr = i; unit = unit; progress = Reserved false } }
+new_issued i unit number =
+    record { number = number; row = record { instr = i; unit = unit; progress = Reserved false } }
 
 -- the board after an issue: it has one reservation more, or is as it was where the issue was refused
 unfoldable pub reserved : Standing → Instr → Result (FunctionalUnit × ℕ) Refusal → Standing

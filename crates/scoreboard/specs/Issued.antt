@@ -38,7 +38,8 @@ written_by_channel r (Some n) = if reg_eq r (X n) then Some (OfChannel n) else N
 -- before the store event the unit is the writer of what that event writes, and the channel that of a load's X
 -- register; after it only a channel is left
 unfoldable pub written_in : Reg → FunctionalUnit → Shape → Progress → Option Writer
-written_in r unit shape (Reserved has_read) = if is_in (puts_of shape) r then Some (OfUnit unit) else written_by_channel r (channel_of shape)
+written_in r unit shape (Reserved has_read) =
+    if is_in (puts_of shape) r then Some (OfUnit unit) else written_by_channel r (channel_of shape)
 written_in r unit shape (Left returning) = written_by_channel r returning
 
 -- who writes the register for it: its unit at the store event, or the channel of its load

@@ -6,5 +6,4 @@ pub mod Conflicts
 pub mod Writers
 pub mod Issued
 pub mod Answers
-pub mod View
-pub mod Fields
+pub mod inner

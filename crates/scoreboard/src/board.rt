@@ -44,7 +44,7 @@ impl Model for Board {
 
     ghost Value = { Standing };
 
-    ghost use Rattle.scoreboard.specs.View.{standing_of, IsRight};
+    ghost use Rattle.scoreboard.specs.inner.View.{standing_of, IsRight};
 
     ghost view = { λ b. standing_of b.units b.channels b.last };
 
@@ -101,7 +101,8 @@ impl Board {
     pub fn try_reserve(&mut self, instr: &Instr) -> Result<(Unit, u64), Refusal>
         requires unit { IsSome (row instr.now).unit }
         requires number { self.old.last + 1 < 2 ^ 64 }
-        ensures answer { result ≡ reserve_answer self.old instr.now (unit_for row_of self.old.issued (row instr.now).unit) }
+        ensures answer { result ≡ reserve_answer self.old instr.now
+            (unit_for row_of self.old.issued (row instr.now).unit) }
         ensures after { self.new ≡ reserved self.old instr.now result }
     {
         let Some(unit) = free_unit_for(&self.units, instr) else {
@@ -229,7 +230,8 @@ impl Board {
 
     /// The instruction in the unit has read its operands. That it may is the caller's to ask first.
     pub fn mark_read(&mut self, unit: Unit)
-        ensures { self.new ≡ with_issued self.old (replaced (seek (held_in unit) self.old.issued) self.old.issued read) }
+        ensures { self.new ≡ with_issued self.old
+            (replaced (seek (held_in unit) self.old.issued) self.old.issued read) }
     {
         let index = index_of(unit);
         if let Some(issued) = &mut self.units[index] {
@@ -240,7 +242,8 @@ impl Board {
     /// The instruction in the unit has come to its store event. The unit is free, and nobody waits for it any
     /// longer; a load goes to the channel of its X register. That it may is the caller's to ask first.
     pub fn release(&mut self, unit: Unit)
-        ensures { self.new ≡ with_issued self.old (replaced (seek (held_in unit) self.old.issued) self.old.issued left) }
+        ensures { self.new ≡ with_issued self.old
+            (replaced (seek (held_in unit) self.old.issued) self.old.issued left) }
     {
         let index = index_of(unit);
         let seat = self.units[index];
@@ -262,7 +265,8 @@ impl Board {
     /// 7, as X registers are. That it may is the caller's to ask first.
     pub fn returned(&mut self, channel: u8)
         requires { channel < 8 }
-        ensures { self.new ≡ with_issued self.old (replaced (seek (returning_by channel) self.old.issued) self.old.issued gone) }
+        ensures { self.new ≡ with_issued self.old
+            (replaced (seek (returning_by channel) self.old.issued) self.old.issued gone) }
     {
         let index = usize::from(channel);
         let seat = self.channels[index];

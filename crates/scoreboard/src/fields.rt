@@ -8,12 +8,12 @@ ghost use Rattle.instructions.specs.Operands.{row};
 ghost use Rattle.scoreboard.specs.Conflicts.{first_free};
 ghost use Rattle.scoreboard.specs.Units.{units_of, first_unit};
 ghost use Rattle.scoreboard.specs.Rows.{has_store_turn};
-ghost use Rattle.scoreboard.specs.Fields.{seat_at, in_increment, is_taken, seat_is, seat_waits, seat_reads, seat_has_turn, free_for, channels_with, writers_with, forget_in_taken};
+ghost use Rattle.scoreboard.specs.inner.Fields.{seat_at, in_increment, is_taken, seat_is, seat_waits, seat_reads, seat_has_turn, free_for, channels_with, writers_with, forget_in_taken};
 ghost use Rattle.instructions.specs.Shape.{shape_of, puts_of};
 ghost use Rattle.instructions.specs.Each.{Each};
 ghost use Rattle.scoreboard.specs.Issued.{channel_of};
 ghost use Rattle.scoreboard.specs.Writers.{IsRegister};
-ghost use Rattle.scoreboard.specs.View.{first_produced};
+ghost use Rattle.scoreboard.specs.inner.View.{first_produced};
 
 use crate::issued::channel;
 use crate::writer::forget_in;
@@ -41,7 +41,7 @@ pub(crate) fn first_produced(registers: &[Reg], producers: &[Option<Writer>]) ->
 }
 
 /// Whether the seat's instruction has a lower number and has still to read its operands.
-#[tactic(auto, unfolding(crate::specs::Fields::seat_waits))]
+#[tactic(auto, unfolding(crate::specs::inner::Fields::seat_waits))]
 fn seat_waits(seat: &Option<Issued>, number: u64) -> bool
     ensures { result ≡ seat_waits number seat.now }
 {
@@ -59,7 +59,7 @@ fn is_any_unread(seats: &[Option<Issued>], number: u64) -> bool
 }
 
 /// Whether the seat's instruction has a lower number and has still to read the register.
-#[tactic(auto, unfolding(crate::specs::Fields::seat_reads))]
+#[tactic(auto, unfolding(crate::specs::inner::Fields::seat_reads))]
 fn seat_reads(seat: &Option<Issued>, number: u64, register: &Reg) -> bool
     ensures { result ≡ seat_reads number register.now seat.now }
 {
@@ -97,7 +97,7 @@ pub(crate) fn first_to_be_read(
 }
 
 /// Whether the unit's instruction has a lower number and a reference that hasn't come to its store event.
-#[tactic(auto, unfolding(crate::specs::Fields::seat_has_turn))]
+#[tactic(auto, unfolding(crate::specs::inner::Fields::seat_has_turn))]
 fn unit_has_turn(units: &[Option<Issued>], unit: Unit, number: u64) -> bool
     requires { length units.now ≡ 10 }
     ensures { result ≡ seat_has_turn number (seat_at units.now unit) }
@@ -112,7 +112,8 @@ fn unit_has_turn(units: &[Option<Issued>], unit: Unit, number: u64) -> bool
 /// and the Increment units takes such instructions.
 pub(crate) fn any_turn(units: &[Option<Issued>], number: u64) -> bool
     requires { length units.now ≡ 10 }
-    ensures { result ≡ (seat_has_turn number (seat_at units.now Branch) || in_increment (seat_has_turn number) units.now) }
+    ensures { result ≡ (seat_has_turn number (seat_at units.now Branch)
+        || in_increment (seat_has_turn number) units.now) }
 {
     unit_has_turn(units, Unit::Branch, number)
         || unit_has_turn(units, Unit::Increment1, number)
@@ -120,7 +121,7 @@ pub(crate) fn any_turn(units: &[Option<Issued>], number: u64) -> bool
 }
 
 /// Whether the unit's instruction is an SA6 or SA7 that hasn't come to its store event.
-#[tactic(auto, unfolding(crate::specs::Fields::seat_is))]
+#[tactic(auto, unfolding(crate::specs::inner::Fields::seat_is))]
 fn unit_has_store(units: &[Option<Issued>], unit: Unit) -> bool
     requires { length units.now ≡ 10 }
     ensures { result ≡ seat_is has_store_turn (seat_at units.now unit) }
@@ -197,7 +198,7 @@ pub(crate) fn first_unit(instr: &Instr) -> Unit
 }
 
 /// The unit that an instruction takes, None where none of its kind is free.
-#[tactic(auto, unfolding(crate::specs::Fields::free_for))]
+#[tactic(auto, unfolding(crate::specs::inner::Fields::free_for))]
 pub(crate) fn free_unit_for(units: &[Option<Issued>], instr: &Instr) -> Option<Unit>
     requires { length units.now ≡ 10 }
     ensures { result ≡ free_for (is_taken units.now) (row instr.now).unit }
@@ -209,7 +210,7 @@ pub(crate) fn free_unit_for(units: &[Option<Issued>], instr: &Instr) -> Option<U
 }
 
 /// An instruction that leaves its unit: its load, if it is one, goes to its channel.
-#[tactic(auto, unfolding(crate::specs::Fields::channels_with))]
+#[tactic(auto, unfolding(crate::specs::inner::Fields::channels_with))]
 pub(crate) fn put_left(channels: &mut [Option<Issued>], issued: &Issued)
     requires { length channels.old ≡ 8 }
     ensures value { channels.new ≡ channels_with channels.old issued.now (channel_of (shape_of issued.now.row.instr)) }
@@ -222,9 +223,10 @@ pub(crate) fn put_left(channels: &mut [Option<Issued>], issued: &Issued)
 }
 
 /// A new instruction is to write its results: its unit at the store event, the channel the X register of a load.
-#[tactic(auto, unfolding(crate::specs::Fields::writers_with))]
+#[tactic(auto, unfolding(crate::specs::inner::Fields::writers_with))]
 pub(crate) fn expect(writers: &mut Writers, instr: &Instr, unit: Unit)
-    ensures value { writers.new ≡ writers_with writers.old unit (puts_of (shape_of instr.now)) (channel_of (shape_of instr.now)) }
+    ensures value { writers.new ≡ writers_with writers.old unit (puts_of (shape_of instr.now))
+        (channel_of (shape_of instr.now)) }
     ensures registers { Each IsRegister (puts_of (shape_of instr.now)) }
     ensures channel { IfSome (channel_of (shape_of instr.now)) (λ n. n < 8) }
 {

@@ -1,7 +1,7 @@
 ghost use Rattle.std.specs.Prelude.{◌≡◌, ◌≤◌, None, length, slice_get, IfSome, replicate};
 ghost use Rattle.scoreboard.specs.Writers.{IsRegister, writer_at, set_writer, writer_if, set_each};
 ghost use Rattle.instructions.specs.Each.{Each};
-ghost use Rattle.scoreboard.specs.View.{AreProducers};
+ghost use Rattle.scoreboard.specs.inner.View.{AreProducers};
 
 use crate::Writer;
 use instructions::Reg;

@@ -9,13 +9,15 @@ use Rattle.sequential.specs.Replay.{LogStep, Issued, Exchanged}
 pub steps-append : (es fs : List Entry) → steps_of (es ++ fs) ≡ steps_of es ++ steps_of fs
 unfolding steps_of
 steps-append [] fs = refl
-steps-append (Count n ∷ es) fs = ap (λ l. replicate n Issued ++ l) (steps-append es fs) ∙ sym (append_assoc (replicate n Issued) (steps_of es) (steps_of fs))
+steps-append (Count n ∷ es) fs = ap (λ l. replicate n Issued ++ l) (steps-append es fs)
+    ∙ sym (append_assoc (replicate n Issued) (steps_of es) (steps_of fs))
 steps-append (Exchange n ∷ es) fs = ap (λ l. Exchanged n ∷ l) (steps-append es fs)
 
 pub issued-append : (xs ys : List LogStep) → issued (xs ++ ys) ≡ issued xs + issued ys
 unfolding issued
 issued-append [] ys = let e : issued ys ≡ 0 + issued ys = omega arith in e
-issued-append (Issued ∷ xs) ys = let e : issued (xs ++ ys) ≡ issued xs + issued ys = issued-append xs ys in omega (arith, e)
+issued-append (Issued ∷ xs) ys =
+    let e : issued (xs ++ ys) ≡ issued xs + issued ys = issued-append xs ys in omega (arith, e)
 issued-append (Exchanged n ∷ xs) ys = issued-append xs ys
 
 pub issued-replicate : (n : ℕ) → issued (replicate n Issued) ≡ n
@@ -68,7 +70,8 @@ opened_by_count es n = open-push es (Count n)
 
 pub issued-exchange : (es : List Entry) (n : ℕ) → issued (steps_of (es ++ Exchange n ∷ [])) ≡ issued (steps_of es)
 unfolding issued
-issued-exchange es n = ap issued (exchange_added es n) ∙ issued-append (steps_of es) (Exchanged n ∷ []) ∙ (let e : issued (steps_of es) + 0 ≡ issued (steps_of es) = omega arith in e)
+issued-exchange es n = ap issued (exchange_added es n) ∙ issued-append (steps_of es) (Exchanged n ∷ [])
+    ∙ (let e : issued (steps_of es) + 0 ≡ issued (steps_of es) = omega arith in e)
 
 pub issued-more : (xs : List LogStep) → issued (xs ++ Issued ∷ []) ≡ issued xs + 1
 unfolding issued
@@ -79,7 +82,8 @@ issued-many xs n = issued-append xs (replicate n Issued) ∙ ap (λ k. issued xs
 
 -- ---- the last entry ----
 
-ends_at : (es : List Entry) (i : ℕ) (e : Entry) → length es ≡ suc i → slice_get es i ≡ Some e → (before : List Entry) × (es ≡ before ++ e ∷ []) × ((f : Entry) → slice_set es i f ≡ before ++ f ∷ [])
+ends_at : (es : List Entry) (i : ℕ) (e : Entry) → length es ≡ suc i → slice_get es i ≡ Some e → (before : List Entry)
+    × (es ≡ before ++ e ∷ []) × ((f : Entry) → slice_set es i f ≡ before ++ f ∷ [])
 ends_at [] i e l h = cc
 ends_at (x ∷ []) zero e l h = ([], cc, λ f. refl)
 ends_at (x ∷ y ∷ es) zero e l h = absurd (omega arith)
@@ -89,7 +93,8 @@ ends_at (x ∷ es) (suc i) e l h =
 
 replicate-sum : (k n : ℕ) → replicate (k + n) Issued ≡ replicate k Issued ++ replicate n Issued
 replicate-sum zero n = ap (λ m. replicate m Issued) (let e : 0 + n ≡ n = omega arith in e)
-replicate-sum (suc k) n = ap (λ m. replicate m Issued) (let e : suc k + n ≡ suc (k + n) = omega arith in e) ∙ ap (λ l. Issued ∷ l) (replicate-sum k n)
+replicate-sum (suc k) n = ap (λ m. replicate m Issued) (let e : suc k + n ≡ suc (k + n) = omega arith in e)
+    ∙ ap (λ l. Issued ∷ l) (replicate-sum k n)
 
 more_counted : (k n : ℕ) → steps_of (Count (k + n) ∷ []) ≡ steps_of (Count k ∷ []) ++ replicate n Issued
 unfolding steps_of
@@ -99,7 +104,8 @@ more_counted k n =
     ∙ ap (λ l. l ++ replicate n Issued) (sym (append-nil (replicate k Issued)))
 
 -- the last count, so much higher
-pub raised_steps : (es : List Entry) (i k n : ℕ) → length es ≡ suc i → slice_get es i ≡ Some (Count k) → steps_of (slice_set es i (Count (k + n))) ≡ steps_of es ++ replicate n Issued
+pub raised_steps : (es : List Entry) (i k n : ℕ) → length es ≡ suc i → slice_get es i ≡ Some (Count k)
+    → steps_of (slice_set es i (Count (k + n))) ≡ steps_of es ++ replicate n Issued
 raised_steps es i k n l h =
     let r = ends_at es i (Count k) l h in
     ap steps_of (r.2 (Count (k + n)))
@@ -108,17 +114,20 @@ raised_steps es i k n l h =
     ∙ sym (append_assoc (steps_of r.0) (steps_of (Count k ∷ [])) (replicate n Issued))
     ∙ ap (λ t. t ++ replicate n Issued) (sym (steps-append r.0 (Count k ∷ [])) ∙ ap steps_of (sym r.1))
 
-pub raised_open : (es : List Entry) (i k n : ℕ) → length es ≡ suc i → slice_get es i ≡ Some (Count k) → ends_open (slice_set es i (Count (k + n))) ≡ true
+pub raised_open : (es : List Entry) (i k n : ℕ) → length es ≡ suc i → slice_get es i ≡ Some (Count k)
+    → ends_open (slice_set es i (Count (k + n))) ≡ true
 raised_open es i k n l h =
     let r = ends_at es i (Count k) l h in
     ap ends_open (r.2 (Count (k + n))) ∙ opened_by_count r.0 (k + n)
 
-pub open_at_count : (es : List Entry) (i n : ℕ) → length es ≡ suc i → slice_get es i ≡ Some (Count n) → ends_open es ≡ true
+pub open_at_count : (es : List Entry) (i n : ℕ) → length es ≡ suc i → slice_get es i ≡ Some (Count n)
+    → ends_open es ≡ true
 open_at_count es i n l h =
     let r = ends_at es i (Count n) l h in
     ap ends_open r.1 ∙ opened_by_count r.0 n
 
-pub closed_at_exchange : (es : List Entry) (i n : ℕ) → length es ≡ suc i → slice_get es i ≡ Some (Exchange n) → ends_open es ≡ false
+pub closed_at_exchange : (es : List Entry) (i n : ℕ) → length es ≡ suc i → slice_get es i ≡ Some (Exchange n)
+    → ends_open es ≡ false
 closed_at_exchange es i n l h =
     let r = ends_at es i (Exchange n) l h in
     ap ends_open r.1 ∙ closed_by_exchange r.0 n
@@ -127,7 +136,9 @@ closed_at_exchange es i n l h =
 pub none_last : (es : List Entry) → slice_get es (length es - 1) ≡ None → ends_open es ≡ false
 unfolding ends_open
 none_last [] h = refl
-none_last (e ∷ es) h = absurd (present (e ∷ es) (length es) (omega arith) (ap (slice_get (e ∷ es)) (let k : length es ≡ length (e ∷ es) - 1 = omega arith in k) ∙ h))
+none_last (e ∷ es) h = absurd
+    (present (e ∷ es) (length es) (omega arith)
+    (ap (slice_get (e ∷ es)) (let k : length es ≡ length (e ∷ es) - 1 = omega arith in k) ∙ h))
   where
     present : (xs : List Entry) (i : ℕ) → i < length xs → slice_get xs i ≡ None → ⊥
     present [] i k h = absurd (omega arith)
@@ -151,7 +162,8 @@ exchange_past [] n = refl
 exchange_past (Count k ∷ es) n = refl
 exchange_past (Exchange k ∷ es) n = refl
 
-pub shortest_exchange : (steps : List LogStep) (n : ℕ) → entries_of (steps ++ Exchanged n ∷ []) ≡ entries_of steps ++ Exchange n ∷ []
+pub shortest_exchange : (steps : List LogStep) (n : ℕ) → entries_of (steps ++ Exchanged n ∷ []) ≡ entries_of steps
+    ++ Exchange n ∷ []
 unfolding entries_of
 shortest_exchange [] n = refl
 shortest_exchange (Issued ∷ steps) n = ap one_before (shortest_exchange steps n) ∙ exchange_past (entries_of steps) n
@@ -173,13 +185,17 @@ before_and_after n (Exchange k ∷ e ∷ es) = refl
 entries_of_issues : (n : ℕ) → entries_of (replicate (suc n) Issued) ≡ Count (suc n) ∷ []
 unfolding entries_of
 entries_of_issues zero = refl
-entries_of_issues (suc n) = ap one_before (entries_of_issues n) ∙ ap (λ k. Count k ∷ []) (let e : suc n + 1 ≡ suc (suc n) = omega arith in e)
+entries_of_issues (suc n) =
+    ap one_before (entries_of_issues n) ∙ ap (λ k. Count k ∷ []) (let e : suc n + 1 ≡ suc (suc n) = omega arith in e)
 
-shortest_issues : (steps : List LogStep) (n : ℕ) → entries_of (steps ++ replicate (suc n) Issued) ≡ more_after (suc n) (entries_of steps)
+shortest_issues : (steps : List LogStep) (n : ℕ)
+    → entries_of (steps ++ replicate (suc n) Issued) ≡ more_after (suc n) (entries_of steps)
 unfolding entries_of more_after
 shortest_issues [] n = entries_of_issues n
-shortest_issues (Issued ∷ steps) n = ap one_before (shortest_issues steps n) ∙ before_and_after (suc n) (entries_of steps)
-shortest_issues (Exchanged k ∷ steps) n = ap (λ l. Exchange k ∷ l) (shortest_issues steps n) ∙ past_exchange (suc n) k (entries_of steps)
+shortest_issues (Issued ∷ steps) n =
+    ap one_before (shortest_issues steps n) ∙ before_and_after (suc n) (entries_of steps)
+shortest_issues (Exchanged k ∷ steps) n =
+    ap (λ l. Exchange k ∷ l) (shortest_issues steps n) ∙ past_exchange (suc n) k (entries_of steps)
 
 last_after : (before : List Entry) (k n : ℕ) → more_after n (before ++ Count k ∷ []) ≡ before ++ Count (k + n) ∷ []
 unfolding more_after
@@ -189,7 +205,8 @@ last_after (Exchange m ∷ []) k n = refl
 last_after (e ∷ f ∷ es) k n = ap (λ l. e ∷ l) (last_after (f ∷ es) k n)
 
 -- the last count, so much higher
-pub raised_after : (es : List Entry) (i k n : ℕ) → length es ≡ suc i → slice_get es i ≡ Some (Count k) → slice_set es i (Count (k + n)) ≡ more_after n es
+pub raised_after : (es : List Entry) (i k n : ℕ) → length es ≡ suc i → slice_get es i ≡ Some (Count k)
+    → slice_set es i (Count (k + n)) ≡ more_after n es
 raised_after es i k n l h =
     let r = ends_at es i (Count k) l h in
     r.2 (Count (k + n)) ∙ sym (last_after r.0 k n) ∙ ap (more_after n) (sym r.1)
@@ -203,9 +220,13 @@ added_after (Exchange k ∷ []) n h = refl
 added_after (e ∷ f ∷ es) n h = ap (λ l. e ∷ l) (added_after (f ∷ es) n h)
 
 -- the entries stay the shortest ones
-pub shortest_after_issues : (es fs : List Entry) (n : ℕ) → 0 < n → es ≡ entries_of (steps_of es) → fs ≡ more_after n es → steps_of fs ≡ steps_of es ++ replicate n Issued → fs ≡ entries_of (steps_of fs)
+pub shortest_after_issues : (es fs : List Entry) (n : ℕ) → 0 < n → es ≡ entries_of (steps_of es) → fs ≡ more_after n es
+    → steps_of fs ≡ steps_of es ++ replicate n Issued → fs ≡ entries_of (steps_of fs)
 shortest_after_issues es fs zero z h p q = absurd (omega (arith, z))
-shortest_after_issues es fs (suc n) z h p q = p ∙ ap (more_after (suc n)) h ∙ sym (shortest_issues (steps_of es) n) ∙ ap entries_of (sym q)
+shortest_after_issues es fs (suc n) z h p q =
+    p ∙ ap (more_after (suc n)) h ∙ sym (shortest_issues (steps_of es) n) ∙ ap entries_of (sym q)
 
-pub shortest_after_exchange : (es fs : List Entry) (n : ℕ) → es ≡ entries_of (steps_of es) → fs ≡ es ++ Exchange n ∷ [] → fs ≡ entries_of (steps_of fs)
-shortest_after_exchange es fs n h p = p ∙ ap (λ l. l ++ Exchange n ∷ []) h ∙ sym (shortest_exchange (steps_of es) n) ∙ ap entries_of (sym (exchange_added es n)) ∙ ap (λ l. entries_of (steps_of l)) (sym p)
+pub shortest_after_exchange : (es fs : List Entry) (n : ℕ) → es ≡ entries_of (steps_of es) → fs ≡ es ++ Exchange n ∷ []
+    → fs ≡ entries_of (steps_of fs)
+shortest_after_exchange es fs n h p = p ∙ ap (λ l. l ++ Exchange n ∷ []) h ∙ sym (shortest_exchange (steps_of es) n)
+    ∙ ap entries_of (sym (exchange_added es n)) ∙ ap (λ l. entries_of (steps_of l)) (sym p)

@@ -19,19 +19,22 @@ use Rattle.sequential.specs.Work.{operands, number_in, same_for, jump_for, refer
 abbrev pub with_these : State → RegisterFile → Place → Bool → State
 with_these s g p f = record s { registers = g; place = p; fault = f }
 
-one_written : (s : State) (w : Option Reg) (n : ℕ) → write_all s (same_for n (listed w)) ≡ record s { registers = put_any s.registers w n }
+one_written : (s : State) (w : Option Reg) (n : ℕ)
+    → write_all s (same_for n (listed w)) ≡ record s { registers = put_any s.registers w n }
 unfolding write_all write same_for
 one_written s None n = refl
 one_written s (Some r) n = refl
 
 work_done : (b : Bounds) (s : State) (shape : Shape) (v : UnitValue) (w : Option Reg) → puts_of shape ≡ listed w →
-    refer b (with_these s (put_any s.registers w (number_in v)) (gone s.place (jump_for shape v)) (s.fault || fault_of b (reference_for shape v))) (reference_for shape v) ≡ do_work b s (work_of shape v)
+    refer b (with_these s (put_any s.registers w (number_in v)) (gone s.place (jump_for shape v))
+    (s.fault || fault_of b (reference_for shape v))) (reference_for shape v) ≡ do_work b s (work_of shape v)
 unfolding do_work do_now work_of go mark
 work_done b s shape v w h =
     ap (λ t. refer b (mark (go t (jump_for shape v)) (fault_of b (reference_for shape v))) (reference_for shape v))
     (sym (one_written s w (number_in v)) ∙ ap (λ rs. write_all s (same_for (number_in v) rs)) (sym h))
 
-pub instruction_done : (b : Bounds) (s t : State) (instr : Instr) (at : ℕ) (o : Operands) (v : UnitValue) (r : Option ProgramReference) (f : Bool) (w : Option Reg) (n : ℕ) (g : RegisterFile) (j : Option ℕ) (p : Place)
+pub instruction_done : (b : Bounds) (s t : State) (instr : Instr) (at : ℕ) (o : Operands) (v : UnitValue)
+    (r : Option ProgramReference) (f : Bool) (w : Option Reg) (n : ℕ) (g : RegisterFile) (j : Option ℕ) (p : Place)
     → o ≡ operands instr at s.registers
     → v ≡ value_of instr o
     → r ≡ reference_for (shape_of instr) v
@@ -48,7 +51,9 @@ instruction_done b s t instr at o v r f w n g j p eo ev er ef ew en eg ej ep et 
     et
     ∙ ap (λ x. refer b (with_these s g p x) r) ef
     ∙ ap (λ x. refer b (with_these s x p (s.fault || fault_of b r)) r) (eg ∙ ap (put_any s.registers w) en)
-    ∙ ap (λ x. refer b (with_these s (put_any s.registers w (number_in v)) x (s.fault || fault_of b r)) r) (ep ∙ ap (gone s.place) ej)
-    ∙ ap (λ x. refer b (with_these s (put_any s.registers w (number_in v)) (gone s.place (jump_for (shape_of instr) v)) (s.fault || fault_of b x)) x) er
+    ∙ ap (λ x. refer b (with_these s (put_any s.registers w (number_in v)) x (s.fault || fault_of b r)) r)
+    (ep ∙ ap (gone s.place) ej)
+    ∙ ap (λ x. refer b (with_these s (put_any s.registers w (number_in v)) (gone s.place (jump_for (shape_of instr) v))
+    (s.fault || fault_of b x)) x) er
     ∙ work_done b s (shape_of instr) v w ew
     ∙ ap (λ x. do_work b s (work_of (shape_of instr) x)) (ev ∙ ap (value_of instr) eo)

@@ -38,7 +38,8 @@ one_issued : (s : State) (n : ℕ) → replay s (replicate (suc n) Issued) ≡ r
 unfolding replay then_replay do_log_step
 one_issued s n = refl
 
-pub run_more : (s t : State) (i n : ℕ) (o : Option State) → i < n → t ≡ step s → replay s (replicate (n - i) Issued) ≡ o → replay t (replicate (n - (i + 1)) Issued) ≡ o
+pub run_more : (s t : State) (i n : ℕ) (o : Option State) → i < n → t ≡ step s
+    → replay s (replicate (n - i) Issued) ≡ o → replay t (replicate (n - (i + 1)) Issued) ≡ o
 run_more s t i n o l e h =
     ap (λ u. replay u (replicate (n - (i + 1)) Issued)) e
     ∙ sym (one_issued s (n - (i + 1)))
@@ -49,20 +50,24 @@ pub run_done : (s : State) (i n : ℕ) (o : Option State) → n ≤ i → replay
 unfolding replay
 run_done s i n o l h = sym h ∙ ap (λ k. replay s (replicate k Issued)) (let k : n - i ≡ 0 = omega (arith, l) in k)
 
-pub run_halted : (s : State) (i n : ℕ) (o : Option State) → is_some s.halt ≡ true → replay s (replicate (n - i) Issued) ≡ o → o ≡ Some s
+pub run_halted : (s : State) (i n : ℕ) (o : Option State) → is_some s.halt ≡ true
+    → replay s (replicate (n - i) Issued) ≡ o → o ≡ Some s
 run_halted s i n o e h = sym h ∙ halted_run s (n - i) e
 
 -- ---- one entry ----
 
-pub issues_done : (s t : State) (n : ℕ) (e : Entry) → e ≡ Count n → replay s (replicate n Issued) ≡ Some t → replay s (steps_of (e ∷ [])) ≡ Some t
+pub issues_done : (s t : State) (n : ℕ) (e : Entry) → e ≡ Count n → replay s (replicate n Issued) ≡ Some t
+    → replay s (steps_of (e ∷ [])) ≡ Some t
 unfolding steps_of
 issues_done s t n e m h = ap (λ x. replay s (steps_of (x ∷ []))) m ∙ ap (replay s) (append-nil (replicate n Issued)) ∙ h
 
-pub exchange_done : (s t : State) (n : ℕ) → package_fits n (length s.memory) ≡ true → t ≡ swap n s → replay s (steps_of (Exchange n ∷ [])) ≡ Some t
+pub exchange_done : (s t : State) (n : ℕ) → package_fits n (length s.memory) ≡ true → t ≡ swap n s
+    → replay s (steps_of (Exchange n ∷ [])) ≡ Some t
 unfolding replay then_replay do_log_step steps_of
 exchange_done s t n f e = ap (λ b. then_replay (cond b (Some (swap n s)) None) (λ u. Some u)) f ∙ ap Some (sym e)
 
-pub exchange_refused : (s t : State) (n : ℕ) → package_fits n (length s.memory) ≡ false → t ≡ s → IsRefusedAt s (steps_of (Exchange n ∷ [])) t
+pub exchange_refused : (s t : State) (n : ℕ) → package_fits n (length s.memory) ≡ false → t ≡ s
+    → IsRefusedAt s (steps_of (Exchange n ∷ [])) t
 unfolding replay steps_of
 exchange_refused s t n f e = record {
   before = [];
@@ -75,27 +80,32 @@ exchange_refused s t n f e = record {
 
 -- an exchange that was made, or refused
 pub exchange_answered : {K : Type 0} (r : Result K Refusal) (s t : State) (n : ℕ) (e : Entry) → e ≡ Exchange n
-    → MatchResult r (λ k. package_fits n (length s.memory) ≡ true) (λ refusal. (package_fits n (length s.memory) ≡ false) × (refusal ≡ PackageRange))
+    → MatchResult r (λ k. package_fits n (length s.memory) ≡ true)
+    (λ refusal. (package_fits n (length s.memory) ≡ false) × (refusal ≡ PackageRange))
     → MatchResult r (λ k. t ≡ swap n s) (λ refusal. t ≡ s)
     → OnOk r (replay s (steps_of (e ∷ [])) ≡ Some t)
 exchange_answered (Ok k) s t n e m a b = ap (λ x. replay s (steps_of (x ∷ []))) m ∙ exchange_done s t n a b
 exchange_answered (Err k) s t n e m a b = tt
 
 pub exchange_not_made : {K : Type 0} (r : Result K Refusal) (s t : State) (n : ℕ) (e : Entry) → e ≡ Exchange n
-    → MatchResult r (λ k. package_fits n (length s.memory) ≡ true) (λ refusal. (package_fits n (length s.memory) ≡ false) × (refusal ≡ PackageRange))
+    → MatchResult r (λ k. package_fits n (length s.memory) ≡ true)
+    (λ refusal. (package_fits n (length s.memory) ≡ false) × (refusal ≡ PackageRange))
     → MatchResult r (λ k. t ≡ swap n s) (λ refusal. t ≡ s)
     → IfErr r (λ refusal. (refusal ≡ PackageRange) × IsRefusedAt s (steps_of (e ∷ [])) t)
 exchange_not_made (Ok k) s t n e m a b = tt
-exchange_not_made (Err k) s t n e m a b = (a.1, subst (λ x. IsRefusedAt s (steps_of (x ∷ [])) t) (sym m) (exchange_refused s t n a.0 b))
+exchange_not_made (Err k) s t n e m a b =
+    (a.1, subst (λ x. IsRefusedAt s (steps_of (x ∷ [])) t) (sym m) (exchange_refused s t n a.0 b))
 
 -- ---- entries one after another ----
 
-pub replay-append : (s : State) (xs ys : List LogStep) → replay s (xs ++ ys) ≡ then_replay (replay s xs) (λ t. replay t ys)
+pub replay-append : (s : State) (xs ys : List LogStep)
+    → replay s (xs ++ ys) ≡ then_replay (replay s xs) (λ t. replay t ys)
 unfolding replay then_replay
 replay-append s [] ys = refl
 replay-append s (x ∷ xs) ys = after (do_log_step s x) (λ t. replay-append t xs ys)
   where
-    after : (o : Option State) → ((t : State) → replay t (xs ++ ys) ≡ then_replay (replay t xs) (λ u. replay u ys)) → then_replay o (λ t. replay t (xs ++ ys)) ≡ then_replay (then_replay o (λ t. replay t xs)) (λ u. replay u ys)
+    after : (o : Option State) → ((t : State) → replay t (xs ++ ys) ≡ then_replay (replay t xs) (λ u. replay u ys))
+        → then_replay o (λ t. replay t (xs ++ ys)) ≡ then_replay (then_replay o (λ t. replay t xs)) (λ u. replay u ys)
     after None h = refl
     after (Some t) h = h t
 
@@ -105,7 +115,8 @@ unfolding then_replay
 replay_on s t xs ys h = replay-append s xs ys ∙ ap (λ o. then_replay o (λ u. replay u ys)) h
 
 -- the steps of a list of entries are those before an entry, its own and those after it
-split_steps : (es : List Entry) (i : ℕ) (d : Entry) → i < length es → steps_of es ≡ steps_of (take i es) ++ (steps_of (get_or es i d ∷ []) ++ steps_of (drop (suc i) es))
+split_steps : (es : List Entry) (i : ℕ) (d : Entry) → i < length es → steps_of es ≡ steps_of (take i es)
+    ++ (steps_of (get_or es i d ∷ []) ++ steps_of (drop (suc i) es))
 unfolding steps_of
 split_steps [] i d h = absurd (omega (arith, h))
 split_steps (e ∷ es) zero d h = steps-append (e ∷ []) es
@@ -113,9 +124,11 @@ split_steps (e ∷ es) (suc i) d h =
     steps-append (e ∷ []) es
     ∙ ap (λ l. steps_of (e ∷ []) ++ l) (split_steps es i d (omega (arith, h)))
     ∙ sym (append_assoc (steps_of (e ∷ [])) (steps_of (take i es)) _)
-    ∙ ap (λ l. l ++ (steps_of (get_or es i d ∷ []) ++ steps_of (drop (suc i) es))) (sym (steps-append (e ∷ []) (take i es)))
+    ∙ ap (λ l. l ++ (steps_of (get_or es i d ∷ []) ++ steps_of (drop (suc i) es)))
+    (sym (steps-append (e ∷ []) (take i es)))
 
-taken_steps : (es : List Entry) (i : ℕ) (d : Entry) → i < length es → steps_of (take (suc i) es) ≡ steps_of (take i es) ++ steps_of (get_or es i d ∷ [])
+taken_steps : (es : List Entry) (i : ℕ) (d : Entry) → i < length es → steps_of (take (suc i) es) ≡ steps_of (take i es)
+    ++ steps_of (get_or es i d ∷ [])
 unfolding steps_of
 taken_steps [] i d h = absurd (omega (arith, h))
 taken_steps (e ∷ es) zero d h = refl
@@ -129,7 +142,9 @@ pub replay_begun : (s : State) (es : List Entry) → replay s (steps_of (take 0 
 unfolding replay steps_of
 replay_begun s es = refl
 
-pub replay_more : (s t u : State) (es : List Entry) (i : ℕ) (d e : Entry) → i < length es → e ≡ get_or es i d → replay s (steps_of (take i es)) ≡ Some t → replay t (steps_of (e ∷ [])) ≡ Some u → replay s (steps_of (take (i + 1) es)) ≡ Some u
+pub replay_more : (s t u : State) (es : List Entry) (i : ℕ) (d e : Entry) → i < length es → e ≡ get_or es i d
+    → replay s (steps_of (take i es)) ≡ Some t → replay t (steps_of (e ∷ [])) ≡ Some u
+    → replay s (steps_of (take (i + 1) es)) ≡ Some u
 replay_more s t u es i d e l k h j =
     ap (λ n. replay s (steps_of (take n es))) (add-one i)
     ∙ ap (replay s) (taken_steps es i d l)
@@ -148,7 +163,9 @@ refused_replay s t xs r =
     ∙ ap (λ b. then_replay (cond b (Some (swap r.at t)) None) (λ u. replay u r.after)) r.outside
 
 -- the entry of a list at which it is refused
-pub refused_at : (s t u : State) (es : List Entry) (xs : List LogStep) (i : ℕ) (d e : Entry) → i < length es → e ≡ get_or es i d → steps_of es ≡ xs → replay s (steps_of (take i es)) ≡ Some t → IsRefusedAt t (steps_of (e ∷ [])) u → IsRefusedAt s xs u
+pub refused_at : (s t u : State) (es : List Entry) (xs : List LogStep) (i : ℕ) (d e : Entry) → i < length es
+    → e ≡ get_or es i d → steps_of es ≡ xs → replay s (steps_of (take i es)) ≡ Some t
+    → IsRefusedAt t (steps_of (e ∷ [])) u → IsRefusedAt s xs u
 refused_at s t u es xs i d e l k m h r = record {
   before = steps_of (take i es) ++ r.before;
   at = r.at;
@@ -158,7 +175,8 @@ refused_at s t u es xs i d e l k m h r = record {
       ∙ split_steps es i d l
       ∙ ap (λ x. steps_of (take i es) ++ (steps_of (x ∷ []) ++ steps_of (drop (suc i) es))) (sym k)
       ∙ ap (λ y. steps_of (take i es) ++ (y ++ steps_of (drop (suc i) es))) r.steps_are
-      ∙ ap (λ y. steps_of (take i es) ++ y) (append_assoc r.before (Exchanged r.at ∷ r.after) (steps_of (drop (suc i) es)))
+      ∙ ap (λ y. steps_of (take i es) ++ y)
+      (append_assoc r.before (Exchanged r.at ∷ r.after) (steps_of (drop (suc i) es)))
       ∙ sym (append_assoc (steps_of (take i es)) r.before (Exchanged r.at ∷ (r.after ++ steps_of (drop (suc i) es))));
   reached = replay_on s t (steps_of (take i es)) r.before h ∙ r.reached;
   outside = r.outside;

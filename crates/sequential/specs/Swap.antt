@@ -9,7 +9,8 @@ use Rattle.sequential.specs.Place.{beginning}
 
 -- the package that a state leaves in memory
 unfoldable pub package_of : State → Package
-package_of s = record { p = s.place.p; registers = s.registers; area = s.area; halted = is_some s.halt; fault = s.fault }
+package_of s =
+    record { p = s.place.p; registers = s.registers; area = s.area; halted = is_some s.halt; fault = s.fault }
 
 -- the state that a package begins with: at parcel 0, running, without fault
 unfoldable pub begun : Package → List ℕ → State

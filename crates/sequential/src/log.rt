@@ -74,9 +74,16 @@ impl Model for Log {
 
     ghost Value = { Logged };
 
-    ghost view = { λ l. record { steps = steps_of l.entries.items; room = vec_capacity l.entries - vec_len l.entries; is_open = ends_open l.entries.items } };
+    ghost view = { λ l. record {
+      steps = steps_of l.entries.items;
+      room = vec_capacity l.entries - vec_len l.entries;
+      is_open = ends_open l.entries.items;
+    } };
 
-    ghost invariant = { λ l. record { count : l.issues ≡ issued (steps_of l.entries.items); shortest : l.entries.items ≡ entries_of (steps_of l.entries.items) } };
+    ghost invariant = { λ l. record {
+      count : l.issues ≡ issued (steps_of l.entries.items);
+      shortest : l.entries.items ≡ entries_of (steps_of l.entries.items);
+    } };
 }
 
 impl Log {

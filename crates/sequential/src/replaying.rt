@@ -22,7 +22,8 @@ fn issue_many(state: &mut State, count: u64)
 /// The steps of an entry.
 fn replay_entry(state: &mut State, entry: &Entry) -> Result<(), Refusal>
     ensures done { OnOk result (replay state.old (steps_of (entry.now ∷ [])) ≡ Some state.new) }
-    ensures refused { IfErr result (λ refusal. (refusal ≡ PackageRange) × (IsRefusedAt state.old (steps_of (entry.now ∷ [])) state.new)) }
+    ensures refused { IfErr result
+        (λ refusal. (refusal ≡ PackageRange) × (IsRefusedAt state.old (steps_of (entry.now ∷ [])) state.new)) }
 {
     match *entry {
         Entry::Issued(count) => {

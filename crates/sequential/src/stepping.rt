@@ -149,7 +149,8 @@ impl State {
     #[inline(always)]
     fn take_as<const DIGITS: u16>(&mut self, word: Word60)
         requires { DIGITS ≡ digits_at word self.old.place.parcel }
-        ensures { self.new ≡ do_fetched (bounds_of self.old) self.old self.old.place.p (fetched_by self.old.place.p self.old.place.parcel word (reading_at word self.old.place.parcel)) }
+        ensures { self.new ≡ do_fetched (bounds_of self.old) self.old self.old.place.p
+            (fetched_by self.old.place.p self.old.place.parcel word (reading_at word self.old.place.parcel)) }
     {
         let reading = decode_as(word, self.place.parcel.get(), DIGITS);
         self.make(fetched_by(self.place, word, reading));
@@ -158,7 +159,8 @@ impl State {
     /// Does what is read in this word.
     #[inline(always)]
     fn take(&mut self, word: Word60)
-        ensures { self.new ≡ do_fetched (bounds_of self.old) self.old self.old.place.p (fetched_by self.old.place.p self.old.place.parcel word (reading_at word self.old.place.parcel)) }
+        ensures { self.new ≡ do_fetched (bounds_of self.old) self.old self.old.place.p
+            (fetched_by self.old.place.p self.old.place.parcel word (reading_at word self.old.place.parcel)) }
     {
         take_by_digits! {
             self, word, first_digits(word, self.place.parcel.get()) =>

@@ -11,7 +11,8 @@ use Rattle.unit_queue.specs.Lanes.{is_closed, is_closing, IsOrderly, EndsWith}
 use Rattle.unit_queue.specs.Rules.{view_of, sender, taker, Fits, IsKept, IsTaken}
 use Rattle.unit_queue.proofs.Orders.{order_push, order_front, after_closed, open_before, is_closed-push, is_closed-next}
 
-at_end : (l : List View) (a b : View) (j : ℕ) → get_elem? l j ≢ some b → get_elem? (l ++ a ∷ []) j ≡ some b → j ≡ length l
+at_end : (l : List View) (a b : View) (j : ℕ) → get_elem? l j ≢ some b → get_elem? (l ++ a ∷ []) j ≡ some b
+    → j ≡ length l
 at_end [] a b zero n e = refl
 at_end [] a b (suc j) n e = absurd (some-ne-none b (sym e))
 at_end (x ∷ xs) a b zero n e = absurd (n e)
@@ -20,17 +21,30 @@ at_end (x ∷ xs) a b (suc j) n e = ap suc (at_end xs a b j n e)
 abbrev All : (ℕ → View → Type 0) → List View → Type 0
 All F views = (port : ℕ) (v : View) → get_elem? views port ≡ some v → F port v
 
-all_set : (F : ℕ → View → Type 0) (views : List View) (port : ℕ) (w : View) → F port w → ((j : ℕ) (u : View) → j ≢ port → get_elem? views j ≡ some u → F j u) → All F (set views port w)
-all_set F views port w mine others j u e = ⊎_elim (λ (x : (j ≡ port) × (w ≡ u)). subst (λ (y : ℕ × View). F y.0 y.1) (λ i. (sym x.0 i, x.1 i)) mine)
+all_set : (F : ℕ → View → Type 0) (views : List View) (port : ℕ) (w : View) → F port w
+    → ((j : ℕ) (u : View) → j ≢ port → get_elem? views j ≡ some u → F j u) → All F (set views port w)
+all_set F views port w mine others j u e =
+    ⊎_elim (λ (x : (j ≡ port) × (w ≡ u)). subst (λ (y : ℕ × View). F y.0 y.1) (λ i. (sym x.0 i, x.1 i)) mine)
     (λ (x : (j ≢ port) × (get_elem? views j ≡ some u)). others j u x.0 x.1) (at_set views port j w u e)
 
 off : false ≡ true → ⊥
 off e = true≢false (sym e)
 
 pub begins : IsKept [] (view_of true true [] [] ∷ [])
-begins = (0, 0, [], [], refl, tt, all_set (Fits 0 0 [] []) (view_of true true [] [] ∷ []) 0 (view_of true true [] []) ((λ _. (refl, refl)), λ _. (refl, refl)) (λ j u other e. absurd (other (at_end [] _ u j (λ x. some-ne-none u (sym x)) e))))
+begins = (
+  0,
+  0,
+  [],
+  [],
+  refl,
+  tt,
+  all_set (Fits 0 0 [] []) (view_of true true [] [] ∷ []) 0 (view_of true true [] [])
+      ((λ _. (refl, refl)), λ _. (refl, refl))
+      (λ j u other e. absurd (other (at_end [] _ u j (λ x. some-ne-none u (sym x)) e))),
+)
 
-pub sends : (n port : ℕ) (v : View) (x : Item) → v.sends ≡ true → is_closed v.sent ≡ false → Pushes IsKept n port v x (λ w. w ≡ view_of v.sends v.takes (v.sent ++ x ∷ []) v.got)
+pub sends : (n port : ℕ) (v : View) (x : Item) → v.sends ≡ true → is_closed v.sent ≡ false
+    → Pushes IsKept n port v x (λ w. w ≡ view_of v.sends v.takes (v.sent ++ x ∷ []) v.got)
 sends n port v x may still items views _ h at =
     let w : View = view_of v.sends v.takes (v.sent ++ x ∷ []) v.got in
     let mine = h.6 port v at in
@@ -72,7 +86,12 @@ takes port v may x items views h at =
         all_set (Fits h.0 h.1 h.2 got) views port w (mine.0, λ _. ((mine.1 may).0, ap (λ l. l ++ x ∷ []) here))
             (λ j u other e. ((h.6 j u e).0, λ p. absurd (other (((h.6 j u e).1 p).0 ∙ sym (mine.1 may).0)))),
       ),
-      (refl, subst (λ l. IsOrderly (l ++ x ∷ [])) (sym here) (order_front got items order), ap is_closed here ∙ open_before h.3 x items (subst IsOrderly h.4 h.5)),
+      (
+        refl,
+        subst (λ l. IsOrderly (l ++ x ∷ [])) (sym here) (order_front got items order),
+        ap is_closed here
+            ∙ open_before h.3 x items (subst IsOrderly h.4 h.5),
+      ),
     )
 
 pub forks : (port : ℕ) (v : View) → v.sends ≡ true → v.takes ≡ true → Forks IsKept port v (sender v.sent) (taker v.got)
@@ -82,7 +101,8 @@ forks port v a b items views h at =
     let mine = h.6 port v at in
     let vs : List View = set views port l in
     let Old : ℕ → View → Type 0 = λ j u. (u.sends ≡ true → (j ≡ h.0) × (u.sent ≡ h.2)) × (u.takes ≢ true) in
-    let old : All Old vs = all_set Old views port l ((λ _. mine.0 a), λ p. off p) (λ j u other e. ((h.6 j u e).0, λ p. other (((h.6 j u e).1 p).0 ∙ sym (mine.1 b).0))) in (
+    let old : All Old vs = all_set Old views port l ((λ _. mine.0 a), λ p. off p)
+    (λ j u other e. ((h.6 j u e).0, λ p. other (((h.6 j u e).1 p).0 ∙ sym (mine.1 b).0))) in (
       h.0,
       length vs,
       h.2,
@@ -90,32 +110,54 @@ forks port v a b items views h at =
       h.4,
       h.5,
       λ j u e. ⊎_elim (λ x. ((old j u x).0, λ p. absurd ((old j u x).1 p)))
-          (λ (is : r ≡ u). ((λ p. absurd (off (ap (λ (y : View). y.sends) is ∙ p))), λ p. (at_end vs r u j (λ x. (old j u x).1 p) e, ap (λ (y : View). y.got) (sym is) ∙ (mine.1 b).1))) (at_snoc vs r u j e),
+          (λ (is : r ≡ u). (
+            (λ p. absurd (off (ap (λ (y : View). y.sends) is ∙ p))),
+            λ p. (
+              at_end vs r u j (λ x. (old j u x).1 p) e,
+              ap (λ (y : View). y.got) (sym is)
+                  ∙ (mine.1 b).1,
+            ),
+          )) (at_snoc vs r u j e),
     )
 
 -- the taker takes in the sender
-pub merges : (port : ℕ) (v : View) (other : ℕ) (u : View) → v.takes ≡ true → u.sends ≡ true → Merges IsKept port v other u (view_of true true u.sent v.got) (view_of false false [] [])
+pub merges : (port : ℕ) (v : View) (other : ℕ) (u : View) → v.takes ≡ true → u.sends ≡ true
+    → Merges IsKept port v other u (view_of true true u.sent v.got) (view_of false false [] [])
 merges port v other u a b items views h at two at' =
     let both : View = view_of true true u.sent v.got in
     let mine = h.6 port v at in
     let vs : List View = set views port both in
-    let was : get_elem? views other ≡ some u = ⊎_elim (λ x. absurd (two x.0)) (λ x. x.1) (at_set views port other both u at') in
+    let was : get_elem? views other ≡ some u =
+    ⊎_elim (λ x. absurd (two x.0)) (λ x. x.1) (at_set views port other both u at') in
     let theirs = (h.6 other u was).0 b in
     let Now : ℕ → View → Type 0 = λ j y. j ≢ other → Fits port h.1 h.2 h.3 j y in
-    let now : All Now vs = all_set Now views port both (λ _. ((λ _. (refl, theirs.1)), λ _. mine.1 a)) (λ j y _ e apart. ((λ p. absurd (apart (((h.6 j y e).0 p).0 ∙ sym theirs.0))), (h.6 j y e).1)) in
-    (port, h.1, h.2, h.3, h.4, h.5, all_set (Fits port h.1 h.2 h.3) vs other (view_of false false [] []) ((λ p. absurd (off p)), λ p. absurd (off p)) (λ j y apart e. now j y e apart))
+    let now : All Now vs = all_set Now views port both (λ _. ((λ _. (refl, theirs.1)), λ _. mine.1 a))
+    (λ j y _ e apart. ((λ p. absurd (apart (((h.6 j y e).0 p).0 ∙ sym theirs.0))), (h.6 j y e).1)) in (
+      port,
+      h.1,
+      h.2,
+      h.3,
+      h.4,
+      h.5,
+      all_set (Fits port h.1 h.2 h.3) vs other (view_of false false [] [])
+          ((λ p. absurd (off p)), λ p. absurd (off p)) (λ j y apart e. now j y e apart),
+    )
 
 -- after Closed was taken, nothing waits
 pub ends : (port : ℕ) (v : View) → v.takes ≡ true → is_closed v.got ≡ true → Pops IsKept port v (λ x w. ⊥)
 ends port v may closed x items views h at =
     let here : v.got ≡ h.3 = ((h.6 port v at).1 may).1 in
-    let none : x ∷ items ≡ [] = after_closed h.3 (x ∷ items) (subst IsOrderly h.4 h.5) (ap is_closed (sym here) ∙ closed) in absurd (cc)
+    let none : x ∷ items ≡ [] =
+    after_closed h.3 (x ∷ items) (subst IsOrderly h.4 h.5) (ap is_closed (sym here) ∙ closed) in absurd (cc)
 
-pub totals : (port : ℕ) (v : View) → v.sends ≡ true → v.takes ≡ true → Learns IsKept port v (λ items. v.sent ≡ v.got ++ items)
-totals port v a b items views h at = let mine = h.6 port v at in (mine.0 a).1 ∙ h.4 ∙ ap (λ l. l ++ items) (sym (mine.1 b).1)
+pub totals : (port : ℕ) (v : View) → v.sends ≡ true → v.takes ≡ true
+    → Learns IsKept port v (λ items. v.sent ≡ v.got ++ items)
+totals port v a b items views h at =
+    let mine = h.6 port v at in (mine.0 a).1 ∙ h.4 ∙ ap (λ l. l ++ items) (sym (mine.1 b).1)
 
 -- the sender's view after a push
-pub pushed : (v w : View) (x : Item) → is_closed v.sent ≡ false → w ≡ view_of v.sends v.takes (v.sent ++ x ∷ []) v.got → (w.sends ≡ v.sends) × (is_closed w.sent ≡ is_closing x) × IsOrderly w.sent
+pub pushed : (v w : View) (x : Item) → is_closed v.sent ≡ false → w ≡ view_of v.sends v.takes (v.sent ++ x ∷ []) v.got
+    → (w.sends ≡ v.sends) × (is_closed w.sent ≡ is_closing x) × IsOrderly w.sent
 pushed v w x still is = (
   ap (λ (u : View). u.sends) is,
   ap (λ (u : View). is_closed u.sent) is ∙ is_closed-push v.sent x ∙ ap (λ b. b || is_closing x) still,
@@ -123,6 +165,7 @@ pushed v w x still is = (
 )
 
 -- what was taken is closed by what was taken last
-pub took : (v w : View) (nothing : Type 0) (found : Option Item) → MatchOption found nothing (λ x. IsTaken v x w) → IfSome found (λ x. is_closed w.got ≡ is_closing x)
+pub took : (v w : View) (nothing : Type 0) (found : Option Item) → MatchOption found nothing (λ x. IsTaken v x w)
+    → IfSome found (λ x. is_closed w.got ≡ is_closing x)
 took v w nothing None h = tt
 took v w nothing (Some x) h = is_closed-next v.got w.got x h.2 (ap (λ (u : View). u.got) h.0)

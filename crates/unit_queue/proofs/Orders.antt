@@ -46,5 +46,6 @@ open_before xs x ys h = decided (is_closed xs) refl
     decided true e = let n = after_closed xs (x ∷ ys) h e in absurd (cc)
 
 -- whether what comes next closes an open list
-pub is_closed-next : (xs ys : List Item) (x : Item) → is_closed xs ≡ false → ys ≡ xs ++ x ∷ [] → is_closed ys ≡ is_closing x
+pub is_closed-next : (xs ys : List Item) (x : Item) → is_closed xs ≡ false → ys ≡ xs ++ x ∷ []
+    → is_closed ys ≡ is_closing x
 is_closed-next xs ys x still is = ap is_closed is ∙ is_closed-push xs x ∙ ap (λ b. b || is_closing x) still

@@ -22,13 +22,16 @@ taker got = view_of false true [] got
 -- of the passes, by their numbers, only the writer's sends, and it knows all that was sent; only the reader's takes,
 -- and it knows all that was taken
 abbrev pub Fits : ℕ → ℕ → List Item → List Item → ℕ → View → Type 0
-Fits writer reader sent got port v = (v.sends ≡ true → (port ≡ writer) × (v.sent ≡ sent)) × (v.takes ≡ true → (port ≡ reader) × (v.got ≡ got))
+Fits writer reader sent got port v =
+    (v.sends ≡ true → (port ≡ writer) × (v.sent ≡ sent)) × (v.takes ≡ true → (port ≡ reader) × (v.got ≡ got))
 
 -- the rule, of the items that wait and of what each pass knows
 abbrev pub IsKept : List Item → List View → Type 0
-IsKept items views = (writer : ℕ) × (reader : ℕ) × (sent : List Item) × (got : List Item) × (sent ≡ got ++ items) × IsOrderly sent
+IsKept items views =
+    (writer : ℕ) × (reader : ℕ) × (sent : List Item) × (got : List Item) × (sent ≡ got ++ items) × IsOrderly sent
     × ((port : ℕ) (v : View) → get_elem? views port ≡ some v → Fits writer reader sent got port v)
 
 -- the item was taken next, which is never after Closed
 abbrev pub IsTaken : View → Item → View → Type 0
-IsTaken v x w = (w ≡ view_of v.sends v.takes v.sent (v.got ++ x ∷ [])) × IsOrderly (v.got ++ x ∷ []) × (is_closed v.got ≡ false)
+IsTaken v x w =
+    (w ≡ view_of v.sends v.takes v.sent (v.got ++ x ∷ [])) × IsOrderly (v.got ++ x ∷ []) × (is_closed v.got ≡ false)

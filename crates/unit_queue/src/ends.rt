@@ -56,7 +56,8 @@ impl Model for SendPass {
 
     ghost view = { λ s. send_end s.pass.table_id s.pass.me.0.client.sent };
 
-    ghost invariant = { λ s. (s.pass.me.1 ≡ []) × (s.pass.me.0.client.sends ≡ true) × (s.closed ≡ is_closed s.pass.me.0.client.sent) × IsOrderly s.pass.me.0.client.sent };
+    ghost invariant = { λ s. (s.pass.me.1 ≡ []) × (s.pass.me.0.client.sends ≡ true)
+        × (s.closed ≡ is_closed s.pass.me.0.client.sent) × IsOrderly s.pass.me.0.client.sent };
 }
 
 impl SendPass {

@@ -1,5 +1,5 @@
--- The order in which a run makes its requests for exchanges, and which of them is due. A request is the absolute address
--- of a package and the number of instructions after which it is made. Source: ours.
+-- The order in which a run makes its requests for exchanges, and which of them is due. A request is the absolute
+-- address of a package and the number of instructions after which it is made. Source: ours.
 use Rattle.std.specs.Prelude.{ℕ, ◌≤◌, ◌<◌, List, Option, Some, None, All}
 use Rattle.std.specs.Ordering.{nat_cmp}
 use Rattle.std.specs.List.Sorted.{IsNonDecreasingBy, IsStableByKey}

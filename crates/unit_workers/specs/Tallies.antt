@@ -15,4 +15,5 @@ notes_in (x ∷ xs) = note_count x + notes_in xs
 
 -- to what was taken before more was added, and each note of that was stored or strange
 abbrev pub Served : List Item → List Item → ℕ → ℕ → Type 0
-Served before after stored strange = (taken : List Item) × (after ≡ before ++ taken) × (stored + strange ≡ notes_in taken)
+Served before after stored strange =
+    (taken : List Item) × (after ≡ before ++ taken) × (stored + strange ≡ notes_in taken)

@@ -62,7 +62,8 @@ pub fn serve<G: Gate, R: Wait>(
     seat: Seat,
     gate: &mut G,
 ) -> (Seat, bool)
-    ensures { MatchBool result.1 (result.0 ≡ record seat { stored = suc seat.stored; last = note.number }) (result.0 ≡ seat) }
+    ensures { MatchBool result.1 (result.0 ≡ record seat { stored = suc seat.stored; last = note.number })
+        (result.0 ≡ seat) }
 {
     let reserved = match shared.claim(rt, seat, note) {
         Ok(reserved) => reserved,

@@ -1,10 +1,10 @@
 use Rattle.deck.proofs.DeckLines.{taken_whole, taken_long}
 use Rattle.deck.proofs.reading.next_line.Goals as goal
 
-pub returns-in-Ok-Processor-clause-ok : goal.returns-in-Ok-Processor-clause-ok
-returns-in-Ok-Processor-clause-ok g c =
-    let text = rw c.in-Ok-Processor.field-0-is at c.in-Ok-Processor.ensures.text in
-    let taken = rw c.in-Ok-Processor.field-0-is at c.in-Ok-Processor.ensures.ok in
+pub returns-in-Ok-Whole-clause-ok : goal.returns-in-Ok-Whole-clause-ok
+returns-in-Ok-Whole-clause-ok g c =
+    let text = rw c.in-Ok-Whole.field-0-is at c.in-Ok-Whole.ensures.text in
+    let taken = rw c.in-Ok-Whole.field-0-is at c.in-Ok-Whole.ensures.ok in
     taken_whole _ _ c.read_line.new.line.items text.0 taken
 
 pub returns-in-Ok-Long-clause-err : goal.returns-in-Ok-Long-clause-err

@@ -12,4 +12,6 @@ returns-in_err-put-in-Illegal-clause-written g c =
 
 pub returns-in_ok-put-in-Illegal-clause-written : goal.returns-in_ok-put-in-Illegal-clause-written
 returns-in_ok-put-in-Illegal-clause-written g c =
-    rw c.in-Illegal.is (writes_after c.put_opcode.result _ _ _ (codes "illegal ") _ c.in_ok-put-in-Illegal.ensures.written (writes_last c.put_opcode.result _ _ (code_text c.in-Illegal.op) c.put_opcode.ensures.written))
+    rw c.in-Illegal.is (writes_after c.put_opcode.result _ _ _ (codes "illegal ") _
+    c.in_ok-put-in-Illegal.ensures.written
+    (writes_last c.put_opcode.result _ _ (code_text c.in-Illegal.op) c.put_opcode.ensures.written))

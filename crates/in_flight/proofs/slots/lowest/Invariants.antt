@@ -1,5 +1,5 @@
 use Rattle.std.proofs.Common.{◌≡◌, drop}
-use Rattle.in_flight.specs.Seats.{lower_of, lowest_of}
+use Rattle.in_flight.specs.inner.Seats.{lower_of, lowest_of}
 use Rattle.in_flight.proofs.slots.lowest.Given as goal
 
 -- the lowest so far, with those that are left, is the lowest of all

@@ -11,8 +11,10 @@ returns-in_err-put-clause-written g c =
 
 pub returns-in_err-put_indexes-clause-written : goal.returns-in_err-put_indexes-clause-written
 returns-in_err-put_indexes-clause-written g c =
-    let p = err_from_is_err_and c.from_residual-in_err-put_indexes.result c.from_residual-in_err-put_indexes.ensures.1 in
-    rw p.1 (cut_after _ _ _ c.args.name.now _ c.in_ok-put.ensures.written (cut_in _ _ (flat_map spaced_index c.args.indexes.now) _ c.in_err-put_indexes.ensures.written))
+    let p =
+    err_from_is_err_and c.from_residual-in_err-put_indexes.result c.from_residual-in_err-put_indexes.ensures.1 in
+    rw p.1 (cut_after _ _ _ c.args.name.now _ c.in_ok-put.ensures.written
+    (cut_in _ _ (flat_map spaced_index c.args.indexes.now) _ c.in_err-put_indexes.ensures.written))
 
 pub returns-clause-written : goal.returns-clause-written
 returns-clause-written g c =

@@ -12,7 +12,8 @@ returns-in_err-put-clause-written g c =
 pub returns-in_err-put_log-clause-written : goal.returns-in_err-put_log-clause-written
 returns-in_err-put_log-clause-written g c =
     let p = err_from_is_err_and c.from_residual-in_err-put_log.result c.from_residual-in_err-put_log.ensures.1 in
-    rw p.1 (cut_after _ _ _ (codes "LOG") _ c.in_ok-put.ensures.written (cut_in _ _ (log_text c.args.entries.now) _ c.in_err-put_log.ensures.written))
+    rw p.1 (cut_after _ _ _ (codes "LOG") _ c.in_ok-put.ensures.written
+    (cut_in _ _ (log_text c.args.entries.now) _ c.in_err-put_log.ensures.written))
 
 pub returns-clause-written : goal.returns-clause-written
 returns-clause-written g c =

@@ -11,11 +11,15 @@ returns-in_err-put_index_line-clause-written g c =
 
 pub returns-in_err-put_index_line-2-clause-written : goal.returns-in_err-put_index_line-2-clause-written
 returns-in_err-put_index_line-2-clause-written g c =
-    let p = err_from_is_err_and c.from_residual-in_err-put_index_line-2.result c.from_residual-in_err-put_index_line-2.ensures.1 in
-    rw p.1 (cut_after _ _ _ (index_line (codes "A") c.args.registers.now.a) _ c.in_ok-put_index_line.ensures.written (cut_in _ _ (index_line (codes "B 000000") c.args.registers.now.b) _ c.in_err-put_index_line-2.ensures.written))
+    let p = err_from_is_err_and c.from_residual-in_err-put_index_line-2.result
+    c.from_residual-in_err-put_index_line-2.ensures.1 in
+    rw p.1 (cut_after _ _ _ (index_line (codes "A") c.args.registers.now.a) _ c.in_ok-put_index_line.ensures.written
+    (cut_in _ _ (index_line (codes "B 000000") c.args.registers.now.b) _ c.in_err-put_index_line-2.ensures.written))
 
 pub returns-clause-written : goal.returns-clause-written
 returns-clause-written g c =
-    writes_after c.put_x_lines.result _ _ _ (index_line (codes "A") c.args.registers.now.a) _ c.in_ok-put_index_line.ensures.written
-    (writes_after c.put_x_lines.result _ _ _ (index_line (codes "B 000000") c.args.registers.now.b) _ c.in_ok-put_index_line-2.ensures.written
+    writes_after c.put_x_lines.result _ _ _ (index_line (codes "A") c.args.registers.now.a) _
+    c.in_ok-put_index_line.ensures.written
+    (writes_after c.put_x_lines.result _ _ _ (index_line (codes "B 000000") c.args.registers.now.b) _
+    c.in_ok-put_index_line-2.ensures.written
     (writes_last c.put_x_lines.result _ _ (x_lines c.args.registers.now.x) c.put_x_lines.ensures.written))

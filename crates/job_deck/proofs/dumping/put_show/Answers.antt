@@ -7,12 +7,16 @@ use Rattle.job_deck.proofs.dumping.put_show.Goals as goal
 pub returns-in_err-put_word-clause-written : goal.returns-in_err-put_word-clause-written
 returns-in_err-put_word-clause-written g c =
     let p = err_from_is_err_and c.from_residual.result c.from_residual.ensures.1 in
-    rw p.1 (address_cut (word_line c.args.memory.now) _ c.loop-address.address _ _ (g.O.Output.contents c.put_word.new.output) _ c.loop-address-test.true c.loop-address.invariant.written (rw c.from_bits.ensures at c.in_err-put_word.ensures.written))
+    rw p.1 (address_cut (word_line c.args.memory.now) _ c.loop-address.address _ _
+    (g.O.Output.contents c.put_word.new.output) _ c.loop-address-test.true c.loop-address.invariant.written
+    (rw c.from_bits.ensures at c.in_err-put_word.ensures.written))
 
 pub loop-address-preserved : goal.loop-address-preserved
 loop-address-preserved g c =
     record {
-      written = address_written (word_line c.args.memory.now) _ c.loop-address.address _ _ (g.O.Output.contents c.put_word.new.output) _ c.loop-address-test.true c.loop-address.invariant.written (rw c.from_bits.ensures at c.in_ok-put_word.ensures.written);
+      written = address_written (word_line c.args.memory.now) _ c.loop-address.address _ _
+          (g.O.Output.contents c.put_word.new.output) _ c.loop-address-test.true c.loop-address.invariant.written
+          (rw c.from_bits.ensures at c.in_ok-put_word.ensures.written);
       start = search rules;
       end = search rules;
       same = search rules;

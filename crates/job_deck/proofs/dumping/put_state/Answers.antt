@@ -11,7 +11,8 @@ returns-in_err-put_place-clause-written g c =
 pub returns-in_err-put_halt-clause-written : goal.returns-in_err-put_halt-clause-written
 returns-in_err-put_halt-clause-written g c =
     let p = err_from_is_err_and c.from_residual-in_err-put_halt.result c.from_residual-in_err-put_halt.ensures.1 in
-    rw p.1 (cut_after _ _ _ (place_line c.args.state.now.place) _ c.in_ok-put_place.ensures.written (cut_in _ _ (halt_text c.args.state.now.halt) _ c.in_err-put_halt.ensures.written))
+    rw p.1 (cut_after _ _ _ (place_line c.args.state.now.place) _ c.in_ok-put_place.ensures.written
+    (cut_in _ _ (halt_text c.args.state.now.halt) _ c.in_err-put_halt.ensures.written))
 
 pub returns-in_err-put_fault-clause-written : goal.returns-in_err-put_fault-clause-written
 returns-in_err-put_fault-clause-written g c =

@@ -13,4 +13,5 @@ returns-in_err-put-clause-written g c =
 pub returns-clause-written : goal.returns-clause-written
 returns-clause-written g c =
     let line = rw (c.entries.ensures.shortest, c.log.ensures) at c.put_log_line.ensures.written in
-    writes_after c.put_log_line.result _ _ _ (codes "NOT DRAINED\n") _ c.in_ok-put.ensures.written (writes_last c.put_log_line.result _ _ (log_line (entries_of c.args.machine.now.log)) line)
+    writes_after c.put_log_line.result _ _ _ (codes "NOT DRAINED\n") _ c.in_ok-put.ensures.written
+    (writes_last c.put_log_line.result _ _ (log_line (entries_of c.args.machine.now.log)) line)

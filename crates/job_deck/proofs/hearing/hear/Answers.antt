@@ -1,10 +1,10 @@
 use Rattle.job_deck.proofs.HeardLines.{hears_whole, hears_long}
 use Rattle.job_deck.proofs.hearing.hear.Goals as goal
 
-pub returns-in-Ok-Processor-clause-heard : goal.returns-in-Ok-Processor-clause-heard
-returns-in-Ok-Processor-clause-heard g c =
-    let text = rw c.in-Ok-Processor.field-0-is at c.in-Ok-Processor.ensures.text in
-    let taken = rw c.in-Ok-Processor.field-0-is at c.in-Ok-Processor.ensures.ok in
+pub returns-in-Ok-Whole-clause-heard : goal.returns-in-Ok-Whole-clause-heard
+returns-in-Ok-Whole-clause-heard g c =
+    let text = rw c.in-Ok-Whole.field-0-is at c.in-Ok-Whole.ensures.text in
+    let taken = rw c.in-Ok-Whole.field-0-is at c.in-Ok-Whole.ensures.ok in
     let said = rw c.as_slice.ensures.value at c.spoken_in.ensures in
     hears_whole _ _ c.args.number c.read_line.new.line.items c.spoken_in.result c.requires text.0 text.1 said taken
 

@@ -18,25 +18,31 @@ pub returns-in_err-put_separator-clause-written : goal.returns-in_err-put_separa
 returns-in_err-put_separator-clause-written g c =
     let range = rw c.decode-item.ensures.value at c.decode-item.ensures.range in
     let p = err_from_is_err_and c.from_residual.result c.from_residual.ensures.1 in
-    rw p.1 (separator_cut c.args.word c.loop-parcel.parcel _ _ (g.O.Output.contents c.put_separator.new.output) _ range c.loop-parcel-test.true c.loop-parcel.invariant.written c.in_err-put_separator.ensures.written)
+    rw p.1 (separator_cut c.args.word c.loop-parcel.parcel _ _ (g.O.Output.contents c.put_separator.new.output) _ range
+    c.loop-parcel-test.true c.loop-parcel.invariant.written c.in_err-put_separator.ensures.written)
 
 pub returns-in_err-put_item-clause-written : goal.returns-in_err-put_item-clause-written
 returns-in_err-put_item-clause-written g c =
     let range = rw c.decode-item.ensures.value at c.decode-item.ensures.range in
     let item = rw c.decode-item.ensures.value at c.in_err-put_item.ensures.written in
     let p = err_from_is_err_and c.from_residual-in_err-put_item.result c.from_residual-in_err-put_item.ensures.1 in
-    rw p.1 (item_cut c.args.word c.loop-parcel.parcel _ _ (g.O.Output.contents c.put_separator.new.output) (g.O.Output.contents c.put_item.new.output) _ range c.loop-parcel-test.true c.loop-parcel.invariant.written c.in_ok-put_separator.ensures.written item)
+    rw p.1 (item_cut c.args.word c.loop-parcel.parcel _ _ (g.O.Output.contents c.put_separator.new.output)
+    (g.O.Output.contents c.put_item.new.output) _ range c.loop-parcel-test.true c.loop-parcel.invariant.written
+    c.in_ok-put_separator.ensures.written item)
 
 pub loop-parcel-smaller : goal.loop-parcel-smaller
 loop-parcel-smaller g c =
-    let on : c.loop-parcel.parcel < after c.loop-parcel.parcel c.decode-item.result = goes_on c.loop-parcel.parcel c.decode-item.result c.decode-item.ensures.range in
+    let on : c.loop-parcel.parcel < after c.loop-parcel.parcel c.decode-item.result =
+    goes_on c.loop-parcel.parcel c.decode-item.result c.decode-item.ensures.range in
     omega (arith, on, c.after-parcel.ensures)
 
 pub loop-parcel-preserved : goal.loop-parcel-preserved
 loop-parcel-preserved g c =
     let range = rw c.decode-item.ensures.value at c.decode-item.ensures.range in
     let item = rw c.decode-item.ensures.value at c.in_ok-put_item.ensures.written in
-    let done = item_done c.args.word c.loop-parcel.parcel _ _ (g.O.Output.contents c.put_separator.new.output) (g.O.Output.contents c.put_item.new.output) _ range c.loop-parcel-test.true c.loop-parcel.invariant.written c.in_ok-put_separator.ensures.written item in
+    let done = item_done c.args.word c.loop-parcel.parcel _ _ (g.O.Output.contents c.put_separator.new.output)
+    (g.O.Output.contents c.put_item.new.output) _ range c.loop-parcel-test.true c.loop-parcel.invariant.written
+    c.in_ok-put_separator.ensures.written item in
     record {
       written = rw (c.after-parcel.ensures, c.decode-item.ensures.value) done;
       same = search rules;

@@ -6,7 +6,8 @@ use Rattle.job_deck.proofs.listing.put_items.Given as goal
 abbrev pub invariant-loop-parcel : goal.invariant-loop-parcel
 invariant-loop-parcel g l =
     record {
-      written : AllButItems l.word l.parcel (g.O.Output.contents l.fn.output) (g.O.Output.contents l.output) (items_text l.word);
+      written : AllButItems l.word l.parcel (g.O.Output.contents l.fn.output) (g.O.Output.contents l.output)
+          (items_text l.word);
       same : g.O.Output.lender l.output ≡ g.O.Output.lender l.fn.output;
       failures : g.O.Output.has_failed l.output ≡ g.O.Output.has_failed l.fn.output;
     }

@@ -11,7 +11,8 @@ returns-in_err-put_pieces-clause-written g c =
 pub returns-in_err-put_items-clause-written : goal.returns-in_err-put_items-clause-written
 returns-in_err-put_items-clause-written g c =
     let p = err_from_is_err_and c.from_residual-in_err-put_items.result c.from_residual-in_err-put_items.ensures.1 in
-    rw p.1 (cut_after _ _ _ (placed_word c.args.address c.args.word) _ c.in_ok-put_pieces.ensures.written (cut_in _ _ (items_text c.args.word) _ c.in_err-put_items.ensures.written))
+    rw p.1 (cut_after _ _ _ (placed_word c.args.address c.args.word) _ c.in_ok-put_pieces.ensures.written
+    (cut_in _ _ (items_text c.args.word) _ c.in_err-put_items.ensures.written))
 
 pub returns-clause-written : goal.returns-clause-written
 returns-clause-written g c =

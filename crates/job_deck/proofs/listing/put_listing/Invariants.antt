@@ -8,7 +8,8 @@ use Rattle.job_deck.proofs.listing.put_listing.Given as goal
 abbrev pub invariant-loop-address : goal.invariant-loop-address
 invariant-loop-address g l =
     record {
-      written : WritesAllBut (flat_map (listed l.image) (addresses (l.address-end - l.address) l.address)) (g.O.Output.contents l.fn.output) (g.O.Output.contents l.output) (listing l.image);
+      written : WritesAllBut (flat_map (listed l.image) (addresses (l.address-end - l.address) l.address))
+          (g.O.Output.contents l.fn.output) (g.O.Output.contents l.output) (listing l.image);
       end : l.address-end ≡ length l.image.memory;
       range : l.address-end ≤ 131072;
       same : g.O.Output.lender l.output ≡ g.O.Output.lender l.fn.output;

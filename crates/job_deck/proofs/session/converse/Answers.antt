@@ -5,7 +5,8 @@ use Rattle.job_deck.proofs.session.converse.Goals as goal
 pub loop-number-init : goal.loop-number-init
 loop-number-init g c =
     record {
-      told = session_begun c.args.machine.now (c.args.before + 1) (g.O.Output.contents c.args.output.now) (g.I.Input.remaining c.args.input.now);
+      told = session_begun c.args.machine.now (c.args.before + 1) (g.O.Output.contents c.args.output.now)
+          (g.I.Input.remaining c.args.input.now);
       low = search rules;
       same_input = search rules;
       same_output = search rules;
@@ -15,28 +16,46 @@ loop-number-init g c =
 
 pub returns-in-Err-clause-told : goal.returns-in-Err-clause-told
 returns-in-Err-clause-told g c =
-    session_unread c.args.machine.now (c.args.before + 1) (g.O.Output.contents c.args.output.now) _ _ (g.I.Input.remaining c.hear.new.input) (g.O.Output.contents c.loop-number.output) c.loop-number.number c.loop-number.machine c.loop-number.invariant.told c.in-Err.ensures.part
+    session_unread c.args.machine.now (c.args.before + 1) (g.O.Output.contents c.args.output.now) _ _
+    (g.I.Input.remaining c.hear.new.input) (g.O.Output.contents c.loop-number.output) c.loop-number.number
+    c.loop-number.machine c.loop-number.invariant.told c.in-Err.ensures.part
 
 pub returns-in-Ok-Ends-clause-told : goal.returns-in-Ok-Ends-clause-told
 returns-in-Ok-Ends-clause-told g c =
-    session_ends c.args.machine.now (c.args.before + 1) (g.O.Output.contents c.args.output.now) _ _ (g.I.Input.remaining c.hear.new.input) (g.O.Output.contents c.loop-number.output) c.loop-number.number c.loop-number.machine c.loop-number.invariant.told (rw c.in-Ok-Ends.field-0-is at c.in-Ok-Ends.ensures.heard)
+    session_ends c.args.machine.now (c.args.before + 1) (g.O.Output.contents c.args.output.now) _ _
+    (g.I.Input.remaining c.hear.new.input) (g.O.Output.contents c.loop-number.output) c.loop-number.number
+    c.loop-number.machine c.loop-number.invariant.told (rw c.in-Ok-Ends.field-0-is at c.in-Ok-Ends.ensures.heard)
 
 pub returns-in-Ok-Drains-clause-told : goal.returns-in-Ok-Drains-clause-told
 returns-in-Ok-Drains-clause-told g c =
-    session_drains c.args.machine.now (c.args.before + 1) (g.O.Output.contents c.args.output.now) _ _ (g.I.Input.remaining c.hear.new.input) (g.O.Output.contents c.loop-number.output) c.loop-number.number c.loop-number.machine c.loop-number.invariant.told (rw c.in-Ok-Drains.field-0-is at c.in-Ok-Drains.ensures.heard)
+    session_drains c.args.machine.now (c.args.before + 1) (g.O.Output.contents c.args.output.now) _ _
+    (g.I.Input.remaining c.hear.new.input) (g.O.Output.contents c.loop-number.output) c.loop-number.number
+    c.loop-number.machine c.loop-number.invariant.told
+    (rw c.in-Ok-Drains.field-0-is at c.in-Ok-Drains.ensures.heard)
 
 pub returns-in-Ok-Faulty-clause-told : goal.returns-in-Ok-Faulty-clause-told
 returns-in-Ok-Faulty-clause-told g c =
-    session_refused c.args.machine.now (c.args.before + 1) (g.O.Output.contents c.args.output.now) _ _ (g.I.Input.remaining c.hear.new.input) (g.O.Output.contents c.loop-number.output) c.loop-number.number c.loop-number.machine c.in-Ok-Faulty.fault c.loop-number.invariant.told (rw c.in-Ok-Faulty.field-0-is at c.in-Ok-Faulty.ensures.heard)
+    session_refused c.args.machine.now (c.args.before + 1) (g.O.Output.contents c.args.output.now) _ _
+    (g.I.Input.remaining c.hear.new.input) (g.O.Output.contents c.loop-number.output) c.loop-number.number
+    c.loop-number.machine c.in-Ok-Faulty.fault c.loop-number.invariant.told
+    (rw c.in-Ok-Faulty.field-0-is at c.in-Ok-Faulty.ensures.heard)
 
 pub returns-in-Err-make-clause-told : goal.returns-in-Err-make-clause-told
 returns-in-Err-make-clause-told g c =
-    session_cut c.args.machine.now (c.args.before + 1) (g.O.Output.contents c.args.output.now) _ _ (g.I.Input.remaining c.hear.new.input) (g.O.Output.contents c.loop-number.output) (g.O.Output.contents c.make.new.output) c.loop-number.number c.loop-number.machine c.make.new.machine c.in-Ok-Makes.event c.loop-number.invariant.told (rw c.in-Ok-Makes.field-0-is at c.in-Ok-Makes.ensures.heard) c.in-Err-make.ensures.made
+    session_cut c.args.machine.now (c.args.before + 1) (g.O.Output.contents c.args.output.now) _ _
+    (g.I.Input.remaining c.hear.new.input) (g.O.Output.contents c.loop-number.output)
+    (g.O.Output.contents c.make.new.output) c.loop-number.number c.loop-number.machine c.make.new.machine
+    c.in-Ok-Makes.event c.loop-number.invariant.told (rw c.in-Ok-Makes.field-0-is at c.in-Ok-Makes.ensures.heard)
+    c.in-Err-make.ensures.made
 
 pub loop-number-preserved : goal.loop-number-preserved
 loop-number-preserved g c =
     record {
-      told = session_on c.args.machine.now (c.args.before + 1) (g.O.Output.contents c.args.output.now) _ _ (g.I.Input.remaining c.hear.new.input) (g.O.Output.contents c.loop-number.output) (g.O.Output.contents c.make.new.output) c.loop-number.number c.loop-number.machine c.make.new.machine c.in-Ok-Makes.event c.loop-number.invariant.told (rw c.in-Ok-Makes.field-0-is at c.in-Ok-Makes.ensures.heard) c.in-Ok.ensures.made;
+      told = session_on c.args.machine.now (c.args.before + 1) (g.O.Output.contents c.args.output.now) _ _
+          (g.I.Input.remaining c.hear.new.input) (g.O.Output.contents c.loop-number.output)
+          (g.O.Output.contents c.make.new.output) c.loop-number.number c.loop-number.machine c.make.new.machine
+          c.in-Ok-Makes.event c.loop-number.invariant.told (rw c.in-Ok-Makes.field-0-is at c.in-Ok-Makes.ensures.heard)
+          c.in-Ok.ensures.made;
       low = search rules;
       same_input = search rules;
       same_output = search rules;
@@ -46,4 +65,6 @@ loop-number-preserved g c =
 
 pub returns-clause-told : goal.returns-clause-told
 returns-clause-told g c =
-    session_over c.args.machine.now (c.args.before + 1) (g.O.Output.contents c.args.output.now) _ _ (g.O.Output.contents c.loop-number.output) c.loop-number.number c.loop-number.machine (omega arith) c.loop-number.invariant.told
+    session_over c.args.machine.now (c.args.before + 1) (g.O.Output.contents c.args.output.now) _ _
+    (g.O.Output.contents c.loop-number.output) c.loop-number.number c.loop-number.machine (omega arith)
+    c.loop-number.invariant.told

@@ -7,7 +7,9 @@ use Rattle.job_deck.proofs.session.converse.Given as goal
 abbrev pub invariant-loop-number : goal.invariant-loop-number
 invariant-loop-number g l =
     record {
-      told : Moves (g.I.Input.remaining l.fn.input) (g.I.Input.remaining l.input) (Has l.fn.machine (l.fn.before + 1) (g.O.Output.contents l.fn.output) l.number l.machine (g.O.Output.contents l.output));
+      told : Moves (g.I.Input.remaining l.fn.input) (g.I.Input.remaining l.input)
+          (Has l.fn.machine (l.fn.before + 1) (g.O.Output.contents l.fn.output) l.number l.machine
+          (g.O.Output.contents l.output));
       low : l.number ≤ 10000001;
       same_input : g.I.Input.lender l.input ≡ g.I.Input.lender l.fn.input;
       same_output : g.O.Output.lender l.output ≡ g.O.Output.lender l.fn.output;

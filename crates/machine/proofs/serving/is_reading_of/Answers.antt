@@ -7,13 +7,30 @@ use Rattle.machine.proofs.SlotLaws.{reads_finished, reads_nothing, reads_same, r
 use Rattle.machine.proofs.serving.is_reading_of.Goals as goal
 
 pub returns-in_default : goal.returns-in_default
-returns-in_default c = reads_nothing c.args.token.now.seat (seek (stage_at c.args.token.now.seat.unit) c.args.in_flight.now.pending) (read_of c.args.token.now) (λ s h. c.in_default.not-Some s (c.find.ensures ∙ ap (λ (n : Note). sought (seek (stage_at n.unit) c.args.in_flight.now.pending)) c.note.ensures ∙ h))
+returns-in_default c = reads_nothing c.args.token.now.seat
+    (seek (stage_at c.args.token.now.seat.unit) c.args.in_flight.now.pending) (read_of c.args.token.now)
+    (λ s h. c.in_default.not-Some s
+    (c.find.ensures ∙ ap (λ (n : Note). sought (seek (stage_at n.unit) c.args.in_flight.now.pending)) c.note.ensures
+    ∙ h))
 
 pub returns-in-Waiting : goal.returns-in-Waiting
-returns-in-Waiting c = reads_waiting c.args.token.now.seat (seek (stage_at c.args.token.now.seat.unit) c.args.in_flight.now.pending) c.in-Some.field-0.member (read_of c.args.token.now) (ap (λ (n : Note). sought (seek (stage_at n.unit) c.args.in_flight.now.pending)) (sym c.note.ensures) ∙ sym c.find.ensures ∙ c.in-Some.is ∙ ap (λ t. Some (record { member = c.in-Some.field-0.member; answer = t })) c.in-Waiting.is)
+returns-in-Waiting c = reads_waiting c.args.token.now.seat
+    (seek (stage_at c.args.token.now.seat.unit) c.args.in_flight.now.pending) c.in-Some.field-0.member
+    (read_of c.args.token.now) (ap (λ (n : Note). sought (seek (stage_at n.unit) c.args.in_flight.now.pending))
+    (sym c.note.ensures) ∙ sym c.find.ensures ∙ c.in-Some.is
+    ∙ ap (λ t. Some (record { member = c.in-Some.field-0.member; answer = t })) c.in-Waiting.is)
 
 pub returns-in-Read : goal.returns-in-Read
-returns-in-Read c = reads_same c.is_of.result c.args.token.now (seek (stage_at c.args.token.now.seat.unit) c.args.in_flight.now.pending) c.in-Some.field-0.member c.in-Read.operands (ap (λ (n : Note). sought (seek (stage_at n.unit) c.args.in_flight.now.pending)) (sym c.note.ensures) ∙ sym c.find.ensures ∙ c.in-Some.is ∙ ap (λ t. Some (record { member = c.in-Some.field-0.member; answer = t })) c.in-Read.is) c.is_of.ensures
+returns-in-Read c = reads_same c.is_of.result c.args.token.now
+    (seek (stage_at c.args.token.now.seat.unit) c.args.in_flight.now.pending) c.in-Some.field-0.member
+    c.in-Read.operands (ap (λ (n : Note). sought (seek (stage_at n.unit) c.args.in_flight.now.pending))
+    (sym c.note.ensures) ∙ sym c.find.ensures ∙ c.in-Some.is
+    ∙ ap (λ t. Some (record { member = c.in-Some.field-0.member; answer = t })) c.in-Read.is) c.is_of.ensures
 
 pub returns-in-Finished : goal.returns-in-Finished
-returns-in-Finished c = reads_finished c.args.token.now.seat (seek (stage_at c.args.token.now.seat.unit) c.args.in_flight.now.pending) c.in-Some.field-0.member c.in-Finished.field-0 (read_of c.args.token.now) (ap (λ (n : Note). sought (seek (stage_at n.unit) c.args.in_flight.now.pending)) (sym c.note.ensures) ∙ sym c.find.ensures ∙ c.in-Some.is ∙ ap (λ t. Some (record { member = c.in-Some.field-0.member; answer = t })) c.in-Finished.is)
+returns-in-Finished c = reads_finished c.args.token.now.seat
+    (seek (stage_at c.args.token.now.seat.unit) c.args.in_flight.now.pending) c.in-Some.field-0.member
+    c.in-Finished.field-0 (read_of c.args.token.now)
+    (ap (λ (n : Note). sought (seek (stage_at n.unit) c.args.in_flight.now.pending)) (sym c.note.ensures)
+    ∙ sym c.find.ensures ∙ c.in-Some.is
+    ∙ ap (λ t. Some (record { member = c.in-Some.field-0.member; answer = t })) c.in-Finished.is)

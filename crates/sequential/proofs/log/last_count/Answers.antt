@@ -5,10 +5,13 @@ use Rattle.sequential.proofs.log.last_count.Goals as goal
 pub returns-in-Some-Issued-clause-open : goal.returns-in-Some-Issued-clause-open
 returns-in-Some-Issued-clause-open c =
     let e = sym c.in-Some-Issued.ensures.value ∙ ap Some c.in-Some-Issued.field-0-is in
-    open_at_count c.args.entries.now (length c.args.entries.now - 1) c.in-Some-Issued.count (last_place c.args.entries.now _ e) e
+    open_at_count c.args.entries.now (length c.args.entries.now - 1) c.in-Some-Issued.count
+    (last_place c.args.entries.now _ e) e
 
 pub returns-in-Some-Issued-clause-bound : goal.returns-in-Some-Issued-clause-bound
-returns-in-Some-Issued-clause-bound c = count_within c.args.entries.now (length c.args.entries.now - 1) c.in-Some-Issued.count (sym c.in-Some-Issued.ensures.value ∙ ap Some c.in-Some-Issued.field-0-is)
+returns-in-Some-Issued-clause-bound c =
+    count_within c.args.entries.now (length c.args.entries.now - 1) c.in-Some-Issued.count
+    (sym c.in-Some-Issued.ensures.value ∙ ap Some c.in-Some-Issued.field-0-is)
 
 pub returns-in-Some-Exchange-clause-open : goal.returns-in-Some-Exchange-clause-open
 returns-in-Some-Exchange-clause-open c =

@@ -7,7 +7,8 @@ pub loop-written-preserved : goal.loop-written-preserved
 loop-written-preserved g c =
     record {
       bound = search rules;
-      told = written _ _ (g.W.Write.contents c.write.new.self) c.args.bytes.now c.loop-written.written c.in-Ok.count c.loop-written.invariant.told c.in-Ok.ensures.bytes;
+      told = written _ _ (g.W.Write.contents c.write.new.self) c.args.bytes.now c.loop-written.written c.in-Ok.count
+          c.loop-written.invariant.told c.in-Ok.ensures.bytes;
       lender = search rules;
       same = search rules;
     }
@@ -15,10 +16,23 @@ loop-written-preserved g c =
 pub returns-in-Ok-eq0-clause-written : goal.returns-in-Ok-eq0-clause-written
 returns-in-Ok-eq0-clause-written g c =
     let bytes = c.args.bytes.now in
-    let all = written _ _ (g.W.Write.contents c.write.new.self) bytes c.loop-written.written c.in-Ok-eq0.field-0 c.loop-written.invariant.told c.in-Ok-eq0.ensures.bytes in
-    (drop (c.loop-written.written + c.in-Ok-eq0.field-0) bytes, (take (c.loop-written.written + c.in-Ok-eq0.field-0) bytes, sym (take-append-drop (c.loop-written.written + c.in-Ok-eq0.field-0) bytes), all))
+    let all = written _ _ (g.W.Write.contents c.write.new.self) bytes c.loop-written.written c.in-Ok-eq0.field-0
+    c.loop-written.invariant.told c.in-Ok-eq0.ensures.bytes in (
+      drop (c.loop-written.written + c.in-Ok-eq0.field-0) bytes,
+      (
+        take (c.loop-written.written + c.in-Ok-eq0.field-0) bytes,
+        sym (take-append-drop (c.loop-written.written + c.in-Ok-eq0.field-0) bytes),
+        all,
+      ),
+    )
 
 pub returns-in-Err-clause-written : goal.returns-in-Err-clause-written
 returns-in-Err-clause-written g c =
-    let bytes = c.args.bytes.now in
-    (drop c.loop-written.written bytes, (take c.loop-written.written bytes, sym (take-append-drop c.loop-written.written bytes), Appends-kept _ _ _ _ c.loop-written.invariant.told c.in-Err.ensures.bytes))
+    let bytes = c.args.bytes.now in (
+      drop c.loop-written.written bytes,
+      (
+        take c.loop-written.written bytes,
+        sym (take-append-drop c.loop-written.written bytes),
+        Appends-kept _ _ _ _ c.loop-written.invariant.told c.in-Err.ensures.bytes,
+      ),
+    )

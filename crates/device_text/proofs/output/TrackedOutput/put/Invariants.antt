@@ -7,7 +7,8 @@ abbrev pub invariant-loop-written : goal.invariant-loop-written
 invariant-loop-written g l =
     record {
       bound : l.written ≤ length l.bytes;
-      told : Appends (g.W.Write.contents l.fn.self.writer.now) (g.W.Write.contents l.self.writer.now) (take l.written l.bytes);
+      told : Appends (g.W.Write.contents l.fn.self.writer.now) (g.W.Write.contents l.self.writer.now)
+          (take l.written l.bytes);
       lender : l.self.writer.ghost_name ≡ l.fn.self.writer.ghost_name;
       same : l.self.failed ≡ l.fn.self.failed;
     }

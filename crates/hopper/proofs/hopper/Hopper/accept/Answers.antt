@@ -2,7 +2,7 @@
 use Rattle.std.proofs.Common.{true, None, sym, ap, ◌∙◌, subst, set, map, arith}
 use Rattle.instructions.specs.Finding.{seek}
 use Rattle.hopper.specs.Queue.{Queue, reference_at, accept_answer, accepted}
-use Rattle.hopper.specs.View.{queue_of, IsRight, lowered}
+use Rattle.hopper.specs.inner.View.{queue_of, IsRight, lowered}
 use Rattle.instructions.proofs.Seats.{within}
 use Rattle.hopper.proofs.Laws.{reference_of, acceptance_is, leaves, accepted_view, accepted_right}
 use Rattle.hopper.proofs.hopper.Hopper.accept.Goals as goal

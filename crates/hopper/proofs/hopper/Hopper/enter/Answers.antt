@@ -1,7 +1,7 @@
 -- A reference enters: the lowest-numbered free place holds it, and it is the last of those that wait.
 use Rattle.std.proofs.Common.{◌++◌, ◌∷◌, [], Some, sym, ap, ◌∙◌, subst, set, arith}
 use Rattle.hopper.specs.Queue.{Queue, place_for, enter_answer}
-use Rattle.hopper.specs.View.{queue_of, IsRight}
+use Rattle.hopper.specs.inner.View.{queue_of, IsRight}
 use Rattle.hopper.proofs.Laws.{place_is, place_below, entering, entered_view, entered_right}
 use Rattle.hopper.proofs.hopper.Hopper.enter.Goals as goal
 

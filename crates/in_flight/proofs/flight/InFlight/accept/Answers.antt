@@ -4,7 +4,7 @@ use Rattle.instructions.specs.Each.{Pairs}
 use Rattle.hopper.specs.declared.reference.Reference.{Reference}
 use Rattle.in_flight.specs.Tests.{refusal_in, refusal_of, tests_found, accept_tests}
 use Rattle.in_flight.specs.Flight.{Flight}
-use Rattle.in_flight.specs.Slots.{IsSlotted}
+use Rattle.in_flight.specs.inner.Slots.{IsSlotted}
 use Rattle.in_flight.specs.Apart.{IsApart}
 use Rattle.instructions.specs.Finding.{seek}
 use Rattle.in_flight.specs.Lookup.{entry_at}
@@ -13,43 +13,68 @@ use Rattle.in_flight.proofs.flight.InFlight.accept.Goals as goal
 
 pub returns-in-Err-clause-answer : goal.returns-in-Err-clause-answer
 returns-in-Err-clause-answer c =
-    sym (ap (λ (x : Flight). refusal_of (tests_found (seek (entry_at c.args.place) x.pending) (λ f. accept_tests x.busy f.earlier f.answer))) c.self.view_is)
-    ∙ accept_answered c.args.place c.self.inside.slots c.self.inside.hopper c.accept.result c.self.invariant.entered c.accept.ensures.answer
+    sym (ap (λ (x : Flight). refusal_of
+    (tests_found (seek (entry_at c.args.place) x.pending)
+    (λ f. accept_tests x.busy f.earlier f.answer))) c.self.view_is)
+    ∙ accept_answered c.args.place c.self.inside.slots c.self.inside.hopper c.accept.result c.self.invariant.entered
+    c.accept.ensures.answer
     ∙ ap refusal_in c.in-Err.is
 
 pub left_by-left-requires : goal.left_by-left-requires
 left_by-left-requires c =
-    let p = (accept_found c.args.place c.self.inside.slots c.self.inside.hopper c.accept.result c.in-Ok.reference c.self.invariant.entered c.accept.ensures.answer c.in-Ok.is) in
-    subst (λ (r : Reference). r.address < length c.args.memory.now) p.2 (entry_placed (length c.args.memory.now) c.args.place c.self.inside.slots p.0 (subst (λ (x : Flight). IsSlotted (length c.args.memory.now) x.pending) (sym c.self.view_is) c.requires.slotted) p.1).1
+    let p = (accept_found c.args.place c.self.inside.slots c.self.inside.hopper c.accept.result c.in-Ok.reference
+    c.self.invariant.entered c.accept.ensures.answer c.in-Ok.is) in
+    subst (λ (r : Reference). r.address < length c.args.memory.now) p.2
+    (entry_placed (length c.args.memory.now) c.args.place c.self.inside.slots p.0
+    (subst (λ (x : Flight). IsSlotted (length c.args.memory.now) x.pending) (sym c.self.view_is)
+    c.requires.slotted) p.1).1
 
 pub accept-requires-2-clause-place : goal.accept-requires-2-clause-place
 accept-requires-2-clause-place c =
-    let p = (accept_found c.args.place c.self.inside.slots c.self.inside.hopper c.accept.result c.in-Ok.reference c.self.invariant.entered c.accept.ensures.answer c.in-Ok.is) in
-    (entry_placed (length c.args.memory.now) c.args.place c.self.inside.slots p.0 (subst (λ (x : Flight). IsSlotted (length c.args.memory.now) x.pending) (sym c.self.view_is) c.requires.slotted) p.1).0
+    let p = (accept_found c.args.place c.self.inside.slots c.self.inside.hopper c.accept.result c.in-Ok.reference
+    c.self.invariant.entered c.accept.ensures.answer c.in-Ok.is) in
+    (entry_placed (length c.args.memory.now) c.args.place c.self.inside.slots p.0
+    (subst (λ (x : Flight). IsSlotted (length c.args.memory.now) x.pending) (sym c.self.view_is)
+    c.requires.slotted) p.1).0
 
 pub accept-requires-2-clause-room : goal.accept-requires-2-clause-room
 accept-requires-2-clause-room c =
-    let p = (accept_found c.args.place c.self.inside.slots c.self.inside.hopper c.accept.result c.in-Ok.reference c.self.invariant.entered c.accept.ensures.answer c.in-Ok.is) in
-    room_for_word c.args.memory.now c.args.place c.self.inside.slots p.0 c.in-Ok.reference c.left_by-left.result (subst (λ (x : Flight). Pairs IsApart x.pending) (sym c.self.view_is) c.requires.apart) (subst (λ (x : Flight). IsSlotted (length c.args.memory.now) x.pending) (sym c.self.view_is) c.requires.slotted) p.1 p.2 c.left_by-left.ensures
+    let p = (accept_found c.args.place c.self.inside.slots c.self.inside.hopper c.accept.result c.in-Ok.reference
+    c.self.invariant.entered c.accept.ensures.answer c.in-Ok.is) in
+    room_for_word c.args.memory.now c.args.place c.self.inside.slots p.0 c.in-Ok.reference c.left_by-left.result
+    (subst (λ (x : Flight). Pairs IsApart x.pending) (sym c.self.view_is) c.requires.apart)
+    (subst (λ (x : Flight). IsSlotted (length c.args.memory.now) x.pending) (sym c.self.view_is)
+    c.requires.slotted) p.1 p.2 c.left_by-left.ensures
 
 pub invariant_of-self-2 : goal.invariant_of-self-2
 invariant_of-self-2 c =
-    let p = (accept_found c.args.place c.self.inside.slots c.self.inside.hopper c.accept.result c.in-Ok.reference c.self.invariant.entered c.accept.ensures.answer c.in-Ok.is) in
-    accept_tied c.args.memory.now c.args.place c.self.inside.slots c.accept-2.new.self c.self.inside.hopper c.accept.new.self c.self.inside.board p.0 c.in-Ok.reference c.left_by-left.result c.self.invariant p.1 p.2 c.left_by-left.ensures c.accept-2.ensures c.in-Ok.ensures.after
+    let p = (accept_found c.args.place c.self.inside.slots c.self.inside.hopper c.accept.result c.in-Ok.reference
+    c.self.invariant.entered c.accept.ensures.answer c.in-Ok.is) in
+    accept_tied c.args.memory.now c.args.place c.self.inside.slots c.accept-2.new.self c.self.inside.hopper
+    c.accept.new.self c.self.inside.board p.0 c.in-Ok.reference c.left_by-left.result c.self.invariant p.1 p.2
+    c.left_by-left.ensures c.accept-2.ensures c.in-Ok.ensures.after
 
 pub returns-clause-answer : goal.returns-clause-answer
 returns-clause-answer c =
-    sym (ap (λ (x : Flight). refusal_of (tests_found (seek (entry_at c.args.place) x.pending) (λ f. accept_tests x.busy f.earlier f.answer))) c.self.view_is)
-    ∙ accept_answered c.args.place c.self.inside.slots c.self.inside.hopper c.accept.result c.self.invariant.entered c.accept.ensures.answer
+    sym (ap (λ (x : Flight). refusal_of
+    (tests_found (seek (entry_at c.args.place) x.pending)
+    (λ f. accept_tests x.busy f.earlier f.answer))) c.self.view_is)
+    ∙ accept_answered c.args.place c.self.inside.slots c.self.inside.hopper c.accept.result c.self.invariant.entered
+    c.accept.ensures.answer
     ∙ ap refusal_in c.in-Ok.is
 
 pub returns-clause-entry : goal.returns-clause-entry
 returns-clause-entry c =
-    let p = (accept_found c.args.place c.self.inside.slots c.self.inside.hopper c.accept.result c.in-Ok.reference c.self.invariant.entered c.accept.ensures.answer c.in-Ok.is) in
-    subst (λ (x : Flight). IfSome (seek (entry_at c.args.place) x.pending) (λ f. f.answer ≡ record { a = c.in-Ok.reference.address; access = c.in-Ok.reference.access })) c.self.view_is
+    let p = (accept_found c.args.place c.self.inside.slots c.self.inside.hopper c.accept.result c.in-Ok.reference
+    c.self.invariant.entered c.accept.ensures.answer c.in-Ok.is) in
+    subst (λ (x : Flight). IfSome (seek (entry_at c.args.place) x.pending)
+    (λ f. f.answer ≡ record { a = c.in-Ok.reference.address; access = c.in-Ok.reference.access })) c.self.view_is
     (entry_answered c.args.place c.self.inside.slots p.0 c.in-Ok.reference p.1 p.2)
 
 pub returns-clause-after : goal.returns-clause-after
 returns-clause-after c =
-    let p = (accept_found c.args.place c.self.inside.slots c.self.inside.hopper c.accept.result c.in-Ok.reference c.self.invariant.entered c.accept.ensures.answer c.in-Ok.is) in
-    accept_flight c.args.memory.now c.args.place c.self.inside.slots c.accept-2.new.self c.self.inside.hopper c.accept.new.self c.self.inside.board p.0 c.in-Ok.reference c.left_by-left.result c.args.self.now c.self.view_is c.self.invariant p.1 p.2 c.left_by-left.ensures c.accept-2.ensures c.in-Ok.ensures.after
+    let p = (accept_found c.args.place c.self.inside.slots c.self.inside.hopper c.accept.result c.in-Ok.reference
+    c.self.invariant.entered c.accept.ensures.answer c.in-Ok.is) in
+    accept_flight c.args.memory.now c.args.place c.self.inside.slots c.accept-2.new.self c.self.inside.hopper
+    c.accept.new.self c.self.inside.board p.0 c.in-Ok.reference c.left_by-left.result c.args.self.now
+    c.self.view_is c.self.invariant p.1 p.2 c.left_by-left.ensures c.accept-2.ensures c.in-Ok.ensures.after

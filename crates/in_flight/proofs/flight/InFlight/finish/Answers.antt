@@ -9,6 +9,8 @@ use Rattle.in_flight.proofs.flight.InFlight.finish.Goals as goal
 
 pub invariant_of-self : goal.invariant_of-self
 invariant_of-self c =
-    finish_tied c.args.unit c.self.inside.slots c.set_stage.new.self c.self.inside.hopper c.self.inside.board c.args.value (seek (stage_at c.args.unit) c.self.inside.slots) refl
-    (subst (λ (f : Flight). IfSome (sought (seek (stage_at c.args.unit) f.pending)) (λ s. has_read s.answer ≡ true)) (sym c.self.view_is) c.requires)
+    finish_tied c.args.unit c.self.inside.slots c.set_stage.new.self c.self.inside.hopper c.self.inside.board
+    c.args.value (seek (stage_at c.args.unit) c.self.inside.slots) refl
+    (subst (λ (f : Flight). IfSome (sought (seek (stage_at c.args.unit) f.pending)) (λ s. has_read s.answer ≡ true))
+    (sym c.self.view_is) c.requires)
     c.self.invariant c.set_stage.ensures

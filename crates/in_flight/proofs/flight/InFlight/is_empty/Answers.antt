@@ -6,4 +6,5 @@ use Rattle.in_flight.proofs.Beside.{nothing_pending}
 use Rattle.in_flight.proofs.flight.InFlight.is_empty.Goals as goal
 
 pub returns : goal.returns
-returns c = c.is_empty.ensures ∙ nothing_pending c.self.inside.slots ∙ ap (λ (f : Flight). not (is_pending f.pending)) c.self.view_is
+returns c = c.is_empty.ensures ∙ nothing_pending c.self.inside.slots
+    ∙ ap (λ (f : Flight). not (is_pending f.pending)) c.self.view_is

@@ -13,18 +13,40 @@ use Rattle.in_flight.proofs.flight.InFlight.leave.Goals as goal
 pub returns-then-is_none : goal.returns-then-is_none
 returns-then-is_none c =
     leave_nobody c.args.unit c.args.rest.now c.args.self.now
-    (sym (ap (λ (x : Flight). seek (stage_at c.args.unit) x.pending) c.self.view_is) ∙ nobody_from (seek (stage_at c.args.unit) c.self.inside.slots) c.find_stage.result c.is_none.result c.find_stage.ensures c.is_none.ensures c.if-is_none.true)
+    (sym (ap (λ (x : Flight). seek (stage_at c.args.unit) x.pending) c.self.view_is)
+    ∙ nobody_from (seek (stage_at c.args.unit) c.self.inside.slots) c.find_stage.result c.is_none.result
+    c.find_stage.ensures c.is_none.ensures c.if-is_none.true)
 
 pub leave-requires : goal.leave-requires
 leave-requires c =
-    let p = (some_from (seek (stage_at c.args.unit) c.self.inside.slots) c.find_stage.result c.is_none.result c.find_stage.ensures c.is_none.ensures c.if-is_none.false) in
-    room_for_rest c.args.unit c.self.inside.slots c.self.inside.hopper p.0 c.args.rest.now c.waiting_rest-later.result c.self.invariant.entered (subst (λ (x : Flight). Pairs IsApart x.pending) (sym c.self.view_is) c.requires.apart) p.1 (subst (λ (x : Flight). IfSome (sought (seek (stage_at c.args.unit) x.pending)) (λ s. IsRestOf (shape_of s.member.instr) c.args.rest.now)) (sym c.self.view_is) c.requires.rest) c.waiting_rest-later.ensures.answer
+    let p = (some_from (seek (stage_at c.args.unit) c.self.inside.slots) c.find_stage.result c.is_none.result
+    c.find_stage.ensures c.is_none.ensures c.if-is_none.false) in
+    room_for_rest c.args.unit c.self.inside.slots c.self.inside.hopper p.0 c.args.rest.now c.waiting_rest-later.result
+    c.self.invariant.entered (subst (λ (x : Flight). Pairs IsApart x.pending) (sym c.self.view_is)
+    c.requires.apart) p.1 (subst (λ (x : Flight). IfSome (sought (seek (stage_at c.args.unit) x.pending))
+    (λ s. IsRestOf (shape_of s.member.instr) c.args.rest.now)) (sym
+    c.self.view_is) c.requires.rest) c.waiting_rest-later.ensures.answer
 
 pub invariant_of-self : goal.invariant_of-self
 invariant_of-self c =
-    let p = (some_from (seek (stage_at c.args.unit) c.self.inside.slots) c.find_stage.result c.is_none.result c.find_stage.ensures c.is_none.ensures c.if-is_none.false) in
-    leave_tied c.args.unit c.self.inside.slots c.leave.new.self c.self.inside.hopper c.waiting_rest-later.new.hopper c.self.inside.board c.release.new.self p.0 c.args.rest.now c.waiting_rest-later.result c.self.invariant (subst (λ (x : Flight). Pairs IsApart x.pending) (sym c.self.view_is) c.requires.apart) p.1 (subst (λ (x : Flight). IfSome (sought (seek (stage_at c.args.unit) x.pending)) (λ s. IsRestOf (shape_of s.member.instr) c.args.rest.now)) (sym c.self.view_is) c.requires.rest) (subst (λ (x : Flight). enters (outstanding_of 0 c.args.rest.now) ≡ true → is_none (place_for x.pending) ≡ false) (sym c.self.view_is) c.requires.room) c.waiting_rest-later.ensures.answer c.leave.ensures c.waiting_rest-later.ensures.after c.release.ensures
+    let p = (some_from (seek (stage_at c.args.unit) c.self.inside.slots) c.find_stage.result c.is_none.result
+    c.find_stage.ensures c.is_none.ensures c.if-is_none.false) in
+    leave_tied c.args.unit c.self.inside.slots c.leave.new.self c.self.inside.hopper c.waiting_rest-later.new.hopper
+    c.self.inside.board c.release.new.self p.0 c.args.rest.now c.waiting_rest-later.result c.self.invariant
+    (subst (λ (x : Flight). Pairs IsApart x.pending) (sym c.self.view_is) c.requires.apart) p.1
+    (subst (λ (x : Flight). IfSome (sought (seek (stage_at c.args.unit) x.pending))
+    (λ s. IsRestOf (shape_of s.member.instr) c.args.rest.now)) (sym
+    c.self.view_is) c.requires.rest) (subst (λ (x : Flight). enters (outstanding_of 0 c.args.rest.now) ≡ true
+    → is_none (place_for x.pending)
+    ≡ false) (sym c.self.view_is) c.requires.room) c.waiting_rest-later.ensures.answer c.leave.ensures
+    c.waiting_rest-later.ensures.after c.release.ensures
 
 pub returns : goal.returns
 returns c =
-    leave_flight c.args.unit c.self.inside.slots c.leave.new.self c.self.inside.hopper c.waiting_rest-later.new.hopper c.self.inside.board c.release.new.self c.args.rest.now c.waiting_rest-later.result c.args.self.now c.self.view_is c.self.invariant (subst (λ (x : Flight). enters (outstanding_of 0 c.args.rest.now) ≡ true → is_none (place_for x.pending) ≡ false) (sym c.self.view_is) c.requires.room) c.waiting_rest-later.ensures.answer c.leave.ensures c.waiting_rest-later.ensures.after c.release.ensures
+    leave_flight c.args.unit c.self.inside.slots c.leave.new.self c.self.inside.hopper c.waiting_rest-later.new.hopper
+    c.self.inside.board c.release.new.self c.args.rest.now c.waiting_rest-later.result c.args.self.now
+    c.self.view_is c.self.invariant
+    (subst (λ (x : Flight). enters (outstanding_of 0 c.args.rest.now) ≡ true
+    → is_none (place_for x.pending)
+    ≡ false) (sym c.self.view_is) c.requires.room) c.waiting_rest-later.ensures.answer c.leave.ensures
+    c.waiting_rest-later.ensures.after c.release.ensures

@@ -10,21 +10,35 @@ use Rattle.in_flight.proofs.flight.InFlight.may_store.Goals.{else-enters-via-the
 
 pub returns-in-Err : goal.returns-in-Err
 returns-in-Err c f h =
-    sym (ap (λ (x : Flight). refusal_of (store_conflicts x.pending f.earlier f.member.instr c.args.enters)) c.self.view_is)
-    ∙ store_refused c.args.unit c.self.inside.slots c.self.inside.board.issued f c.args.enters c.in-Err.refusal c.self.invariant.boarded (ap (λ (x : Flight). seek (stage_at c.args.unit) x.pending) c.self.view_is ∙ h) (sym c.in-Err.is ∙ c.may_store.ensures)
+    sym (ap (λ (x : Flight). refusal_of (store_conflicts x.pending f.earlier f.member.instr c.args.enters))
+    c.self.view_is)
+    ∙ store_refused c.args.unit c.self.inside.slots c.self.inside.board.issued f c.args.enters c.in-Err.refusal
+    c.self.invariant.boarded (ap (λ (x : Flight). seek (stage_at c.args.unit) x.pending) c.self.view_is ∙ h)
+    (sym c.in-Err.is ∙ c.may_store.ensures)
 
 pub returns-then-is_full : goal.returns-then-is_full
 returns-then-is_full c f h =
-    sym (ap (λ (x : Flight). refusal_of (store_conflicts x.pending f.earlier f.member.instr c.args.enters)) c.self.view_is)
-    ∙ store_unroomed c.args.unit c.self.inside.slots c.self.inside.board.issued f c.args.enters c.in_default.field-0 c.self.invariant.boarded (ap (λ (x : Flight). seek (stage_at c.args.unit) x.pending) c.self.view_is ∙ h) (sym c.in_default.is ∙ c.may_store.ensures)
-    (ap (λ b. b && is_none (place_for c.self.inside.slots)) c.if-enters.true ∙ sym (full_is c.self.inside.slots c.self.inside.hopper c.self.inside.board c.self.invariant) ∙ sym c.is_full.ensures ∙ c.if-is_full.true)
+    sym (ap (λ (x : Flight). refusal_of (store_conflicts x.pending f.earlier f.member.instr c.args.enters))
+    c.self.view_is)
+    ∙ store_unroomed c.args.unit c.self.inside.slots c.self.inside.board.issued f c.args.enters c.in_default.field-0
+    c.self.invariant.boarded (ap (λ (x : Flight). seek (stage_at c.args.unit) x.pending) c.self.view_is ∙ h)
+    (sym c.in_default.is ∙ c.may_store.ensures)
+    (ap (λ b. b && is_none (place_for c.self.inside.slots)) c.if-enters.true
+    ∙ sym (full_is c.self.inside.slots c.self.inside.hopper c.self.inside.board c.self.invariant)
+    ∙ sym c.is_full.ensures ∙ c.if-is_full.true)
 
 pub returns : goal.returns
 returns c f h =
-    sym (ap (λ (x : Flight). refusal_of (store_conflicts x.pending f.earlier f.member.instr c.args.enters)) c.self.view_is)
-    ∙ store_turned c.args.unit c.self.inside.slots c.self.inside.board.issued f c.args.enters c.in_default.field-0 c.in_turn.result c.self.invariant.boarded (ap (λ (x : Flight). seek (stage_at c.args.unit) x.pending) c.self.view_is ∙ h) (sym c.in_default.is ∙ c.may_store.ensures)
+    sym (ap (λ (x : Flight). refusal_of (store_conflicts x.pending f.earlier f.member.instr c.args.enters))
+    c.self.view_is)
+    ∙ store_turned c.args.unit c.self.inside.slots c.self.inside.board.issued f c.args.enters c.in_default.field-0
+    c.in_turn.result c.self.invariant.boarded
+    (ap (λ (x : Flight). seek (stage_at c.args.unit) x.pending) c.self.view_is ∙ h)
+    (sym c.in_default.is ∙ c.may_store.ensures)
     (elim c.else-enters.branch [
-      | else-enters-via-then-enters+else-is_full w ↦ ap (λ b. b && is_none (place_for c.self.inside.slots)) w.if-enters.true ∙ sym (full_is c.self.inside.slots c.self.inside.hopper c.self.inside.board c.self.invariant) ∙ sym w.is_full.ensures ∙ w.if-is_full.false
+      | else-enters-via-then-enters+else-is_full w ↦ ap (λ b. b && is_none (place_for c.self.inside.slots))
+          w.if-enters.true ∙ sym (full_is c.self.inside.slots c.self.inside.hopper c.self.inside.board
+          c.self.invariant) ∙ sym w.is_full.ensures ∙ w.if-is_full.false
       | else-enters-via-else-enters w ↦ ap (λ b. b && is_none (place_for c.self.inside.slots)) w.if-enters.false
     ])
     c.in_turn.ensures

@@ -15,7 +15,9 @@ returns-in_default-clause-answer c =
 
 pub returns-in_default-answer : goal.returns-in_default-answer
 returns-in_default-answer c = record {
-  answer = sym (ap (λ (f : Flight). read_refused (seek (stage_at c.args.unit) f.pending)) c.self.view_is) ∙ not_waiting (seek (stage_at c.args.unit) c.self.inside.slots) c.in-Some.found (sym c.find_stage.ensures ∙ c.in-Some.is) c.in_default-answer.not-Waiting;
+  answer = sym (ap (λ (f : Flight). read_refused (seek (stage_at c.args.unit) f.pending)) c.self.view_is)
+      ∙ not_waiting (seek (stage_at c.args.unit) c.self.inside.slots) c.in-Some.found
+      (sym c.find_stage.ensures ∙ c.in-Some.is) c.in_default-answer.not-Waiting;
   member = tt;
   operands = tt;
   after = refl;
@@ -24,17 +26,27 @@ returns-in_default-answer c = record {
 pub returns-in-Err-clause-answer : goal.returns-in-Err-clause-answer
 returns-in-Err-clause-answer c =
     sym (ap (λ (f : Flight). read_refused (seek (stage_at c.args.unit) f.pending)) c.self.view_is)
-    ∙ read_answered c.args.unit c.self.inside.slots c.self.inside.board.issued c.in-Some.found _ c.self.invariant.boarded (sym c.find_stage.ensures ∙ c.in-Some.is) c.in-Waiting.is (sym c.in-Err.is ∙ c.may_read.ensures)
+    ∙ read_answered c.args.unit c.self.inside.slots c.self.inside.board.issued c.in-Some.found _
+    c.self.invariant.boarded (sym c.find_stage.ensures ∙ c.in-Some.is) c.in-Waiting.is
+    (sym c.in-Err.is ∙ c.may_read.ensures)
 
 pub invariant_of-self : goal.invariant_of-self
 invariant_of-self c =
-    read_tied c.args.unit c.self.inside.slots c.set_stage.new.self c.self.inside.hopper c.self.inside.board c.mark_read.new.self c.in-Some.found c.reading-read.result.1 (sym c.find_stage.ensures ∙ c.in-Some.is) c.self.invariant c.set_stage.ensures c.mark_read.ensures
+    read_tied c.args.unit c.self.inside.slots c.set_stage.new.self c.self.inside.hopper c.self.inside.board
+    c.mark_read.new.self c.in-Some.found c.reading-read.result.1 (sym c.find_stage.ensures ∙ c.in-Some.is)
+    c.self.invariant c.set_stage.ensures c.mark_read.ensures
 
 pub returns-clause-answer : goal.returns-clause-answer
 returns-clause-answer c =
     sym (ap (λ (f : Flight). read_refused (seek (stage_at c.args.unit) f.pending)) c.self.view_is)
-    ∙ read_answered c.args.unit c.self.inside.slots c.self.inside.board.issued c.in-Some.found _ c.self.invariant.boarded (sym c.find_stage.ensures ∙ c.in-Some.is) c.in-Waiting.is (sym c.in_default-may_read.is ∙ c.may_read.ensures)
+    ∙ read_answered c.args.unit c.self.inside.slots c.self.inside.board.issued c.in-Some.found _
+    c.self.invariant.boarded (sym c.find_stage.ensures ∙ c.in-Some.is) c.in-Waiting.is
+    (sym c.in_default-may_read.is ∙ c.may_read.ensures)
 
 pub returns-clause-after : goal.returns-clause-after
 returns-clause-after c =
-    changed_flight (λ ms. replaced (seek (stage_at c.args.unit) ms) ms (λ m. in_phase m (Before (Read c.reading-read.result.1)) ∷ [])) c.self.inside.slots c.set_stage.new.self c.self.inside.hopper c.self.inside.board c.mark_read.new.self (replaced (seek (held_in c.args.unit) c.self.inside.board.issued) c.self.inside.board.issued board_read) c.args.self.now c.self.view_is c.set_stage.ensures c.mark_read.ensures
+    changed_flight (λ ms. replaced (seek (stage_at c.args.unit) ms) ms
+    (λ m. in_phase m (Before (Read c.reading-read.result.1))
+    ∷ [])) c.self.inside.slots c.set_stage.new.self c.self.inside.hopper c.self.inside.board c.mark_read.new.self
+    (replaced (seek (held_in c.args.unit) c.self.inside.board.issued) c.self.inside.board.issued board_read)
+    c.args.self.now c.self.view_is c.set_stage.ensures c.mark_read.ensures

@@ -12,28 +12,48 @@ use Rattle.in_flight.proofs.flight.InFlight.return_load.Goals as goal
 
 pub returns-in_default-clause-answer : goal.returns-in_default-clause-answer
 returns-in_default-clause-answer c =
-    sym (ap (λ (f : Flight). refusal_of (tests_found (seek (arrival_at c.args.channel) f.pending) (λ f. return_tests f.earlier f.answer))) c.self.view_is)
-    ∙ nothing_there (seek (arrival_at c.args.channel) c.self.inside.slots) _ (sym c.find_arrival.ensures.found ∙ c.in_default.is)
+    sym (ap (λ (f : Flight). refusal_of
+    (tests_found (seek (arrival_at c.args.channel) f.pending)
+    (λ f. return_tests f.earlier f.answer))) c.self.view_is)
+    ∙ nothing_there (seek (arrival_at c.args.channel) c.self.inside.slots) _
+    (sym c.find_arrival.ensures.found ∙ c.in_default.is)
 
 pub returns-in-Err-clause-answer : goal.returns-in-Err-clause-answer
 returns-in-Err-clause-answer c =
-    sym (ap (λ (f : Flight). refusal_of (tests_found (seek (arrival_at c.args.channel) f.pending) (λ f. return_tests f.earlier f.answer))) c.self.view_is)
-    ∙ return_answered c.args.channel c.self.inside.slots c.self.inside.board.issued c.in-Some.found _ c.self.invariant.boarded (subst (λ (f : Flight). Pairs IsApart f.pending) (sym c.self.view_is) c.requires.apart) (sym c.find_arrival.ensures.found ∙ c.in-Some.is) (sym c.in-Err.is ∙ c.may_return.ensures)
+    sym (ap (λ (f : Flight). refusal_of
+    (tests_found (seek (arrival_at c.args.channel) f.pending)
+    (λ f. return_tests f.earlier f.answer))) c.self.view_is)
+    ∙ return_answered c.args.channel c.self.inside.slots c.self.inside.board.issued c.in-Some.found _
+    c.self.invariant.boarded (subst (λ (f : Flight). Pairs IsApart f.pending) (sym c.self.view_is)
+    c.requires.apart) (sym c.find_arrival.ensures.found ∙ c.in-Some.is) (sym c.in-Err.is ∙ c.may_return.ensures)
 
 pub invariant_of-self : goal.invariant_of-self
 invariant_of-self c =
-    return_tied c.args.channel c.self.inside.slots c.returned.new.self c.self.inside.hopper c.self.inside.board c.returned-2.new.self c.in-Some.found (subst (λ (f : Flight). Pairs IsApart f.pending) (sym c.self.view_is) c.requires.apart) (sym c.find_arrival.ensures.found ∙ c.in-Some.is) c.self.invariant c.returned.ensures c.returned-2.ensures
+    return_tied c.args.channel c.self.inside.slots c.returned.new.self c.self.inside.hopper c.self.inside.board
+    c.returned-2.new.self c.in-Some.found
+    (subst (λ (f : Flight). Pairs IsApart f.pending) (sym c.self.view_is) c.requires.apart)
+    (sym c.find_arrival.ensures.found ∙ c.in-Some.is) c.self.invariant c.returned.ensures c.returned-2.ensures
 
 pub returns-clause-answer : goal.returns-clause-answer
 returns-clause-answer c =
-    sym (ap (λ (f : Flight). refusal_of (tests_found (seek (arrival_at c.args.channel) f.pending) (λ f. return_tests f.earlier f.answer))) c.self.view_is)
-    ∙ return_answered c.args.channel c.self.inside.slots c.self.inside.board.issued c.in-Some.found _ c.self.invariant.boarded (subst (λ (f : Flight). Pairs IsApart f.pending) (sym c.self.view_is) c.requires.apart) (sym c.find_arrival.ensures.found ∙ c.in-Some.is) (sym c.in_default-may_return.is ∙ c.may_return.ensures)
+    sym (ap (λ (f : Flight). refusal_of
+    (tests_found (seek (arrival_at c.args.channel) f.pending)
+    (λ f. return_tests f.earlier f.answer))) c.self.view_is)
+    ∙ return_answered c.args.channel c.self.inside.slots c.self.inside.board.issued c.in-Some.found _
+    c.self.invariant.boarded (subst (λ (f : Flight). Pairs IsApart f.pending) (sym c.self.view_is)
+    c.requires.apart) (sym c.find_arrival.ensures.found ∙ c.in-Some.is) (sym c.in_default-may_return.is
+    ∙ c.may_return.ensures)
 
 pub returns-clause-arrival : goal.returns-clause-arrival
 returns-clause-arrival c =
-    subst (λ (f : Flight). IfSome (seek (arrival_at c.args.channel) f.pending) (λ f. f.answer ≡ c.in-Some.found.answer)) c.self.view_is
-    (what_there (seek (arrival_at c.args.channel) c.self.inside.slots) c.in-Some.found (sym c.find_arrival.ensures.found ∙ c.in-Some.is))
+    subst (λ (f : Flight). IfSome (seek (arrival_at c.args.channel) f.pending)
+    (λ f. f.answer ≡ c.in-Some.found.answer)) c.self.view_is
+    (what_there (seek (arrival_at c.args.channel) c.self.inside.slots) c.in-Some.found
+    (sym c.find_arrival.ensures.found ∙ c.in-Some.is))
 
 pub returns-clause-after : goal.returns-clause-after
 returns-clause-after c =
-    changed_flight (λ ms. replaced (seek (arrival_at c.args.channel) ms) ms (λ m. [])) c.self.inside.slots c.returned.new.self c.self.inside.hopper c.self.inside.board c.returned-2.new.self (replaced (seek (returning_by c.args.channel) c.self.inside.board.issued) c.self.inside.board.issued gone) c.args.self.now c.self.view_is c.returned.ensures c.returned-2.ensures
+    changed_flight (λ ms. replaced (seek (arrival_at c.args.channel) ms) ms (λ m. [])) c.self.inside.slots
+    c.returned.new.self c.self.inside.hopper c.self.inside.board c.returned-2.new.self
+    (replaced (seek (returning_by c.args.channel) c.self.inside.board.issued) c.self.inside.board.issued gone)
+    c.args.self.now c.self.view_is c.returned.ensures c.returned-2.ensures

@@ -7,13 +7,26 @@ use Rattle.in_flight.proofs.slots.Slots.find_entry.Goals as goal
 pub returns-in_default : goal.returns-in_default
 unfolding sought
 returns-in_default c =
-    ap sought (sym (entry_nobody c.self.inside.units c.self.inside.places c.self.inside.channels c.args.place c.self.invariant c.requires (ap (λ k. get_or c.self.inside.places k None) (sym c.from.ensures) ∙ seat_any c.self.inside.places c.from.result c.index-self-from.result (omega (arith, c.requires, c.from.ensures, c.self.invariant.all_places)) ∙ c.in_default.is)))
+    ap sought (sym (entry_nobody c.self.inside.units c.self.inside.places c.self.inside.channels c.args.place
+    c.self.invariant c.requires (ap (λ k. get_or c.self.inside.places k None) (sym c.from.ensures)
+    ∙ seat_any c.self.inside.places c.from.result c.index-self-from.result
+    (omega (arith, c.requires, c.from.ensures, c.self.invariant.all_places)) ∙ c.in_default.is)))
     ∙ ap (λ ms. sought (seek (entry_at c.args.place) ms)) c.self.view_is
 
 pub returns-in-Some-entry_in : goal.returns-in-Some-entry_in
 returns-in-Some-entry_in c =
-    entry_answer c.self.inside.units c.self.inside.places c.self.inside.channels c.args.place c.in-Some.member c.in-Some-entry_in.answer c.self.invariant c.requires (ap (λ k. get_or c.self.inside.places k None) (sym c.from.ensures) ∙ seat_any c.self.inside.places c.from.result c.index-self-from.result (omega (arith, c.requires, c.from.ensures, c.self.invariant.all_places)) ∙ c.in-Some.is) (sym c.entry_in.ensures ∙ c.in-Some-entry_in.is)
+    entry_answer c.self.inside.units c.self.inside.places c.self.inside.channels c.args.place c.in-Some.member
+    c.in-Some-entry_in.answer c.self.invariant c.requires
+    (ap (λ k. get_or c.self.inside.places k None) (sym c.from.ensures)
+    ∙ seat_any c.self.inside.places c.from.result c.index-self-from.result
+    (omega (arith, c.requires, c.from.ensures, c.self.invariant.all_places))
+    ∙ c.in-Some.is) (sym c.entry_in.ensures ∙ c.in-Some-entry_in.is)
     ∙ ap (λ ms. sought (seek (entry_at c.args.place) ms)) c.self.view_is
 
 pub returns-in-None : goal.returns-in-None
-returns-in-None c = absurd (entry_must c.self.inside.units c.self.inside.places c.self.inside.channels c.args.place c.in-Some.member c.self.invariant c.requires (ap (λ k. get_or c.self.inside.places k None) (sym c.from.ensures) ∙ seat_any c.self.inside.places c.from.result c.index-self-from.result (omega (arith, c.requires, c.from.ensures, c.self.invariant.all_places)) ∙ c.in-Some.is) (sym c.entry_in.ensures ∙ c.in-None.is))
+returns-in-None c = absurd (entry_must c.self.inside.units c.self.inside.places c.self.inside.channels c.args.place
+    c.in-Some.member c.self.invariant c.requires
+    (ap (λ k. get_or c.self.inside.places k None) (sym c.from.ensures)
+    ∙ seat_any c.self.inside.places c.from.result c.index-self-from.result
+    (omega (arith, c.requires, c.from.ensures, c.self.invariant.all_places)) ∙ c.in-Some.is) (sym c.entry_in.ensures
+    ∙ c.in-None.is))

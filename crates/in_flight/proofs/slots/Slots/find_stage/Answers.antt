@@ -7,13 +7,24 @@ use Rattle.in_flight.proofs.slots.Slots.find_stage.Goals as goal
 pub returns-in_default : goal.returns-in_default
 unfolding sought
 returns-in_default c =
-    ap sought (sym (stage_nobody c.self.inside.units c.self.inside.places c.self.inside.channels c.args.unit c.index_of-index.result c.self.invariant c.index_of-index.ensures.value (seat_any c.self.inside.units c.index_of-index.result c.index-self-index.result (omega (arith, c.index_of-index.ensures.range, c.self.invariant.all_units)) ∙ c.in_default.is)))
+    ap sought (sym (stage_nobody c.self.inside.units c.self.inside.places c.self.inside.channels c.args.unit
+    c.index_of-index.result c.self.invariant c.index_of-index.ensures.value
+    (seat_any c.self.inside.units c.index_of-index.result c.index-self-index.result
+    (omega (arith, c.index_of-index.ensures.range, c.self.invariant.all_units)) ∙ c.in_default.is)))
     ∙ ap (λ ms. sought (seek (stage_at c.args.unit) ms)) c.self.view_is
 
 pub returns-in-Some-stage_in : goal.returns-in-Some-stage_in
 returns-in-Some-stage_in c =
-    found_answer c.self.inside.units c.self.inside.places c.self.inside.channels c.args.unit c.index_of-index.result c.in-Some.member c.in-Some-stage_in.answer c.self.invariant c.index_of-index.ensures.value (seat_any c.self.inside.units c.index_of-index.result c.index-self-index.result (omega (arith, c.index_of-index.ensures.range, c.self.invariant.all_units)) ∙ c.in-Some.is) (sym c.stage_in.ensures ∙ c.in-Some-stage_in.is)
+    found_answer c.self.inside.units c.self.inside.places c.self.inside.channels c.args.unit c.index_of-index.result
+    c.in-Some.member c.in-Some-stage_in.answer c.self.invariant c.index_of-index.ensures.value
+    (seat_any c.self.inside.units c.index_of-index.result c.index-self-index.result
+    (omega (arith, c.index_of-index.ensures.range, c.self.invariant.all_units))
+    ∙ c.in-Some.is) (sym c.stage_in.ensures ∙ c.in-Some-stage_in.is)
     ∙ ap (λ ms. sought (seek (stage_at c.args.unit) ms)) c.self.view_is
 
 pub returns-in-None : goal.returns-in-None
-returns-in-None c = absurd (found_must c.self.inside.units c.self.inside.places c.self.inside.channels c.args.unit c.index_of-index.result c.in-Some.member c.self.invariant c.index_of-index.ensures.value (seat_any c.self.inside.units c.index_of-index.result c.index-self-index.result (omega (arith, c.index_of-index.ensures.range, c.self.invariant.all_units)) ∙ c.in-Some.is) (sym c.stage_in.ensures ∙ c.in-None.is))
+returns-in-None c = absurd (found_must c.self.inside.units c.self.inside.places c.self.inside.channels c.args.unit
+    c.index_of-index.result c.in-Some.member c.self.invariant c.index_of-index.ensures.value
+    (seat_any c.self.inside.units c.index_of-index.result c.index-self-index.result
+    (omega (arith, c.index_of-index.ensures.range, c.self.invariant.all_units)) ∙ c.in-Some.is) (sym c.stage_in.ensures
+    ∙ c.in-None.is))

@@ -1,6 +1,6 @@
 use Rattle.std.proofs.Common.{refl}
 use Rattle.instructions.specs.Order.{sort_by, somes}
-use Rattle.in_flight.specs.Seats.{seats, in_order}
+use Rattle.in_flight.specs.inner.Seats.{seats, in_order}
 use Rattle.in_flight.proofs.slots.Slots.new.Goals as goal
 
 pub invariant_of-result : goal.invariant_of-result

@@ -9,5 +9,6 @@ use Rattle.scoreboard.proofs.board.Board.has_store_to_come.Goals as goal
 pub returns : goal.returns
 returns c =
     c.any_store.ensures
-    ∙ store_found c.self.inside.units c.self.inside.channels c.self.inside.producers c.self.inside.writers c.self.inside.last c.self.invariant
+    ∙ store_found c.self.inside.units c.self.inside.channels c.self.inside.producers c.self.inside.writers
+    c.self.inside.last c.self.invariant
     ∙ ap (λ (s : Standing). list_any (λ x. has_store_turn x.row) s.issued) c.self.view_is

@@ -9,5 +9,6 @@ use Rattle.scoreboard.proofs.board.Board.is_branch_held.Goals as goal
 pub returns : goal.returns
 returns c =
     c.is_taken.ensures
-    ∙ branch_found c.self.inside.units c.self.inside.channels c.self.inside.producers c.self.inside.writers c.self.inside.last c.self.invariant
+    ∙ branch_found c.self.inside.units c.self.inside.channels c.self.inside.producers c.self.inside.writers
+    c.self.inside.last c.self.invariant
     ∙ ap (λ (s : Standing). list_any (λ x. is_branch x.row) s.issued) c.self.view_is

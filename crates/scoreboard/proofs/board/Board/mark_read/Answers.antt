@@ -4,7 +4,7 @@ use Rattle.std.proofs.lemmas.List.{set-get_or}
 use Rattle.instructions.specs.Finding.{seek, replaced}
 use Rattle.scoreboard.specs.declared.board.Board.TheInside.{Inside}
 use Rattle.scoreboard.specs.Answers.{Standing, held_in, with_issued, read, in_progress}
-use Rattle.scoreboard.specs.View.{standing_of, IsRight}
+use Rattle.scoreboard.specs.inner.View.{standing_of, IsRight}
 use Rattle.scoreboard.proofs.Standing.{seat_any}
 use Rattle.scoreboard.proofs.Right.{marked_right}
 use Rattle.scoreboard.proofs.Changing.{nobody_marked, marked_view}
@@ -17,11 +17,16 @@ invariant_of-self c =
     elim c.match-self-index.branch [
       | in-Some w ↦
           subst (λ (b : Inside). IsRight b.units b.channels b.producers b.writers b.last) (sym w.self-inside-is)
-          (marked_right c.self.inside.units c.self.inside.channels c.self.inside.producers c.self.inside.writers c.self.inside.last c.args.unit c.index_of-index.result w.in-Some.issued c.self.invariant c.index_of-index.ensures.value
-          (seat_any c.self.inside.units c.index_of-index.result c.index-self-index.result (omega (arith, c.index_of-index.ensures.range, c.self.invariant.all_units)) ∙ w.in-Some.is))
+          (marked_right c.self.inside.units c.self.inside.channels c.self.inside.producers c.self.inside.writers
+          c.self.inside.last c.args.unit c.index_of-index.result w.in-Some.issued c.self.invariant
+          c.index_of-index.ensures.value
+          (seat_any c.self.inside.units c.index_of-index.result c.index-self-index.result
+          (omega (arith, c.index_of-index.ensures.range, c.self.invariant.all_units)) ∙ w.in-Some.is))
       | in_default w ↦
           subst (λ (b : Inside). IsRight b.units b.channels b.producers b.writers b.last) (sym w.self-inside-is)
-          (subst (λ us. IsRight us c.self.inside.channels c.self.inside.producers c.self.inside.writers c.self.inside.last) (sym (set-get_or c.self.inside.units c.index_of-index.result c.index-self-index.result)) c.self.invariant)
+          (subst (λ us. IsRight us c.self.inside.channels c.self.inside.producers c.self.inside.writers
+          c.self.inside.last) (sym (set-get_or c.self.inside.units c.index_of-index.result
+          c.index-self-index.result)) c.self.invariant)
     ]
 
 pub returns : goal.returns
@@ -30,13 +35,21 @@ returns c =
     elim c.match-self-index.branch [
       | in-Some w ↦
           ap (λ (b : Inside). standing_of b.units b.channels b.last) w.self-inside-is
-          ∙ marked_view c.self.inside.units c.self.inside.channels c.self.inside.producers c.self.inside.writers c.self.inside.last c.args.unit c.index_of-index.result w.in-Some.issued c.self.invariant c.index_of-index.ensures.value
-          (seat_any c.self.inside.units c.index_of-index.result c.index-self-index.result (omega (arith, c.index_of-index.ensures.range, c.self.invariant.all_units)) ∙ w.in-Some.is)
-          ∙ ap (λ (s : Standing). with_issued s (replaced (seek (held_in c.args.unit) s.issued) s.issued read)) c.self.view_is
+          ∙ marked_view c.self.inside.units c.self.inside.channels c.self.inside.producers c.self.inside.writers
+          c.self.inside.last c.args.unit c.index_of-index.result w.in-Some.issued c.self.invariant
+          c.index_of-index.ensures.value
+          (seat_any c.self.inside.units c.index_of-index.result c.index-self-index.result
+          (omega (arith, c.index_of-index.ensures.range, c.self.invariant.all_units)) ∙ w.in-Some.is)
+          ∙ ap (λ (s : Standing). with_issued s (replaced (seek (held_in c.args.unit) s.issued) s.issued read))
+          c.self.view_is
       | in_default w ↦
           ap (λ (b : Inside). standing_of b.units b.channels b.last) w.self-inside-is
-          ∙ ap (λ us. standing_of us c.self.inside.channels c.self.inside.last) (set-get_or c.self.inside.units c.index_of-index.result c.index-self-index.result)
-          ∙ nobody_marked read c.self.inside.units c.self.inside.channels c.self.inside.producers c.self.inside.writers c.self.inside.last c.args.unit c.index_of-index.result c.self.invariant c.index_of-index.ensures.value
-          (seat_any c.self.inside.units c.index_of-index.result c.index-self-index.result (omega (arith, c.index_of-index.ensures.range, c.self.invariant.all_units)) ∙ w.in_default.is)
-          ∙ ap (λ (s : Standing). with_issued s (replaced (seek (held_in c.args.unit) s.issued) s.issued read)) c.self.view_is
+          ∙ ap (λ us. standing_of us c.self.inside.channels c.self.inside.last)
+          (set-get_or c.self.inside.units c.index_of-index.result c.index-self-index.result)
+          ∙ nobody_marked read c.self.inside.units c.self.inside.channels c.self.inside.producers c.self.inside.writers
+          c.self.inside.last c.args.unit c.index_of-index.result c.self.invariant c.index_of-index.ensures.value
+          (seat_any c.self.inside.units c.index_of-index.result c.index-self-index.result
+          (omega (arith, c.index_of-index.ensures.range, c.self.invariant.all_units)) ∙ w.in_default.is)
+          ∙ ap (λ (s : Standing). with_issued s (replaced (seek (held_in c.args.unit) s.issued) s.issued read))
+          c.self.view_is
     ]

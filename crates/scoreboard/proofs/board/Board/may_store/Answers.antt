@@ -9,19 +9,35 @@ use Rattle.scoreboard.proofs.board.Board.may_store.Goals as goal
 pub returns-in_default : goal.returns-in_default
 unfolding store_answer
 returns-in_default c =
-    ap store_answer (sym (nobody_answers c.self.inside.units c.self.inside.channels c.self.inside.producers c.self.inside.writers c.self.inside.last c.args.unit c.index_of-index.result c.self.invariant c.index_of-index.ensures.value (seat_any c.self.inside.units c.index_of-index.result c.index-self-index.result (omega (arith, c.index_of-index.ensures.range, c.self.invariant.all_units)) ∙ no_seat (get_or c.self.inside.units c.index_of-index.result c.index-self-index.result) c.in_default.not-Some)))
+    ap store_answer (sym (nobody_answers c.self.inside.units c.self.inside.channels c.self.inside.producers
+    c.self.inside.writers c.self.inside.last c.args.unit c.index_of-index.result c.self.invariant
+    c.index_of-index.ensures.value
+    (seat_any c.self.inside.units c.index_of-index.result c.index-self-index.result
+    (omega (arith, c.index_of-index.ensures.range, c.self.invariant.all_units))
+    ∙ no_seat (get_or c.self.inside.units c.index_of-index.result c.index-self-index.result)
+    c.in_default.not-Some)))
     ∙ ap (λ (s : Standing). store_answer (seek (held_in c.args.unit) s.issued)) c.self.view_is
 
 pub returns-in-Some-first_to_be_read : goal.returns-in-Some-first_to_be_read
 unfolding from_found
 returns-in-Some-first_to_be_read c =
     ap (λ o. from_found o ResultHeld) (sym c.in-Some-first_to_be_read.is)
-    ∙ store_answered c.self.inside.units c.self.inside.channels c.self.inside.producers c.self.inside.writers c.self.inside.last c.args.unit c.index_of-index.result c.in-Some.issued c.as_slice.result.now c.first_to_be_read.result c.self.invariant c.index_of-index.ensures.value (seat_any c.self.inside.units c.index_of-index.result c.index-self-index.result (omega (arith, c.index_of-index.ensures.range, c.self.invariant.all_units)) ∙ c.in-Some.is) (c.as_slice.ensures.value ∙ c.puts-written.ensures) c.first_to_be_read.ensures
+    ∙ store_answered c.self.inside.units c.self.inside.channels c.self.inside.producers c.self.inside.writers
+    c.self.inside.last c.args.unit c.index_of-index.result c.in-Some.issued c.as_slice.result.now
+    c.first_to_be_read.result c.self.invariant c.index_of-index.ensures.value
+    (seat_any c.self.inside.units c.index_of-index.result c.index-self-index.result
+    (omega (arith, c.index_of-index.ensures.range, c.self.invariant.all_units))
+    ∙ c.in-Some.is) (c.as_slice.ensures.value ∙ c.puts-written.ensures) c.first_to_be_read.ensures
     ∙ ap (λ (s : Standing). store_answer (seek (held_in c.args.unit) s.issued)) c.self.view_is
 
 pub returns-in-None : goal.returns-in-None
 unfolding from_found
 returns-in-None c =
     ap (λ o. from_found o ResultHeld) (sym c.in-None.is)
-    ∙ store_answered c.self.inside.units c.self.inside.channels c.self.inside.producers c.self.inside.writers c.self.inside.last c.args.unit c.index_of-index.result c.in-Some.issued c.as_slice.result.now c.first_to_be_read.result c.self.invariant c.index_of-index.ensures.value (seat_any c.self.inside.units c.index_of-index.result c.index-self-index.result (omega (arith, c.index_of-index.ensures.range, c.self.invariant.all_units)) ∙ c.in-Some.is) (c.as_slice.ensures.value ∙ c.puts-written.ensures) c.first_to_be_read.ensures
+    ∙ store_answered c.self.inside.units c.self.inside.channels c.self.inside.producers c.self.inside.writers
+    c.self.inside.last c.args.unit c.index_of-index.result c.in-Some.issued c.as_slice.result.now
+    c.first_to_be_read.result c.self.invariant c.index_of-index.ensures.value
+    (seat_any c.self.inside.units c.index_of-index.result c.index-self-index.result
+    (omega (arith, c.index_of-index.ensures.range, c.self.invariant.all_units))
+    ∙ c.in-Some.is) (c.as_slice.ensures.value ∙ c.puts-written.ensures) c.first_to_be_read.ensures
     ∙ ap (λ (s : Standing). store_answer (seek (held_in c.args.unit) s.issued)) c.self.view_is

@@ -6,7 +6,7 @@ use Rattle.instructions.specs.Operands.{row}
 use Rattle.scoreboard.specs.Conflicts.{unit_for}
 use Rattle.scoreboard.specs.Issued.{row_of}
 use Rattle.scoreboard.specs.Answers.{Standing, reserve_answer, reserved}
-use Rattle.scoreboard.specs.View.{standing_of}
+use Rattle.scoreboard.specs.inner.View.{standing_of}
 use Rattle.scoreboard.proofs.Reserving.{first_found, unit_found, seat_found, kind_found, new_right, new_view, reserved_answer, taken_answer, busy_answer, refused_after}
 use Rattle.scoreboard.proofs.board.Board.try_reserve.Goals as goal
 
@@ -14,19 +14,30 @@ pub returns-in_default-clause-answer : goal.returns-in_default-clause-answer
 returns-in_default-clause-answer c =
     ap (λ u. Err (UnitBusy u)) c.first_unit.ensures
     ∙ busy_answer (standing_of c.self.inside.units c.self.inside.channels c.self.inside.last) c.args.instr.now _
-    (unit_found c.self.inside.units c.self.inside.channels c.self.inside.producers c.self.inside.writers c.self.inside.last (row c.args.instr.now).unit c.free_unit_for.result None c.self.invariant c.free_unit_for.ensures c.in_default.is)
-    ∙ ap (λ (s : Standing). reserve_answer s c.args.instr.now (unit_for row_of s.issued (row c.args.instr.now).unit)) c.self.view_is
+    (unit_found c.self.inside.units c.self.inside.channels c.self.inside.producers c.self.inside.writers
+    c.self.inside.last (row c.args.instr.now).unit c.free_unit_for.result None c.self.invariant
+    c.free_unit_for.ensures c.in_default.is)
+    ∙ ap (λ (s : Standing). reserve_answer s c.args.instr.now (unit_for row_of s.issued (row c.args.instr.now).unit))
+    c.self.view_is
 
 pub returns-in_default-clause-after : goal.returns-in_default-clause-after
 returns-in_default-clause-after c = refused_after c.args.self.now c.args.instr.now _
 
 pub returns-in-Some-first_produced-clause-answer : goal.returns-in-Some-first_produced-clause-answer
 returns-in-Some-first_produced-clause-answer c =
-    taken_answer (standing_of c.self.inside.units c.self.inside.channels c.self.inside.last) c.args.instr.now _ c.in-Some.unit c.first_produced.result c.in-Some-first_produced.register
-    (unit_found c.self.inside.units c.self.inside.channels c.self.inside.producers c.self.inside.writers c.self.inside.last (row c.args.instr.now).unit c.free_unit_for.result (Some c.in-Some.unit) c.self.invariant c.free_unit_for.ensures c.in-Some.is)
-    (first_found c.self.inside.units c.self.inside.channels c.self.inside.producers c.self.inside.writers c.self.inside.last c.args.instr.now c.as_slice.result.now c.as_slice-2.result.now c.of-taken.result c.first_produced.result c.self.invariant c.of-taken.ensures.writers c.of-taken.ensures.registers (c.as_slice.ensures.value ∙ c.results-results.ensures.shape) (c.as_slice-2.ensures.value ∙ c.results-results.ensures.shape) c.first_produced.ensures)
+    taken_answer (standing_of c.self.inside.units c.self.inside.channels c.self.inside.last) c.args.instr.now _
+    c.in-Some.unit c.first_produced.result c.in-Some-first_produced.register
+    (unit_found c.self.inside.units c.self.inside.channels c.self.inside.producers c.self.inside.writers
+    c.self.inside.last (row c.args.instr.now).unit c.free_unit_for.result (Some c.in-Some.unit) c.self.invariant
+    c.free_unit_for.ensures c.in-Some.is)
+    (first_found c.self.inside.units c.self.inside.channels c.self.inside.producers c.self.inside.writers
+    c.self.inside.last c.args.instr.now c.as_slice.result.now c.as_slice-2.result.now c.of-taken.result
+    c.first_produced.result c.self.invariant c.of-taken.ensures.writers c.of-taken.ensures.registers
+    (c.as_slice.ensures.value ∙ c.results-results.ensures.shape)
+    (c.as_slice-2.ensures.value ∙ c.results-results.ensures.shape) c.first_produced.ensures)
     c.in-Some-first_produced.is
-    ∙ ap (λ (s : Standing). reserve_answer s c.args.instr.now (unit_for row_of s.issued (row c.args.instr.now).unit)) c.self.view_is
+    ∙ ap (λ (s : Standing). reserve_answer s c.args.instr.now (unit_for row_of s.issued (row c.args.instr.now).unit))
+    c.self.view_is
 
 pub returns-in-Some-first_produced-clause-after : goal.returns-in-Some-first_produced-clause-after
 returns-in-Some-first_produced-clause-after c = refused_after c.args.self.now c.args.instr.now _
@@ -36,23 +47,46 @@ overflow_add-number c = let e = ap (λ (s : Standing). s.last) c.self.view_is in
 
 pub invariant_of-self : goal.invariant_of-self
 invariant_of-self c =
-    new_right c.self.inside.units c.self.inside.channels c.self.inside.producers c.self.inside.writers c.expect.new.writers c.self.inside.last (c.self.inside.last + 1) c.in-Some.unit c.index_of-index.result c.args.instr.now c.as_slice-3.result.now c.of.result c.new.result c.self.invariant (omega arith) c.index_of-index.ensures.value
-    (seat_found c.self.inside.units (row c.args.instr.now).unit c.free_unit_for.result c.in-Some.unit c.index_of-index.result c.free_unit_for.ensures c.in-Some.is c.index_of-index.ensures.value)
-    (c.as_slice-3.ensures.value ∙ c.sources-sources.ensures) c.of.ensures.writers c.of.ensures.registers c.expect.ensures.registers c.expect.ensures.channel
-    (sym (first_found c.self.inside.units c.self.inside.channels c.self.inside.producers c.self.inside.writers c.self.inside.last c.args.instr.now c.as_slice.result.now c.as_slice-2.result.now c.of-taken.result c.first_produced.result c.self.invariant c.of-taken.ensures.writers c.of-taken.ensures.registers (c.as_slice.ensures.value ∙ c.results-results.ensures.shape) (c.as_slice-2.ensures.value ∙ c.results-results.ensures.shape) c.first_produced.ensures) ∙ c.in_default-first_produced.is)
-    (kind_found c.self.inside.units (row c.args.instr.now).unit c.free_unit_for.result c.in-Some.unit c.free_unit_for.ensures c.in-Some.is)
+    new_right c.self.inside.units c.self.inside.channels c.self.inside.producers c.self.inside.writers
+    c.expect.new.writers c.self.inside.last (c.self.inside.last + 1) c.in-Some.unit c.index_of-index.result
+    c.args.instr.now c.as_slice-3.result.now c.of.result c.new.result c.self.invariant (omega arith)
+    c.index_of-index.ensures.value
+    (seat_found c.self.inside.units (row c.args.instr.now).unit c.free_unit_for.result c.in-Some.unit
+    c.index_of-index.result c.free_unit_for.ensures c.in-Some.is c.index_of-index.ensures.value)
+    (c.as_slice-3.ensures.value ∙ c.sources-sources.ensures) c.of.ensures.writers c.of.ensures.registers
+    c.expect.ensures.registers c.expect.ensures.channel
+    (sym (first_found c.self.inside.units c.self.inside.channels c.self.inside.producers c.self.inside.writers
+    c.self.inside.last c.args.instr.now c.as_slice.result.now c.as_slice-2.result.now c.of-taken.result
+    c.first_produced.result c.self.invariant c.of-taken.ensures.writers c.of-taken.ensures.registers
+    (c.as_slice.ensures.value ∙ c.results-results.ensures.shape)
+    (c.as_slice-2.ensures.value ∙ c.results-results.ensures.shape)
+    c.first_produced.ensures) ∙ c.in_default-first_produced.is)
+    (kind_found c.self.inside.units (row c.args.instr.now).unit c.free_unit_for.result c.in-Some.unit
+    c.free_unit_for.ensures c.in-Some.is)
     c.new.ensures c.expect.ensures.value
 
 pub returns-clause-answer : goal.returns-clause-answer
 returns-clause-answer c =
-    reserved_answer (standing_of c.self.inside.units c.self.inside.channels c.self.inside.last) c.args.instr.now _ c.in-Some.unit (c.self.inside.last + 1)
-    (unit_found c.self.inside.units c.self.inside.channels c.self.inside.producers c.self.inside.writers c.self.inside.last (row c.args.instr.now).unit c.free_unit_for.result (Some c.in-Some.unit) c.self.invariant c.free_unit_for.ensures c.in-Some.is)
-    (sym (first_found c.self.inside.units c.self.inside.channels c.self.inside.producers c.self.inside.writers c.self.inside.last c.args.instr.now c.as_slice.result.now c.as_slice-2.result.now c.of-taken.result c.first_produced.result c.self.invariant c.of-taken.ensures.writers c.of-taken.ensures.registers (c.as_slice.ensures.value ∙ c.results-results.ensures.shape) (c.as_slice-2.ensures.value ∙ c.results-results.ensures.shape) c.first_produced.ensures) ∙ c.in_default-first_produced.is)
+    reserved_answer (standing_of c.self.inside.units c.self.inside.channels c.self.inside.last) c.args.instr.now _
+    c.in-Some.unit (c.self.inside.last + 1)
+    (unit_found c.self.inside.units c.self.inside.channels c.self.inside.producers c.self.inside.writers
+    c.self.inside.last (row c.args.instr.now).unit c.free_unit_for.result (Some c.in-Some.unit) c.self.invariant
+    c.free_unit_for.ensures c.in-Some.is)
+    (sym (first_found c.self.inside.units c.self.inside.channels c.self.inside.producers c.self.inside.writers
+    c.self.inside.last c.args.instr.now c.as_slice.result.now c.as_slice-2.result.now c.of-taken.result
+    c.first_produced.result c.self.invariant c.of-taken.ensures.writers c.of-taken.ensures.registers
+    (c.as_slice.ensures.value ∙ c.results-results.ensures.shape)
+    (c.as_slice-2.ensures.value ∙ c.results-results.ensures.shape)
+    c.first_produced.ensures) ∙ c.in_default-first_produced.is)
     (omega arith)
-    ∙ ap (λ (s : Standing). reserve_answer s c.args.instr.now (unit_for row_of s.issued (row c.args.instr.now).unit)) c.self.view_is
+    ∙ ap (λ (s : Standing). reserve_answer s c.args.instr.now (unit_for row_of s.issued (row c.args.instr.now).unit))
+    c.self.view_is
 
 pub returns-clause-after : goal.returns-clause-after
 returns-clause-after c =
-    new_view c.self.inside.units c.self.inside.channels c.self.inside.producers c.self.inside.writers c.self.inside.last (c.self.inside.last + 1) c.in-Some.unit c.index_of-index.result c.args.instr.now c.new.result c.self.invariant (omega arith) c.index_of-index.ensures.value
-    (seat_found c.self.inside.units (row c.args.instr.now).unit c.free_unit_for.result c.in-Some.unit c.index_of-index.result c.free_unit_for.ensures c.in-Some.is c.index_of-index.ensures.value) c.new.ensures
+    new_view c.self.inside.units c.self.inside.channels c.self.inside.producers c.self.inside.writers
+    c.self.inside.last (c.self.inside.last + 1) c.in-Some.unit c.index_of-index.result c.args.instr.now
+    c.new.result c.self.invariant (omega arith) c.index_of-index.ensures.value
+    (seat_found c.self.inside.units (row c.args.instr.now).unit c.free_unit_for.result c.in-Some.unit
+    c.index_of-index.result c.free_unit_for.ensures c.in-Some.is c.index_of-index.ensures.value) c.new.ensures
     ∙ ap (λ (s : Standing). reserved s c.args.instr.now (Ok (c.in-Some.unit, c.self.inside.last + 1))) c.self.view_is

@@ -6,6 +6,8 @@ use Rattle.sequential.proofs.log.Log.issued_many.Goals as goal
 pub invariant_of-self : goal.invariant_of-self
 invariant_of-self c =
     record {
-      count = ap (λ n. n + c.args.count) c.self.invariant.count ∙ sym (issued-many (steps_of c.self.inside.entries.items) c.args.count) ∙ ap issued (sym c.add.ensures.steps);
-      shortest = shortest_after_issues c.self.inside.entries.items _ c.args.count (omega (arith, c.if-count-gt0.true)) c.self.invariant.shortest c.add.ensures.entries c.add.ensures.steps;
+      count = ap (λ n. n + c.args.count) c.self.invariant.count
+          ∙ sym (issued-many (steps_of c.self.inside.entries.items) c.args.count) ∙ ap issued (sym c.add.ensures.steps);
+      shortest = shortest_after_issues c.self.inside.entries.items _ c.args.count (omega (arith, c.if-count-gt0.true))
+          c.self.invariant.shortest c.add.ensures.entries c.add.ensures.steps;
     }

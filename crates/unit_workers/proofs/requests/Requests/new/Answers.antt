@@ -4,7 +4,13 @@ use Rattle.std.proofs.lemmas.List.Sorted.{IsNonDecreasingBy-from_sort_by_key, an
 use Rattle.unit_workers.proofs.requests.Requests.new.Goals as goal
 
 pub invariant_of-result : goal.invariant_of-result
-invariant_of-result c = record { in_order = rw c.from_vec.ensures.items (IsNonDecreasingBy-from_sort_by_key (λ ask. ask.1) _ c.in_ok-sort_by_key.ensures.sorted (λ a r q k. search rules)) }
+invariant_of-result c = record {
+  in_order = rw c.from_vec.ensures.items
+      (IsNonDecreasingBy-from_sort_by_key (λ ask. ask.1) _ c.in_ok-sort_by_key.ensures.sorted (λ a r q k. search rules));
+}
 
 pub returns-clause-left : goal.returns-clause-left
-returns-clause-left c = rw c.from_vec.ensures.items (λ x. c.sort_by_key.ensures.stable (λ ask. ask.1) (answers_always _ _ _ (λ f a r g h. search rules)) x ∙ ap (filter _) (c.in_ok-extend_from_slice.ensures.items ∙ ap (λ l. l ++ c.args.asks.now) c.in_ok-all.ensures.items))
+returns-clause-left c = rw c.from_vec.ensures.items
+    (λ x. c.sort_by_key.ensures.stable (λ ask. ask.1) (answers_always _ _ _ (λ f a r g h. search rules)) x
+    ∙ ap (filter _) (c.in_ok-extend_from_slice.ensures.items
+    ∙ ap (λ l. l ++ c.args.asks.now) c.in_ok-all.ensures.items))

@@ -51,8 +51,10 @@ Hears n Drains xs ys = (heard n (lines_of xs) ≡ Drains) × IsTaken (lines_of x
 Hears n (Faulty fault) xs ys = heard n (lines_of xs) ≡ Faulty fault
 
 -- the event was made or refused, which led on from wherever the machine was reached, and its answer's line written
-abbrev pub IsMade : {E : Type 0} → Result (Unit {0}) E → Processor → Processor → Event → Option (List ℕ) → Option (List ℕ) → Type 0
-IsMade result w v event old new = (answer : Result Done Refusal) × IsAnswer w event answer × (v ≡ settled w event answer) × GoesOn w (event ∷ []) (answer ∷ []) v × Writes result old new (answer_line answer)
+abbrev pub IsMade : {E : Type 0} → Result (Unit {0}) E → Processor → Processor → Event → Option (List ℕ)
+    → Option (List ℕ) → Type 0
+IsMade result w v event old new = (answer : Result Done Refusal) × IsAnswer w event answer
+    × (v ≡ settled w event answer) × GoesOn w (event ∷ []) (answer ∷ []) v × Writes result old new (answer_line answer)
 
 -- what the last line says: whether the machine is drained first
 abbrev pub last_said : Bool → Spoken
@@ -61,17 +63,24 @@ last_said false = Ends
 
 -- the lines that say events were answered, up to the last line; or to a fault, a failed read or a failed write.
 -- Whatever led to the first machine leads, with these events and their answers more, to the last
-abbrev pub Converses : Result Bool SessionError → Processor → Processor → ℕ → List ℕ → List ℕ → Option (List ℕ) → Option (List ℕ) → Type 0
+abbrev pub Converses : Result Bool SessionError → Processor → Processor → ℕ → List ℕ → List ℕ → Option (List ℕ)
+    → Option (List ℕ) → Type 0
 Converses (Ok drains) w v n xs rest old new =
-    (s : Session (GoesOn w) w n (lines_of xs)) × (s.machine ≡ v) × (heard s.number s.left ≡ last_said drains) × IsTaken s.left rest × Appends old new s.text
-Converses (Err (errors.Line m fault)) w v n xs rest old new = (s : Session (GoesOn w) w n (lines_of xs)) × (m ≡ s.number) × (heard s.number s.left ≡ Faulty fault) × Appends old new s.text
+    (s : Session (GoesOn w) w n (lines_of xs)) × (s.machine ≡ v) × (heard s.number s.left ≡ last_said drains)
+    × IsTaken s.left rest × Appends old new s.text
+Converses (Err (errors.Line m fault)) w v n xs rest old new = (s : Session (GoesOn w) w n (lines_of xs))
+    × (m ≡ s.number) × (heard s.number s.left ≡ Faulty fault) × Appends old new s.text
 Converses (Err errors.OutOfMemory) w v n xs rest old new = ⊥
-Converses (Err errors.Read) w v n xs rest old new = (s : Session (GoesOn w) w n (lines_of xs)) × (part : List ℕ) × IsText part × (s.left ≡ lines_of (part ++ rest)) × Appends old new s.text
+Converses (Err errors.Read) w v n xs rest old new = (s : Session (GoesOn w) w n (lines_of xs)) × (part : List ℕ)
+    × IsText part × (s.left ≡ lines_of (part ++ rest)) × Appends old new s.text
 Converses (Err errors.Write) w v n xs rest old new =
-    (s : Session (GoesOn w) w n (lines_of xs)) × (event : Event) × (answer : Result Done Refusal) × (heard s.number s.left ≡ Makes event) × IsAnswer s.machine event answer × IsTaken s.left rest × WritesCut old new s.text (answer_line answer)
+    (s : Session (GoesOn w) w n (lines_of xs)) × (event : Event) × (answer : Result Done Refusal)
+    × (heard s.number s.left ≡ Makes event) × IsAnswer s.machine event answer × IsTaken s.left rest
+    × WritesCut old new s.text (answer_line answer)
 
 -- the dump of a drained machine; where its state couldn't be copied nothing
-abbrev pub Dumps : Result (Unit {0}) SessionError → Processor → List (ℕ × ℕ) → Option (List ℕ) → Option (List ℕ) → Type 0
+abbrev pub Dumps : Result (Unit {0}) SessionError → Processor → List (ℕ × ℕ) → Option (List ℕ) → Option (List ℕ)
+    → Type 0
 Dumps (Ok x) w shows old new = (text : List ℕ) × IsDump w shows text × Appends old new text
 Dumps (Err (errors.Line m fault)) w shows old new = ⊥
 Dumps (Err errors.OutOfMemory) w shows old new = Keeps old new
@@ -79,7 +88,8 @@ Dumps (Err errors.Read) w shows old new = ⊥
 Dumps (Err errors.Write) w shows old new = (text : List ℕ) × IsDump w shows text × WritesFront old new text
 
 -- what the last line writes
-abbrev pub Closes : Result (Unit {0}) SessionError → Spoken → Processor → List (ℕ × ℕ) → Option (List ℕ) → Option (List ℕ) → Type 0
+abbrev pub Closes : Result (Unit {0}) SessionError → Spoken → Processor → List (ℕ × ℕ) → Option (List ℕ)
+    → Option (List ℕ) → Type 0
 Closes (Ok x) said w shows old new = (text : List ℕ) × IsReply said w shows text × Appends old new text
 Closes (Err (errors.Line m fault)) said w shows old new = ⊥
 Closes (Err errors.OutOfMemory) said w shows old new = Keeps old new

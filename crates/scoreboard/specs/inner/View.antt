@@ -58,7 +58,8 @@ first_produced (r ∷ rs) (None ∷ ps) = first_produced rs ps
 first_produced (r ∷ rs) (Some w ∷ ps) = Some r
 
 -- what always holds of the fields of a board
-pub record IsRight (units channels : List (Option Issued)) (producers : List (List (Option Writer))) (writers : Writers) (last : ℕ) : Type 0 where
+pub record IsRight (units channels : List (Option Issued)) (producers : List (List (Option Writer)))
+    (writers : Writers) (last : ℕ) : Type 0 where
   -- ten units, eight channels, and producers for each of the ten units
   pub all_units : length units ≡ 10
   pub all_channels : length channels ≡ 8
@@ -76,4 +77,5 @@ pub record IsRight (units channels : List (Option Issued)) (producers : List (Li
   pub written : (r : Reg) → IsRegister r → writer_at writers r ≡ writer_of (seated units channels) r
   -- each operand's producer is the writer of its register among those with a lower number
   pub produced : (i : ℕ) (x : Issued) → slice_index_or units i None ≡ Some x
-      → AreProducers (writer_before x.number (seated units channels)) (sources_of x.row.instr) (slice_index_or producers i [])
+      → AreProducers (writer_before x.number (seated units channels)) (sources_of x.row.instr)
+      (slice_index_or producers i [])

@@ -56,7 +56,8 @@ HasRoom (Some (Accepted n word)) ms = (n < 8) × AreElsewhere (14 + n) ms
 -- the places of the hopper when what is left of an instruction has come to its own
 unfoldable pub places_with : List (Option Pending) → Pending → Option Outstanding → List (Option Pending)
 places_with places m None = places
-places_with places m (Some (Entered place a access)) = slice_set places place (Some (in_phase m (After (Entered place a access))))
+places_with places m (Some (Entered place a access)) =
+    slice_set places place (Some (in_phase m (After (Entered place a access))))
 places_with places m (Some (Accepted n word)) = places
 
 -- the channels when what is left of an instruction has come to its own

@@ -29,7 +29,8 @@ asked asks = map asked_of asks
 
 -- a deck whose end hasn't come, as the program has it
 abbrev pub sketch : Draft → Sketch
-sketch d = record { image = d.image; place = d.place; start = d.start; asks = asked d.asks.items; shows = shown d.shows.items }
+sketch d =
+    record { image = d.image; place = d.place; start = d.start; asks = asked d.asks.items; shows = shown d.shows.items }
 
 -- a deck, as the program has it
 abbrev pub plan : Deck → Plan

@@ -68,7 +68,8 @@ writers_with ws unit rs None = set_each ws rs (Some (OfUnit unit))
 writers_with ws unit rs (Some n) = set_each (set_writer ws (X n) (Some (OfChannel n))) rs (Some (OfUnit unit))
 
 -- the producers without that writer, where the unit is taken
-unfoldable pub forget_in_taken : Writer → List (Option Issued) → List (List (Option Writer)) → List (List (Option Writer))
+unfoldable pub forget_in_taken : Writer → List (Option Issued) → List (List (Option Writer))
+    → List (List (Option Writer))
 forget_in_taken w [] pss = pss
 forget_in_taken w (o ∷ os) [] = []
 forget_in_taken w (None ∷ os) (ps ∷ pss) = ps ∷ forget_in_taken w os pss
