@@ -1,11 +1,13 @@
 -- What reading a line does to the reading of a deck.
-use Rattle.std.proofs.Common.{◌≡◌, ℕ, ◌+◌, ◌<◌, ◌≤◌, true, false, cond, ltb, List, [], ◌∷◌, length, Option, refl, sym, ap, ◌∙◌, subst, arith}
+use Rattle.std.proofs.Common.{◌≡◌, ℕ, ◌+◌, ◌<◌, ◌≤◌, true, false, cond, ltb, List, [], ◌∷◌, length, Option, refl, sym}
+use Rattle.std.proofs.Common.{ap, ◌∙◌, subst, arith}
 use Rattle.std.proofs.lemmas.Bool.{lt-ltb, le-ltb}
 use Rattle.device_text.specs.Device.{Moves}
 use Rattle.device_text.specs.Line.{IsText, LineTaken, lines_of}
 use Rattle.device_text.specs.declared.line.Took.TheVariants.{Whole, Long}
 use Rattle.device_text.proofs.Moving.{Moves-weaker, Moves-trans}
-use Rattle.deck.specs.Deck.{Judged, Goes, Ends, Good, Bad, deck, read_all, read_from, read_on, judged_first, judged_line}
+use Rattle.deck.specs.Deck.{Judged, Goes, Ends, Good, Bad, deck, read_all, read_from, read_on, judged_first}
+use Rattle.deck.specs.Deck.{judged_line}
 use Rattle.deck.specs.inner.Views.{sketch, plan}
 use Rattle.deck.specs.Reading.{Refuses, GivesErr, FollowsErr}
 use Rattle.deck.specs.declared.deck.Draft.{Draft}

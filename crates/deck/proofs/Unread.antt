@@ -1,8 +1,10 @@
 -- How many bytes are after a deck of which not all was read.
-use Rattle.std.proofs.Common.{◌≡◌, ◌≢◌, ℕ, suc, ◌+◌, ◌≤◌, true, false, cond, eqb, ltb, List, [], ◌∷◌, ◌++◌, length, Option, Err, refl, sym, subst, arith}
+use Rattle.std.proofs.Common.{◌≡◌, ◌≢◌, ℕ, suc, ◌+◌, ◌≤◌, true, false, cond, eqb, ltb, List, [], ◌∷◌, ◌++◌, length}
+use Rattle.std.proofs.Common.{Option, Err, refl, sym, subst, arith}
 use Rattle.std.proofs.lemmas.Bool.{ne_eqb}
 use Rattle.std.proofs.lemmas.List.Elements.{All-head, All-tail}
-use Rattle.deck.specs.Deck.{Reading, Bad, Judged, Goes, Ends, Faulty, Sketch, deck, read_all, read_from, read_on, judged_first, judged_line}
+use Rattle.deck.specs.Deck.{Reading, Bad, Judged, Goes, Ends, Faulty, Sketch, deck, read_all, read_from, read_on}
+use Rattle.deck.specs.Deck.{judged_first, judged_line}
 use Rattle.device_text.specs.Device.{Moves}
 use Rattle.device_text.specs.Line.{IsText, ReadsPart, lines_of, onto}
 use Rattle.deck.specs.Reading.{EndsWithin, Refuses, is_cut, is_read}

@@ -1,6 +1,7 @@
 -- The word of a `code` line.
 -- Source: ours; the texts and the parcels of the instructions are the manual's.
-use Rattle.std.specs.Prelude.{◌≡◌, ℕ, Bool, true, false, List, [], ◌∷◌, ◌++◌, Option, Some, None, ◌==◌, if◌then◌else◌, slice_index, slice_index_or}
+use Rattle.std.specs.Prelude.{◌≡◌, ℕ, Bool, true, false, List, [], ◌∷◌, ◌++◌, Option, Some, None, ◌==◌, if◌then◌else◌}
+use Rattle.std.specs.Prelude.{slice_index, slice_index_or}
 use Rattle.std.specs.List.{slice_split}
 use Rattle.parcel.specs.Parcels.{joined}
 use Rattle.instructions.specs.declared.instr.Instr.{Instr}

@@ -1,9 +1,11 @@
 -- What a deck's lines say, and how a deck is judged, one line after another.
 -- Source: ours.
-use Rattle.std.specs.Prelude.{ℕ, ◌+◌, Bool, false, not, List, [], ◌∷◌, ◌++◌, length, Option, Some, None, is_some, nat_lt, nat_le, ◌&&◌, ◌||◌, if◌then◌else◌, codes}
+use Rattle.std.specs.Prelude.{ℕ, ◌+◌, Bool, false, not, List, [], ◌∷◌, ◌++◌, length, Option, Some, None, is_some}
+use Rattle.std.specs.Prelude.{nat_lt, nat_le, ◌&&◌, ◌||◌, if◌then◌else◌, codes}
 use Rattle.std.specs.Str.{bytes_eq}
 use Rattle.deck.specs.Image.{Placed, blank, placed_at}
 use Rattle.device_text.specs.Line.{lines_of}
+use Rattle.relocation.specs.Relocation.{package_fits}
 use Rattle.word60.specs.Words.{from_octal}
 use Rattle.device_text.specs.Text.{fields_of, from_space, number_of}
 use Rattle.deck.specs.Code.{items_of, parcels_in, word_of}
@@ -141,7 +143,7 @@ judged s (SaysCode texts) = refuse_if (nat_le (size s) s.place) faults.Range (co
 judged s (SaysStart a) =
     with_number (number_of 8 6 a)
     (λ n. refuse_if (is_some s.start) faults.Repeated
-    (refuse_if (nat_lt (size s) (n + 16)) faults.Package (Goes (record s { start = Some n }))))
+    (refuse_if (not (package_fits n (size s))) faults.Package (Goes (record s { start = Some n }))))
 judged s (SaysShow a b) =
     with_number (number_of 8 6 a) (λ low. with_number (number_of 8 6 b) (λ high.
     refuse_if (nat_le 64 (length s.shows)) faults.Many
@@ -151,7 +153,7 @@ judged s (SaysAsk a k) =
     with_number (number_of 8 6 a) (λ n. with_number (number_of 10 8 k) (λ count.
     refuse_if (nat_lt 10000000 count) faults.Number
     (refuse_if (nat_le 64 (length s.asks)) faults.Many
-    (refuse_if (nat_lt (size s) (n + 16)) faults.Package (Goes (record s { asks = s.asks ++ (n, count) ∷ [] }))))))
+    (refuse_if (not (package_fits n (size s))) faults.Package (Goes (record s { asks = s.asks ++ (n, count) ∷ [] }))))))
 judged s SaysEnd = ended s s.start
 judged s SaysNothing = Faulty faults.Unknown
 

@@ -1,4 +1,5 @@
-ghost use Rattle.std.specs.Prelude.{◌≡◌, ◌<◌, ◌≤◌, ◌+◌, ◌++◌, length, replicate, slice_index_or, slice_set, false, true, MatchResult, if◌then◌else◌};
+ghost use Rattle.std.specs.Prelude.{◌≡◌, ◌<◌, ◌≤◌, ◌+◌, ◌++◌, length, replicate, slice_index_or, slice_set, false};
+ghost use Rattle.std.specs.Prelude.{true, MatchResult, if◌then◌else◌};
 ghost use Rattle.instructions.specs.declared.refusal.Refusal.TheVariants.{OutOfMemory, MemorySize};
 ghost use Rattle.relocation.specs.Relocation.{IsMemorySize, is_memory_size};
 ghost use Rattle.deck.specs.Image.{placed_at, blank};

@@ -1,5 +1,6 @@
 ghost use Rattle.std.specs.Prelude.{◌≡◌, ◌≤◌, ℕ, List, [], length, vec_len};
-ghost use Rattle.deck.specs.Deck.{judged, judged_core, judged_first, judged_line, SaysCore, SaysAt, SaysWord, SaysCode, SaysStart, SaysShow, SaysAsk, SaysEnd};
+ghost use Rattle.deck.specs.Deck.{judged, judged_core, judged_first, judged_line, SaysCore, SaysAt, SaysWord, SaysCode};
+ghost use Rattle.deck.specs.Deck.{SaysStart, SaysShow, SaysAsk, SaysEnd};
 ghost use Rattle.deck.specs.inner.Said.{said};
 ghost use Rattle.deck.specs.inner.Views.{sketch, Answers};
 
@@ -9,7 +10,7 @@ use crate::deck::{Ask, Deck, Draft, LineError, Show, Step};
 use crate::parsing::{Line, parse_line};
 use device_text::{first_field, number};
 use instruction_table::DeckFault;
-use relocation::{LARGEST, SMALLEST};
+use relocation::{LARGEST, SMALLEST, package_fits};
 use std::alloc::Global;
 use word60::{Word18, Word60};
 
@@ -24,9 +25,6 @@ const MOST_ISSUES: u64 = 10_000_000;
 
 /// How many parcels a word has.
 const PARCELS: usize = 4;
-
-/// How many words an exchange package has.
-const PACKAGE: u32 = 16;
 
 /// A `core` line as the first line.
 fn core_line(alloc: Global, line: Line<'_>) -> Result<Step, LineError>
@@ -125,7 +123,7 @@ fn start_line(mut draft: Draft, address: &[u8]) -> Result<Step, LineError>
         return Err(LineError::Faulty(DeckFault::Repeated));
     }
     let address = address as u32;
-    if draft.image.size() < address + PACKAGE {
+    if !package_fits(address, draft.image.size()) {
         return Err(LineError::Faulty(DeckFault::Package));
     }
     draft.start = Some(address);
@@ -175,7 +173,7 @@ fn ask_line(mut draft: Draft, address: &[u8], count: &[u8]) -> Result<Step, Line
         return Err(LineError::Faulty(DeckFault::Many));
     }
     let at = address as u32;
-    if draft.image.size() < at + PACKAGE {
+    if !package_fits(at, draft.image.size()) {
         return Err(LineError::Faulty(DeckFault::Package));
     }
     let ask = Ask {

@@ -5,7 +5,8 @@ use Rattle.std.specs.Str.{bytes_eq}
 use Rattle.instructions.specs.declared.instr.Reg.{Reg}
 use Rattle.instructions.specs.declared.instr.Reg.TheVariants.{X, A, B}
 use Rattle.instructions.specs.declared.instr.Unit.{Unit as FunctionalUnit}
-use Rattle.instructions.specs.declared.instr.Unit.TheVariants.{Branch, Boolean, Shift, Add, LongAdd, Multiply1, Multiply2, Divide, Increment1, Increment2}
+use Rattle.instructions.specs.declared.instr.Unit.TheVariants.{Branch, Boolean, Shift, Add, LongAdd, Multiply1}
+use Rattle.instructions.specs.declared.instr.Unit.TheVariants.{Multiply2, Divide, Increment1, Increment2}
 
 -- the name of a unit in a schedule and in an answer
 abbrev pub unit_text : FunctionalUnit → List ℕ

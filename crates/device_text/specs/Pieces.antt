@@ -9,7 +9,8 @@ use Rattle.instructions.specs.declared.refusal.Halt.{Halt}
 use Rattle.instructions.specs.declared.refusal.Halt.TheVariants.{Stop, Illegal, Straddle, FetchRange}
 use Rattle.device_text.specs.Names.{unit_text, register_text}
 use Rattle.device_text.specs.declared.piece.Piece.{Piece}
-use Rattle.device_text.specs.declared.piece.Piece.TheVariants.{Text, Opcode, Reason, UnitName, Register, Parcel, Index, Word, Address, Count}
+use Rattle.device_text.specs.declared.piece.Piece.TheVariants.{Text, Opcode, Reason, UnitName, Register, Parcel, Index}
+use Rattle.device_text.specs.declared.piece.Piece.TheVariants.{Word, Address, Count}
 
 -- digits without noughts in front, but with one digit at least
 abbrev pub trimmed : List ℕ → List ℕ

@@ -1,5 +1,6 @@
 -- What a hopper answers and what it becomes, from its places.
-use Rattle.std.proofs.Common.{◌≡◌, ◌≢◌, ◌<◌, ℕ, Bool, true, false, not, cond, List, [], ◌∷◌, ◌++◌, Option, Some, None, refl, sym, ap, ◌∙◌, subst, get_or, set, length, map, arith}
+use Rattle.std.proofs.Common.{◌≡◌, ◌≢◌, ◌<◌, ℕ, Bool, true, false, not, cond, List, [], ◌∷◌, ◌++◌, Option, Some, None}
+use Rattle.std.proofs.Common.{refl, sym, ap, ◌∙◌, subst, get_or, set, length, map, arith}
 use Rattle.std.specs.Prelude.{is_some, is_none, Result, Ok, Err}
 use Rattle.std.specs.List.{list_any}
 use Rattle.std.proofs.lemmas.List.{length-map, length-set, map-append}
@@ -11,15 +12,21 @@ use Rattle.instructions.specs.Order.{sort_by, somes}
 use Rattle.instructions.proofs.Finding.{seek_around, seek_nobody}
 use Rattle.instructions.proofs.Lists.{any_map, each_map}
 use Rattle.instructions.proofs.Sorted.{any_sort, any_earlier, any_somes, sort_each, sort_increasing, IsIncreasing}
-use Rattle.instructions.proofs.Seats.{before_seat, after_seat, each_before, others_differ, own_taken, own_put, taken_with, taken_without, sort_new, seated_others, seated_nobody, seated_here, seated_empty, seated_fill, seat_taken, each_put, length_put, each_taken, each_at, length_taken}
+use Rattle.instructions.proofs.Seats.{before_seat, after_seat, each_before, others_differ, own_taken, own_put}
+use Rattle.instructions.proofs.Seats.{taken_with, taken_without, sort_new, seated_others, seated_nobody, seated_here}
+use Rattle.instructions.proofs.Seats.{seated_empty, seated_fill, seat_taken, each_put, length_put, each_taken, each_at}
+use Rattle.instructions.proofs.Seats.{length_taken}
 use Rattle.hopper.specs.declared.entered.Entered.{Entered}
 use Rattle.hopper.specs.declared.reference.Reference.{Reference}
 use Rattle.hopper.specs.declared.waiting.Waiting.{Waiting}
 use Rattle.hopper.specs.Hopper.{bank_of, free_place}
-use Rattle.hopper.specs.Queue.{stands_at, reference_at, is_taken, place_for, waits_for_bank, accept_answer, accepted, stores_here}
-use Rattle.hopper.specs.inner.View.{entered_in, place_of, before, queue_of, IsRight, holds, is_older, holds_older, holds_store, lower, lowered, acceptance}
+use Rattle.hopper.specs.Queue.{stands_at, reference_at, is_taken, place_for, waits_for_bank, accept_answer, accepted}
+use Rattle.hopper.specs.Queue.{stores_here}
+use Rattle.hopper.specs.inner.View.{entered_in, place_of, before, queue_of, IsRight, holds, is_older, holds_older}
+use Rattle.hopper.specs.inner.View.{holds_store, lower, lowered, acceptance}
 use Rattle.hopper.proofs.Standing.{elsewhere, stands_here, first_same, first_free}
-use Rattle.hopper.proofs.Lowering.{sort_lowered, entered_lowered, apart_lowered, counted_lowered, somes_lowered, placed_lowered}
+use Rattle.hopper.proofs.Lowering.{sort_lowered, entered_lowered, apart_lowered, counted_lowered, somes_lowered}
+use Rattle.hopper.proofs.Lowering.{placed_lowered}
 
 -- those that wait, in order
 abbrev pub entered_of : List (Option Waiting) → List Entered

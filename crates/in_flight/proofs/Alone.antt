@@ -13,7 +13,7 @@ use Rattle.relocation.specs.declared.area.Access.TheVariants.{Store}
 use Rattle.scoreboard.specs.Issued.{channel_of}
 use Rattle.in_flight.specs.declared.flight.Rest.{Rest}
 use Rattle.in_flight.specs.declared.flight.Rest.TheVariants.{Enters}
-use Rattle.in_flight.specs.inner.Board.{left_to_return}
+use Rattle.in_flight.specs.Pending.{left_to_return}
 use Rattle.in_flight.specs.Pending.{returning}
 use Rattle.in_flight.specs.declared.pending.Pending.{Pending}
 use Rattle.in_flight.specs.declared.pending.Stage.{Stage}

@@ -1,10 +1,4 @@
-pub mod Asked
-pub mod Finding
-pub mod Phases
-pub mod Slotting
-pub mod Moving
-pub mod Oldest
-pub mod Boarding
-pub mod Beside
-pub mod Referring
 pub mod Alone
+pub mod asking
+pub mod seating
+pub mod answering

@@ -1,10 +1,10 @@
 -- The instructions in flight: the pending instructions beside the board and the hopper that answer for them.
 -- Source: ours.
-use Rattle.std.specs.Prelude.{◌≡◌, ◌≤◌, ℕ, suc, Bool, true, List, [], ◌∷◌, ◌++◌, Option, Some, None, unwrap_or, slice_index_or}
+use Rattle.std.specs.Prelude.{◌≡◌, ℕ, suc, Bool, true, List, [], ◌∷◌, ◌++◌, Option, Some, None, unwrap_or}
+use Rattle.std.specs.Prelude.{slice_index_or}
 use Rattle.instructions.specs.declared.instr.Instr.{Instr}
 use Rattle.instructions.specs.declared.instr.Unit.{Unit as FunctionalUnit}
 use Rattle.instructions.specs.declared.instr.Unit.TheVariants.{Branch}
-use Rattle.instructions.specs.Each.{Each}
 use Rattle.instructions.specs.Shape.{Shape, has_reference}
 use Rattle.instructions.specs.Operands.{row}
 use Rattle.relocation.specs.declared.area.Access.{Access}
@@ -22,7 +22,7 @@ use Rattle.in_flight.specs.declared.pending.Pending.{Pending}
 use Rattle.in_flight.specs.declared.pending.Phase.{Phase}
 use Rattle.in_flight.specs.declared.pending.Phase.TheVariants.{Before, After}
 use Rattle.in_flight.specs.declared.pending.Stage.TheVariants.{Waiting}
-use Rattle.in_flight.specs.inner.Board.{on_board, left_to_return}
+use Rattle.in_flight.specs.Pending.{left_to_return}
 use Rattle.in_flight.specs.Tests.{unit_for}
 use Rattle.in_flight.specs.Lookup.{enters}
 
@@ -50,15 +50,6 @@ waiting_in (After (Accepted n word)) = []
 unfoldable pub waiting : List Pending → List Entered
 waiting [] = []
 waiting (m ∷ ms) = waiting_in m.phase ++ waiting ms
-
--- the board and the hopper answer for just these
-pub record IsTied (ms : List Pending) (queue : Queue) (standing : Standing) : Type 0 where
-  -- the board has those of them that hold a unit and the loads still to return, in issue order
-  pub boarded : standing.issued ≡ on_board ms
-  -- the hopper has those of their references that wait, in issue order
-  pub entered : queue.entered ≡ waiting ms
-  -- no number is above the last of the board
-  pub counted : Each (λ m. m.number ≤ standing.last) ms
 
 -- ---- what is left of a unit's instruction after its store event ----
 

@@ -42,6 +42,11 @@ returning (Entered place a (Load n)) = Some n
 returning (Entered place a (Store word)) = None
 returning (Accepted n word) = Some n
 
+-- the X register to which what is left has still to return
+unfoldable pub left_to_return : Option Outstanding → Option ℕ
+left_to_return None = None
+left_to_return (Some l) = returning l
+
 -- what the board knows of a phase: whether a unit's instruction has read, or which X register has still to be
 -- returned to
 unfoldable pub progress_of : Phase → Progress

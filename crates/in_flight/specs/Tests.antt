@@ -1,14 +1,17 @@
 -- What an event is refused for, where it depends on the instructions in flight: the first refusal that applies.
 -- Source: Thornton, scoreboard and stunt box; 60100000, unit and register conflicts and central memory. The order of
 -- the tests and the turn of references are ours.
-use Rattle.std.specs.Prelude.{ℕ, Bool, true, false, not, ◌&&◌, if◌then◌else◌, List, [], ◌∷◌, Option, Some, None, is_none, Result, Ok, Err, slice_index_or}
+use Rattle.std.specs.Prelude.{ℕ, Bool, true, false, not, ◌&&◌, if◌then◌else◌, List, [], ◌∷◌, Option, Some, None}
+use Rattle.std.specs.Prelude.{is_none, Result, Ok, Err, slice_index_or}
 use Rattle.std.specs.List.{list_any}
 use Rattle.instructions.specs.declared.instr.Instr.{Instr}
 use Rattle.instructions.specs.declared.instr.Reg.TheVariants.{X}
 use Rattle.instructions.specs.declared.instr.Unit.{Unit as FunctionalUnit}
 use Rattle.instructions.specs.declared.instr.UnitKind.{UnitKind}
 use Rattle.instructions.specs.declared.refusal.Refusal.{Refusal}
-use Rattle.instructions.specs.declared.refusal.Refusal.TheVariants.{UnitBusy, ResultReserved, OperandAwaited, ResultHeld, HopperFull, OutOfTurn, BankBusy, OlderInBank, Nothing}
+use Rattle.instructions.specs.declared.refusal.Refusal.TheVariants.{UnitBusy, ResultReserved, OperandAwaited}
+use Rattle.instructions.specs.declared.refusal.Refusal.TheVariants.{ResultHeld, HopperFull, OutOfTurn, BankBusy}
+use Rattle.instructions.specs.declared.refusal.Refusal.TheVariants.{OlderInBank, Nothing}
 use Rattle.instructions.specs.Finding.{Found}
 use Rattle.instructions.specs.Shape.{shape_of, puts_of, results, has_reference}
 use Rattle.instructions.specs.Operands.{row, sources_of}

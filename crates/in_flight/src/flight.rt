@@ -1,4 +1,5 @@
-ghost use Rattle.std.specs.Prelude.{◌≡◌, ◌<◌, ◌+◌, ◌^◌, suc, [], ◌∷◌, true, false, not, is_none, slice_index_or, slice_set, replicate, length, IfOk, IfSome, MatchResult, unwrap_or, Some, None};
+ghost use Rattle.std.specs.Prelude.{◌≡◌, ◌<◌, ◌+◌, ◌^◌, suc, [], ◌∷◌, true, false, not, is_none, slice_index_or};
+ghost use Rattle.std.specs.Prelude.{slice_set, replicate, length, IfOk, IfSome, MatchResult, unwrap_or, Some, None};
 ghost use Rattle.std.specs.List.{list_any};
 ghost use Rattle.instructions.specs.Each.{Pairs};
 ghost use Rattle.instructions.specs.Shape.{shape_of};
@@ -10,10 +11,13 @@ ghost use Rattle.sequential.specs.Work.{operands};
 ghost use Rattle.in_flight.specs.declared.pending.Phase.TheVariants.{Before};
 ghost use Rattle.in_flight.specs.declared.pending.Stage.{Stage as SomeStage};
 ghost use Rattle.in_flight.specs.declared.pending.Stage.TheVariants.{Waiting, Read, Finished};
-ghost use Rattle.in_flight.specs.Tests.{refusal_in, store_conflicts, refusal_of, tests_found, row_tests, read_tests, accept_tests, return_tests, free_tests};
-ghost use Rattle.in_flight.specs.Flight.{left_by, outstanding_of, IsRestOf, unit_taken, reserved_in, with_pending, entered_at, rest_at, queue_with, queue_after};
+ghost use Rattle.in_flight.specs.Tests.{refusal_in, store_conflicts, refusal_of, tests_found, row_tests, read_tests};
+ghost use Rattle.in_flight.specs.Tests.{accept_tests, return_tests, free_tests};
+ghost use Rattle.in_flight.specs.Flight.{left_by, outstanding_of, IsRestOf, unit_taken, reserved_in, with_pending};
+ghost use Rattle.in_flight.specs.Flight.{entered_at, rest_at, queue_with, queue_after};
 ghost use Rattle.in_flight.specs.Pending.{has_read, is_branch, delays_fetch};
-ghost use Rattle.in_flight.specs.Lookup.{first_of, sought, stage_at, entry_at, arrival_at, in_phase, kept, enters, place_for, is_pending};
+ghost use Rattle.in_flight.specs.Lookup.{first_of, sought, stage_at, entry_at, arrival_at, in_phase, kept, enters};
+ghost use Rattle.in_flight.specs.Lookup.{place_for, is_pending};
 ghost use Rattle.instructions.specs.Finding.{replaced, Found, seek};
 ghost use Rattle.in_flight.specs.inner.Slots.{IsSlotted};
 ghost use Rattle.in_flight.specs.Apart.{IsApart};
@@ -48,7 +52,8 @@ pub struct InFlight {
 }
 
 impl Model for InFlight {
-    ghost use Rattle.in_flight.specs.Flight.{Flight, flight_of, IsTied};
+    ghost use Rattle.in_flight.specs.Flight.{Flight, flight_of};
+    ghost use Rattle.in_flight.specs.inner.Board.{IsTied};
 
     ghost Value = { Flight };
 

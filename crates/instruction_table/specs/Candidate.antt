@@ -3,7 +3,8 @@
 -- (`instr_of` of Spelling.antt).
 -- Source: ours.
 use Rattle.std.specs.Prelude.{ℕ, ◌+◌, ◌-◌, ◌*◌, ◌%◌, ◌^◌, ◌==◌, if◌then◌else◌, List, [], ◌∷◌, slice_index, drop}
-use Rattle.instructions.specs.declared.instr.XTest.TheVariants.{Zero, NonZero, Positive, Negative, InRange, OutOfRange, Definite, Indefinite}
+use Rattle.instructions.specs.declared.instr.XTest.TheVariants.{Zero, NonZero, Positive, Negative, InRange, OutOfRange}
+use Rattle.instructions.specs.declared.instr.XTest.TheVariants.{Definite, Indefinite}
 use Rattle.instructions.specs.declared.instr.XTest.{XTest}
 use Rattle.instructions.specs.declared.instr.BTest.TheVariants.{Equal, NotEqual, GreaterOrEqual, Less}
 use Rattle.instructions.specs.declared.instr.BTest.{BTest}
@@ -18,7 +19,9 @@ use Rattle.instructions.specs.declared.instr.Pair.TheVariants.{XPlusB, APlusB, A
 use Rattle.instructions.specs.declared.instr.Addends.{Addends}
 use Rattle.instructions.specs.declared.instr.Addends.TheVariants.{Address, Registers}
 use Rattle.instructions.specs.declared.instr.Instr.{Instr}
-use Rattle.instructions.specs.declared.instr.Instr.TheVariants.{Stop, Pass, ReturnJump, Jump, BranchX, BranchB, Copy, Invert, Logical, ShiftBy, ShiftNominal, LongAdd, Mask, CountOnes, Increment}
+use Rattle.instructions.specs.declared.instr.Instr.TheVariants.{Stop, Pass, ReturnJump, Jump, BranchX, BranchB, Copy}
+use Rattle.instructions.specs.declared.instr.Instr.TheVariants.{Invert, Logical, ShiftBy, ShiftNominal, LongAdd, Mask}
+use Rattle.instructions.specs.declared.instr.Instr.TheVariants.{CountOnes, Increment}
 
 -- the octal digit at a place of a text
 abbrev pub digit_of : List ℕ → ℕ → ℕ

@@ -1,7 +1,9 @@
 ghost use Rattle.instruction_table.specs.Table.{parcels_of, IsInstr, StandsAt};
 ghost use Rattle.std.specs.Prelude.{ℕ, length, ◌≡◌, ◌<◌, ◌≤◌, ◌+◌, ◌*◌, ◌^◌};
 ghost use Rattle.instruction_table.specs.Pattern.{IsByTable, IsReadAs, parcels_from};
-ghost use Rattle.instruction_table.specs.Decoding.{branches, logicals, shifts, additions, others, increments, rows, x_test_at, refused_01, entry, entry_of, following_at, digits_at, reading_at, GoesOn};
+ghost use Rattle.instruction_table.specs.Decoding.{branches, logicals, shifts, additions, others, increments, rows};
+ghost use Rattle.instruction_table.specs.Decoding.{x_test_at, refused_01, entry, entry_of, following_at, digits_at};
+ghost use Rattle.instruction_table.specs.Decoding.{reading_at, GoesOn};
 
 use crate::{
     Addends, Addition, BTest, Base, Digit, Direction, Instr, Logic, Op, Pair, SixBits, Target,

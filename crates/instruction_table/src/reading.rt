@@ -1,5 +1,7 @@
 ghost use Rattle.std.specs.Prelude.{◌≡◌, ◌<◌, ◌-◌, ◌%◌, ◌^◌, slice_index, IfSome, Some};
-ghost use Rattle.instruction_table.specs.Candidate.{digit_of, number_of, jump_in, branch_x_in, branch_b_in, shift_in, boolean_in, mask_in, addition_in, addends_in, increment_in, candidate_in};
+ghost use Rattle.instruction_table.specs.Candidate.{digit_of, number_of, jump_in, branch_x_in, branch_b_in, shift_in};
+ghost use Rattle.instruction_table.specs.Candidate.{boolean_in, mask_in, addition_in, addends_in, increment_in};
+ghost use Rattle.instruction_table.specs.Candidate.{candidate_in};
 ghost use Rattle.instruction_table.specs.Spelling.{spelling, instr_of};
 ghost use Rattle.instruction_table.specs.Table.{IsInstr};
 ghost use Rattle.instructions.specs.declared.instr.Instr.{Instr};
@@ -251,7 +253,7 @@ fn instr_of(text: &[u8]) -> Option<Instr>
 
 /// The instruction whose one text these bytes are, and None where they are the text of none: other spacing, small
 /// letters, leading zeros and numbers out of range are refused.
-#[tactic(auto, using(crate::proofs::TextLaws::spelling_of_instr, crate::proofs::TextLaws::fields_of_instr))]
+#[tactic(auto, using(crate::proofs::texts::TextLaws::spelling_of_instr, crate::proofs::texts::TextLaws::fields_of_instr))]
 pub fn read_bytes(text: &[u8]) -> Option<Instr>
     ensures value { result ≡ instr_of text.now }
     ensures fields { IfSome result IsInstr }

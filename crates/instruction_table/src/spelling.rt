@@ -3,7 +3,8 @@ ghost use Rattle.std.specs.String.{string_bytes};
 ghost use Rattle.arrayvec.specs.ArrayString.{array_string_len};
 ghost use Rattle.instructions.specs.declared.refusal.Refusal.TheVariants.{OutOfMemory};
 ghost use Rattle.instruction_table.specs.Octal.{octal};
-ghost use Rattle.instruction_table.specs.Spelling.{name_of, jump_text, branch_x_text, branch_b_text, logic_text, addition_text, addends_text, spelling};
+ghost use Rattle.instruction_table.specs.Spelling.{name_of, jump_text, branch_x_text, branch_b_text, logic_text};
+ghost use Rattle.instruction_table.specs.Spelling.{addition_text, addends_text, spelling};
 ghost use Rattle.instruction_table.specs.Table.{digit};
 ghost use Rattle.instructions.specs.declared.instr.Addends.TheVariants.{Registers};
 
@@ -81,7 +82,7 @@ fn put(text: &mut InstrText, front: &str, register: Digit)
 }
 
 /// Adds a number in octal, without leading zeros.
-#[tactic(auto, using(crate::proofs::OctalLaws::octal_ends, crate::proofs::OctalLaws::octal_small))]
+#[tactic(auto, using(crate::proofs::texts::OctalLaws::octal_ends, crate::proofs::texts::OctalLaws::octal_small))]
 fn put_octal(text: &mut InstrText, number: u32)
     requires { array_string_len text.old + length (octal number) ≤ 16 }
     ensures { text.new.bytes ≡ text.old.bytes ++ octal number }
@@ -96,7 +97,7 @@ fn put_octal(text: &mut InstrText, number: u32)
 }
 
 /// Adds a text and an address.
-#[tactic(auto, using(crate::proofs::OctalLaws::octal_length_6))]
+#[tactic(auto, using(crate::proofs::texts::OctalLaws::octal_length_6))]
 fn put_address(text: &mut InstrText, front: &str, address: Word18)
     requires { array_string_len text.old + length front.now ≤ 10 }
     ensures { text.new.bytes ≡ text.old.bytes ++ (front.now ++ octal address) }
@@ -106,7 +107,7 @@ fn put_address(text: &mut InstrText, front: &str, address: Word18)
 }
 
 /// Adds a space and a count of places or bits.
-#[tactic(auto, using(crate::proofs::OctalLaws::octal_length_2))]
+#[tactic(auto, using(crate::proofs::texts::OctalLaws::octal_length_2))]
 fn put_count(text: &mut InstrText, count: SixBits)
     requires { array_string_len text.old ≤ 10 }
     ensures { text.new.bytes ≡ text.old.bytes ++ (codes " " ++ octal count) }

@@ -1,6 +1,7 @@
 -- What is kept in seats (units, hopper places and channels as one list): each sits in its own; seen in order, one is
 -- taken out, one put in, one found.
-use Rattle.std.proofs.Common.{◌≡◌, ◌≢◌, ℕ, zero, suc, ◌<◌, ◌≤◌, ◌+◌, eqb, false, List, [], ◌∷◌, ◌++◌, Option, Some, None, refl, sym, ap, ◌∙◌, subst, length, set, get_or, arith}
+use Rattle.std.proofs.Common.{◌≡◌, ◌≢◌, ℕ, zero, suc, ◌<◌, ◌≤◌, ◌+◌, eqb, false, List, [], ◌∷◌, ◌++◌, Option, Some}
+use Rattle.std.proofs.Common.{None, refl, sym, ap, ◌∙◌, subst, length, set, get_or, arith}
 use Rattle.std.specs.Prelude.{◌||◌, is_some}
 use Rattle.std.specs.List.{list_any}
 use Rattle.std.proofs.lemmas.Bool.{eq-eqb, ne_eqb}
@@ -9,8 +10,10 @@ use Rattle.instructions.specs.Each.{Each, Pairs}
 use Rattle.instructions.specs.Finding.{seek}
 use Rattle.instructions.specs.Order.{insert_by, sort_by, somes, IsSeated}
 use Rattle.instructions.proofs.Finding.{seek_around, seek_nobody}
-use Rattle.instructions.proofs.Lists.{any_of_each, each_left, each_right, each_append, each_map, pairs_before, pairs_right, pairs_without}
-use Rattle.instructions.proofs.Sorted.{below, above, insert_splits, insert_last, below-above, sort_around, sort_each, before_place, after_place, somes-at, somes-set_some, somes-set_none, somes-empty}
+use Rattle.instructions.proofs.Lists.{any_of_each, each_left, each_right, each_append, each_map, pairs_before}
+use Rattle.instructions.proofs.Lists.{pairs_right, pairs_without}
+use Rattle.instructions.proofs.Sorted.{below, above, insert_splits, insert_last, below-above, sort_around, sort_each}
+use Rattle.instructions.proofs.Sorted.{before_place, after_place, somes-at, somes-set_some, somes-set_none, somes-empty}
 
 pub within : {K : Type 0} (os : List (Option K)) (i : ℕ) (x : K) → get_or os i None ≡ Some x → i < length os
 within [] i x h = cc

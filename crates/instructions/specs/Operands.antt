@@ -1,12 +1,14 @@
 -- What an instruction reads and sets, and the kind of unit that it takes: a row for each instruction.
 -- Source: 60100000, the descriptions of the instructions; ours: a register that an instruction reads twice is waited
 -- for once, and B0 never.
-use Rattle.std.specs.Prelude.{ℕ, Bool, false, ◌||◌, ◌==◌, nat_le, if◌then◌else◌, List, [], ◌∷◌, ◌++◌, Option, Some, None}
+use Rattle.std.specs.Prelude.{ℕ, Bool, false, ◌||◌, ◌==◌, nat_le, if◌then◌else◌, List, [], ◌∷◌, ◌++◌, Option, Some}
+use Rattle.std.specs.Prelude.{None}
 use Rattle.std.specs.List.{list_any}
 use Rattle.instructions.specs.declared.instr.Reg.{Reg}
 use Rattle.instructions.specs.declared.instr.Reg.TheVariants.{X, A, B}
 use Rattle.instructions.specs.declared.instr.UnitKind.{UnitKind}
-use Rattle.instructions.specs.declared.instr.UnitKind.TheVariants.{Branch, Boolean, Shift, LongAdd as LongAddKind, Divide, Increment as IncrementKind}
+use Rattle.instructions.specs.declared.instr.UnitKind.TheVariants.{Branch, Boolean, Shift, LongAdd as LongAddKind}
+use Rattle.instructions.specs.declared.instr.UnitKind.TheVariants.{Divide, Increment as IncrementKind}
 use Rattle.instructions.specs.declared.instr.Target.{Target}
 use Rattle.instructions.specs.declared.instr.Target.TheVariants.{A as TargetA, B as TargetB, X as TargetX}
 use Rattle.instructions.specs.declared.instr.Base.{Base}
@@ -15,7 +17,9 @@ use Rattle.instructions.specs.declared.instr.Pair.{Pair}
 use Rattle.instructions.specs.declared.instr.Pair.TheVariants.{XPlusB, APlusB, AMinusB, BPlusB, BMinusB}
 use Rattle.instructions.specs.declared.instr.Addends.TheVariants.{Address, Registers}
 use Rattle.instructions.specs.declared.instr.Instr.{Instr}
-use Rattle.instructions.specs.declared.instr.Instr.TheVariants.{Stop, Pass, ReturnJump, Jump, BranchX, BranchB, Copy, Invert, Logical, ShiftBy, ShiftNominal, LongAdd, Mask, CountOnes, Increment}
+use Rattle.instructions.specs.declared.instr.Instr.TheVariants.{Stop, Pass, ReturnJump, Jump, BranchX, BranchB, Copy}
+use Rattle.instructions.specs.declared.instr.Instr.TheVariants.{Invert, Logical, ShiftBy, ShiftNominal, LongAdd, Mask}
+use Rattle.instructions.specs.declared.instr.Instr.TheVariants.{CountOnes, Increment}
 
 -- the registers and the unit of an instruction
 pub record Row : Type 0 where

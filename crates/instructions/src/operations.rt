@@ -1,5 +1,6 @@
 ghost use Rattle.std.specs.Prelude.{◌≡◌, ◌<◌};
-ghost use Rattle.instructions.specs.Operations.{x_code, b_code, logic_code, direction_code, addition_code, target_code, base_code, pair_code};
+ghost use Rattle.instructions.specs.Operations.{x_code, b_code, logic_code, direction_code, addition_code, target_code};
+ghost use Rattle.instructions.specs.Operations.{base_code, pair_code};
 
 use crate::{Addition, BTest, Base, Direction, Logic, Pair, Target, XTest};
 

@@ -1,6 +1,7 @@
 -- The lines of a dump: octal numbers of as many digits as their kind has, and one space between fields.
 -- Source: ours; the names of the registers are the manual's.
-use Rattle.std.specs.Prelude.{ℕ, zero, suc, ◌+◌, ◌-◌, Bool, true, false, List, [], ◌∷◌, Option, Some, None, codes, decimal, slice_index, slice_index_or}
+use Rattle.std.specs.Prelude.{ℕ, zero, suc, ◌+◌, ◌-◌, Bool, true, false, List, [], ◌∷◌, Option, Some, None, codes}
+use Rattle.std.specs.Prelude.{decimal, slice_index, slice_index_or}
 use Rattle.std.specs.List.{flat_map, concat}
 use Rattle.word60.specs.Words.{octal_text}
 use Rattle.instructions.specs.declared.refusal.Halt.{Halt}

@@ -1,6 +1,7 @@
 -- The lines of a listing: each word that a deck placed, with what its parcels say.
 -- Source: ours; the texts and the codes of the instructions are the manual's.
-use Rattle.std.specs.Prelude.{◌≡◌, Bool, true, Option, Result, Ok, Err, ℕ, zero, suc, ◌+◌, ◌==◌, if◌then◌else◌, false, List, [], ◌∷◌, ◌++◌, codes, length, nat_lt, slice_index_or}
+use Rattle.std.specs.Prelude.{◌≡◌, Bool, true, Option, Result, Ok, Err, ℕ, zero, suc, ◌+◌, ◌==◌, if◌then◌else◌, false}
+use Rattle.std.specs.Prelude.{List, [], ◌∷◌, ◌++◌, codes, length, nat_lt, slice_index_or}
 use Rattle.std.specs.List.{flat_map, concat}
 use Rattle.word60.specs.Words.{octal_text}
 use Rattle.instruction_table.specs.declared.decoding.Decoded.{Decoded}

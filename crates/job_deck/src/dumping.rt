@@ -1,7 +1,9 @@
 ghost use Rattle.std.specs.Prelude.{◌≡◌, ◌<◌, ◌≤◌, ◌∷◌, List, map, length, slice_index_or, OnErr, Err};
 ghost use Rattle.std.specs.List.{flat_map};
 ghost use Rattle.device_text.specs.Device.{Writes, failed_after};
-ghost use Rattle.job_deck.specs.Dump.{held_text, place_line, halt_text, fault_text, area_line, spaced_index, index_line, x_line, x_lines, state_lines, register_lines, word_line, show_lines, log_text, log_line, spaced_entry, dump_text};
+ghost use Rattle.job_deck.specs.Dump.{held_text, place_line, halt_text, fault_text, area_line, spaced_index};
+ghost use Rattle.job_deck.specs.Dump.{index_line, x_line, x_lines, state_lines, register_lines, word_line, show_lines};
+ghost use Rattle.job_deck.specs.Dump.{log_text, log_line, spaced_entry, dump_text};
 ghost use Rattle.device_text.specs.Pieces.{text_of};
 ghost use Rattle.deck.specs.inner.Views.{shown_of, shown};
 ghost use Rattle.instructions.specs.declared.refusal.Refusal.TheVariants.{Write as WriteRefusal};

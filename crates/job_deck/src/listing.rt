@@ -1,7 +1,8 @@
 ghost use Rattle.std.specs.Prelude.{◌≡◌, ◌<◌, ◌≤◌, ◌^◌, ◌||◌, length};
 ghost use Rattle.device_text.specs.Device.{Moves, Writes, failed_after};
 ghost use Rattle.deck.specs.Deck.{deck};
-ghost use Rattle.job_deck.specs.Listing.{item_text, after, separator, items_text, listed_word, listed, listing, Lists, is_read_refusal, is_write_refusal};
+ghost use Rattle.job_deck.specs.Listing.{item_text, after, separator, items_text, listed_word, listed, listing, Lists};
+ghost use Rattle.job_deck.specs.Listing.{is_read_refusal, is_write_refusal};
 
 use deck::{Image, read_deck_from, refusal};
 use device_text::{Input, Output, Piece, Tracked, Watched, WriteFailed, put_pieces};

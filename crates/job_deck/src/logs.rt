@@ -2,7 +2,8 @@ ghost use Rattle.std.specs.Prelude.{◌≡◌, ◌<◌, ◌≤◌, ◌+◌, ◌+
 ghost use Rattle.instructions.specs.declared.refusal.Refusal.TheVariants.{OutOfMemory};
 ghost use Rattle.sequential.specs.Log.{steps_of, issued};
 ghost use Rattle.device_text.specs.Text.{fields_of};
-ghost use Rattle.job_deck.specs.LogText.{whole_allowance, has_nought_in_front, plain_number, exchange_in, count_in, entry_in, entry_count, spent, steps_in, log_in, LogHas};
+ghost use Rattle.job_deck.specs.LogText.{whole_allowance, has_nought_in_front, plain_number, exchange_in, count_in};
+ghost use Rattle.job_deck.specs.LogText.{entry_in, entry_count, spent, steps_in, log_in, LogHas};
 
 use device_text::{first_part, number};
 use instruction_table::Refusal;

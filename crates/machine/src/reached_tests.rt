@@ -117,30 +117,43 @@ fn faulted(machine: &Machine) -> Option<Snapshot>
     Some(snapshot)
 }
 
-/// A program that ends with a fault, and one that ends without.
-#[test]
-fn with_a_fault(rt: HostRuntime) -> Result<(), Fail> {
+/// A machine on which SA1 B0+20, which sets the fault, was issued.
+fn issued_beyond(alloc: Global) -> Option<Machine> {
     let words = [(0o43, ADDRESS_BIT), (0o100, BEYOND)];
-    let memory = memory_of(rt.alloc(), 256, words.as_slice())
-        .ok()
-        .ok_or("memory")?;
-    let mut machine = Machine::boot(rt.alloc(), memory, 100).ok().ok_or("boot")?;
+    let memory = memory_of(alloc, 256, words.as_slice()).ok()?;
+    let mut machine = Machine::boot(alloc, memory, 100).ok()?;
     let steps = [
         (Event::Ask(0o40), MADE),
         (Event::Exchange, MADE),
         (Event::Issue, issued(Unit::Increment1, 1)),
     ];
-    assert!(rt; meets(&mut machine, steps.as_slice()));
+    if meets(&mut machine, steps.as_slice()) {
+        Some(machine)
+    } else {
+        None
+    }
+}
+
+/// A program that ends with a fault: no snapshot shows it before the machine is drained.
+#[test]
+fn with_a_fault(rt: HostRuntime) -> Result<(), Fail> {
+    let mut machine = issued_beyond(rt.alloc()).ok_or("issue")?;
     assert!(rt; faulted(&machine).is_none());
     let _ = machine.drain();
     let snapshot = faulted(&machine).ok_or("fault")?;
     let log = [Entry::Exchange(0o40), Entry::Issued(1)];
     assert!(rt; snapshot.log().entries() == log.as_slice());
     assert_eq!(rt; machine.apply(Event::Issue), Err(Refusal::Faulted));
-    let mut other = started(rt.alloc(), FIVE, "0").ok().ok_or("start")?;
-    assert_eq!(rt; other.apply(Event::Issue), issued(Unit::Increment1, 1));
-    let _ = other.drain();
-    assert!(rt; faulted(&other).is_none());
+    Ok(())
+}
+
+/// A program that ends without one.
+#[test]
+fn without_a_fault(rt: HostRuntime) -> Result<(), Fail> {
+    let mut machine = started(rt.alloc(), FIVE, "0").ok().ok_or("start")?;
+    assert_eq!(rt; machine.apply(Event::Issue), issued(Unit::Increment1, 1));
+    let _ = machine.drain();
+    assert!(rt; faulted(&machine).is_none());
     Ok(())
 }
 

@@ -1,6 +1,6 @@
 use crate::test_fixtures::{Case, MADE, NO_UNIT, Standing, a, b, issued, x};
 use crate::{Answer, Event};
-use instruction_table::{Halt, Refusal, Unit};
+use instruction_table::{Halt, Refusal, Reg, Unit};
 use sequential::Entry;
 use std::process::Abort;
 use std::test::Fail;
@@ -268,6 +268,55 @@ fn stores_to_code(rt: HostRuntime) -> Result<(), Fail> {
 
 /// Loads into X1 to X5: the fifth finds no place in the hopper until the third is accepted, and takes its
 /// place.
+fn five_loads() -> [(Event, Answer); 27] {
+    [
+        (Event::Ask(0o40), MADE),
+        (Event::Exchange, MADE),
+        (Event::Issue, issued(Unit::Increment1, 1)),
+        (Event::Issue, issued(Unit::Increment2, 2)),
+        (Event::Read(Unit::Increment1), MADE),
+        (Event::Finish(Unit::Increment1), MADE),
+        (Event::Store(Unit::Increment1), MADE),
+        (Event::Read(Unit::Increment2), MADE),
+        (Event::Finish(Unit::Increment2), MADE),
+        (Event::Store(Unit::Increment2), MADE),
+        (Event::Issue, issued(Unit::Increment1, 3)),
+        (Event::Issue, issued(Unit::Increment2, 4)),
+        (Event::Read(Unit::Increment1), MADE),
+        (Event::Finish(Unit::Increment1), MADE),
+        (Event::Store(Unit::Increment1), MADE),
+        (Event::Read(Unit::Increment2), MADE),
+        (Event::Finish(Unit::Increment2), MADE),
+        (Event::Store(Unit::Increment2), MADE),
+        (Event::Issue, issued(Unit::Increment1, 5)),
+        (Event::Read(Unit::Increment1), MADE),
+        (Event::Finish(Unit::Increment1), MADE),
+        (Event::Store(Unit::Increment1), Err(Refusal::HopperFull)),
+        (Event::Accept(2), MADE),
+        (Event::Store(Unit::Increment1), MADE),
+        (Event::Accept(2), MADE),
+        (Event::Accept(2), Err(Refusal::Nothing)),
+        (Event::Return(5), MADE),
+    ]
+}
+
+/// The registers that five loads of the words from 10 (octal) on leave.
+fn five_loaded() -> [(Reg, &'static str); 10] {
+    [
+        (a(1), "10"),
+        (a(2), "11"),
+        (a(3), "12"),
+        (a(4), "13"),
+        (a(5), "14"),
+        (x(1), "11"),
+        (x(2), "22"),
+        (x(3), "33"),
+        (x(4), "44"),
+        (x(5), "55"),
+    ]
+}
+
+/// Five loads, for which the hopper has four places.
 #[test]
 fn full_hopper(rt: HostRuntime) -> Result<(), Fail> {
     let words = [
@@ -283,35 +332,7 @@ fn full_hopper(rt: HostRuntime) -> Result<(), Fail> {
     let case = Case {
         size: 256,
         words: &words,
-        steps: &[
-            (Event::Ask(0o40), MADE),
-            (Event::Exchange, MADE),
-            (Event::Issue, issued(Unit::Increment1, 1)),
-            (Event::Issue, issued(Unit::Increment2, 2)),
-            (Event::Read(Unit::Increment1), MADE),
-            (Event::Finish(Unit::Increment1), MADE),
-            (Event::Store(Unit::Increment1), MADE),
-            (Event::Read(Unit::Increment2), MADE),
-            (Event::Finish(Unit::Increment2), MADE),
-            (Event::Store(Unit::Increment2), MADE),
-            (Event::Issue, issued(Unit::Increment1, 3)),
-            (Event::Issue, issued(Unit::Increment2, 4)),
-            (Event::Read(Unit::Increment1), MADE),
-            (Event::Finish(Unit::Increment1), MADE),
-            (Event::Store(Unit::Increment1), MADE),
-            (Event::Read(Unit::Increment2), MADE),
-            (Event::Finish(Unit::Increment2), MADE),
-            (Event::Store(Unit::Increment2), MADE),
-            (Event::Issue, issued(Unit::Increment1, 5)),
-            (Event::Read(Unit::Increment1), MADE),
-            (Event::Finish(Unit::Increment1), MADE),
-            (Event::Store(Unit::Increment1), Err(Refusal::HopperFull)),
-            (Event::Accept(2), MADE),
-            (Event::Store(Unit::Increment1), MADE),
-            (Event::Accept(2), MADE),
-            (Event::Accept(2), Err(Refusal::Nothing)),
-            (Event::Return(5), MADE),
-        ],
+        steps: &five_loads(),
         // Three acceptances and four returns: each load has a bank of its own.
         left: 7,
         standing: Standing {
@@ -320,18 +341,7 @@ fn full_hopper(rt: HostRuntime) -> Result<(), Fail> {
             halt: None,
             fault: false,
         },
-        registers: &[
-            (a(1), "10"),
-            (a(2), "11"),
-            (a(3), "12"),
-            (a(4), "13"),
-            (a(5), "14"),
-            (x(1), "11"),
-            (x(2), "22"),
-            (x(3), "33"),
-            (x(4), "44"),
-            (x(5), "55"),
-        ],
+        registers: &five_loaded(),
         memory: &words,
         log: &[Entry::Exchange(0o40), Entry::Issued(5)],
     };

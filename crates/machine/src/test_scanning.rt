@@ -5,11 +5,10 @@ use crate::changing::write_registers;
 use crate::test_fixtures::{Words, memory_of};
 use crate::{Answer, Done, Event, MOST_ISSUES, Machine, Note, Snapshot};
 use arrayvec::ArrayVec;
-use exchange_package::SIZE;
 use hopper::bank_of;
 use in_flight::{Arrival, HopperEntry, Outstanding, Pending, Phase, Stage};
 use instruction_table::{Instr, Refusal, Reg, Unit, UnitKind, results, sources, unit_kind};
-use relocation::{Access, Storage, relocate};
+use relocation::{Access, PACKAGE_WORDS, Storage, relocate};
 use scoreboard::{Progress, Row, is_same_unit};
 use sequential::{Fetched, State, faults, jump, number, operands, reference};
 use std::alloc::Global;
@@ -563,7 +562,7 @@ impl ScanningMachine {
         if self.request.is_some() {
             return Err(Refusal::ExchangeBusy);
         }
-        if at > size || size - at < SIZE {
+        if at > size || size - at < PACKAGE_WORDS {
             return Err(Refusal::PackageRange);
         }
         self.request = Some(at);

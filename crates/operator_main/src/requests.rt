@@ -10,7 +10,8 @@
 //! and none is due; or it is out of budget in the middle of a word, where the exchange that waits can't be made.
 //! A request after more instructions than are issued by then isn't made.
 
-ghost use Rattle.std.specs.Prelude.{◌≡◌, ◌<◌, ◌+◌, ◌^◌, ◌++◌, ◌∷◌, ◌||◌, true, false, None, is_some, option_to_list, IfOk};
+ghost use Rattle.std.specs.Prelude.{◌≡◌, ◌<◌, ◌+◌, ◌^◌, ◌++◌, ◌∷◌, ◌||◌, true, false, None, is_some, option_to_list};
+ghost use Rattle.std.specs.Prelude.{IfOk};
 ghost use Rattle.operator_main.specs.Requests.{IsInOrder, KeepsTies, IsDue};
 
 use job_deck::Ask;

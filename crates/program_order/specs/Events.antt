@@ -8,7 +8,8 @@ use Rattle.sequential.specs.Step.{fetch}
 use Rattle.sequential.specs.Log.{issued}
 use Rattle.in_flight.specs.declared.pending.Pending.{Pending}
 use Rattle.program_order.specs.declared.event.Event.{Event}
-use Rattle.program_order.specs.declared.event.Event.TheVariants.{Issue, Read, Finish, Store, Accept, Return, BankFree, Ask, Exchange}
+use Rattle.program_order.specs.declared.event.Event.TheVariants.{Issue, Read, Finish, Store, Accept, Return, BankFree}
+use Rattle.program_order.specs.declared.event.Event.TheVariants.{Ask, Exchange}
 use Rattle.in_flight.specs.Tests.{free_tests, return_tests, Test, refusal_of, tests_found, read_tests, accept_tests}
 use Rattle.in_flight.specs.Lookup.{stage_at, entry_at, arrival_at}
 use Rattle.program_order.specs.Processor.{Processor}

@@ -1,8 +1,9 @@
 -- The exchange: what a request and an exchange are refused for, and what an exchange leaves.
 -- Source: 60100000, exchange jump. The requests, their refusals and the order of these are ours.
 use Rattle.std.specs.Prelude.{ℕ, not, ◌&&◌, nat_le, List, [], ◌∷◌, ◌++◌, Option, Some, None, is_some, is_none}
-use Rattle.instructions.specs.declared.refusal.Refusal.TheVariants.{Budget, Nothing, ExchangeBusy, NotDrained, PackageRange, MidWord}
-use Rattle.exchange_package.specs.Package.{package_fits}
+use Rattle.instructions.specs.declared.refusal.Refusal.TheVariants.{Budget, Nothing, ExchangeBusy, NotDrained}
+use Rattle.instructions.specs.declared.refusal.Refusal.TheVariants.{PackageRange, MidWord}
+use Rattle.relocation.specs.Relocation.{package_fits}
 use Rattle.sequential.specs.declared.state.State.{State}
 use Rattle.sequential.specs.Swap.{swap}
 use Rattle.sequential.specs.Replay.{Exchanged}

@@ -1,9 +1,15 @@
 -- Which refusals an event, and a token's call, may have. Source: ours.
 use Rattle.std.specs.Prelude.{Bool, true, false, ◌||◌}
 use Rattle.instructions.specs.declared.refusal.Refusal.{Refusal}
-use Rattle.instructions.specs.declared.refusal.Refusal.TheVariants.{Halted, Faulted, Budget, BranchPending, ExchangeWaiting, FetchWait, UnitBusy, ResultReserved, OperandAwaited, ResultHeld, HopperFull, OutOfTurn, BankBusy, OlderInBank, Nothing, Stranger, ExchangeBusy, NotDrained, PackageRange, OutOfMemory, MidWord}
+use Rattle.instructions.specs.declared.refusal.Refusal.TheVariants.{Halted, Faulted, Budget, BranchPending}
+use Rattle.instructions.specs.declared.refusal.Refusal.TheVariants.{ExchangeWaiting, FetchWait, UnitBusy}
+use Rattle.instructions.specs.declared.refusal.Refusal.TheVariants.{ResultReserved, OperandAwaited, ResultHeld}
+use Rattle.instructions.specs.declared.refusal.Refusal.TheVariants.{HopperFull, OutOfTurn, BankBusy, OlderInBank}
+use Rattle.instructions.specs.declared.refusal.Refusal.TheVariants.{Nothing, Stranger, ExchangeBusy, NotDrained}
+use Rattle.instructions.specs.declared.refusal.Refusal.TheVariants.{PackageRange, OutOfMemory, MidWord}
 use Rattle.program_order.specs.declared.event.Event.{Event}
-use Rattle.program_order.specs.declared.event.Event.TheVariants.{Issue, Read, Finish, Store, Accept, Return, BankFree, Ask, Exchange}
+use Rattle.program_order.specs.declared.event.Event.TheVariants.{Issue, Read, Finish, Store, Accept, Return, BankFree}
+use Rattle.program_order.specs.declared.event.Event.TheVariants.{Ask, Exchange}
 
 -- E1 to E8: what an issue may be refused for
 unfoldable pub is_issue_refusal : Refusal → Bool

@@ -1,6 +1,6 @@
 -- What holds of the pending instructions at every moment. Source: ours.
 use Rattle.std.specs.Prelude.{◌≡◌, true, ℕ, Option, Some, None, length}
-use Rattle.exchange_package.specs.Package.{package_fits}
+use Rattle.relocation.specs.Relocation.{package_fits}
 use Rattle.instructions.specs.Each.{Pairs}
 use Rattle.program_order.specs.Processor.{Processor, completed, replayed}
 use Rattle.in_flight.specs.Apart.{IsApart}

@@ -1,4 +1,5 @@
-ghost use Rattle.std.specs.Prelude.{ℕ, List, ◌++◌, Result, ◌≡◌, ◌≤◌, ◌<◌, ◌&&◌, ◌||◌, true, false, not, is_none, is_some, Some, None};
+ghost use Rattle.std.specs.Prelude.{ℕ, List, ◌++◌, Result, ◌≡◌, ◌≤◌, ◌<◌, ◌&&◌, ◌||◌, true, false, not, is_none};
+ghost use Rattle.std.specs.Prelude.{is_some, Some, None};
 ghost use Rattle.instructions.specs.declared.refusal.Refusal.{Refusal};
 ghost use Rattle.program_order.specs.declared.event.Event.{Event as SomeEvent};
 ghost use Rattle.program_order.specs.declared.event.Done.{Done as SomeDone};

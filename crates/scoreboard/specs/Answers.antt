@@ -1,11 +1,13 @@
 -- What a board answers, and what it is after a change: of the issued instructions in the order of their numbers.
 -- Source: Thornton, scoreboard; 60100000, unit and register conflicts.
-use Rattle.std.specs.Prelude.{ℕ, suc, Bool, true, false, ◌&&◌, ◌==◌, if◌then◌else◌, List, [], ◌∷◌, ◌++◌, Option, Some, None, Result, Ok, Err}
+use Rattle.std.specs.Prelude.{ℕ, suc, Bool, true, false, ◌&&◌, ◌==◌, if◌then◌else◌, List, [], ◌∷◌, ◌++◌, Option, Some}
+use Rattle.std.specs.Prelude.{None, Result, Ok, Err}
 use Rattle.instructions.specs.declared.instr.Instr.{Instr}
 use Rattle.instructions.specs.declared.instr.Reg.TheVariants.{X}
 use Rattle.instructions.specs.declared.instr.Unit.{Unit as FunctionalUnit}
 use Rattle.instructions.specs.declared.refusal.Refusal.{Refusal}
-use Rattle.instructions.specs.declared.refusal.Refusal.TheVariants.{UnitBusy, ResultReserved, OperandAwaited, ResultHeld, OutOfTurn}
+use Rattle.instructions.specs.declared.refusal.Refusal.TheVariants.{UnitBusy, ResultReserved, OperandAwaited}
+use Rattle.instructions.specs.declared.refusal.Refusal.TheVariants.{ResultHeld, OutOfTurn}
 use Rattle.instructions.specs.Finding.{Found}
 use Rattle.instructions.specs.Shape.{shape_of, puts_of, results, has_reference}
 use Rattle.instructions.specs.Operands.{row, sources_of}
@@ -13,7 +15,8 @@ use Rattle.scoreboard.specs.declared.row.Progress.{Progress}
 use Rattle.scoreboard.specs.declared.row.Progress.TheVariants.{Reserved, Left}
 use Rattle.scoreboard.specs.Rows.{holds}
 use Rattle.scoreboard.specs.Units.{first_unit}
-use Rattle.scoreboard.specs.Conflicts.{awaited, to_be_read, first_such, result_reserved, operand_awaited, result_held, out_of_turn}
+use Rattle.scoreboard.specs.Conflicts.{awaited, to_be_read, first_such, result_reserved, operand_awaited, result_held}
+use Rattle.scoreboard.specs.Conflicts.{out_of_turn}
 use Rattle.scoreboard.specs.declared.issued.Issued.{Issued}
 use Rattle.scoreboard.specs.Issued.{row_of, channel_of}
 

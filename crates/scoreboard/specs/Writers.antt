@@ -1,6 +1,7 @@
 -- Who will write a register: a unit at its store event, or a load channel at the return.
 -- Source: Thornton, scoreboard (result designators). That a load channel is a writer is ours.
-use Rattle.std.specs.Prelude.{◌<◌, Bool, false, ◌==◌, if◌then◌else◌, List, [], ◌∷◌, Option, Some, None, slice_index_or, slice_set}
+use Rattle.std.specs.Prelude.{◌<◌, Bool, false, ◌==◌, if◌then◌else◌, List, [], ◌∷◌, Option, Some, None, slice_index_or}
+use Rattle.std.specs.Prelude.{slice_set}
 use Rattle.instructions.specs.declared.instr.Reg.{Reg}
 use Rattle.instructions.specs.declared.instr.Reg.TheVariants.{X, A, B}
 use Rattle.scoreboard.specs.Units.{same_unit}

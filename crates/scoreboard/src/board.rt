@@ -8,7 +8,8 @@ ghost use Rattle.scoreboard.specs.Rows.{is_branch, has_store_turn};
 ghost use Rattle.scoreboard.specs.Units.{unit_number};
 ghost use Rattle.scoreboard.specs.Issued.{row_of};
 ghost use Rattle.scoreboard.specs.Conflicts.{unit_for};
-ghost use Rattle.scoreboard.specs.Answers.{held_in, returning_by, read_answer, store_answer, return_answer, turn_answer, reserve_answer, reserved, read, left, gone, with_issued};
+ghost use Rattle.scoreboard.specs.Answers.{held_in, returning_by, read_answer, store_answer, return_answer};
+ghost use Rattle.scoreboard.specs.Answers.{turn_answer, reserve_answer, reserved, read, left, gone, with_issued};
 
 use crate::fields::{
     any_store, any_turn, any_writer, expect, first_produced, first_to_be_read, first_unit,

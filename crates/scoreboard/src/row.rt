@@ -1,5 +1,6 @@
 ghost use Rattle.std.specs.Prelude.{◌≡◌};
-ghost use Rattle.scoreboard.specs.Rows.{is_unread, returning_to, to_come, reads, comes, reads_it, holds, is_branch, has_turn, has_store_turn, is_reserved};
+ghost use Rattle.scoreboard.specs.Rows.{is_unread, returning_to, to_come, reads, comes, reads_it, holds, is_branch};
+ghost use Rattle.scoreboard.specs.Rows.{has_turn, has_store_turn, is_reserved};
 ghost use Rattle.instructions.specs.Operands.{reg_eq};
 ghost use Rattle.instructions.specs.RegisterLists.{is_in};
 

@@ -1,5 +1,6 @@
 -- The entries of a log, with one more at the end or a count raised.
-use Rattle.std.proofs.Common.{◌≡◌, ◌<◌, ◌≤◌, ◌+◌, ◌-◌, ℕ, zero, suc, true, false, List, [], ◌∷◌, ◌++◌, Some, None, length, refl, sym, ap, ◌∙◌, append_assoc, append-nil, arith}
+use Rattle.std.proofs.Common.{◌≡◌, ◌<◌, ◌≤◌, ◌+◌, ◌-◌, ℕ, zero, suc, true, false, List, [], ◌∷◌, ◌++◌, Some, None}
+use Rattle.std.proofs.Common.{length, refl, sym, ap, ◌∙◌, append_assoc, append-nil, arith}
 use Rattle.std.specs.Prelude.{replicate, slice_get, slice_set}
 use Rattle.sequential.specs.declared.log.Entry.{Entry}
 use Rattle.sequential.specs.declared.log.Entry.TheVariants.{Issued as Count, Exchange}

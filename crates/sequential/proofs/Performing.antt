@@ -13,7 +13,8 @@ use Rattle.sequential.specs.declared.work.ProgramReference.{ProgramReference}
 use Rattle.sequential.specs.Place.{gone}
 use Rattle.sequential.specs.State.{Bounds, write_all, write, go, mark}
 use Rattle.sequential.specs.Step.{do_instruction}
-use Rattle.sequential.specs.Work.{operands, number_in, same_for, jump_for, reference_for, work_of, fault_of, listed, put_any, do_now, refer, do_work}
+use Rattle.sequential.specs.Work.{operands, number_in, same_for, jump_for, reference_for, work_of, fault_of, listed}
+use Rattle.sequential.specs.Work.{put_any, do_now, refer, do_work}
 
 -- a state with other registers, place and fault flag
 abbrev pub with_these : State → RegisterFile → Place → Bool → State

@@ -1,7 +1,9 @@
 -- Runs of steps, and the entries of a log one after another.
-use Rattle.std.proofs.Common.{◌≡◌, ◌<◌, ◌≤◌, ◌+◌, ◌-◌, ℕ, zero, suc, true, false, cond, List, [], ◌∷◌, ◌++◌, Option, Some, None, length, take, drop, get_or, is_some, refl, sym, ap, ◌∙◌, append_assoc, append-nil, subst, add-one, arith}
+use Rattle.std.proofs.Common.{◌≡◌, ◌<◌, ◌≤◌, ◌+◌, ◌-◌, ℕ, zero, suc, true, false, cond, List, [], ◌∷◌, ◌++◌, Option}
+use Rattle.std.proofs.Common.{Some, None, length, take, drop, get_or, is_some, refl, sym, ap, ◌∙◌, append_assoc}
+use Rattle.std.proofs.Common.{append-nil, subst, add-one, arith}
 use Rattle.std.specs.Prelude.{replicate, Result, Ok, Err, MatchResult, OnOk, IfErr}
-use Rattle.exchange_package.specs.Package.{package_fits}
+use Rattle.relocation.specs.Relocation.{package_fits}
 use Rattle.instructions.specs.declared.refusal.Halt.{Halt}
 use Rattle.instructions.specs.declared.refusal.Refusal.{Refusal}
 use Rattle.instructions.specs.declared.refusal.Refusal.TheVariants.{PackageRange}

@@ -2,7 +2,7 @@
 -- Source: ours.
 use Rattle.std.specs.Prelude.{ℕ, ◌≡◌, false, if◌then◌else◌, List, [], ◌∷◌, ◌++◌, Option, Some, None, length, replicate}
 use Rattle.instructions.specs.declared.refusal.Halt.TheVariants.{Stop}
-use Rattle.exchange_package.specs.Package.{package_fits}
+use Rattle.relocation.specs.Relocation.{package_fits}
 use Rattle.sequential.specs.declared.state.State.{State}
 use Rattle.sequential.specs.Place.{beginning}
 use Rattle.sequential.specs.Step.{step}

@@ -7,7 +7,8 @@ use Rattle.instructions.specs.declared.instr.Instr.TheVariants.{Stop, Pass}
 use Rattle.instruction_table.specs.declared.decoding.Decoded.{Decoded}
 use Rattle.instruction_table.specs.declared.decoding.Decoded.TheVariants.{Legal, Refused, Straddle}
 use Rattle.instructions.specs.declared.refusal.Halt.{Halt}
-use Rattle.instructions.specs.declared.refusal.Halt.TheVariants.{Stop as StopHalt, Illegal, Straddle as StraddleHalt, FetchRange}
+use Rattle.instructions.specs.declared.refusal.Halt.TheVariants.{Stop as StopHalt, Illegal, Straddle as StraddleHalt}
+use Rattle.instructions.specs.declared.refusal.Halt.TheVariants.{FetchRange}
 use Rattle.instruction_table.specs.Decoding.{reading_at}
 use Rattle.instructions.specs.Shape.{shape_of}
 use Rattle.unit_ops.specs.Values.{value_of}

@@ -1,4 +1,5 @@
-ghost use Rattle.std.specs.Prelude.{◌≡◌, ◌<◌, ◌≤◌, ◌+◌, ◌++◌, ◌^◌, [], ◌∷◌, true, false, MatchResult, if◌then◌else◌, ◌-◌, length, slice_get, Some, is_some, IfSome, replicate};
+ghost use Rattle.std.specs.Prelude.{◌≡◌, ◌<◌, ◌≤◌, ◌+◌, ◌++◌, ◌^◌, [], ◌∷◌, true, false, MatchResult, if◌then◌else◌};
+ghost use Rattle.std.specs.Prelude.{◌-◌, length, slice_get, Some, is_some, IfSome, replicate};
 ghost use Rattle.instructions.specs.declared.refusal.Refusal.TheVariants.{OutOfMemory};
 ghost use Rattle.sequential.specs.Log.{issued, steps_of, entries_of, more_after, ends_open};
 ghost use Rattle.sequential.specs.declared.log.Entry.TheVariants.{Issued as Count};

@@ -1,5 +1,5 @@
 ghost use Rattle.std.specs.Prelude.{◌≡◌, MatchResult, true, false, length};
-ghost use Rattle.exchange_package.specs.Package.{package_fits};
+ghost use Rattle.relocation.specs.Relocation.{package_fits};
 ghost use Rattle.instructions.specs.declared.refusal.Refusal.TheVariants.{OutOfMemory, PackageRange};
 ghost use Rattle.sequential.specs.Replay.{boot};
 ghost use Rattle.sequential.specs.Swap.{swap, package_of};

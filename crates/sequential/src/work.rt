@@ -1,7 +1,8 @@
 ghost use Rattle.std.specs.Prelude.{◌≡◌, ◌<◌, IfSome};
 ghost use Rattle.sequential.specs.State.{absolute};
 ghost use Rattle.instructions.specs.Shape.{shape_of};
-ghost use Rattle.sequential.specs.Work.{operand_at, operands, number_in, address_in, link_word, word_in, jump_for, reference_for, fault_of};
+ghost use Rattle.sequential.specs.Work.{operand_at, operands, number_in, address_in, link_word, word_in, jump_for};
+ghost use Rattle.sequential.specs.Work.{reference_for, fault_of};
 
 use instruction_table::{Instr, Reg, Target, operand_registers};
 use registers::RegisterFile;

@@ -1,10 +1,13 @@
 -- What a row computes from its operands.
 -- Source: 60100000, the descriptions of the instructions; ours: EQ and NE compare bits, GE and LT order them as two's
 -- complement numbers, a nominal right shift by more than 63 gives +0, and P + 1 and K + 1 of RJ go on from 777777 to 0.
-use Rattle.std.specs.Prelude.{ℕ, ◌+◌, ◌/◌, ◌%◌, ◌^◌, Bool, not, ◌||◌, ◌==◌, nat_lt, nat_le, if◌then◌else◌, Option, Some, None, bit_and, bit_or, bit_xor, count_ones}
-use Rattle.word60.specs.Words.{all_ones, bit, sum, difference, complement, rotate_left, shift_right, mask, low18, extend}
+use Rattle.std.specs.Prelude.{ℕ, ◌+◌, ◌/◌, ◌%◌, ◌^◌, Bool, not, ◌||◌, ◌==◌, nat_lt, nat_le, if◌then◌else◌, Option, Some}
+use Rattle.std.specs.Prelude.{None, bit_and, bit_or, bit_xor, count_ones}
+use Rattle.word60.specs.Words.{all_ones, bit, sum, difference, complement, rotate_left, shift_right, mask, low18}
+use Rattle.word60.specs.Words.{extend}
 use Rattle.instructions.specs.declared.instr.XTest.{XTest}
-use Rattle.instructions.specs.declared.instr.XTest.TheVariants.{Zero, NonZero, Positive, Negative, InRange, OutOfRange, Definite, Indefinite}
+use Rattle.instructions.specs.declared.instr.XTest.TheVariants.{Zero, NonZero, Positive, Negative, InRange, OutOfRange}
+use Rattle.instructions.specs.declared.instr.XTest.TheVariants.{Definite, Indefinite}
 use Rattle.instructions.specs.declared.instr.BTest.{BTest}
 use Rattle.instructions.specs.declared.instr.BTest.TheVariants.{Equal, NotEqual, GreaterOrEqual, Less}
 use Rattle.instructions.specs.declared.instr.Logic.{Logic}
@@ -20,7 +23,9 @@ use Rattle.instructions.specs.declared.instr.Pair.TheVariants.{XPlusB, APlusB, A
 use Rattle.instructions.specs.declared.instr.Addends.{Addends}
 use Rattle.instructions.specs.declared.instr.Addends.TheVariants.{Address, Registers}
 use Rattle.instructions.specs.declared.instr.Instr.{Instr}
-use Rattle.instructions.specs.declared.instr.Instr.TheVariants.{Stop, Pass, ReturnJump, Jump as JumpTo, BranchX, BranchB, Copy, Invert, Logical, ShiftBy, ShiftNominal, LongAdd, Mask, CountOnes, Increment}
+use Rattle.instructions.specs.declared.instr.Instr.TheVariants.{Stop, Pass, ReturnJump, Jump as JumpTo, BranchX}
+use Rattle.instructions.specs.declared.instr.Instr.TheVariants.{BranchB, Copy, Invert, Logical, ShiftBy, ShiftNominal}
+use Rattle.instructions.specs.declared.instr.Instr.TheVariants.{LongAdd, Mask, CountOnes, Increment}
 use Rattle.unit_ops.specs.declared.Operands.{Operands}
 use Rattle.unit_ops.specs.declared.UnitValue.{UnitValue}
 use Rattle.unit_ops.specs.declared.UnitValue.TheVariants.{Word, Index, Load, Store, Jump, Link}

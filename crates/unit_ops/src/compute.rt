@@ -1,6 +1,9 @@
 ghost use Rattle.std.specs.Prelude.{◌≡◌, ◌+◌, ◌%◌, ◌^◌, ◌==◌, IsSome};
 ghost use Rattle.instructions.specs.Operands.{row};
-ghost use Rattle.unit_ops.specs.Values.{x_holds, is_zero, is_out_of_range, is_indefinite, b_holds, rank, logic, is_negative, magnitude, shifted_out, shifted_nominally, shifted, added, pair_value, addends_value, increment_value, branch_to, value_of, destination, branch_of};
+ghost use Rattle.unit_ops.specs.Values.{x_holds, is_zero, is_out_of_range, is_indefinite, b_holds, rank, logic};
+ghost use Rattle.unit_ops.specs.Values.{is_negative, magnitude, shifted_out, shifted_nominally, shifted, added};
+ghost use Rattle.unit_ops.specs.Values.{pair_value, addends_value, increment_value, branch_to, value_of, destination};
+ghost use Rattle.unit_ops.specs.Values.{branch_of};
 ghost use Rattle.word60.specs.Words.{bit};
 
 use crate::{Operands, UnitValue};

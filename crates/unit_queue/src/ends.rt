@@ -1,7 +1,9 @@
 //! A lane and its two ends.
-ghost use Rattle.std.specs.Prelude.{◌≡◌, ◌⊎◌, ◌++◌, ◌∷◌, [], true, false, OnOk, OnErr, MatchResult, OnSome, IfSome, MatchOption, MatchBool, ◌&&◌, IsTrue};
+ghost use Rattle.std.specs.Prelude.{◌≡◌, ◌⊎◌, ◌++◌, ◌∷◌, [], true, false, OnOk, OnErr, MatchResult, OnSome, IfSome};
+ghost use Rattle.std.specs.Prelude.{MatchOption, MatchBool, ◌&&◌, IsTrue};
 ghost use Rattle.instructions.specs.declared.refusal.Refusal.TheVariants.{OutOfMemory};
-ghost use Rattle.unit_queue.specs.Lanes.{LaneName, SendEnd, TakeEnd, send_end, take_end, is_closed, is_closing, IsOrderly, IsFull};
+ghost use Rattle.unit_queue.specs.Lanes.{LaneName, SendEnd, TakeEnd, send_end, take_end, is_closed, is_closing};
+ghost use Rattle.unit_queue.specs.Lanes.{IsOrderly, IsFull};
 
 use crate::item::Item;
 use crate::rule::{Ends, LaneRule, Sends, Settles, Takes, View};

@@ -1,6 +1,7 @@
 -- What a deck's line says, as the program has taken it apart.
 -- Source: ours.
-use Rattle.deck.specs.Deck.{Said, SaysCore, SaysAt, SaysWord, SaysCode, SaysStart, SaysShow, SaysAsk, SaysEnd, SaysNothing}
+use Rattle.deck.specs.Deck.{Said, SaysCore, SaysAt, SaysWord, SaysCode, SaysStart, SaysShow, SaysAsk, SaysEnd}
+use Rattle.deck.specs.Deck.{SaysNothing}
 use Rattle.deck.specs.declared.parsing.Line.{Line}
 use Rattle.deck.specs.declared.parsing.Line.TheVariants as lines
 

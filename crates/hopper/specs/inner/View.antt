@@ -1,6 +1,7 @@
 -- The fields of a hopper as what it stands for, and what always holds of them.
 -- Source: Thornton, stunt box, for places and banks; the list that they stand for is ours.
-use Rattle.std.specs.Prelude.{◌≡◌, ◌≢◌, ◌<◌, ◌&&◌, ◌-◌, ℕ, Bool, false, nat_lt, if◌then◌else◌, List, Option, Some, None, Result, Ok, Err, is_some, length, map, slice_index_or}
+use Rattle.std.specs.Prelude.{◌≡◌, ◌≢◌, ◌<◌, ◌&&◌, ◌-◌, ℕ, Bool, false, nat_lt, if◌then◌else◌, List, Option, Some, None}
+use Rattle.std.specs.Prelude.{Result, Ok, Err, is_some, length, map, slice_index_or}
 use Rattle.std.specs.List.{list_any}
 use Rattle.instructions.specs.declared.refusal.Refusal.{Refusal}
 use Rattle.instructions.specs.declared.refusal.Refusal.TheVariants.{BankBusy, OlderInBank, Nothing}

@@ -1,11 +1,14 @@
--- What a board has of the pending instructions. Source: ours.
-use Rattle.std.specs.Prelude.{ℕ, List, [], ◌∷◌, Option, Some, None}
+-- What the board and the hopper have of the pending instructions. Source: ours.
+use Rattle.std.specs.Prelude.{◌≡◌, ◌≤◌, ℕ, List, [], ◌∷◌, Option, Some, None}
+use Rattle.instructions.specs.Each.{Each}
+use Rattle.scoreboard.specs.Answers.{Standing}
+use Rattle.hopper.specs.Queue.{Queue}
 use Rattle.scoreboard.specs.declared.row.Progress.{Progress}
 use Rattle.scoreboard.specs.declared.row.Progress.TheVariants.{Reserved, Left}
 use Rattle.scoreboard.specs.declared.issued.Issued.{Issued}
 use Rattle.in_flight.specs.declared.pending.Pending.{Pending}
-use Rattle.in_flight.specs.declared.pending.Outstanding.{Outstanding}
-use Rattle.in_flight.specs.Pending.{row_of, returning}
+use Rattle.in_flight.specs.Pending.{row_of}
+use Rattle.in_flight.specs.Flight.{waiting}
 
 -- what the board has of an instruction: the number of its reservation, and its row
 unfoldable pub issued_of : Pending → Issued
@@ -22,7 +25,11 @@ unfoldable pub on_board : List Pending → List Issued
 on_board [] = []
 on_board (m ∷ ms) = kept_on (row_of m).progress (on_board ms) (issued_of m)
 
--- the X register to which what is left has still to return
-unfoldable pub left_to_return : Option Outstanding → Option ℕ
-left_to_return None = None
-left_to_return (Some l) = returning l
+-- the board and the hopper answer for just these
+pub record IsTied (ms : List Pending) (queue : Queue) (standing : Standing) : Type 0 where
+  -- the board has those of them that hold a unit and the loads still to return, in issue order
+  pub boarded : standing.issued ≡ on_board ms
+  -- the hopper has those of their references that wait, in issue order
+  pub entered : queue.entered ≡ waiting ms
+  -- no number is above the last of the board
+  pub counted : Each (λ m. m.number ≤ standing.last) ms

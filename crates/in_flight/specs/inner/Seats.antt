@@ -1,5 +1,6 @@
 -- Pending instructions in seats, and the list that they stand for. Source: ours.
-use Rattle.std.specs.Prelude.{◌≡◌, ◌≢◌, ◌<◌, ◌+◌, ℕ, Bool, true, false, nat_lt, if◌then◌else◌, List, [], ◌∷◌, ◌++◌, Option, Some, None, length, slice_set}
+use Rattle.std.specs.Prelude.{◌≡◌, ◌≢◌, ◌<◌, ◌+◌, ℕ, Bool, true, false, nat_lt, if◌then◌else◌, List, [], ◌∷◌, ◌++◌}
+use Rattle.std.specs.Prelude.{Option, Some, None, length, slice_set}
 use Rattle.instructions.specs.declared.instr.Unit.{Unit as FunctionalUnit}
 use Rattle.scoreboard.specs.Units.{unit_number}
 use Rattle.instructions.specs.Each.{Each, Pairs}

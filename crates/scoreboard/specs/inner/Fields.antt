@@ -1,7 +1,8 @@
 -- What the fields of a board are asked, and what an issue or a store event changes in them. A seat is the field of
 -- one unit or of one load channel.
 -- Source: Thornton, scoreboard; docs/scoreboard.md sets the fields beside his.
-use Rattle.std.specs.Prelude.{ℕ, Bool, false, ◌&&◌, ◌||◌, nat_lt, List, [], ◌∷◌, Option, Some, None, is_some, map, slice_index_or, slice_set}
+use Rattle.std.specs.Prelude.{ℕ, Bool, false, ◌&&◌, ◌||◌, nat_lt, List, [], ◌∷◌, Option, Some, None, is_some, map}
+use Rattle.std.specs.Prelude.{slice_index_or, slice_set}
 use Rattle.instructions.specs.declared.instr.Reg.TheVariants.{X}
 use Rattle.instructions.specs.declared.instr.Unit.TheVariants.{Increment1, Increment2}
 use Rattle.instructions.specs.declared.instr.UnitKind.{UnitKind}

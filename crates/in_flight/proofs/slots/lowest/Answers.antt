@@ -1,6 +1,6 @@
 use Rattle.std.proofs.Common.{refl}
 use Rattle.in_flight.specs.inner.Seats.{lower_of}
-use Rattle.in_flight.proofs.Oldest.{lowest_more, lowest_done}
+use Rattle.in_flight.proofs.seating.Oldest.{lowest_more, lowest_done}
 use Rattle.in_flight.proofs.slots.lowest.Goals as goal
 
 pub loop-seat-init : goal.loop-seat-init

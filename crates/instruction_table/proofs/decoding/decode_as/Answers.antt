@@ -1,5 +1,5 @@
 use Rattle.std.proofs.Common.{refl}
-use Rattle.instruction_table.proofs.DecodingLaws.{settled_at, long_settled, straddled, whole_parcel}
+use Rattle.instruction_table.proofs.table.DecodingLaws.{settled_at, long_settled, straddled, whole_parcel}
 use Rattle.instruction_table.proofs.decoding.decode_as.Goals as goal
 
 pub returns-in-Short-clause-value : goal.returns-in-Short-clause-value

@@ -1,5 +1,5 @@
 use Rattle.std.proofs.Common.{◌∙◌}
-use Rattle.instruction_table.proofs.TextLaws.{instr_of_text}
+use Rattle.instruction_table.proofs.texts.TextLaws.{instr_of_text}
 use Rattle.instruction_table.proofs.reading.read_bytes.Goals as goal
 
 pub returns-clause-all : goal.returns-clause-all

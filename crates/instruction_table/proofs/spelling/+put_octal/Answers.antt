@@ -1,6 +1,6 @@
 use Rattle.std.proofs.Common.{◌∙◌, ◌++◌, ◌∷◌, [], ◌+◌, ◌%◌, ◌/◌, ap, sym, append_assoc, length-append, arith}
 use Rattle.instruction_table.specs.Octal.{octal}
-use Rattle.instruction_table.proofs.OctalLaws.{octal_ends, octal_step}
+use Rattle.instruction_table.proofs.texts.OctalLaws.{octal_ends, octal_step}
 use Rattle.instruction_table.proofs.spelling.+put_octal.Goals as goal
 
 pub put_digit-requires-else-number-lt8-clause-room : goal.put_digit-requires-else-number-lt8-clause-room

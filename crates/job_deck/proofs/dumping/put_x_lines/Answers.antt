@@ -2,7 +2,7 @@ use Rattle.std.proofs.Common.{rules, refl}
 use Rattle.std.proofs.lemmas.Result.{err_from_is_err_and}
 use Rattle.job_deck.specs.Dump.{x_line, x_lines}
 use Rattle.device_text.proofs.Moving.{nothing_written}
-use Rattle.job_deck.proofs.Ranges.{address_written, address_cut}
+use Rattle.job_deck.proofs.printing.Ranges.{address_written, address_cut}
 use Rattle.job_deck.proofs.dumping.put_x_lines.Goals as goal
 
 pub loop-number-init : goal.loop-number-init

@@ -1,5 +1,5 @@
 use Rattle.deck.specs.inner.Views.{shown}
-use Rattle.job_deck.proofs.Endings.{is_dump}
+use Rattle.job_deck.proofs.sessions.Endings.{is_dump}
 use Rattle.job_deck.proofs.ending.put_drained.Goals as goal
 
 pub returns-in-Ok-dump_to-clause-closed : goal.returns-in-Ok-dump_to-clause-closed

@@ -1,4 +1,4 @@
-use Rattle.job_deck.proofs.HeardLines.{hears_whole, hears_long}
+use Rattle.job_deck.proofs.sessions.HeardLines.{hears_whole, hears_long}
 use Rattle.job_deck.proofs.hearing.hear.Goals as goal
 
 pub returns-in-Ok-Whole-clause-heard : goal.returns-in-Ok-Whole-clause-heard

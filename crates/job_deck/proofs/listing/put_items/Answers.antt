@@ -2,7 +2,7 @@ use Rattle.std.proofs.Common.{◌<◌, rules, refl, arith}
 use Rattle.std.proofs.lemmas.Result.{err_from_is_err_and}
 use Rattle.job_deck.specs.Listing.{after, items_text}
 use Rattle.device_text.proofs.Moving.{nothing_written}
-use Rattle.job_deck.proofs.Listings.{goes_on, item_done, separator_cut, item_cut}
+use Rattle.job_deck.proofs.printing.Listings.{goes_on, item_done, separator_cut, item_cut}
 use Rattle.job_deck.proofs.listing.put_items.Goals as goal
 
 pub loop-parcel-init : goal.loop-parcel-init

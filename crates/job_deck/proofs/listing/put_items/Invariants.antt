@@ -1,6 +1,6 @@
 use Rattle.std.proofs.Common.{◌≡◌, ◌-◌}
 use Rattle.job_deck.specs.Listing.{items_text}
-use Rattle.job_deck.proofs.Listings.{AllButItems}
+use Rattle.job_deck.proofs.printing.Listings.{AllButItems}
 use Rattle.job_deck.proofs.listing.put_items.Given as goal
 
 abbrev pub invariant-loop-parcel : goal.invariant-loop-parcel

@@ -1,7 +1,7 @@
 use Rattle.std.proofs.Common.{rules}
 use Rattle.std.proofs.lemmas.Result.{err_from_is_err_and}
 use Rattle.job_deck.specs.Listing.{listed}
-use Rattle.job_deck.proofs.Ranges.{address_written, address_cut}
+use Rattle.job_deck.proofs.printing.Ranges.{address_written, address_cut}
 use Rattle.job_deck.proofs.listing.put_listing.Goals as goal
 
 pub returns-in_err-put_listed-clause-written : goal.returns-in_err-put_listed-clause-written

@@ -3,7 +3,7 @@ use Rattle.sequential.specs.Log.{issued}
 use Rattle.device_text.specs.Text.{fields_of}
 use Rattle.job_deck.specs.LogText.{whole_allowance, put_steps, steps_in}
 use Rattle.job_deck.specs.declared.logs.Allowance.{Allowance}
-use Rattle.job_deck.proofs.LogReading.{before_none, entry_on, count_on, added}
+use Rattle.job_deck.proofs.printing.LogReading.{before_none, entry_on, count_on, added}
 use Rattle.job_deck.proofs.logs.read_entries.Goals as goal
 
 pub loop-entry-init : goal.loop-entry-init

@@ -1,5 +1,5 @@
 use Rattle.std.proofs.Common.{sym}
-use Rattle.job_deck.proofs.Speaking.{three_fields}
+use Rattle.job_deck.proofs.sessions.Speaking.{three_fields}
 use Rattle.job_deck.proofs.schedule.spoken_of.Goals as goal
 
 pub returns-in_default-Some : goal.returns-in_default-Some

@@ -1,5 +1,6 @@
 use Rattle.std.proofs.Common.{◌+◌, arith, rules}
-use Rattle.job_deck.proofs.Sessions.{session_begun, session_on, session_cut, session_ends, session_drains, session_refused, session_unread, session_over}
+use Rattle.job_deck.proofs.sessions.Sessions.{session_begun, session_on, session_cut, session_ends, session_drains}
+use Rattle.job_deck.proofs.sessions.Sessions.{session_refused, session_unread, session_over}
 use Rattle.job_deck.proofs.session.converse.Goals as goal
 
 pub loop-number-init : goal.loop-number-init

@@ -1,6 +1,6 @@
 use Rattle.std.proofs.Common.{◌≡◌, ◌+◌, ◌≤◌}
 use Rattle.device_text.specs.Device.{Moves}
-use Rattle.job_deck.proofs.Sessions.{Has}
+use Rattle.job_deck.proofs.sessions.Sessions.{Has}
 use Rattle.job_deck.proofs.session.converse.Given as goal
 
 -- the session has come to this line and this machine

@@ -1,5 +1,5 @@
 use Rattle.std.proofs.Common.{Ok, Err}
-use Rattle.job_deck.proofs.Endings.{performed}
+use Rattle.job_deck.proofs.sessions.Endings.{performed}
 use Rattle.job_deck.proofs.session.events_to.Goals as goal
 
 pub returns-in-Ok-hold-clause-performed : goal.returns-in-Ok-hold-clause-performed

@@ -1,6 +1,6 @@
 use Rattle.std.proofs.Common.{◌+◌}
 use Rattle.deck.specs.inner.Views.{shown}
-use Rattle.job_deck.proofs.Endings.{session_closed, session_stopped}
+use Rattle.job_deck.proofs.sessions.Endings.{session_closed, session_stopped}
 use Rattle.job_deck.proofs.session.hold.Goals as goal
 
 pub returns-in-Ok-clause-told : goal.returns-in-Ok-clause-told

@@ -1,6 +1,6 @@
 use Rattle.instructions.specs.Finding.{seek}
 use Rattle.in_flight.specs.Lookup.{stage_at}
-use Rattle.machine.proofs.SlotLaws.{finished_then, finished_else, finished_none}
+use Rattle.machine.proofs.serving_tokens.SlotLaws.{finished_then, finished_else, finished_none}
 use Rattle.machine.proofs.serving.is_finished.Goals as goal
 
 pub returns-then-is_finished : goal.returns-then-is_finished

@@ -3,7 +3,7 @@ use Rattle.program_order.specs.declared.event.Note.{Note}
 use Rattle.in_flight.specs.Lookup.{sought, stage_at}
 use Rattle.machine.specs.Tokens.{read_of}
 use Rattle.instructions.specs.Finding.{seek}
-use Rattle.machine.proofs.SlotLaws.{reads_finished, reads_nothing, reads_same, reads_waiting}
+use Rattle.machine.proofs.serving_tokens.SlotLaws.{reads_finished, reads_nothing, reads_same, reads_waiting}
 use Rattle.machine.proofs.serving.is_reading_of.Goals as goal
 
 pub returns-in_default : goal.returns-in_default

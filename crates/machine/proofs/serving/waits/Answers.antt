@@ -1,6 +1,6 @@
 use Rattle.instructions.specs.Finding.{seek}
 use Rattle.in_flight.specs.Lookup.{stage_at}
-use Rattle.machine.proofs.SlotLaws.{waits_then, waits_else, waits_none}
+use Rattle.machine.proofs.serving_tokens.SlotLaws.{waits_then, waits_else, waits_none}
 use Rattle.machine.proofs.serving.waits.Goals as goal
 
 pub returns-then-is_waiting : goal.returns-then-is_waiting

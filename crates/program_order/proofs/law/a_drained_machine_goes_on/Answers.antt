@@ -1,4 +1,4 @@
-use Rattle.program_order.proofs.GoingOn.{exchange_accepted, issue_accepted}
+use Rattle.program_order.proofs.draining.GoingOn.{exchange_accepted, issue_accepted}
 use Rattle.program_order.proofs.law.a_drained_machine_goes_on.Goals as goal
 
 pub returns-clause-issue : goal.returns-clause-issue

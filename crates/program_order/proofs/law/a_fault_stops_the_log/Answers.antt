@@ -1,5 +1,5 @@
-use Rattle.program_order.proofs.Headline.{fault_run}
-use Rattle.program_order.proofs.Reached.{fault_reached}
+use Rattle.program_order.proofs.theorem.Headline.{fault_run}
+use Rattle.program_order.proofs.reaching.Reached.{fault_reached}
 use Rattle.program_order.proofs.law.a_fault_stops_the_log.Goals as goal
 
 pub returns-clause-run : goal.returns-clause-run

@@ -2,9 +2,10 @@
 use Rattle.std.proofs.Common.{rules, sym, ◌∙◌}
 use Rattle.std.specs.List.{list_any}
 use Rattle.scoreboard.specs.inner.Fields.{seat_reads}
-use Rattle.scoreboard.proofs.Small.{none_in_nothing, none_to_be_read}
+use Rattle.scoreboard.proofs.seating.Small.{none_in_nothing, none_to_be_read}
 use Rattle.scoreboard.proofs.fields.first_to_be_read.Goals as goal
-use Rattle.scoreboard.proofs.fields.first_to_be_read.Goals.{then-is_empty-via-then-is_empty, then-is_empty-via-else-is_empty+then-not-is_any_unread}
+use Rattle.scoreboard.proofs.fields.first_to_be_read.Goals.{then-is_empty-via-then-is_empty}
+use Rattle.scoreboard.proofs.fields.first_to_be_read.Goals.{then-is_empty-via-else-is_empty+then-not-is_any_unread}
 
 pub returns-then-is_empty : goal.returns-then-is_empty
 returns-then-is_empty c =

@@ -8,7 +8,8 @@ use Rattle.in_flight.specs.inner.Slots.{IsSlotted}
 use Rattle.in_flight.specs.Apart.{IsApart}
 use Rattle.instructions.specs.Finding.{seek}
 use Rattle.in_flight.specs.Lookup.{entry_at}
-use Rattle.in_flight.proofs.Referring.{accept_answered, accept_found, entry_answered, entry_placed, room_for_word, accept_tied, accept_flight}
+use Rattle.in_flight.proofs.answering.Referring.{accept_answered, accept_found, entry_answered, entry_placed}
+use Rattle.in_flight.proofs.answering.Referring.{room_for_word, accept_tied, accept_flight}
 use Rattle.in_flight.proofs.flight.InFlight.accept.Goals as goal
 
 pub returns-in-Err-clause-answer : goal.returns-in-Err-clause-answer

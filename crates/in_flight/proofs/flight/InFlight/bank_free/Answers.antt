@@ -1,7 +1,7 @@
 use Rattle.std.proofs.Common.{ap, sym, ◌∙◌}
 use Rattle.in_flight.specs.Tests.{refusal_in, refusal_of, free_tests}
 use Rattle.in_flight.specs.Flight.{Flight}
-use Rattle.in_flight.proofs.Beside.{free_answered}
+use Rattle.in_flight.proofs.answering.Beside.{free_answered}
 use Rattle.in_flight.proofs.flight.InFlight.bank_free.Goals as goal
 
 pub returns-clause-answer : goal.returns-clause-answer

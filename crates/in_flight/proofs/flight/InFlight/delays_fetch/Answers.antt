@@ -4,7 +4,7 @@ use Rattle.std.specs.List.{list_any}
 use Rattle.hopper.specs.Queue.{stores_here}
 use Rattle.in_flight.specs.Flight.{Flight}
 use Rattle.in_flight.specs.Pending.{delays_fetch}
-use Rattle.in_flight.proofs.Beside.{fetch_delayed}
+use Rattle.in_flight.proofs.answering.Beside.{fetch_delayed}
 use Rattle.in_flight.proofs.flight.InFlight.delays_fetch.Goals as goal
 
 pub returns-then-has_store_to_come : goal.returns-then-has_store_to_come

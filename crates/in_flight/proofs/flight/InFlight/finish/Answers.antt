@@ -4,7 +4,7 @@ use Rattle.in_flight.specs.Flight.{Flight}
 use Rattle.in_flight.specs.Pending.{has_read}
 use Rattle.in_flight.specs.Lookup.{sought, stage_at}
 use Rattle.instructions.specs.Finding.{seek}
-use Rattle.in_flight.proofs.Beside.{finish_tied}
+use Rattle.in_flight.proofs.answering.Beside.{finish_tied}
 use Rattle.in_flight.proofs.flight.InFlight.finish.Goals as goal
 
 pub invariant_of-self : goal.invariant_of-self

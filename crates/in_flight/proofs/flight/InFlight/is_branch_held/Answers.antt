@@ -4,7 +4,7 @@ use Rattle.scoreboard.specs.Rows.{is_branch as is_branch_row}
 use Rattle.scoreboard.specs.declared.issued.Issued.{Issued}
 use Rattle.in_flight.specs.Flight.{Flight}
 use Rattle.in_flight.specs.Pending.{is_branch}
-use Rattle.in_flight.proofs.Beside.{branch_held}
+use Rattle.in_flight.proofs.answering.Beside.{branch_held}
 use Rattle.in_flight.proofs.flight.InFlight.is_branch_held.Goals as goal
 
 pub returns : goal.returns

@@ -6,8 +6,8 @@ use Rattle.in_flight.specs.Flight.{Flight, IsRestOf, outstanding_of}
 use Rattle.in_flight.specs.Lookup.{sought, stage_at, place_for, enters}
 use Rattle.in_flight.specs.Apart.{IsApart}
 use Rattle.instructions.specs.Finding.{seek}
-use Rattle.in_flight.proofs.Beside.{some_from, nobody_from}
-use Rattle.in_flight.proofs.Referring.{room_for_rest, leave_tied, leave_flight, leave_nobody}
+use Rattle.in_flight.proofs.answering.Beside.{some_from, nobody_from}
+use Rattle.in_flight.proofs.answering.Referring.{room_for_rest, leave_tied, leave_flight, leave_nobody}
 use Rattle.in_flight.proofs.flight.InFlight.leave.Goals as goal
 
 pub returns-then-is_none : goal.returns-then-is_none

@@ -4,9 +4,10 @@ use Rattle.in_flight.specs.Flight.{Flight}
 use Rattle.in_flight.specs.Tests.{store_conflicts, refusal_of}
 use Rattle.instructions.specs.Finding.{seek}
 use Rattle.in_flight.specs.Lookup.{stage_at, place_for}
-use Rattle.in_flight.proofs.Beside.{store_refused, store_unroomed, store_turned, full_is}
+use Rattle.in_flight.proofs.answering.Beside.{store_refused, store_unroomed, store_turned, full_is}
 use Rattle.in_flight.proofs.flight.InFlight.may_store.Goals as goal
-use Rattle.in_flight.proofs.flight.InFlight.may_store.Goals.{else-enters-via-then-enters+else-is_full, else-enters-via-else-enters}
+use Rattle.in_flight.proofs.flight.InFlight.may_store.Goals.{else-enters-via-then-enters+else-is_full}
+use Rattle.in_flight.proofs.flight.InFlight.may_store.Goals.{else-enters-via-else-enters}
 
 pub returns-in-Err : goal.returns-in-Err
 returns-in-Err c f h =

@@ -1,4 +1,4 @@
-use Rattle.in_flight.proofs.Beside.{new_tied}
+use Rattle.in_flight.proofs.answering.Beside.{new_tied}
 use Rattle.in_flight.proofs.flight.InFlight.new.Goals as goal
 
 pub invariant_of-result : goal.invariant_of-result

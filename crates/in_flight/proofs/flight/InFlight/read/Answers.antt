@@ -5,7 +5,8 @@ use Rattle.in_flight.specs.declared.pending.Stage.TheVariants.{Read}
 use Rattle.in_flight.specs.Flight.{Flight}
 use Rattle.instructions.specs.Finding.{replaced, seek}
 use Rattle.in_flight.specs.Lookup.{stage_at, in_phase}
-use Rattle.in_flight.proofs.Beside.{nothing_there, not_waiting, read_answered, read_refused, read_tied, changed_flight}
+use Rattle.in_flight.proofs.answering.Beside.{nothing_there, not_waiting, read_answered, read_refused, read_tied}
+use Rattle.in_flight.proofs.answering.Beside.{changed_flight}
 use Rattle.in_flight.proofs.flight.InFlight.read.Goals as goal
 
 pub returns-in_default-clause-answer : goal.returns-in_default-clause-answer

@@ -4,8 +4,10 @@ use Rattle.instructions.specs.declared.instr.Unit.TheVariants.{Branch}
 use Rattle.instructions.specs.Operands.{row}
 use Rattle.sequential.specs.declared.fetching.Fetched.TheVariants.{Taking}
 use Rattle.in_flight.specs.Tests.{refusal_in, refusal_of, row_tests}
-use Rattle.in_flight.specs.Flight.{Flight, IsTied, flight_of, unit_taken, reserved_in}
-use Rattle.in_flight.proofs.Beside.{none_from, no_unit_there, reserve_answered, unreserved, reserved_now, reserved_as, unit_free, all_below, reserve_tied, reserved_flight}
+use Rattle.in_flight.specs.Flight.{Flight, flight_of, unit_taken, reserved_in}
+use Rattle.in_flight.specs.inner.Board.{IsTied}
+use Rattle.in_flight.proofs.answering.Beside.{none_from, no_unit_there, reserve_answered, unreserved, reserved_now}
+use Rattle.in_flight.proofs.answering.Beside.{reserved_as, unit_free, all_below, reserve_tied, reserved_flight}
 use Rattle.in_flight.proofs.flight.InFlight.reserve.Goals as goal
 
 pub returns-then-is_none-clause-answer : goal.returns-then-is_none-clause-answer

@@ -7,7 +7,7 @@ use Rattle.instructions.specs.Finding.{replaced, seek}
 use Rattle.in_flight.specs.Apart.{IsApart}
 use Rattle.in_flight.specs.Tests.{refusal_of, tests_found, return_tests}
 use Rattle.in_flight.specs.Lookup.{arrival_at}
-use Rattle.in_flight.proofs.Beside.{nothing_there, return_answered, return_tied, what_there, changed_flight}
+use Rattle.in_flight.proofs.answering.Beside.{nothing_there, return_answered, return_tied, what_there, changed_flight}
 use Rattle.in_flight.proofs.flight.InFlight.return_load.Goals as goal
 
 pub returns-in_default-clause-answer : goal.returns-in_default-clause-answer

@@ -1,7 +1,7 @@
 use Rattle.std.proofs.Common.{◌≡◌, ap, sym, ◌∙◌, Some, None, get_or}
 use Rattle.instructions.specs.Finding.{seek}
 use Rattle.in_flight.specs.Lookup.{arrival_at, sought}
-use Rattle.in_flight.proofs.Moving.{arrival_none, arrival_answer, arrival_must, channel_below}
+use Rattle.in_flight.proofs.seating.Moving.{arrival_none, arrival_answer, arrival_must, channel_below}
 use Rattle.in_flight.proofs.slots.Slots.find_arrival.Goals as goal
 
 pub returns-in_default-clause-found : goal.returns-in_default-clause-found

@@ -3,7 +3,7 @@ use Rattle.in_flight.specs.declared.pending.Stage.TheVariants.{Waiting}
 use Rattle.instructions.specs.Each.{Each}
 use Rattle.instructions.specs.Finding.{seek}
 use Rattle.in_flight.specs.Lookup.{stage_at}
-use Rattle.in_flight.proofs.Moving.{seat_free, new_right, new_view}
+use Rattle.in_flight.proofs.seating.Moving.{seat_free, new_right, new_view}
 use Rattle.in_flight.proofs.slots.Slots.push.Goals as goal
 
 pub invariant_of-self : goal.invariant_of-self

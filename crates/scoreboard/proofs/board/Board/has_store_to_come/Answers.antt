@@ -3,7 +3,7 @@ use Rattle.std.proofs.Common.{ap, ◌∙◌}
 use Rattle.std.specs.List.{list_any}
 use Rattle.scoreboard.specs.Rows.{has_store_turn}
 use Rattle.scoreboard.specs.Answers.{Standing}
-use Rattle.scoreboard.proofs.OfKind.{store_found}
+use Rattle.scoreboard.proofs.changing.OfKind.{store_found}
 use Rattle.scoreboard.proofs.board.Board.has_store_to_come.Goals as goal
 
 pub returns : goal.returns

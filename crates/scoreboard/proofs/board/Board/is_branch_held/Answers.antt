@@ -3,7 +3,7 @@ use Rattle.std.proofs.Common.{ap, ◌∙◌}
 use Rattle.std.specs.List.{list_any}
 use Rattle.scoreboard.specs.Rows.{is_branch}
 use Rattle.scoreboard.specs.Answers.{Standing}
-use Rattle.scoreboard.proofs.OfKind.{branch_found}
+use Rattle.scoreboard.proofs.changing.OfKind.{branch_found}
 use Rattle.scoreboard.proofs.board.Board.is_branch_held.Goals as goal
 
 pub returns : goal.returns

@@ -2,7 +2,7 @@
 use Rattle.std.proofs.Common.{refl, sym, subst, None, replicate}
 use Rattle.scoreboard.specs.declared.writers.Writers.{Writers}
 use Rattle.scoreboard.specs.inner.View.{IsRight}
-use Rattle.scoreboard.proofs.Reserving.{none_right, none_view}
+use Rattle.scoreboard.proofs.changing.Reserving.{none_right, none_view}
 use Rattle.scoreboard.proofs.board.Board.new.Goals as goal
 
 pub invariant_of-result : goal.invariant_of-result

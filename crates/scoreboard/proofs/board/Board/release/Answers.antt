@@ -9,9 +9,9 @@ use Rattle.scoreboard.specs.inner.Fields.{channels_with}
 use Rattle.scoreboard.specs.Issued.{channel_of}
 use Rattle.scoreboard.specs.inner.View.{standing_of, IsRight}
 use Rattle.scoreboard.specs.Writers.{IsRegister, set_each}
-use Rattle.scoreboard.proofs.Standing.{seat_any}
-use Rattle.scoreboard.proofs.Right.{AreForgotten, released_right, released_others, released_last}
-use Rattle.scoreboard.proofs.Changing.{nobody_marked, released_view}
+use Rattle.scoreboard.proofs.seating.Standing.{seat_any}
+use Rattle.scoreboard.proofs.changing.Right.{AreForgotten, released_right, released_others, released_last}
+use Rattle.scoreboard.proofs.changing.Changing.{nobody_marked, released_view}
 use Rattle.scoreboard.proofs.board.Board.release.Goals as goal
 
 pub returns-in_default : goal.returns-in_default

@@ -7,7 +7,8 @@ use Rattle.scoreboard.specs.Conflicts.{unit_for}
 use Rattle.scoreboard.specs.Issued.{row_of}
 use Rattle.scoreboard.specs.Answers.{Standing, reserve_answer, reserved}
 use Rattle.scoreboard.specs.inner.View.{standing_of}
-use Rattle.scoreboard.proofs.Reserving.{first_found, unit_found, seat_found, kind_found, new_right, new_view, reserved_answer, taken_answer, busy_answer, refused_after}
+use Rattle.scoreboard.proofs.changing.Reserving.{first_found, unit_found, seat_found, kind_found, new_right, new_view}
+use Rattle.scoreboard.proofs.changing.Reserving.{reserved_answer, taken_answer, busy_answer, refused_after}
 use Rattle.scoreboard.proofs.board.Board.try_reserve.Goals as goal
 
 pub returns-in_default-clause-answer : goal.returns-in_default-clause-answer

@@ -1,0 +1,660 @@
+-- What the board and the hopper answer, beside the list of pending instructions.
+use Rattle.std.proofs.Common.{◌≡◌, ◌<◌, ◌≤◌, ℕ, suc, Bool, true, false, cond, List, [], ◌∷◌, ◌++◌, Option, Some, None}
+use Rattle.std.proofs.Common.{refl, sym, ap, ◌∙◌, subst, eqb, get_or, arith}
+use Rattle.std.specs.Prelude.{◌&&◌, ◌||◌, not, is_none, is_some, Result, Ok, Err, IfSome, replicate, unwrap_or}
+use Rattle.std.specs.List.{list_any}
+use Rattle.std.proofs.lemmas.Bool.{or_parts, eqb-true}
+use Rattle.instructions.specs.declared.instr.Instr.{Instr}
+use Rattle.instructions.specs.declared.instr.Reg.{Reg}
+use Rattle.instructions.specs.declared.instr.Reg.TheVariants.{X, B}
+use Rattle.instructions.specs.declared.instr.Unit.TheVariants.{Branch}
+use Rattle.instructions.specs.declared.instr.UnitKind.{UnitKind}
+use Rattle.instructions.specs.Operands.{row}
+use Rattle.instructions.specs.declared.instr.Unit.{Unit as FunctionalUnit}
+use Rattle.instructions.specs.declared.refusal.Refusal.{Refusal}
+use Rattle.instructions.specs.declared.refusal.Refusal.TheVariants.{Nothing, HopperFull, UnitBusy, ResultReserved}
+use Rattle.instructions.specs.declared.refusal.Refusal.TheVariants.{ResultHeld}
+use Rattle.instructions.specs.Each.{Each, Pairs}
+use Rattle.instructions.specs.RegisterLists.{is_in, overlap}
+use Rattle.instructions.specs.Shape.{shape_of, results, is_branch_shape, has_store}
+use Rattle.instructions.proofs.Lists.{each_left, each_right, each_append, each_map, each_of_any, pairs_before}
+use Rattle.hopper.specs.Hopper.{free_place, stores_to}
+use Rattle.hopper.specs.Queue.{Queue, stands_at, stores_here, place_for as free_in, is_taken as taken_in, free_answer}
+use Rattle.hopper.proofs.Standing.{first_same}
+use Rattle.scoreboard.specs.declared.issued.Issued.{Issued}
+use Rattle.scoreboard.specs.declared.row.Progress.TheVariants.{Left}
+use Rattle.scoreboard.specs.declared.row.Row.{Row}
+use Rattle.scoreboard.specs.Rows as board
+use Rattle.scoreboard.specs.Rows.{is_reserved, returning_to, has_store_turn}
+use Rattle.scoreboard.specs.Conflicts as conflict
+use Rattle.scoreboard.specs.Units.{first_unit, same_unit, units_of}
+use Rattle.scoreboard.specs.Conflicts.{first_free, free_unit, is_held}
+use Rattle.scoreboard.specs.Issued.{row_of as row_of_issued}
+use Rattle.scoreboard.specs.Answers.{Standing, held_in, returning_by, unless, read_answer, store_answer, return_answer}
+use Rattle.scoreboard.specs.Answers.{turn_answer, read, gone, with_issued, reserve_answer, reserved, new_issued}
+use Rattle.unit_ops.specs.declared.Operands.{Operands}
+use Rattle.unit_ops.specs.declared.UnitValue.{UnitValue}
+use Rattle.sequential.specs.declared.fetching.Fetched.TheVariants.{Taking}
+use Rattle.sequential.specs.declared.place.Place.{Place as SomePlace}
+use Rattle.in_flight.specs.declared.pending.Arrival.{Arrival}
+use Rattle.in_flight.specs.declared.pending.HopperEntry.{HopperEntry}
+use Rattle.in_flight.specs.declared.pending.Outstanding.TheVariants.{Entered as HasEntered, Accepted}
+use Rattle.in_flight.specs.declared.pending.Pending.{Pending}
+use Rattle.in_flight.specs.declared.pending.Phase.{Phase}
+use Rattle.in_flight.specs.declared.pending.Phase.TheVariants.{Before, After}
+use Rattle.in_flight.specs.declared.pending.Stage.{Stage}
+use Rattle.in_flight.specs.declared.pending.Stage.TheVariants.{Waiting, Read, Finished}
+use Rattle.in_flight.specs.declared.slots.Sought.{Sought}
+use Rattle.in_flight.specs.inner.Board.{on_board}
+use Rattle.in_flight.specs.Tests.{refusal_in, store_conflicts, Test, refusal_of, nothing, tests_found, read_tests}
+use Rattle.in_flight.specs.Tests.{return_tests, free_tests, row_tests, unit_for}
+use Rattle.in_flight.specs.Flight.{Flight, flight_of, waiting_in, waiting, reserved_in, with_pending}
+use Rattle.in_flight.specs.inner.Board.{IsTied}
+use Rattle.in_flight.specs.Pending.{has_read, row_of, progress_of, returning, to_come, awaited, is_branch, has_turn}
+use Rattle.in_flight.specs.Pending.{stores_in, delays_fetch}
+use Rattle.in_flight.proofs.asking.Asked.{comes}
+use Rattle.in_flight.specs.Lookup.{sought, stage_at, stage_in, arrival_at, arrival_in, entry_at, entry_in, in_place}
+use Rattle.in_flight.specs.Lookup.{is_taken, place_for, is_pending, in_phase}
+use Rattle.instructions.specs.Finding.{replaced, Found, seek, put_back}
+use Rattle.in_flight.specs.inner.Seats.{has_none}
+use Rattle.in_flight.specs.Apart.{IsApart}
+use Rattle.instructions.proofs.Finding.{seek_splits, seek_nobody}
+use Rattle.in_flight.proofs.asking.Finding.{stage_found}
+use Rattle.in_flight.proofs.answering.Boarding.{arrival_in_there, board_any, read_of_all, store_of_all, turn_of_all}
+use Rattle.in_flight.proofs.answering.Boarding.{return_of_all, read_follows, stage_follows, return_follows}
+use Rattle.in_flight.proofs.answering.Boarding.{issue_follows, same_free, same_awaited, any_same, find_same}
+
+-- ---- the one that was found ----
+
+some_inj : {K : Type 0} (x y : K) → Some x ≡ Some y → x ≡ y
+some_inj x y e = cc
+
+pub there : {K : Type 0} (o : Option (Found Pending K)) (s : Sought K) → sought o ≡ Some s → (f : Found Pending K)
+    × (o ≡ Some f) × (f.member ≡ s.member) × (f.answer ≡ s.answer)
+unfolding sought
+there None s h = cc
+there (Some f) s h = (f, refl, ap (λ x. x.member) (some_inj _ s h), ap (λ x. x.answer) (some_inj _ s h))
+
+pub nothing_there : {K : Type 0} (o : Option (Found Pending K)) (g : Found Pending K → List Test) → sought o ≡ None
+    → refusal_of (tests_found o g) ≡ Some Nothing
+unfolding sought refusal_of tests_found nothing
+nothing_there None g h = refl
+nothing_there (Some f) g h = cc
+
+pub none_from : {K : Type 0} (o : Option K) (b : Bool) → is_some o ≡ not b → b ≡ true → o ≡ None
+none_from None b e h = refl
+none_from (Some x) b e h = let q : true ≡ false = e ∙ ap not h in cc
+
+pub some_from : {K : Type 0} (o : Option (Found Pending K)) (s : Option (Sought K)) (b : Bool) → s ≡ sought o
+    → is_some s ≡ not b → b ≡ false → (f : Found Pending K) × (o ≡ Some f)
+unfolding sought
+some_from None s b k e h = let q : false ≡ true = sym (ap is_some k) ∙ e ∙ ap not h in cc
+some_from (Some f) s b k e h = (f, refl)
+
+pub nobody_from : {K : Type 0} (o : Option (Found Pending K)) (s : Option (Sought K)) (b : Bool) → s ≡ sought o
+    → is_some s ≡ not b → b ≡ true → o ≡ None
+unfolding sought
+nobody_from None s b k e h = refl
+nobody_from (Some f) s b k e h = let q : true ≡ false = sym (ap is_some k) ∙ e ∙ ap not h in cc
+
+pub nothing_pending : (ms : List Pending) → has_none ms ≡ not (is_pending ms)
+unfolding has_none is_pending
+nothing_pending [] = refl
+nothing_pending (m ∷ ms) = refl
+
+-- ---- what the board sees of them ----
+
+no_branch : (row : Row) → row.progress ≡ Left None → board.is_branch row ≡ false
+unfolding board.is_branch is_reserved
+no_branch row e = ap (λ p. is_reserved p && is_branch_shape (shape_of row.instr)) e
+
+no_store : (row : Row) → row.progress ≡ Left None → has_store_turn row ≡ false
+unfolding has_store_turn is_reserved
+no_store row e =
+    ap (λ p. (is_reserved p && has_store (shape_of row.instr)) && not (is_branch_shape (shape_of row.instr))) e
+
+pub branch_held : (ms : List Pending) → list_any (λ x. board.is_branch x.row) (on_board ms) ≡ list_any is_branch ms
+unfolding row_of_issued is_branch
+branch_held ms = board_any board.is_branch no_branch ms
+
+store_held : (ms : List Pending)
+    → list_any (λ x. has_store_turn x.row) (on_board ms) ≡ list_any (λ m. has_store_turn (row_of m)) ms
+unfolding row_of_issued
+store_held ms = board_any has_store_turn no_store ms
+
+pub any-append : {K : Type 0} (f : K → Bool) (xs ys : List K) → list_any f (xs ++ ys) ≡ (list_any f xs || list_any f ys)
+any-append f [] ys = refl
+any-append f (x ∷ xs) ys = ap (λ b. f x || b) (any-append f xs ys) ∙ or_assoc (f x) (list_any f xs) (list_any f ys)
+  where
+    or_assoc : (a b c : Bool) → (a || (b || c)) ≡ ((a || b) || c)
+    or_assoc true b c = refl
+    or_assoc false b c = refl
+
+store_waits : (a : ℕ) (ms : List Pending)
+    → list_any (stores_here a) (waiting ms) ≡ list_any (λ m. stores_in a m.phase) ms
+unfolding waiting waiting_in stores_in stores_here
+store_waits a [] = refl
+store_waits a (m ∷ ms) = any-append (stores_here a) (waiting_in m.phase) (waiting ms)
+    ∙ ap (λ b. b || list_any (stores_here a) (waiting ms)) (in_phase_of m.phase)
+    ∙ ap (λ b. stores_in a m.phase || b) (store_waits a ms)
+  where
+    or_false : (b : Bool) → (b || false) ≡ b
+    or_false true = refl
+    or_false false = refl
+
+    in_phase_of : (p : Phase) → list_any (stores_here a) (waiting_in p) ≡ stores_in a p
+    in_phase_of (Before t) = refl
+    in_phase_of (After (HasEntered place k access)) = or_false (stores_to a k access)
+    in_phase_of (After (Accepted n w)) = refl
+
+any_either : {K : Type 0} (f g : K → Bool) (xs : List K)
+    → list_any (λ x. f x || g x) xs ≡ (list_any f xs || list_any g xs)
+any_either f g [] = refl
+any_either f g (x ∷ xs) =
+    ap (λ b. (f x || g x) || b) (any_either f g xs) ∙ exchange (f x) (g x) (list_any f xs) (list_any g xs)
+  where
+    exchange : (a b c d : Bool) → ((a || b) || (c || d)) ≡ ((a || c) || (b || d))
+    exchange true b c d = refl
+    exchange false true true d = refl
+    exchange false true false d = refl
+    exchange false false true d = refl
+    exchange false false false d = refl
+
+pub fetch_delayed : (a : ℕ) (ms : List Pending) (queue : Queue) (standing : Standing) → IsTied ms queue standing
+    → (list_any (λ x. has_store_turn x.row) standing.issued || list_any (stores_here a) queue.entered)
+    ≡ list_any (delays_fetch a) ms
+unfolding delays_fetch
+fetch_delayed a ms queue standing tied =
+    ap (λ xs. list_any (λ (x : Issued). has_store_turn x.row) xs || list_any (stores_here a) queue.entered) tied.boarded
+    ∙ ap (λ b. b || list_any (stores_here a) queue.entered) (store_held ms)
+    ∙ ap (λ es. list_any (λ m. has_store_turn (row_of m)) ms || list_any (stores_here a) es) tied.entered
+    ∙ ap (λ b. list_any (λ m. has_store_turn (row_of m)) ms || b) (store_waits a ms)
+    ∙ sym (any_either (λ m. has_store_turn (row_of m)) (λ m. stores_in a m.phase) ms)
+
+-- ---- what waits in the hopper ----
+
+pub append-assoc : {K : Type 0} (xs ys zs : List K) → xs ++ (ys ++ zs) ≡ (xs ++ ys) ++ zs
+append-assoc [] ys zs = refl
+append-assoc (x ∷ xs) ys zs = ap (λ l. x ∷ l) (append-assoc xs ys zs)
+
+pub waiting-append : (xs ys : List Pending) → waiting (xs ++ ys) ≡ waiting xs ++ waiting ys
+unfolding waiting
+waiting-append [] ys = refl
+waiting-append (m ∷ xs) ys = ap (λ l. waiting_in m.phase ++ l) (waiting-append xs ys)
+    ∙ append-assoc (waiting_in m.phase) (waiting xs) (waiting ys)
+
+pub waiting_put : {K : Type 0} (f : Found Pending K) (xs : List Pending) → waiting (put_back f xs) ≡ waiting f.earlier
+    ++ (waiting xs ++ waiting f.later)
+unfolding put_back
+waiting_put f xs =
+    waiting-append f.earlier (xs ++ f.later) ∙ ap (λ l. waiting f.earlier ++ l) (waiting-append xs f.later)
+
+pub waiting_around : {K : Type 0} (g : Pending → Option K) (ms : List Pending) (f : Found Pending K)
+    → seek g ms ≡ Some f → waiting ms ≡ waiting f.earlier ++ (waiting_in f.member.phase ++ waiting f.later)
+unfolding waiting
+waiting_around g ms f h = ap waiting (seek_splits g ms f h).0 ∙ waiting-append f.earlier (f.member ∷ f.later)
+
+pub append-nil : {K : Type 0} (xs : List K) → xs ++ [] ≡ xs
+append-nil [] = refl
+append-nil (x ∷ xs) = ap (λ l. x ∷ l) (append-nil xs)
+
+pub waiting_one : (m : Pending) → waiting (m ∷ []) ≡ waiting_in m.phase
+unfolding waiting
+waiting_one m = append-nil (waiting_in m.phase)
+
+-- an instruction put back that waits for as much as before
+pub waiting_same : {K : Type 0} (g : Pending → Option K) (ms : List Pending) (f : Found Pending K) (xs : List Pending)
+    → seek g ms ≡ Some f → waiting xs ≡ waiting_in f.member.phase → waiting (put_back f xs) ≡ waiting ms
+waiting_same g ms f xs h e =
+    waiting_put f xs ∙ ap (λ l. waiting f.earlier ++ (l ++ waiting f.later)) e ∙ sym (waiting_around g ms f h)
+
+staged_waits : (u : FunctionalUnit) (ms : List Pending) (f : Found Pending Stage) (t : Stage)
+    → seek (stage_at u) ms ≡ Some f → waiting (put_back f (in_phase f.member (Before t) ∷ [])) ≡ waiting ms
+unfolding waiting_in in_phase
+staged_waits u ms f t h =
+    let q = stage_found u f.member f.answer (seek_splits (stage_at u) ms f h).1 in
+    waiting_same (stage_at u) ms f (in_phase f.member (Before t) ∷ []) h
+    (waiting_one (in_phase f.member (Before t)) ∙ sym (ap waiting_in q))
+
+-- numbers
+pub each_put : {K : Type 0} (P : Pending → Type 0) (g : Pending → Option K) (ms : List Pending) (f : Found Pending K)
+    (xs : List Pending) → seek g ms ≡ Some f → (P f.member → Each P xs) → Each P ms → Each P (put_back f xs)
+unfolding put_back
+each_put P g ms f xs h step k =
+    let all = subst (Each P) (seek_splits g ms f h).0 k in
+    let rest = each_right P f.earlier (f.member ∷ f.later) all in
+    each_append P f.earlier (xs ++ f.later) (each_left P f.earlier (f.member ∷ f.later) all)
+    (each_append P xs f.later (step rest.0) rest.1)
+
+-- ---- places ----
+
+place_taken : (p : ℕ) (ms : List Pending) → list_any (stands_at p) (waiting ms) ≡ list_any (in_place p) ms
+unfolding waiting waiting_in entry_in stands_at in_place entry_at
+place_taken p [] = refl
+place_taken p (m ∷ ms) = any-append (stands_at p) (waiting_in m.phase) (waiting ms)
+    ∙ ap (λ b. b || list_any (stands_at p) (waiting ms)) (in_phase_of m)
+    ∙ ap (λ b. in_place p m || b) (place_taken p ms)
+  where
+    by_test : (b : Bool) (x : HopperEntry) → (b || false) ≡ is_some (cond b (Some x) None)
+    by_test true x = refl
+    by_test false x = refl
+
+    in_it : (q : Phase) → list_any (stands_at p) (waiting_in q) ≡ is_some (entry_in p q)
+    in_it (Before t) = refl
+    in_it (After (HasEntered place k access)) = by_test (eqb place p) (record { a = k; access = access })
+    in_it (After (Accepted n w)) = refl
+
+    in_phase_of : (y : Pending) → list_any (stands_at p) (waiting_in y.phase) ≡ in_place p y
+    in_phase_of y = in_it y.phase
+
+pub same_place : (ms : List Pending) → free_in (waiting ms) ≡ place_for ms
+unfolding free_in place_for free_place taken_in
+same_place ms = first_same (taken_in (waiting ms)) (is_taken ms) (λ p. place_taken p ms) (0 ∷ 1 ∷ 2 ∷ 3 ∷ [])
+
+-- ---- a store event ----
+
+test_fails : (a : Bool) (k r : Refusal) (ts : List Test) → unless a k ≡ Err r
+    → refusal_of (record { fails = a; refusal = k } ∷ ts) ≡ Some r
+unfolding refusal_of
+test_fails true k r ts h = ap refusal_in h
+test_fails false k r ts h = cc
+
+test_passes : (a : Bool) (k : Refusal) (x : Unit {0}) (ts : List Test) → unless a k ≡ Ok x
+    → refusal_of (record { fails = a; refusal = k } ∷ ts) ≡ refusal_of ts
+unfolding refusal_of
+test_passes true k x ts h = cc
+test_passes false k x ts h = refl
+
+test_is : (a : Bool) (k : Refusal) → refusal_of (record { fails = a; refusal = k } ∷ []) ≡ refusal_in (unless a k)
+unfolding refusal_of
+test_is true k = refl
+test_is false k = refl
+
+pub next_fails : (a : Bool) (k : Refusal) (ts : List Test) → a ≡ true
+    → refusal_of (record { fails = a; refusal = k } ∷ ts) ≡ Some k
+unfolding refusal_of
+next_fails a k ts h = ap (λ b. cond b (Some k) (refusal_of ts)) h
+
+pub next_passes : (a : Bool) (k : Refusal) (ts : List Test) → a ≡ false
+    → refusal_of (record { fails = a; refusal = k } ∷ ts) ≡ refusal_of ts
+unfolding refusal_of
+next_passes a k ts h = ap (λ b. cond b (Some k) (refusal_of ts)) h
+
+pub store_refused : (u : FunctionalUnit) (ms : List Pending) (xs : List Issued) (f : Found Pending Stage)
+    (enters : Bool) (r : Refusal) → xs ≡ on_board ms → seek (stage_at u) ms ≡ Some f
+    → Err r ≡ store_answer (seek (held_in u) xs)
+    → refusal_of (store_conflicts ms f.earlier f.member.instr enters) ≡ Some r
+store_refused u ms xs f enters r e h k =
+    test_fails _ _ r _ (sym (k ∙ ap (λ l. store_answer (seek (held_in u) l)) e ∙ store_of_all u ms f h))
+
+pub store_unroomed : (u : FunctionalUnit) (ms : List Pending) (xs : List Issued) (f : Found Pending Stage)
+    (enters : Bool) (x : Unit {0}) → xs ≡ on_board ms → seek (stage_at u) ms ≡ Some f
+    → Ok x ≡ store_answer (seek (held_in u) xs) → (enters && is_none (place_for ms)) ≡ true
+    → refusal_of (store_conflicts ms f.earlier f.member.instr enters) ≡ Some HopperFull
+store_unroomed u ms xs f enters x e h k full =
+    test_passes _ _ x _ (sym (k ∙ ap (λ l. store_answer (seek (held_in u) l)) e ∙ store_of_all u ms f h))
+    ∙ next_fails (enters && is_none (place_for ms)) HopperFull _ full
+
+pub store_turned : (u : FunctionalUnit) (ms : List Pending) (xs : List Issued) (f : Found Pending Stage)
+    (enters : Bool) (x : Unit {0}) (r : Result (Unit {0}) Refusal) → xs ≡ on_board ms → seek (stage_at u) ms ≡ Some f
+    → Ok x ≡ store_answer (seek (held_in u) xs) → (enters && is_none (place_for ms)) ≡ false
+    → r ≡ turn_answer (seek (held_in u) xs)
+    → refusal_of (store_conflicts ms f.earlier f.member.instr enters) ≡ refusal_in r
+unfolding has_turn
+store_turned u ms xs f enters x r e h k room t =
+    test_passes _ _ x _ (sym (k ∙ ap (λ l. store_answer (seek (held_in u) l)) e ∙ store_of_all u ms f h))
+    ∙ next_passes (enters && is_none (place_for ms)) HopperFull _ room
+    ∙ test_is _ _
+    ∙ ap refusal_in (sym (t ∙ ap (λ l. turn_answer (seek (held_in u) l)) e ∙ turn_of_all u ms f h))
+
+-- ---- a unit that reads ----
+
+abbrev pub read_refused : Option (Found Pending Stage) → Option Refusal
+read_refused o = refusal_of (tests_found o (λ f. read_tests f.answer f.earlier f.member.instr))
+
+pub not_waiting : (o : Option (Found Pending Stage)) (s : Sought Stage) → sought o ≡ Some s → (s.answer ≡ Waiting → ⊥)
+    → read_refused o ≡ Some Nothing
+unfolding refusal_of tests_found read_tests nothing
+not_waiting o s h k =
+    let p = there o s h in
+    ap read_refused p.1 ∙ by_stage p.0 p.0.answer refl (λ e. k (sym p.3 ∙ e))
+  where
+    by_stage : (f : Found Pending Stage) (t : Stage) → f.answer ≡ t → (t ≡ Waiting → ⊥)
+        → refusal_of (read_tests f.answer f.earlier f.member.instr) ≡ Some Nothing
+    by_stage f Waiting e n = absurd (n refl)
+    by_stage f (Read os) e n = ap (λ t. refusal_of (read_tests t f.earlier f.member.instr)) e
+    by_stage f (Finished v) e n = ap (λ t. refusal_of (read_tests t f.earlier f.member.instr)) e
+
+pub read_answered : (u : FunctionalUnit) (ms : List Pending) (xs : List Issued) (s : Sought Stage)
+    (r : Result (Unit {0}) Refusal) → xs ≡ on_board ms → sought (seek (stage_at u) ms) ≡ Some s → s.answer ≡ Waiting
+    → r ≡ read_answer (seek (held_in u) xs) → read_refused (seek (stage_at u) ms) ≡ refusal_in r
+unfolding tests_found read_tests
+read_answered u ms xs s r e h w k =
+    let p = there (seek (stage_at u) ms) s h in
+    ap read_refused p.1
+    ∙ ap (λ t. refusal_of (read_tests t p.0.earlier p.0.member.instr)) (p.3 ∙ w)
+    ∙ test_is _ _
+    ∙ ap refusal_in (sym (k ∙ ap (λ l. read_answer (seek (held_in u) l)) e ∙ read_of_all u ms p.0 p.1))
+
+pub read_tied : (u : FunctionalUnit) (ms ns : List Pending) (queue : Queue) (b c : Standing) (s : Sought Stage)
+    (os : Operands) → sought (seek (stage_at u) ms) ≡ Some s → IsTied ms queue b
+    → ns ≡ replaced (seek (stage_at u) ms) ms (λ m. in_phase m (Before (Read os)) ∷ [])
+    → c ≡ with_issued b (replaced (seek (held_in u) b.issued) b.issued read) → IsTied ns queue c
+unfolding replaced with_issued in_phase
+read_tied u ms ns queue b c s os h tied en ec =
+    let p = there (seek (stage_at u) ms) s h in
+    let made : ns ≡ put_back p.0 (in_phase p.0.member (Before (Read os)) ∷ []) =
+    en ∙ ap (λ o. replaced o ms (λ m. in_phase m (Before (Read os)) ∷ [])) p.1 in
+    record {
+      boarded = ap (λ (x : Standing). x.issued) ec ∙ ap (λ l. replaced (seek (held_in u) l) l read) tied.boarded
+          ∙ sym (read_follows u ms p.0 os p.1) ∙ ap on_board (sym made);
+      entered = tied.entered ∙ sym (staged_waits u ms p.0 (Read os) p.1) ∙ ap waiting (sym made);
+      counted = subst (λ l. Each (λ m. m.number ≤ l) ns) (sym (ap (λ (x : Standing). x.last) ec))
+          (subst (Each (λ m. m.number ≤ b.last)) (sym made)
+          (each_put (λ m. m.number ≤ b.last) (stage_at u) ms p.0 (in_phase p.0.member (Before (Read os)) ∷ []) p.1
+          (λ k. (k, tt)) tied.counted));
+    }
+
+-- ---- a unit that finishes ----
+
+pub finish_tied : (u : FunctionalUnit) (ms ns : List Pending) (queue : Queue) (b : Standing) (v : UnitValue)
+    (o : Option (Found Pending Stage)) → seek (stage_at u) ms ≡ o → IfSome (sought o) (λ s. has_read s.answer ≡ true)
+    → IsTied ms queue b → ns ≡ replaced o ms (λ m. in_phase m (Before (Finished v)) ∷ []) → IsTied ns queue b
+unfolding replaced sought in_phase
+finish_tied u ms ns queue b v None h k tied en = subst (λ l. IsTied l queue b) (sym en) tied
+finish_tied u ms ns queue b v (Some f) h k tied en =
+    let made : ns ≡ put_back f (in_phase f.member (Before (Finished v)) ∷ []) = en in
+    record {
+      boarded = tied.boarded ∙ sym (stage_follows u ms f v h k) ∙ ap on_board (sym made);
+      entered = tied.entered ∙ sym (staged_waits u ms f (Finished v) h) ∙ ap waiting (sym made);
+      counted = subst (Each (λ m. m.number ≤ b.last)) (sym made)
+          (each_put (λ m. m.number ≤ b.last) (stage_at u) ms f (in_phase f.member (Before (Finished v)) ∷ []) h
+          (λ k. (k, tt)) tied.counted);
+    }
+
+-- ---- a load that returns ----
+
+returns_apart : (n w : ℕ) (e m : Pending) → m.phase ≡ After (Accepted n w) → IsApart e m → comes (X n) e ≡ false
+unfolding comes board.comes to_come board.to_come row_of board.to_come_in progress_of returning returning_to overlap
+returns_apart n w e m h a = (or_parts (is_in (to_come e) (X n)) false
+    (ap (λ p. overlap (board.to_come_in (shape_of m.instr) (progress_of p)) (to_come e)) (sym h) ∙ a.disjoint)).0
+
+none_awaits : (n w : ℕ) (es : List Pending) (m : Pending) → m.phase ≡ After (Accepted n w) → Each (λ e. IsApart e m) es
+    → conflict.awaited row_of es (X n) ≡ false
+unfolding conflict.awaited comes
+none_awaits n w [] m h a = refl
+none_awaits n w (e ∷ es) m h a =
+    ap (λ b. b || conflict.awaited row_of es (X n)) (comes_is e ∙ returns_apart n w e m h a.0)
+    ∙ none_awaits n w es m h a.1
+  where
+    comes_is : (y : Pending) → board.comes (X n) (row_of y) ≡ comes (X n) y
+    comes_is y = refl
+
+in_channel : (n : ℕ) (p : Phase) (x : Arrival) → arrival_in n p ≡ Some x → x.channel ≡ n
+unfolding arrival_in
+in_channel n (Before t) x h = cc
+in_channel n (After (HasEntered place a access)) x h = cc
+in_channel n (After (Accepted m w)) x h = by_test (eqb m n) refl h
+  where
+    by_test : (b : Bool) → eqb m n ≡ b → cond b (Some (record { channel = m; word = w })) None ≡ Some x → x.channel ≡ n
+    by_test true e k = sym (ap (λ (y : Arrival). y.channel) (some_inj _ x k)) ∙ eqb-true m n e
+    by_test false e k = cc
+
+pub arrival_phase : (n : ℕ) (m : Pending) (x : Arrival) → arrival_at n m ≡ Some x → m.phase ≡ After (Accepted n x.word)
+unfolding arrival_at
+arrival_phase n m x h = arrival_in_there n m.phase x h
+
+arrival_channel : (n : ℕ) (m : Pending) (x : Arrival) → arrival_at n m ≡ Some x → x.channel ≡ n
+unfolding arrival_at
+arrival_channel n m x h = in_channel n m.phase x h
+
+pub free_load : (n : ℕ) (ms : List Pending) (f : Found Pending Arrival) → seek (arrival_at n) ms ≡ Some f
+    → Pairs IsApart ms → conflict.awaited row_of f.earlier (X n) ≡ false
+free_load n ms f h apart =
+    let p = seek_splits (arrival_at n) ms f h in
+    none_awaits n f.answer.word f.earlier f.member (arrival_phase n f.member f.answer p.1)
+    (pairs_before IsApart f.earlier f.member f.later (subst (Pairs IsApart) p.0 apart))
+
+-- ---- nothing in flight ----
+
+pub new_tied : (ms : List Pending) (queue : Queue) (b : Standing) → ms ≡ []
+    → queue ≡ record { entered = []; busy = replicate 32 false } → b ≡ record { issued = []; last = 0 }
+    → IsTied ms queue b
+unfolding on_board waiting
+new_tied ms queue b em eq eb = record {
+  boarded = ap (λ (x : Standing). x.issued) eb ∙ sym (ap on_board em);
+  entered = ap (λ (q : Queue). q.entered) eq ∙ sym (ap waiting em);
+  counted = subst (Each (λ m. m.number ≤ b.last)) (sym em) tt;
+}
+
+-- ---- a bank that is free again ----
+
+pub free_answered : (busy : List Bool) (bank : ℕ)
+    → refusal_of (free_tests busy bank) ≡ refusal_in (free_answer busy bank)
+unfolding refusal_of free_tests free_answer
+free_answered busy bank = by_test tt (get_or busy bank false)
+  where
+    by_test : (x : Unit {0}) (b : Bool)
+        → refusal_of (record { fails = not b; refusal = Nothing } ∷ []) ≡ refusal_in (cond b (Ok x) (Err Nothing))
+    by_test x true = refl
+    by_test x false = refl
+
+pub full_is : (ms : List Pending) (queue : Queue) (b : Standing) → IsTied ms queue b
+    → is_none (free_in queue.entered) ≡ is_none (place_for ms)
+full_is ms queue b tied = ap (λ es. is_none (free_in es)) tied.entered ∙ ap is_none (same_place ms)
+
+-- ---- a load that returns, as the board answers ----
+
+pub return_answered : (n : ℕ) (ms : List Pending) (xs : List Issued) (s : Sought Arrival)
+    (r : Result (Unit {0}) Refusal) → xs ≡ on_board ms → Pairs IsApart ms → sought (seek (arrival_at n) ms) ≡ Some s
+    → r ≡ return_answer n (seek (returning_by n) xs)
+    → refusal_of (tests_found (seek (arrival_at n) ms) (λ f. return_tests f.earlier f.answer)) ≡ refusal_in r
+unfolding tests_found return_tests
+return_answered n ms xs s r e apart h k =
+    let p = there (seek (arrival_at n) ms) s h in
+    let q = seek_splits (arrival_at n) ms p.0 p.1 in
+    ap (λ o. refusal_of (tests_found o (λ f. return_tests f.earlier f.answer))) p.1
+    ∙ ap (λ c. refusal_of (record { fails = conflict.to_be_read row_of p.0.earlier (X c); refusal = ResultHeld (X c) }
+    ∷ [])) (arrival_channel n p.0.member p.0.answer q.1)
+    ∙ test_is (conflict.to_be_read row_of p.0.earlier (X n)) (ResultHeld (X n))
+    ∙ ap refusal_in (sym (k ∙ ap (λ l. return_answer n (seek (returning_by n) l)) e
+    ∙ return_of_all n ms p.0 p.1 (free_load n ms p.0 p.1 apart)))
+
+pub return_tied : (n : ℕ) (ms ns : List Pending) (queue : Queue) (b c : Standing) (s : Sought Arrival)
+    → Pairs IsApart ms → sought (seek (arrival_at n) ms) ≡ Some s → IsTied ms queue b
+    → ns ≡ replaced (seek (arrival_at n) ms) ms (λ m. [])
+    → c ≡ with_issued b (replaced (seek (returning_by n) b.issued) b.issued gone) → IsTied ns queue c
+unfolding replaced with_issued waiting waiting_in
+return_tied n ms ns queue b c s apart h tied en ec =
+    let p = there (seek (arrival_at n) ms) s h in
+    let q = seek_splits (arrival_at n) ms p.0 p.1 in
+    let made : ns ≡ put_back p.0 [] = en ∙ ap (λ o. replaced o ms (λ m. [])) p.1 in
+    record {
+      boarded = ap (λ (x : Standing). x.issued) ec ∙ ap (λ l. replaced (seek (returning_by n) l) l gone) tied.boarded
+          ∙ sym (return_follows n ms p.0 p.1 (free_load n ms p.0 p.1 apart)) ∙ ap on_board (sym made);
+      entered = tied.entered ∙ sym (waiting_same (arrival_at n) ms p.0 [] p.1
+          (sym (ap waiting_in (arrival_phase n p.0.member p.0.answer q.1)))) ∙ ap waiting (sym made);
+      counted = subst (λ l. Each (λ m. m.number ≤ l) ns) (sym (ap (λ (x : Standing). x.last) ec))
+          (subst (Each (λ m. m.number ≤ b.last)) (sym made)
+          (each_put (λ m. m.number ≤ b.last) (arrival_at n) ms p.0 [] p.1 (λ k. tt) tied.counted));
+    }
+
+pub what_there : {K : Type 0} (o : Option (Found Pending K)) (s : Sought K) → sought o ≡ Some s
+    → IfSome o (λ f. f.answer ≡ s.answer)
+unfolding sought
+what_there None s h = cc
+what_there (Some f) s h = ap (λ x. x.answer) (some_inj _ s h)
+
+-- all but the pending stays
+pub changed_flight : (g : List Pending → List Pending) (ms ns : List Pending) (queue : Queue) (b c : Standing)
+    (xs : List Issued) (f : Flight) → flight_of ms queue b ≡ f → ns ≡ g ms → c ≡ with_issued b xs
+    → flight_of ns queue c ≡ with_pending f (g f.pending)
+unfolding with_issued
+changed_flight g ms ns queue b c xs f ef en ec =
+    ap (λ l. flight_of l queue c) en
+    ∙ ap (λ (x : Standing). record { pending = g ms; busy = queue.busy; last = x.last }) ec
+    ∙ ap (λ (y : Flight). with_pending y (g y.pending)) ef
+
+-- ---- a reservation ----
+
+pub no_unit_there : (ms : List Pending) (i : Instr) (place : SomePlace) (o : Option UnitKind) → o ≡ (row i).unit
+    → o ≡ None → refusal_of (row_tests ms (Taking i place)) ≡ Some (UnitBusy Branch)
+unfolding row_tests refusal_of conflict.unit_for first_unit
+no_unit_there ms i place (Some kind) e h = cc
+no_unit_there ms i place None e h =
+    ap (λ u. refusal_of (record { fails = is_none (unit_for ms u); refusal = UnitBusy (first_unit u) }
+    ∷ record {
+      fails = list_any (awaited ms) (results (shape_of i));
+      refusal = ResultReserved (conflict.first_such (awaited ms) (results (shape_of i)));
+    } ∷ [])) (sym e)
+
+same_unit_for : (ms : List Pending) (kind : Option UnitKind)
+    → conflict.unit_for row_of_issued (on_board ms) kind ≡ unit_for ms kind
+unfolding conflict.unit_for
+same_unit_for ms None = refl
+same_unit_for ms (Some kind) = same_free kind ms
+
+reserve_refused : (ms : List Pending) (i : Instr) (b : Standing) (o : Option FunctionalUnit) → b.issued ≡ on_board ms
+    → refusal_of (record { fails = is_none o; refusal = UnitBusy (first_unit (row i).unit) }
+    ∷ record {
+      fails = list_any (awaited ms) (results (shape_of i));
+      refusal = ResultReserved (conflict.first_such (awaited ms)
+          (results (shape_of i)));
+    } ∷ []) ≡ refusal_in (reserve_answer b i o)
+unfolding reserve_answer refusal_of
+reserve_refused ms i b None e = refl
+reserve_refused ms i b (Some u) e =
+    by_test (list_any (awaited ms) rs) (ResultReserved (conflict.first_such (awaited ms) rs)) (u, suc b.last)
+    ∙ sym (ap refusal_in (ap (λ xs. cond (list_any (conflict.awaited row_of_issued xs) rs)
+    (Err (ResultReserved (conflict.first_such (conflict.awaited row_of_issued xs) rs))) (Ok (u, suc b.last))) e
+    ∙ ap (λ t. cond t (Err (ResultReserved (conflict.first_such (conflict.awaited row_of_issued (on_board ms)) rs)))
+    (Ok (u, suc b.last))) (any_same (conflict.awaited row_of_issued (on_board ms)) (awaited ms) (same_awaited ms)
+    rs)
+    ∙ ap (λ z. cond (list_any (awaited ms) rs) (Err (ResultReserved (unwrap_or z (B 0)))) (Ok (u, suc b.last)))
+    (find_same (conflict.awaited row_of_issued (on_board ms)) (awaited ms) (same_awaited ms) rs)))
+  where
+    rs : List Reg
+    rs = results (shape_of i)
+
+    by_test : (t : Bool) (k : Refusal) (p : FunctionalUnit × ℕ)
+        → cond t (Some k) None ≡ refusal_in (cond t (Err k) (Ok p))
+    by_test true k p = refl
+    by_test false k p = refl
+
+pub reserve_answered : (ms : List Pending) (i : Instr) (place : SomePlace) (b : Standing)
+    (r : Result (FunctionalUnit × ℕ) Refusal) → b.issued ≡ on_board ms
+    → r ≡ reserve_answer b i (conflict.unit_for row_of_issued b.issued (row i).unit)
+    → refusal_of (row_tests ms (Taking i place)) ≡ refusal_in r
+unfolding row_tests
+reserve_answered ms i place b r e k =
+    reserve_refused ms i b (unit_for ms (row i).unit) e
+    ∙ ap (λ o. refusal_in (reserve_answer b i o))
+    (sym (ap (λ xs. conflict.unit_for row_of_issued xs (row i).unit) e ∙ same_unit_for ms (row i).unit))
+    ∙ ap refusal_in (sym k)
+
+pub unreserved : (b c : Standing) (i : Instr) (r : Result (FunctionalUnit × ℕ) Refusal) (k : Refusal)
+    → c ≡ reserved b i r → r ≡ Err k → c ≡ b
+unfolding reserved
+unreserved b c i r k e h = e ∙ ap (reserved b i) h
+
+pub reserved_now : (b c : Standing) (i : Instr) (r : Result (FunctionalUnit × ℕ) Refusal) (p : FunctionalUnit × ℕ)
+    → c ≡ reserved b i r → r ≡ Ok p → c ≡ record { issued = b.issued ++ new_issued i p.0 p.1 ∷ []; last = p.1 }
+unfolding reserved
+reserved_now b c i r p e h = e ∙ ap (reserved b i) h
+
+ok_inj : (x y : FunctionalUnit × ℕ) (r : Result (FunctionalUnit × ℕ) Refusal) → r ≡ Ok x → r ≡ Ok y → x ≡ y
+ok_inj x y r e k = cc
+
+reserve_ok : (b : Standing) (i : Instr) (o : Option FunctionalUnit) (p : FunctionalUnit × ℕ)
+    → reserve_answer b i o ≡ Ok p → (o ≡ Some p.0) × (p.1 ≡ suc b.last)
+unfolding reserve_answer
+reserve_ok b i None p h = cc
+reserve_ok b i (Some u) p h = by_test (list_any (conflict.awaited row_of_issued b.issued) (results (shape_of i))) _ h
+  where
+    by_test : (t : Bool) (k : Refusal) → cond t (Err k) (Ok (u, suc b.last)) ≡ Ok p → (Some u ≡ Some p.0)
+        × (p.1 ≡ suc b.last)
+    by_test true k e = cc
+    by_test false k e =
+        let q = ok_inj (u, suc b.last) p (Ok (u, suc b.last)) refl e in (ap (λ x. Some x.0) q, ap (λ x. x.1) (sym q))
+
+-- the unit and the number that are answered
+pub reserved_as : (ms : List Pending) (i : Instr) (b : Standing) (r : Result (FunctionalUnit × ℕ) Refusal)
+    (p : FunctionalUnit × ℕ) → b.issued ≡ on_board ms
+    → r ≡ reserve_answer b i (conflict.unit_for row_of_issued b.issued (row i).unit) → r ≡ Ok p
+    → (unit_for ms (row i).unit ≡ Some p.0) × (p.1 ≡ suc b.last)
+reserved_as ms i b r p e k h =
+    let q = reserve_ok b i (conflict.unit_for row_of_issued b.issued (row i).unit) p (sym k ∙ h) in
+    (sym (ap (λ xs. conflict.unit_for row_of_issued xs (row i).unit) e ∙ same_unit_for ms (row i).unit) ∙ q.0, q.1)
+
+first_free_is : (held : FunctionalUnit → Bool) (us : List FunctionalUnit) (u : FunctionalUnit)
+    → first_free held us ≡ Some u → held u ≡ false
+unfolding first_free
+first_free_is held [] u h = cc
+first_free_is held (v ∷ us) u h = by_test (held v) refl (first_free_is held us u) h
+  where
+    by_test : (t : Bool) → held v ≡ t → (first_free held us ≡ Some u → held u ≡ false)
+        → cond t (first_free held us) (Some v) ≡ Some u → held u ≡ false
+    by_test true e rest k = rest k
+    by_test false e rest k = ap held (sym (some_inj v u k)) ∙ e
+
+not_held : (u : FunctionalUnit) (m : Pending) → board.holds u (row_of m) ≡ false → stage_at u m ≡ None
+unfolding board.holds row_of stage_at stage_in is_reserved progress_of
+not_held u m h = by_phase m.phase (same_unit m.unit u) h
+  where
+    by_phase : (p : Phase) (t : Bool) → (t && is_reserved (progress_of p)) ≡ false → cond t (stage_in p) None ≡ None
+    by_phase (Before s) true k = cc
+    by_phase (Before s) false k = refl
+    by_phase (After l) true k = refl
+    by_phase (After l) false k = refl
+
+pub unit_free : (ms : List Pending) (kind : Option UnitKind) (u : FunctionalUnit) → unit_for ms kind ≡ Some u
+    → seek (stage_at u) ms ≡ None
+unfolding conflict.unit_for free_unit is_held
+unit_free ms None u h = cc
+unit_free ms (Some kind) u h =
+    seek_nobody (stage_at u) ms (each_of_any (λ m. board.holds u (row_of m)) (λ m. stage_at u m ≡ None)
+    (λ m k. not_held u m k) ms (first_free_is (is_held row_of ms) (units_of kind) u h))
+
+pub reserve_tied : (ms ns : List Pending) (queue : Queue) (b c : Standing) (i : Instr) (at : ℕ)
+    (p : FunctionalUnit × ℕ) → IsTied ms queue b → p.1 ≡ suc b.last
+    → c ≡ record { issued = b.issued ++ new_issued i p.0 p.1 ∷ []; last = p.1 } → ns ≡ ms
+    ++ record { instr = i; at = at; number = p.1; unit = p.0; phase = Before Waiting } ∷ [] → IsTied ns queue c
+unfolding waiting waiting_in
+reserve_tied ms ns queue b c i at p tied en ec es =
+    let m : Pending = record { instr = i; at = at; number = p.1; unit = p.0; phase = Before Waiting } in
+    let last : c.last ≡ p.1 = ap (λ (x : Standing). x.last) ec in
+    record {
+      boarded = ap (λ (x : Standing). x.issued) ec ∙ ap (λ l. l ++ new_issued i p.0 p.1 ∷ []) tied.boarded
+          ∙ sym (issue_follows ms i at p.1 p.0) ∙ ap on_board (sym es);
+      entered = tied.entered ∙ sym (append-nil (waiting ms)) ∙ sym (waiting-append ms (m ∷ [])) ∙ ap waiting (sym es);
+      counted = subst (λ l. Each (λ y. y.number ≤ l) ns) (sym last)
+          (subst (Each (λ y. y.number ≤ p.1)) (sym es)
+          (each_append (λ y. y.number ≤ p.1) ms (m ∷ [])
+          (each_map (λ y. y.number ≤ b.last) (λ y. y.number ≤ p.1) (λ y k. omega (arith, k, en)) ms tied.counted)
+          (omega arith, tt)));
+    }
+
+pub all_below : (ms : List Pending) (last n : ℕ) → Each (λ m. m.number ≤ last) ms → n ≡ suc last
+    → Each (λ m. m.number < n) ms
+all_below ms last n h e = each_map (λ m. m.number ≤ last) (λ m. m.number < n) (λ m k. omega (arith, k, e)) ms h
+
+pub reserved_flight : (ms ns : List Pending) (queue : Queue) (b c : Standing) (i : Instr) (at : ℕ)
+    (p : FunctionalUnit × ℕ) → unit_for ms (row i).unit ≡ Some p.0 → p.1 ≡ suc b.last
+    → c ≡ record { issued = b.issued ++ new_issued i p.0 p.1 ∷ []; last = p.1 } → ns ≡ ms
+    ++ record { instr = i; at = at; number = p.1; unit = p.0; phase = Before Waiting } ∷ []
+    → flight_of ns queue c ≡ reserved_in (flight_of ms queue b) i at
+reserved_flight ms ns queue b c i at p eu en ec es =
+    ap (λ (x : Standing). record { pending = ns; busy = queue.busy; last = x.last }) ec
+    ∙ ap (λ l. record { pending = l; busy = queue.busy; last = p.1 }) es
+    ∙ ap (λ n. record {
+      pending = ms ++ record { instr = i; at = at; number = n; unit = p.0; phase = Before Waiting }
+          ∷ [];
+      busy = queue.busy;
+      last = n;
+    }) en
+    ∙ ap (λ o. record {
+      pending = ms
+          ++ record { instr = i; at = at; number = suc b.last; unit = unwrap_or o Branch; phase = Before Waiting } ∷ [];
+      busy = queue.busy;
+      last = suc b.last;
+    }) (sym eu)

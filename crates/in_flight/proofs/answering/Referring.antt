@@ -1,0 +1,613 @@
+-- References that enter the hopper and are taken by their banks, beside the list of pending instructions.
+use Rattle.std.proofs.Common.{◌≡◌, ◌≢◌, ◌<◌, ◌≤◌, ◌+◌, ℕ, Bool, true, false, cond, List, [], ◌∷◌, ◌++◌, Option, Some}
+use Rattle.std.proofs.Common.{None, refl, sym, ap, ◌∙◌, subst, eqb, ltb, get_or, set, length, arith}
+use Rattle.std.specs.Prelude.{◌&&◌, ◌||◌, is_none, is_some, Result, Ok, Err, IfSome, unwrap_or}
+use Rattle.std.specs.List.{list_any}
+use Rattle.std.proofs.lemmas.Bool.{or_parts, eqb-true, eqb-false, eq-eqb, lt-ltb}
+use Rattle.instructions.specs.declared.instr.Reg.{Reg}
+use Rattle.instructions.specs.declared.instr.Reg.TheVariants.{X, A}
+use Rattle.instructions.specs.declared.instr.Unit.{Unit as FunctionalUnit}
+use Rattle.instructions.specs.declared.refusal.Refusal.{Refusal}
+use Rattle.instructions.specs.declared.refusal.Refusal.TheVariants.{BankBusy, OlderInBank}
+use Rattle.instructions.specs.Each.{Each, Pairs}
+use Rattle.instructions.specs.Finding.{Found as FoundIn, seek as seek_in, put_back as put_back_of, replaced, Found}
+use Rattle.instructions.specs.Finding.{seek, found_here, found_further, put_back}
+use Rattle.instructions.specs.RegisterLists.{is_in, overlap}
+use Rattle.instructions.specs.Shape.{Shape, Puts, Loads, Stores, Jumps, Links, shape_of, results, puts_of, loads_of}
+use Rattle.instructions.specs.Shape.{has_reference}
+use Rattle.instructions.specs.Operands.{reg_eq}
+use Rattle.instructions.proofs.Lists.{any_right, each_append, each_map, each_of_any, pairs_before, pairs_right}
+use Rattle.relocation.specs.declared.area.Access.{Access}
+use Rattle.relocation.specs.declared.area.Access.TheVariants.{Load, Store}
+use Rattle.hopper.specs.Hopper.{bank_of}
+use Rattle.hopper.specs.Queue.{Queue, reference_at, waits_for_bank, accept_answer, accepted, place_for as free_in}
+use Rattle.hopper.specs.declared.entered.Entered.{Entered}
+use Rattle.hopper.specs.declared.reference.Reference.{Reference}
+use Rattle.scoreboard.specs.Rows as board
+use Rattle.scoreboard.specs.Rows.{is_reserved, returning_to}
+use Rattle.scoreboard.specs.Issued.{channel_of}
+use Rattle.scoreboard.specs.Answers.{Standing, held_in, left, with_issued}
+use Rattle.scoreboard.specs.Units.{unit_number}
+use Rattle.scoreboard.proofs.seating.Seating.{unit_below}
+use Rattle.in_flight.specs.declared.flight.Rest.{Rest}
+use Rattle.in_flight.specs.declared.flight.Rest.TheVariants.{Enters, Arrives}
+use Rattle.in_flight.specs.declared.pending.HopperEntry.{HopperEntry}
+use Rattle.in_flight.specs.declared.pending.Outstanding.{Outstanding}
+use Rattle.in_flight.specs.declared.pending.Outstanding.TheVariants.{Entered as HasEntered, Accepted}
+use Rattle.in_flight.specs.declared.pending.Pending.{Pending}
+use Rattle.in_flight.specs.declared.pending.Phase.{Phase}
+use Rattle.in_flight.specs.declared.pending.Phase.TheVariants.{Before, After}
+use Rattle.in_flight.specs.declared.pending.Stage.{Stage}
+use Rattle.in_flight.specs.inner.Board.{on_board}
+use Rattle.in_flight.specs.Pending.{left_to_return}
+use Rattle.in_flight.specs.Tests.{refusal_in, refusal_of, nothing, tests_found, accept_tests}
+use Rattle.in_flight.specs.Flight.{left_by, Flight, flight_of, waiting_in, waiting, IsRestOf, outstanding_of}
+use Rattle.in_flight.specs.inner.Board.{IsTied}
+use Rattle.in_flight.specs.Flight.{entered_at, rest_at, queue_with, queue_after, with_pending}
+use Rattle.in_flight.specs.Pending.{row_of, progress_of, returning, to_come, has_turn, is_entered, entered_in, in_bank}
+use Rattle.in_flight.specs.Pending.{in_bank_in}
+use Rattle.in_flight.specs.inner.Slots.{IsSlotted, IsChannel, IsPlaced}
+use Rattle.in_flight.specs.inner.Seats.{seat_in, seat_of, AreElsewhere, HasRoom}
+use Rattle.in_flight.specs.Lookup.{sought, stage_at, entry_at, entry_in, in_place, place_for, enters, in_phase, kept}
+use Rattle.in_flight.specs.Apart.{IsApart}
+use Rattle.in_flight.proofs.answering.Beside.{append-nil, any-append, waiting_put, waiting_around, waiting_one}
+use Rattle.in_flight.proofs.answering.Beside.{each_put, same_place, arrival_phase}
+use Rattle.instructions.proofs.Finding.{seek_splits, seek_around, seek_nobody}
+use Rattle.in_flight.proofs.asking.Finding.{stage_found}
+use Rattle.in_flight.proofs.answering.Boarding.{store_follows, load_follows, stored_follows}
+use Rattle.in_flight.proofs.seating.Moving.{arrival_is, entry_is}
+use Rattle.in_flight.proofs.asking.Slotting.{place_found, loads_channel, proper_there, placed_in}
+
+-- ---- a reference in its place ----
+
+abbrev pub reference_of : HopperEntry → Reference
+reference_of e = record { address = e.a; access = e.access }
+
+some_inj : {K : Type 0} (x y : K) → Some x ≡ Some y → x ≡ y
+some_inj x y e = cc
+
+entry_in_is : (p : ℕ) (q : Phase) (e : HopperEntry) → entry_in p q ≡ Some e → q ≡ After (HasEntered p e.a e.access)
+unfolding entry_in
+entry_in_is p (Before t) e h = cc
+entry_in_is p (After (Accepted n w)) e h = cc
+entry_in_is p (After (HasEntered place a access)) e h = by_test (eqb place p) refl h
+  where
+    by_test : (b : Bool) → eqb place p ≡ b → cond b (Some (record { a = a; access = access })) None ≡ Some e
+        → After (HasEntered place a access) ≡ After (HasEntered p e.a e.access)
+    by_test true i k = ap (λ s. After (HasEntered s a access)) (eqb-true place p i)
+        ∙ ap (λ (y : HopperEntry). After (HasEntered p y.a y.access)) (some_inj _ e k)
+    by_test false i k = cc
+
+entry_phase : (p : ℕ) (m : Pending) (e : HopperEntry) → entry_at p m ≡ Some e
+    → m.phase ≡ After (HasEntered p e.a e.access)
+unfolding entry_at
+entry_phase p m e h = entry_in_is p m.phase e h
+
+not_in_place : (p : ℕ) (q : Phase) → entry_in p q ≡ None → Each (λ e. reference_at p e ≡ None) (waiting_in q)
+unfolding entry_in waiting_in reference_at
+not_in_place p (Before t) h = tt
+not_in_place p (After (Accepted n w)) h = tt
+not_in_place p (After (HasEntered place a access)) h = by_test (eqb place p) h
+  where
+    entry : HopperEntry
+    entry = record { a = a; access = access }
+
+    reference : Reference
+    reference = record { address = a; access = access }
+
+    by_test : (b : Bool) → cond b (Some entry) None ≡ None → (cond b (Some reference) None ≡ None) × Unit {0}
+    by_test true k = cc
+    by_test false k = (refl, tt)
+
+none_waiting : (p : ℕ) (es : List Pending) → Each (λ m. entry_at p m ≡ None) es
+    → Each (λ e. reference_at p e ≡ None) (waiting es)
+unfolding waiting entry_at
+none_waiting p [] h = tt
+none_waiting p (m ∷ es) h = each_append (λ e. reference_at p e ≡ None) (waiting_in m.phase) (waiting es)
+    (not_in_place p m.phase h.0) (none_waiting p es h.1)
+
+seek_silent : {K : Type 0} (g : Pending → Option K) (ms : List Pending) → seek g ms ≡ None → Each (λ m. g m ≡ None) ms
+unfolding seek found_here found_further
+seek_silent g [] h = tt
+seek_silent {K} g (m ∷ ms) h = by_head (g m) refl (seek g ms) refl h (seek_silent g ms)
+  where
+    by_head : (o : Option K) → g m ≡ o → (rest : Option (Found Pending K)) → seek g ms ≡ rest
+        → found_here o m ms rest ≡ None → (seek g ms ≡ None → Each (λ y. g y ≡ None) ms) → (g m ≡ None)
+        × Each (λ y. g y ≡ None) ms
+    by_head (Some x) e rest er k ih = cc
+    by_head None e None er k ih = (e, ih er)
+    by_head None e (Some f) er k ih = cc
+
+abbrev pub in_queue : ℕ → Found Pending HopperEntry → FoundIn Entered Reference
+in_queue p f = record {
+  earlier = waiting f.earlier;
+  member = record { place = p; reference = reference_of f.answer };
+  answer = reference_of f.answer;
+  later = waiting f.later;
+}
+
+stands_there : (p : ℕ) (r : Reference) → reference_at p (record { place = p; reference = r }) ≡ Some r
+unfolding reference_at
+stands_there p r = ap (λ b. cond b (Some r) None) (same_number p)
+  where
+    same_number : (n : ℕ) → eqb n n ≡ true
+    same_number n = eq-eqb n n refl
+
+pub queue_found : (p : ℕ) (ms : List Pending) (f : Found Pending HopperEntry) → seek (entry_at p) ms ≡ Some f
+    → seek_in (reference_at p) (waiting ms) ≡ Some (in_queue p f)
+unfolding waiting_in
+queue_found p ms f h =
+    let q = seek_splits (entry_at p) ms f h in
+    ap (seek_in (reference_at p))
+    (waiting_around (entry_at p) ms f h
+    ∙ ap (λ x. waiting f.earlier ++ (waiting_in x ++ waiting f.later)) (entry_phase p f.member f.answer q.1))
+    ∙ seek_around (reference_at p) (waiting f.earlier) (record { place = p; reference = reference_of f.answer })
+    (reference_of f.answer) (waiting f.later) (none_waiting p f.earlier q.2)
+    (stands_there p (reference_of f.answer))
+
+pub queue_nobody : (p : ℕ) (ms : List Pending) → seek (entry_at p) ms ≡ None
+    → seek_in (reference_at p) (waiting ms) ≡ None
+queue_nobody p ms h = seek_nobody (reference_at p) (waiting ms) (none_waiting p ms (seek_silent (entry_at p) ms h))
+
+bank_in : (k : ℕ) (q : Phase) → list_any (waits_for_bank k) (waiting_in q) ≡ in_bank_in k q
+unfolding waiting_in waits_for_bank in_bank_in
+bank_in k (Before t) = refl
+bank_in k (After (HasEntered place a access)) = or_false (eqb (bank_of a) k)
+  where
+    or_false : (b : Bool) → (b || false) ≡ b
+    or_false true = refl
+    or_false false = refl
+bank_in k (After (Accepted n w)) = refl
+
+bank_waits : (k : ℕ) (es : List Pending) → list_any (waits_for_bank k) (waiting es) ≡ list_any (in_bank k) es
+unfolding waiting in_bank
+bank_waits k [] = refl
+bank_waits k (m ∷ es) = any-append (waits_for_bank k) (waiting_in m.phase) (waiting es)
+    ∙ ap (λ b. b || list_any (waits_for_bank k) (waiting es)) (bank_in k m.phase)
+    ∙ ap (λ b. in_bank_in k m.phase || b) (bank_waits k es)
+
+tests_answer : (x y : Bool) (j k : Refusal) (r : Reference)
+    → refusal_of (record { fails = x; refusal = j } ∷ record { fails = y; refusal = k } ∷ [])
+    ≡ refusal_in (cond x (Err j) (cond y (Err k) (Ok r)))
+unfolding refusal_of
+tests_answer true y j k r = refl
+tests_answer false true j k r = refl
+tests_answer false false j k r = refl
+
+none_answer : (busy : List Bool) → refusal_of nothing ≡ refusal_in (accept_answer busy None)
+unfolding refusal_of nothing accept_answer
+none_answer busy = refl
+
+some_answer : (busy : List Bool) (p : ℕ) (f : Found Pending HopperEntry)
+    → refusal_of (accept_tests busy f.earlier f.answer) ≡ refusal_in (accept_answer busy (Some (in_queue p f)))
+unfolding accept_tests accept_answer
+some_answer busy p f =
+    tests_answer (get_or busy (bank_of f.answer.a) false) (list_any (in_bank (bank_of f.answer.a)) f.earlier)
+    (BankBusy (bank_of f.answer.a)) OlderInBank (reference_of f.answer)
+    ∙ ap (λ y. refusal_in (cond (get_or busy (bank_of f.answer.a) false) (Err (BankBusy (bank_of f.answer.a)))
+    (cond y (Err OlderInBank) (Ok (reference_of f.answer))))) (sym (bank_waits (bank_of f.answer.a) f.earlier))
+
+nothing_taken : (busy : List Bool) (r : Reference) → accept_answer busy None ≡ Ok r → ⊥
+unfolding accept_answer
+nothing_taken busy r h = cc
+
+ok_inj : (x y : Reference) (r : Result Reference Refusal) → r ≡ Ok x → r ≡ Ok y → x ≡ y
+ok_inj x y r e k = cc
+
+taken_is : (busy : List Bool) (f : FoundIn Entered Reference) (r : Reference) → accept_answer busy (Some f) ≡ Ok r
+    → f.answer ≡ r
+unfolding accept_answer
+taken_is busy f r h = by_tests (get_or busy (bank_of f.answer.address) false)
+    (list_any (waits_for_bank (bank_of f.answer.address)) f.earlier) (BankBusy (bank_of f.answer.address)) h
+  where
+    by_tests : (x y : Bool) (j : Refusal) → cond x (Err j) (cond y (Err OlderInBank) (Ok f.answer)) ≡ Ok r
+        → f.answer ≡ r
+    by_tests true y j k = cc
+    by_tests false true j k = cc
+    by_tests false false j k = ok_inj f.answer r (Ok f.answer) refl k
+
+pub accept_answered : (p : ℕ) (ms : List Pending) (queue : Queue) (r : Result Reference Refusal)
+    → queue.entered ≡ waiting ms → r ≡ accept_answer queue.busy (seek_in (reference_at p) queue.entered)
+    → refusal_of (tests_found (seek (entry_at p) ms) (λ f. accept_tests queue.busy f.earlier f.answer)) ≡ refusal_in r
+unfolding tests_found
+accept_answered p ms queue r e k = by_found (seek (entry_at p) ms) refl
+    ∙ ap refusal_in (sym (k ∙ ap (λ es. accept_answer queue.busy (seek_in (reference_at p) es)) e))
+  where
+    by_found : (o : Option (Found Pending HopperEntry)) → seek (entry_at p) ms ≡ o
+        → refusal_of (tests_found o (λ f. accept_tests queue.busy f.earlier f.answer))
+        ≡ refusal_in (accept_answer queue.busy (seek_in (reference_at p) (waiting ms)))
+    by_found None h =
+        none_answer queue.busy ∙ sym (ap (λ x. refusal_in (accept_answer queue.busy x)) (queue_nobody p ms h))
+    by_found (Some f) h =
+        some_answer queue.busy p f ∙ sym (ap (λ x. refusal_in (accept_answer queue.busy x)) (queue_found p ms f h))
+
+-- what was taken stood in the place
+pub accept_found : (p : ℕ) (ms : List Pending) (queue : Queue) (a : Result Reference Refusal) (r : Reference)
+    → queue.entered ≡ waiting ms → a ≡ accept_answer queue.busy (seek_in (reference_at p) queue.entered) → a ≡ Ok r
+    → (f : Found Pending HopperEntry) × (seek (entry_at p) ms ≡ Some f) × (reference_of f.answer ≡ r)
+accept_found p ms queue a r e k h = by_found (seek (entry_at p) ms) refl
+  where
+    here : accept_answer queue.busy (seek_in (reference_at p) (waiting ms)) ≡ Ok r
+    here = sym (k ∙ ap (λ es. accept_answer queue.busy (seek_in (reference_at p) es)) e) ∙ h
+
+    by_found : (o : Option (Found Pending HopperEntry)) → seek (entry_at p) ms ≡ o → (f : Found Pending HopperEntry)
+        × (o ≡ Some f) × (reference_of f.answer ≡ r)
+    by_found None i =
+        absurd (nothing_taken queue.busy r (sym (ap (accept_answer queue.busy) (queue_nobody p ms i)) ∙ here))
+    by_found (Some f) i = (
+      f,
+      refl,
+      taken_is queue.busy (in_queue p f) r (sym (ap (accept_answer queue.busy) (queue_found p ms f i)) ∙ here),
+    )
+
+pub entry_answered : (p : ℕ) (ms : List Pending) (f : Found Pending HopperEntry) (r : Reference)
+    → seek (entry_at p) ms ≡ Some f → reference_of f.answer ≡ r
+    → IfSome (seek (entry_at p) ms) (λ x. x.answer ≡ record { a = r.address; access = r.access })
+entry_answered p ms f r h e =
+    subst (λ o. IfSome o (λ x. x.answer ≡ record { a = r.address; access = r.access })) (sym h)
+    (ap (λ (z : Reference). record { a = z.address; access = z.access }) e)
+
+-- its place, its address and its channel
+pub entry_placed : (size p : ℕ) (ms : List Pending) (f : Found Pending HopperEntry) → IsSlotted size ms
+    → seek (entry_at p) ms ≡ Some f → IsPlaced size f.member.unit (After (HasEntered p f.answer.a f.answer.access))
+entry_placed size p ms f slotted h =
+    let q = seek_splits (entry_at p) ms f h in
+    placed_in size f.member (After (HasEntered p f.answer.a f.answer.access)) (entry_phase p f.member f.answer q.1)
+    (proper_there size f.earlier f.member f.later (subst (IsSlotted size) q.0 slotted))
+
+-- ---- the channel of a load ----
+
+-- two of which the load of one register is still to come aren't apart
+one_load : (n : ℕ) (rs ts : List Reg) (e l : Pending) → to_come e ≡ ts ++ X n ∷ [] → to_come l ≡ rs ++ X n ∷ []
+    → IsApart e l → ⊥
+unfolding overlap is_in
+one_load n rs ts e l he hl a =
+    let k : overlap (rs ++ X n ∷ []) (ts ++ X n ∷ []) ≡ false =
+    sym (ap (λ z. overlap z (to_come e)) hl ∙ ap (overlap (rs ++ X n ∷ [])) he) ∙ a.disjoint in
+    let g = (or_parts (is_in (ts ++ X n ∷ []) (X n)) false (any_right (is_in (ts ++ X n ∷ [])) rs (X n ∷ []) k)).0 in
+    let f = or_parts (reg_eq (X n) (X n)) false (any_right (reg_eq (X n)) ts (X n ∷ []) g) in
+    eqb-false n n f.0 refl
+
+coming_in : (n w : ℕ) (y : Pending) → y.phase ≡ After (Accepted n w) → to_come y ≡ X n ∷ []
+unfolding to_come board.to_come row_of board.to_come_in progress_of returning returning_to
+coming_in n w y h = ap (λ p. board.to_come_in (shape_of y.instr) (progress_of p)) h
+
+coming_to : (n : ℕ) (y : Pending) → n < 8 → seat_of y ≡ 14 + n → to_come y ≡ X n ∷ []
+coming_to n y b h =
+    let p = arrival_is n y b h in
+    coming_in n p.0.word y (arrival_phase n y p.0 p.1)
+
+-- nobody else waits in the channel of a load that is still to return
+pub channel_free : (n : ℕ) (rs : List Reg) (es : List Pending) (m : Pending) (ls : List Pending)
+    → Pairs IsApart (es ++ m ∷ ls) → to_come m ≡ rs ++ X n ∷ [] → n < 8 → seat_of m ≢ 14 + n
+    → AreElsewhere (14 + n) (es ++ m ∷ ls)
+channel_free n rs es m ls apart h b away =
+    each_append (λ y. seat_of y ≢ 14 + n) es (m ∷ ls)
+    (each_map (λ e. IsApart e m) (λ y. seat_of y ≢ 14 + n) (λ y a k. one_load n rs [] y m (coming_to n y b k) h a) es
+    (pairs_before IsApart es m ls apart)) (
+      away,
+      each_map (IsApart m) (λ y. seat_of y ≢ 14 + n) (λ y a k. one_load n [] rs m y h (coming_to n y b k) a) ls
+          (pairs_right IsApart es (m ∷ ls) apart).0,
+    )
+
+referring_comes : (n p a : ℕ) (y : Pending) → y.phase ≡ After (HasEntered p a (Load n)) → to_come y ≡ X n ∷ []
+unfolding to_come board.to_come row_of board.to_come_in progress_of returning returning_to
+referring_comes n p a y h = ap (λ q. board.to_come_in (shape_of y.instr) (progress_of q)) h
+
+referring_away : (n p a : ℕ) (x : Access) (y : Pending) → p < 4 → y.phase ≡ After (HasEntered p a x)
+    → seat_of y ≢ 14 + n
+unfolding seat_of seat_in
+referring_away n p a x y b h k = let q : cond (ltb p 4) (10 + p) 22 ≡ 14 + n = sym (ap (seat_in y.unit) h)
+    ∙ k in let r : cond (ltb p 4) (10 + p) 22 ≡ 10 + p =
+    ap (λ t. cond t (10 + p) 22) (lt-ltb p 4 b) in omega (arith, b, q, r)
+
+room_by : (memory : List ℕ) (p : ℕ) (ms : List Pending) (f : Found Pending HopperEntry) (x : Access) → Pairs IsApart ms
+    → IsSlotted (length memory) ms → seek (entry_at p) ms ≡ Some f → f.answer.access ≡ x
+    → HasRoom (left_by memory f.answer.a x) ms
+room_by memory p ms f (Store w) apart slotted h e = tt
+room_by memory p ms f (Load n) apart slotted h e =
+    let q = seek_splits (entry_at p) ms f h in
+    let placed : IsPlaced (length memory) f.member.unit (After (HasEntered p f.answer.a (Load n))) =
+    subst (λ (x : Access). IsPlaced (length memory) f.member.unit (After (HasEntered p f.answer.a x))) e
+    (entry_placed (length memory) p ms f slotted h) in
+    let here : f.member.phase ≡ After (HasEntered p f.answer.a (Load n)) =
+    entry_phase p f.member f.answer q.1 ∙ ap (λ x. After (HasEntered p f.answer.a x)) e in
+    let b : n < 8 = (let l : n < 6 = placed.2.1 in omega (arith, l)) in (
+      b,
+      subst (AreElsewhere (14 + n)) (sym q.0)
+          (channel_free n [] f.earlier f.member f.later (subst (Pairs IsApart) q.0 apart)
+          (referring_comes n p f.answer.a f.member here) b
+          (referring_away n p f.answer.a (Load n) f.member placed.0 here)),
+    )
+
+pub room_for_word : (memory : List ℕ) (p : ℕ) (ms : List Pending) (f : Found Pending HopperEntry) (r : Reference)
+    (l : Option Outstanding) → Pairs IsApart ms → IsSlotted (length memory) ms → seek (entry_at p) ms ≡ Some f
+    → reference_of f.answer ≡ r → l ≡ left_by memory r.address r.access → HasRoom l ms
+room_for_word memory p ms f r l apart slotted h e el =
+    subst (λ z. HasRoom z ms) (sym (el ∙ sym (ap (λ (z : Reference). left_by memory z.address z.access) e)))
+    (room_by memory p ms f f.answer.access apart slotted h refl)
+
+taken_waits : (memory : List ℕ) (a : ℕ) (x : Access) (m : Pending) → waiting (kept m (left_by memory a x)) ≡ []
+unfolding kept waiting waiting_in in_phase
+taken_waits memory a (Load n) m = refl
+taken_waits memory a (Store w) m = refl
+
+taken_boarded : (memory : List ℕ) (p : ℕ) (ms : List Pending) (f : Found Pending HopperEntry) (x : Access)
+    → seek (entry_at p) ms ≡ Some f → f.answer.access ≡ x
+    → on_board (put_back f (kept f.member (left_by memory f.answer.a x))) ≡ on_board ms
+unfolding kept
+taken_boarded memory p ms f (Load n) h e = load_follows p ms f n (get_or memory f.answer.a 0) h e
+taken_boarded memory p ms f (Store w) h e = stored_follows p ms f w h e
+
+each_kept : (n : ℕ) (m : Pending) (l : Option Outstanding) → m.number ≤ n → Each (λ y. y.number ≤ n) (kept m l)
+unfolding kept in_phase
+each_kept n m None h = tt
+each_kept n m (Some l) h = (h, tt)
+
+queue_taken : (queue : Queue) (ms : List Pending) (p : ℕ) (f : Found Pending HopperEntry) → queue.entered ≡ waiting ms
+    → seek (entry_at p) ms ≡ Some f
+    → accepted queue (seek_in (reference_at p) queue.entered)
+    ≡ record { entered = waiting f.earlier ++ waiting f.later; busy = set queue.busy (bank_of f.answer.a) true }
+unfolding accepted put_back_of
+queue_taken queue ms p f e h =
+    ap (λ es. accepted queue (seek_in (reference_at p) es)) e ∙ ap (accepted queue) (queue_found p ms f h)
+
+abbrev pub taken_from : ℕ → List ℕ → Reference → List Pending → List Pending
+taken_from p memory r ms = replaced (seek (entry_at p) ms) ms (λ m. kept m (left_by memory r.address r.access))
+
+accept_made : (memory : List ℕ) (p : ℕ) (ms ns : List Pending) (f : Found Pending HopperEntry) (r : Reference)
+    (l : Option Outstanding) → seek (entry_at p) ms ≡ Some f → reference_of f.answer ≡ r
+    → l ≡ left_by memory r.address r.access → ns ≡ replaced (seek (entry_at p) ms) ms (λ m. kept m l)
+    → ns ≡ put_back f (kept f.member (left_by memory f.answer.a f.answer.access))
+unfolding replaced
+accept_made memory p ms ns f r l h e el en =
+    en ∙ ap (λ o. replaced o ms (λ m. kept m l)) h
+    ∙ ap (λ z. put_back f (kept f.member z)) (el ∙ sym (ap (λ (z : Reference). left_by memory z.address z.access) e))
+
+pub accept_tied : (memory : List ℕ) (p : ℕ) (ms ns : List Pending) (queue after : Queue) (b : Standing)
+    (f : Found Pending HopperEntry) (r : Reference) (l : Option Outstanding) → IsTied ms queue b
+    → seek (entry_at p) ms ≡ Some f → reference_of f.answer ≡ r → l ≡ left_by memory r.address r.access
+    → ns ≡ replaced (seek (entry_at p) ms) ms (λ m. kept m l)
+    → after ≡ accepted queue (seek_in (reference_at p) queue.entered) → IsTied ns after b
+accept_tied memory p ms ns queue after b f r l tied h e el en eq =
+    let made = accept_made memory p ms ns f r l h e el en in
+    record {
+      boarded = tied.boarded ∙ sym (taken_boarded memory p ms f f.answer.access h refl) ∙ ap on_board (sym made);
+      entered = ap (λ (q : Queue). q.entered) (eq ∙ queue_taken queue ms p f tied.entered h)
+          ∙ sym (waiting_put f (kept f.member (left_by memory f.answer.a f.answer.access))
+          ∙ ap (λ w. waiting f.earlier ++ (w ++ waiting f.later))
+          (taken_waits memory f.answer.a f.answer.access f.member)) ∙ ap waiting (sym made);
+      counted = subst (Each (λ m. m.number ≤ b.last)) (sym made)
+          (each_put (λ m. m.number ≤ b.last) (entry_at p) ms f
+          (kept f.member (left_by memory f.answer.a f.answer.access)) h
+          (λ k. each_kept b.last f.member (left_by memory f.answer.a f.answer.access) k) tied.counted);
+    }
+
+pub accept_flight : (memory : List ℕ) (p : ℕ) (ms ns : List Pending) (queue after : Queue) (b : Standing)
+    (f : Found Pending HopperEntry) (r : Reference) (l : Option Outstanding) (now : Flight)
+    → flight_of ms queue b ≡ now → IsTied ms queue b → seek (entry_at p) ms ≡ Some f → reference_of f.answer ≡ r
+    → l ≡ left_by memory r.address r.access → ns ≡ replaced (seek (entry_at p) ms) ms (λ m. kept m l)
+    → after ≡ accepted queue (seek_in (reference_at p) queue.entered)
+    → flight_of ns after b ≡ record now {
+      pending = taken_from p memory r now.pending;
+      busy = set now.busy (bank_of r.address) true;
+    }
+accept_flight memory p ms ns queue after b f r l now ev tied h e el en eq =
+    ap (λ (q : Queue). flight_of ns q b) (eq ∙ queue_taken queue ms p f tied.entered h)
+    ∙ ap (λ k. record { pending = k; busy = set queue.busy (bank_of f.answer.a) true; last = b.last })
+    (en ∙ ap (λ z. replaced (seek (entry_at p) ms) ms (λ m. kept m z)) el)
+    ∙ ap (λ (z : Reference). record {
+      pending = taken_from p memory r ms;
+      busy = set queue.busy (bank_of z.address) true;
+      last = b.last;
+    }) e
+    ∙ ap (λ (x : Flight). record x {
+      pending = taken_from p memory r x.pending;
+      busy = set x.busy (bank_of r.address) true;
+    }) ev
+
+-- ---- what a unit's instruction leaves ----
+
+later_by : (o : Option ℕ) (rest : Option Rest) → (enters (outstanding_of 0 rest) ≡ true → is_none o ≡ false)
+    → rest_at o rest ≡ outstanding_of (unwrap_or o 0) rest
+unfolding outstanding_of rest_at entered_at enters
+later_by o None h = refl
+later_by o (Some (Arrives n)) h = refl
+later_by None (Some (Enters r)) h = let q : true ≡ false = h refl in cc
+later_by (Some p) (Some (Enters r)) h = refl
+
+pub later_is : (ms : List Pending) (queue : Queue) (rest : Option Rest) (l : Option Outstanding)
+    → queue.entered ≡ waiting ms → (enters (outstanding_of 0 rest) ≡ true → is_none (place_for ms) ≡ false)
+    → l ≡ rest_at (free_in queue.entered) rest → l ≡ outstanding_of (unwrap_or (place_for ms) 0) rest
+later_is ms queue rest l e h el =
+    el ∙ ap (λ o. rest_at o rest) (ap free_in e ∙ same_place ms) ∙ later_by (place_for ms) rest h
+
+returns_alike : (place : ℕ) (rest : Option Rest)
+    → left_to_return (outstanding_of place rest) ≡ left_to_return (outstanding_of 0 rest)
+unfolding left_to_return outstanding_of returning
+returns_alike place None = refl
+returns_alike place (Some (Arrives n)) = refl
+returns_alike place (Some (Enters r)) = by_access r.access
+  where
+    by_access : (x : Access) → returning (HasEntered place r.address x) ≡ returning (HasEntered 0 r.address x)
+    by_access (Load n) = refl
+    by_access (Store w) = refl
+
+loads_through : (h : Shape) (n : ℕ) → Some n ≡ channel_of h → h ≡ Loads n
+unfolding channel_of
+loads_through (Puts rs) n e = cc
+loads_through (Loads m) n e = ap Loads (some_inj m n (sym e))
+loads_through (Stores m) n e = cc
+loads_through Jumps n e = cc
+loads_through Links n e = cc
+
+load_comes : (m : Pending) (t : Stage) (n : ℕ) → m.phase ≡ Before t → shape_of m.instr ≡ Loads n
+    → to_come m ≡ (A n ∷ []) ++ X n ∷ []
+unfolding to_come board.to_come row_of board.to_come_in progress_of results puts_of loads_of
+load_comes m t n h e = ap (λ p. board.to_come_in (shape_of m.instr) (progress_of p)) h ∙ ap results e
+
+unit_away : (m : Pending) (t : Stage) (n : ℕ) → m.phase ≡ Before t → seat_of m ≢ 14 + n
+unfolding seat_of seat_in
+unit_away m t n h k = let q : unit_number m.unit ≡ 14 + n =
+    sym (ap (seat_in m.unit) h) ∙ k in let b = unit_below m.unit in omega (arith, b, q)
+
+place_away : (p : ℕ) (y : Pending) → p < 4 → in_place p y ≡ false → seat_of y ≢ 10 + p
+unfolding in_place
+place_away p y b h k = let q = entry_is p y b k in let r : true ≡ false = sym (ap is_some q.1) ∙ h in cc
+
+room_left : (u : FunctionalUnit) (ms : List Pending) (f : Found Pending Stage) (rest : Option Rest) (o : Option ℕ)
+    → Pairs IsApart ms → seek (stage_at u) ms ≡ Some f → IsRestOf (shape_of f.member.instr) rest → place_for ms ≡ o
+    → HasRoom (rest_at o rest) ms
+unfolding rest_at entered_at left_to_return outstanding_of returning
+room_left u ms f None o apart h is e = tt
+room_left u ms f (Some (Enters r)) None apart h is e = tt
+room_left u ms f (Some (Enters r)) (Some p) apart h is e =
+    let q = place_found ms p e in
+    (q.1, each_of_any (in_place p) (λ y. seat_of y ≢ 10 + p) (λ y k. place_away p y q.1 k) ms q.0)
+room_left u ms f (Some (Arrives n)) o apart h is e =
+    let q = seek_splits (stage_at u) ms f h in
+    let t = stage_found u f.member f.answer q.1 in
+    let k = loads_through (shape_of f.member.instr) n is.returns in
+    let c : IsChannel n = loads_channel f.member.instr n k in
+    let b : n < 8 = (let l : n < 6 = c.1 in omega (arith, l)) in (
+      b,
+      subst (AreElsewhere (14 + n)) (sym q.0)
+          (channel_free n (A n ∷ []) f.earlier f.member f.later (subst (Pairs IsApart) q.0 apart)
+          (load_comes f.member f.answer n t k) b (unit_away f.member f.answer n t)),
+    )
+
+rest_of_found : (u : FunctionalUnit) (ms : List Pending) (f : Found Pending Stage) (rest : Option Rest)
+    → seek (stage_at u) ms ≡ Some f
+    → IfSome (sought (seek (stage_at u) ms)) (λ s. IsRestOf (shape_of s.member.instr) rest)
+    → IsRestOf (shape_of f.member.instr) rest
+unfolding sought
+rest_of_found u ms f rest h is = subst (λ o. IfSome (sought o) (λ s. IsRestOf (shape_of s.member.instr) rest)) h is
+
+around : (u : FunctionalUnit) (ms : List Pending) (f : Found Pending Stage) → seek (stage_at u) ms ≡ Some f
+    → waiting ms ≡ waiting f.earlier ++ waiting f.later
+unfolding waiting_in
+around u ms f h = waiting_around (stage_at u) ms f h
+    ∙ ap (λ p. waiting f.earlier ++ (waiting_in p ++ waiting f.later))
+    (stage_found u f.member f.answer (seek_splits (stage_at u) ms f h).1)
+
+pub room_for_rest : (u : FunctionalUnit) (ms : List Pending) (queue : Queue) (f : Found Pending Stage)
+    (rest : Option Rest) (l : Option Outstanding) → queue.entered ≡ waiting ms → Pairs IsApart ms
+    → seek (stage_at u) ms ≡ Some f
+    → IfSome (sought (seek (stage_at u) ms)) (λ s. IsRestOf (shape_of s.member.instr) rest)
+    → l ≡ rest_at (free_in queue.entered) rest → HasRoom l ms
+room_for_rest u ms queue f rest l e apart h is el =
+    subst (λ z. HasRoom z ms) (sym (el ∙ ap (λ o. rest_at o rest) (ap free_in e ∙ same_place ms)))
+    (room_left u ms f rest (place_for ms) apart h (rest_of_found u ms f rest h is) refl)
+
+-- ---- the references in the order in which they entered ----
+
+not_entered : (l m : Pending) → has_turn m ≡ true → IsApart m l → waiting_in l.phase ≡ []
+unfolding is_entered entered_in waiting_in
+not_entered l m h a = by_phase l.phase (and_right (entered_in l.phase) (has_turn m) a.in_turn h)
+  where
+    and_right : (x y : Bool) → (x && y) ≡ false → y ≡ true → x ≡ false
+    and_right true y k i = sym i ∙ k
+    and_right false y k i = refl
+
+    by_phase : (p : Phase) → entered_in p ≡ false → waiting_in p ≡ []
+    by_phase (Before t) k = refl
+    by_phase (After (HasEntered place a x)) k = cc
+    by_phase (After (Accepted n w)) k = refl
+
+none_entered : (m : Pending) (ls : List Pending) → has_turn m ≡ true → Each (IsApart m) ls → waiting ls ≡ []
+unfolding waiting
+none_entered m [] h a = refl
+none_entered m (l ∷ ls) h a = ap (λ w. w ++ waiting ls) (not_entered l m h a.0) ∙ none_entered m ls h a.1
+
+turn_there : (m : Pending) (t : Stage) → m.phase ≡ Before t → has_reference (shape_of m.instr) ≡ true
+    → has_turn m ≡ true
+unfolding has_turn board.has_turn row_of is_reserved progress_of
+turn_there m t h e = ap (λ p. is_reserved (progress_of p) && has_reference (shape_of m.instr)) h ∙ e
+
+queue_left : (u : FunctionalUnit) (ms : List Pending) (queue : Queue) (f : Found Pending Stage) (rest : Option Rest)
+    (o : Option ℕ) → Pairs IsApart ms → seek (stage_at u) ms ≡ Some f → IsRestOf (shape_of f.member.instr) rest
+    → queue.entered ≡ waiting ms → (queue_after queue o rest).entered
+    ≡ waiting (put_back f (kept f.member (rest_at o rest)))
+unfolding queue_after queue_with rest_at entered_at kept waiting_in in_phase outstanding_of enters waiting
+queue_left u ms queue f None o apart h is e =
+    e ∙ around u ms f h ∙ sym (waiting_put f [])
+queue_left u ms queue f (Some (Arrives n)) o apart h is e =
+    e ∙ around u ms f h ∙ sym (waiting_put f (in_phase f.member (After (Accepted n 0)) ∷ [])
+    ∙ ap (λ w. waiting f.earlier ++ (w ++ waiting f.later))
+    (waiting_one (in_phase f.member (After (Accepted n 0)))))
+queue_left u ms queue f (Some (Enters r)) None apart h is e =
+    e ∙ around u ms f h ∙ sym (waiting_put f [])
+queue_left u ms queue f (Some (Enters r)) (Some p) apart h is e =
+    let q = seek_splits (stage_at u) ms f h in
+    let m : Pending = in_phase f.member (After (HasEntered p r.address r.access)) in
+    let none : waiting f.later ≡ [] =
+    none_entered f.member f.later
+    (turn_there f.member f.answer (stage_found u f.member f.answer q.1) (is.refers refl))
+    (pairs_right IsApart f.earlier (f.member ∷ f.later) (subst (Pairs IsApart) q.0 apart)).0 in
+    let x : Entered = record { place = p; reference = r } in
+    ap (λ es. es ++ x ∷ []) (e ∙ around u ms f h ∙ ap (λ w. waiting f.earlier ++ w) none
+    ∙ append-nil (waiting f.earlier))
+    ∙ sym (waiting_put f (m ∷ []) ∙ ap (λ w. waiting f.earlier ++ (w ++ waiting f.later)) (waiting_one m)
+    ∙ ap (λ w. waiting f.earlier ++ (x ∷ w)) none)
+
+queue_busy : (queue : Queue) (o : Option ℕ) (rest : Option Rest) → (queue_after queue o rest).busy ≡ queue.busy
+unfolding queue_after queue_with
+queue_busy queue o None = refl
+queue_busy queue o (Some (Arrives n)) = refl
+queue_busy queue None (Some (Enters r)) = refl
+queue_busy queue (Some p) (Some (Enters r)) = refl
+
+pub leave_tied : (u : FunctionalUnit) (ms ns : List Pending) (queue after : Queue) (b c : Standing)
+    (f : Found Pending Stage) (rest : Option Rest) (l : Option Outstanding) → IsTied ms queue b → Pairs IsApart ms
+    → seek (stage_at u) ms ≡ Some f
+    → IfSome (sought (seek (stage_at u) ms)) (λ s. IsRestOf (shape_of s.member.instr) rest)
+    → (enters (outstanding_of 0 rest) ≡ true → is_none (place_for ms) ≡ false)
+    → l ≡ rest_at (free_in queue.entered) rest → ns ≡ replaced (seek (stage_at u) ms) ms (λ m. kept m l)
+    → after ≡ queue_after queue (free_in queue.entered) rest
+    → c ≡ with_issued b (replaced (seek (held_in u) b.issued) b.issued left) → IsTied ns after c
+unfolding replaced with_issued
+leave_tied u ms ns queue after b c f rest l tied apart h is room el en eq ec =
+    let of = rest_of_found u ms f rest h is in
+    let made : ns ≡ put_back f (kept f.member l) = en ∙ ap (λ o. replaced o ms (λ m. kept m l)) h in
+    let returns : left_to_return l ≡ channel_of (shape_of f.member.instr) =
+    ap left_to_return (later_is ms queue rest l tied.entered room el)
+    ∙ returns_alike (unwrap_or (place_for ms) 0) rest ∙ of.returns in
+    record {
+      boarded = ap (λ (x : Standing). x.issued) ec ∙ ap (λ l. replaced (seek (held_in u) l) l left) tied.boarded
+          ∙ sym (store_follows u ms f l h returns) ∙ ap on_board (sym made);
+      entered = ap (λ (q : Queue). q.entered) eq
+          ∙ queue_left u ms queue f rest (free_in queue.entered) apart h of tied.entered
+          ∙ sym (ap (λ z. waiting (put_back f (kept f.member z))) el) ∙ ap waiting (sym made);
+      counted = subst (λ k. Each (λ m. m.number ≤ k) ns) (sym (ap (λ (x : Standing). x.last) ec))
+          (subst (Each (λ m. m.number ≤ b.last)) (sym made)
+          (each_put (λ m. m.number ≤ b.last) (stage_at u) ms f (kept f.member l) h (λ k. each_kept b.last f.member l k)
+          tied.counted));
+    }
+
+abbrev pub left_from : FunctionalUnit → Option Rest → List Pending → List Pending
+left_from u rest ms =
+    replaced (seek (stage_at u) ms) ms (λ m. kept m (outstanding_of (unwrap_or (place_for ms) 0) rest))
+
+pub leave_flight : (u : FunctionalUnit) (ms ns : List Pending) (queue after : Queue) (b c : Standing)
+    (rest : Option Rest) (l : Option Outstanding) (now : Flight) → flight_of ms queue b ≡ now → IsTied ms queue b
+    → (enters (outstanding_of 0 rest) ≡ true → is_none (place_for ms) ≡ false)
+    → l ≡ rest_at (free_in queue.entered) rest → ns ≡ replaced (seek (stage_at u) ms) ms (λ m. kept m l)
+    → after ≡ queue_after queue (free_in queue.entered) rest
+    → c ≡ with_issued b (replaced (seek (held_in u) b.issued) b.issued left)
+    → flight_of ns after c ≡ with_pending now (left_from u rest now.pending)
+unfolding with_issued
+leave_flight u ms ns queue after b c rest l now ev tied room el en eq ec =
+    ap (λ k. flight_of k after c)
+    (en ∙ ap (λ z. replaced (seek (stage_at u) ms) ms (λ m. kept m z))
+    (later_is ms queue rest l tied.entered room el))
+    ∙ ap (λ k. record { pending = left_from u rest ms; busy = k; last = c.last })
+    (ap (λ (q : Queue). q.busy) eq ∙ queue_busy queue (free_in queue.entered) rest)
+    ∙ ap (λ (x : Standing). record { pending = left_from u rest ms; busy = queue.busy; last = x.last }) ec
+    ∙ ap (λ (x : Flight). with_pending x (left_from u rest x.pending)) ev
+
+pub leave_nobody : (u : FunctionalUnit) (rest : Option Rest) (now : Flight) → seek (stage_at u) now.pending ≡ None
+    → now ≡ with_pending now (left_from u rest now.pending)
+unfolding replaced
+leave_nobody u rest now h = ap
+    (λ o. with_pending now (replaced o now.pending
+    (λ m. kept m (outstanding_of (unwrap_or (place_for now.pending) 0) rest)))) (sym h)

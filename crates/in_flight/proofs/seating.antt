@@ -1,0 +1,3 @@
+-- The list that the slots stand for.
+pub mod Moving
+pub mod Oldest

@@ -1,0 +1,5 @@
+-- What is read at a place is what the table says.
+pub mod DecodingLaws
+pub mod Refusals
+pub mod RoundTrip
+pub mod ByTable

@@ -1,0 +1,170 @@
+-- How sessions end.
+use Rattle.std.proofs.Common.{◌≡◌, ℕ, ◌+◌, Bool, true, false, List, [], Option, Some, Result, Ok, Err, inr, refl, sym}
+use Rattle.std.proofs.Common.{ap, ◌∙◌, subst}
+use Rattle.std.proofs.KnownBytes.{Appends-trans, Appends-kept}
+use Rattle.sequential.specs.Log.{entries_of}
+use Rattle.sequential.specs.Replay.{LogStep, replay, boot}
+use Rattle.sequential.specs.declared.state.State.{State}
+use Rattle.in_flight.specs.Lookup.{is_pending}
+use Rattle.program_order.specs.Reached.{GoesOn, IsReached}
+use Rattle.program_order.specs.Processor.{Processor, boot_processor, replayed}
+use Rattle.instructions.specs.declared.refusal.Refusal.{Refusal}
+use Rattle.deck.specs.Deck.{Good, deck}
+use Rattle.deck.specs.inner.Views.{plan, shown}
+use Rattle.deck.specs.declared.deck.Deck.{Deck}
+use Rattle.job_deck.specs.AnswerText.{answer_line}
+use Rattle.device_text.specs.Device.{Moves}
+use Rattle.job_deck.specs.Dump.{dump_text}
+use Rattle.device_text.specs.Line.{lines_of}
+use Rattle.job_deck.specs.Schedule.{heard}
+use Rattle.job_deck.specs.Session.{IsDump, IsLast, IsReply, Session}
+use Rattle.job_deck.specs.inner.Holding.{Closes, Converses, last_said, refusal_of}
+use Rattle.job_deck.specs.Told.{Performs, Tells, TellsFromBoot}
+use Rattle.job_deck.specs.declared.schedule.Spoken.{Spoken}
+use Rattle.job_deck.specs.declared.session.SessionError.{SessionError}
+use Rattle.job_deck.specs.declared.session.SessionError.TheVariants as errors
+use Rattle.device_text.proofs.Moving.{Moves-trans, Moves-weaker}
+
+-- the dump of what a snapshot shows
+pub is_dump : (w : Processor) (s state : State) (l log : List LogStep) (m : List ℕ) (shows : List (ℕ × ℕ))
+    → is_pending w.pending ≡ false → s ≡ w.state → l ≡ w.log → m ≡ w.boot_memory → replay (boot m) l ≡ Some s
+    → state ≡ s → log ≡ l → IsDump w shows (dump_text state (entries_of log) shows)
+unfolding replayed
+is_dump w s state l log m shows drained same_state same_log same_memory r e f =
+    record {
+      drained = drained;
+      replay = ap (λ x. replay (boot x) w.log) (sym same_memory) ∙ ap (λ x. replay (boot m) x) (sym same_log) ∙ r
+          ∙ ap Some same_state;
+      dump = ap (λ x. dump_text x (entries_of log) shows) (e ∙ same_state)
+          ∙ ap (λ x. dump_text w.state (entries_of x) shows) (f ∙ same_log);
+    }
+
+is_last : (drains : Bool) → IsLast (last_said drains)
+is_last true = tt
+is_last false = tt
+
+-- the reply to the last line, by what the next line of a session says
+reply_there : (said told : Spoken) (w v : Processor) (shows : List (ℕ × ℕ)) (text : List ℕ) → told ≡ said → w ≡ v
+    → IsReply said v shows text → IsReply told w shows text
+reply_there said told w v shows text e f h =
+    subst (λ x. IsReply told x shows text) (sym f) (subst (λ x. IsReply x v shows text) (sym e) h)
+
+closed_there : (r : Result (Unit {0}) SessionError) (drains : Bool) (w v : Processor) (n : ℕ) (shows : List (ℕ × ℕ))
+    (xs ys : List ℕ) (old mid new : Option (List ℕ)) → Converses (Ok drains) w v n xs ys old mid
+    → Closes r (last_said drains) v shows mid new → Tells r (GoesOn w) w n shows xs ys old new
+closed_there (Ok x) drains w v n shows xs ys old mid new h k = (
+  h.0,
+  k.0,
+  subst IsLast (sym h.2) (is_last drains),
+  reply_there (last_said drains) (heard h.0.number h.0.left) h.0.machine v shows k.0 h.2 h.1 k.1,
+  h.3,
+  Appends-trans old mid new h.0.text k.0 h.4 k.2,
+)
+closed_there (Err (errors.Line m fault)) drains w v n shows xs ys old mid new h k = absurd k
+closed_there (Err errors.OutOfMemory) drains w v n shows xs ys old mid new h k =
+    (h.0, subst IsLast (sym h.2) (is_last drains), h.3, Appends-kept old mid new h.0.text h.4 k)
+closed_there (Err errors.Read) drains w v n shows xs ys old mid new h k = absurd k
+closed_there (Err errors.Write) drains w v n shows xs ys old mid new h k =
+    let cut = k.2 in (
+      h.0,
+      k.0,
+      reply_there (last_said drains) (heard h.0.number h.0.left) h.0.machine v shows k.0 h.2 h.1 k.1,
+      h.3,
+      (cut.1.0, cut.0, cut.1.1, Appends-trans old mid new h.0.text cut.1.0 h.4 cut.1.2),
+    )
+
+pub session_closed : (a b : Option (List ℕ)) (r : Result (Unit {0}) SessionError) (drains : Bool) (w v : Processor)
+    (n : ℕ) (shows : List (ℕ × ℕ)) (old mid new : Option (List ℕ))
+    → Moves a b (λ xs ys. Converses (Ok drains) w v n xs ys old mid) → Closes r (last_said drains) v shows mid new
+    → Moves a b (λ xs ys. Tells r (GoesOn w) w n shows xs ys old new)
+session_closed a b r drains w v n shows old mid new told closed =
+    Moves-weaker a b (λ xs ys. Converses (Ok drains) w v n xs ys old mid)
+    (λ xs ys. Tells r (GoesOn w) w n shows xs ys old new)
+    (λ xs ys h. closed_there r drains w v n shows xs ys old mid new h closed) told
+
+stopped_there : (e : SessionError) (w v : Processor) (n : ℕ) (shows : List (ℕ × ℕ)) (xs ys : List ℕ)
+    (old new : Option (List ℕ)) → Converses (Err e) w v n xs ys old new
+    → Tells (Err e) (GoesOn w) w n shows xs ys old new
+stopped_there (errors.Line m fault) w v n shows xs ys old new h = h
+stopped_there errors.OutOfMemory w v n shows xs ys old new h = absurd h
+stopped_there errors.Read w v n shows xs ys old new h = h
+stopped_there errors.Write w v n shows xs ys old new h = (
+  h.0,
+  answer_line h.2,
+  subst (λ x. IsReply x h.0.machine shows (answer_line h.2)) (sym h.3) (h.2, h.4, refl),
+  h.5,
+  h.6,
+)
+
+pub session_stopped : (a b : Option (List ℕ)) (e : SessionError) (w v : Processor) (n : ℕ) (shows : List (ℕ × ℕ))
+    (old new : Option (List ℕ)) → Moves a b (λ xs ys. Converses (Err e) w v n xs ys old new)
+    → Moves a b (λ xs ys. Tells (Err e) (GoesOn w) w n shows xs ys old new)
+session_stopped a b e w v n shows old new told =
+    Moves-weaker a b (λ xs ys. Converses (Err e) w v n xs ys old new)
+    (λ xs ys. Tells (Err e) (GoesOn w) w n shows xs ys old new)
+    (λ xs ys h. stopped_there e w v n shows xs ys old new h) told
+
+-- ---- the deck with its schedule
+
+-- the answer with a refusal in place of the error
+abbrev pub refused : Result (Unit {0}) SessionError → Result (Unit {0}) Refusal
+refused (Ok x) = Ok x
+refused (Err e) = Err (refusal_of e)
+
+-- the session of a machine that was reached from boot by no events, told from boot
+session_from_boot : (memory : List ℕ) (budget n : ℕ) (w : Processor) (lines : List (List ℕ × List ℕ))
+    → IsReached memory budget [] [] w → Session (GoesOn w) w n lines → Session (IsReached memory budget) w n lines
+session_from_boot memory budget n w lines booted s =
+    record {
+      events = s.events;
+      left = s.left;
+      said = s.said;
+      answers = s.answers;
+      answered = s.answered;
+      machine = s.machine;
+      leads = s.leads;
+      led = s.led memory budget [] [] booted;
+      number = s.number;
+      numbered = s.numbered;
+      text = s.text;
+      written = s.written;
+    }
+
+told_from_boot : (r : Result (Unit {0}) SessionError) (memory : List ℕ) (budget n : ℕ) (w : Processor)
+    (shows : List (ℕ × ℕ)) (xs ys : List ℕ) (old new : Option (List ℕ)) → IsReached memory budget [] [] w
+    → Tells r (GoesOn w) w n shows xs ys old new → Tells r (IsReached memory budget) w n shows xs ys old new
+unfolding session_from_boot
+told_from_boot (Ok x) memory budget n w shows xs ys old new booted h =
+    (session_from_boot memory budget n w (lines_of xs) booted h.0, h.1, h.2, h.3, h.4, h.5)
+told_from_boot (Err (errors.Line m fault)) memory budget n w shows xs ys old new booted h =
+    (session_from_boot memory budget n w (lines_of xs) booted h.0, h.1, h.2, h.3)
+told_from_boot (Err errors.OutOfMemory) memory budget n w shows xs ys old new booted h =
+    (session_from_boot memory budget n w (lines_of xs) booted h.0, h.1, h.2, h.3)
+told_from_boot (Err errors.Read) memory budget n w shows xs ys old new booted h =
+    (session_from_boot memory budget n w (lines_of xs) booted h.0, h.1, h.2, h.3, h.4)
+told_from_boot (Err errors.Write) memory budget n w shows xs ys old new booted h =
+    (session_from_boot memory budget n w (lines_of xs) booted h.0, h.1, h.2, h.3, h.4)
+
+performed_there : (r : Result (Unit {0}) SessionError) (budget n : ℕ) (d : Deck) (ys zs : List ℕ)
+    (old new : Option (List ℕ)) → TellsFromBoot r budget (plan d) n ys zs old new
+    → Performs (refused r) budget (Good (plan d) n ys) zs old new
+performed_there (Ok x) budget n d ys zs old new h = h
+performed_there (Err (errors.Line m fault)) budget n d ys zs old new h = h
+performed_there (Err errors.OutOfMemory) budget n d ys zs old new h = inr h
+performed_there (Err errors.Read) budget n d ys zs old new h = inr h
+performed_there (Err errors.Write) budget n d ys zs old new h = h
+
+pub performed : (a b c : Option (List ℕ)) (r : Result (Unit {0}) SessionError) (budget n : ℕ) (d : Deck)
+    (w : Processor) (old new : Option (List ℕ)) → w ≡ boot_processor d.image.memory budget
+    → IsReached d.image.memory budget [] [] w → Moves a b (λ xs ys. deck xs ≡ Good (plan d) n ys)
+    → Moves b c (λ ys zs. Tells r (GoesOn w) w (n + 1) (shown d.shows.items) ys zs old new)
+    → Moves a c (λ xs zs. Performs (refused r) budget (deck xs) zs old new)
+performed a b c r budget n d w old new booted reached read told =
+    Moves-trans a b c (λ xs ys. deck xs ≡ Good (plan d) n ys)
+    (λ ys zs. Tells r (GoesOn w) w (n + 1) (shown d.shows.items) ys zs old new)
+    (λ xs zs. Performs (refused r) budget (deck xs) zs old new) (λ xs ys zs h k.
+    let from_boot = told_from_boot r d.image.memory budget (n + 1) w (shown d.shows.items) ys zs old new reached k in
+    subst (λ x. Performs (refused r) budget x zs old new) (sym h)
+    (performed_there r budget n d ys zs old new
+    (subst (λ x. Tells r (IsReached d.image.memory budget) x (n + 1) (shown d.shows.items) ys zs old new) booted
+    from_boot))) read told

@@ -1,0 +1,5 @@
+-- What each event leaves of a machine.
+pub mod Steps
+pub mod Saving
+pub mod Making
+pub mod Leaving

@@ -1,0 +1,608 @@
+-- What the made and the refused events leave, over a plain machine.
+use Rattle.std.proofs.Common.{◌≡◌, ◌≤◌, ◌+◌, ℕ, Bool, true, false, List, [], ◌∷◌, ◌++◌, Option, Some, None, length}
+use Rattle.std.proofs.Common.{refl, sym, ap, ◌∙◌, subst, suc, add-one, arith}
+use Rattle.std.specs.Prelude.{Result, Ok, Err, ◌||◌, unwrap_or, set, IfSome, replicate}
+use Rattle.instructions.specs.declared.instr.Instr.{Instr}
+use Rattle.instructions.specs.declared.instr.Reg.{Reg}
+use Rattle.instructions.specs.declared.instr.Reg.TheVariants.{X}
+use Rattle.instructions.specs.declared.instr.Unit.{Unit as FunctionalUnit}
+use Rattle.instructions.specs.declared.refusal.Halt.{Halt}
+use Rattle.instructions.specs.declared.refusal.Refusal.{Refusal}
+use Rattle.instructions.specs.Shape.{Shape, shape_of, puts_of}
+use Rattle.registers.specs.declared.file.RegisterFile.{RegisterFile}
+use Rattle.registers.specs.Registers.{put}
+use Rattle.relocation.specs.declared.area.Access.{Access}
+use Rattle.relocation.specs.declared.area.Access.TheVariants.{Load as LoadInto, Store as StoreWord}
+use Rattle.hopper.specs.Hopper.{bank_of}
+use Rattle.unit_ops.specs.declared.Operands.{Operands}
+use Rattle.unit_ops.specs.declared.UnitValue.{UnitValue}
+use Rattle.unit_ops.specs.Values.{value_of}
+use Rattle.sequential.specs.declared.fetching.Fetched.{Fetched}
+use Rattle.sequential.specs.declared.fetching.Fetched.TheVariants.{Halting, Passing, Taking}
+use Rattle.sequential.specs.declared.place.Place.{Place}
+use Rattle.sequential.specs.declared.state.State.{State}
+use Rattle.sequential.specs.declared.work.ProgramReference.{ProgramReference}
+use Rattle.sequential.specs.Place.{gone}
+use Rattle.sequential.specs.State.{Bounds, bounds_of, write, write_all, go, mark, poke, access_at, move_to, halt_by}
+use Rattle.sequential.specs.Work.{operands, same_for, fault_of, jump_for, reference_for, number_in, work_of, do_now}
+use Rattle.sequential.specs.Step.{fetch}
+use Rattle.sequential.specs.Swap.{swap}
+use Rattle.sequential.specs.Replay.{LogStep, Issued, Exchanged, boot, replay}
+use Rattle.sequential.specs.Log.{Logged, issued}
+use Rattle.in_flight.specs.declared.flight.Rest.{Rest}
+use Rattle.program_order.specs.declared.event.Note.{Note}
+use Rattle.hopper.specs.declared.reference.Reference.{Reference}
+use Rattle.in_flight.proofs.asking.Finding.{not_nothing, no_sought, sought_member, sought_what}
+use Rattle.program_order.specs.declared.event.Done.{Done}
+use Rattle.program_order.specs.declared.event.Done.TheVariants.{Issued as DoneIssue}
+use Rattle.program_order.specs.declared.event.Event.{Event}
+use Rattle.program_order.specs.declared.event.Event.TheVariants.{Issue, Read, Finish, Store as StoreResult, Accept}
+use Rattle.program_order.specs.declared.event.Event.TheVariants.{Return, BankFree, Ask, Exchange}
+use Rattle.in_flight.specs.declared.pending.Arrival.{Arrival}
+use Rattle.in_flight.specs.declared.pending.HopperEntry.{HopperEntry}
+use Rattle.in_flight.specs.declared.pending.Outstanding.{Outstanding}
+use Rattle.in_flight.specs.declared.pending.Pending.{Pending}
+use Rattle.in_flight.specs.declared.pending.Phase.TheVariants.{Before}
+use Rattle.in_flight.specs.declared.pending.Stage.{Stage}
+use Rattle.in_flight.specs.declared.pending.Stage.TheVariants.{Waiting, Read as HasRead, Finished}
+use Rattle.in_flight.specs.Tests.{refusal_in, refusal_of, tests_found, read_tests, accept_tests, return_tests}
+use Rattle.in_flight.specs.Tests.{free_tests, row_tests}
+use Rattle.in_flight.specs.Flight.{left_by, Flight, outstanding_of, reserved_in, unit_taken, with_pending}
+use Rattle.program_order.specs.Run.{note_by, done_by, answer_by, answer_of, settled}
+use Rattle.in_flight.specs.Lookup.{sought, stage_at, entry_at, arrival_at, place_for, in_phase, kept, is_pending}
+use Rattle.instructions.specs.Finding.{replaced, Found, seek, put_back}
+use Rattle.machine.specs.inner.View.{owed, IsKept, processor_of}
+use Rattle.program_order.specs.Processor.{Processor, boot_processor, completed, replayed}
+use Rattle.program_order.specs.Units.{finish_tests, store_tests, rest_of, stage_after_read, stage_after_finish}
+use Rattle.program_order.specs.Units.{after_read, after_finish, after_work, after_store}
+use Rattle.program_order.specs.Exchange.{ask_tests, exchange_tests, after_exchange}
+use Rattle.program_order.specs.Issue.{issue_tests, after_issue}
+use Rattle.program_order.specs.Events.{tests_of, allowed, after_found, after}
+use Rattle.program_order.specs.Memory.{after_accept, after_return}
+use Rattle.program_order.proofs.keeping.Slotted.{IsSlottedWhole, event_slotted}
+use Rattle.sequential.proofs.Entries.{issued-append, issued-more}
+use Rattle.program_order.proofs.theorem.Theorem.{IsRight, event_kept, boot_right, drained_replay, not_pending}
+
+-- ---- what stays right ----
+
+pub still_kept : (w v : Processor) (e : Event) (old new : Logged) → allowed w e ≡ None → v ≡ after w e → IsKept w old
+    → owed new.is_open v.request ≤ new.room → v.last ≤ issued v.log → v.budget ≤ 10000000 → IsKept v new
+still_kept w v e old new a h k room numbered limit =
+    let r : IsRight v = subst IsRight (sym h) (event_kept w e a (k.sound, k.replay)) in
+    record {
+      sound = r.0;
+      replay = r.1;
+      slotted = subst IsSlottedWhole (sym h) (event_slotted w e a k.slotted);
+      room = room;
+      numbered = numbered;
+      limit = limit;
+    }
+
+-- those in flight of a machine, and the machine with others in flight
+abbrev pub flight : Processor → Flight
+flight w = record { pending = w.pending; busy = w.busy; last = w.last }
+
+abbrev pub with_flight : Processor → Flight → Processor
+with_flight w g = record w { pending = g.pending; busy = g.busy; last = g.last }
+
+-- where those in flight are as they were
+pub same_flight : (w : Processor) (g : Flight) → g ≡ flight w → with_flight w g ≡ w
+same_flight w g e = ap (with_flight w) e
+
+-- ---- the clauses of a method ----
+
+pub err_answer : (w v : Processor) (e : Event) (k : Refusal) → w ≡ v → allowed w e ≡ Some k → Err k ≡ answer_of v e
+unfolding answer_of answer_by
+err_answer w v e k h a = ap (λ o. answer_by (done_by v e) o) (sym a ∙ ap (λ x. allowed x e) h)
+
+pub err_after : (v n : Processor) (e : Event) (k : Refusal) → n ≡ v → n ≡ settled v e (Err k)
+unfolding settled
+err_after v n e k h = h
+
+pub ok_answer : (w v : Processor) (e : Event) (d : Done) → w ≡ v → allowed w e ≡ None → d ≡ done_by w e
+    → Ok d ≡ answer_of v e
+unfolding answer_of answer_by
+ok_answer w v e d h a i =
+    ap Ok i
+    ∙ ap (answer_by (done_by w e)) (sym a)
+    ∙ ap (λ x. answer_by (done_by x e) (allowed x e)) h
+
+pub ok_after : (w v n : Processor) (e : Event) (d : Done) → w ≡ v → n ≡ after w e → n ≡ settled v e (Ok d)
+unfolding settled
+ok_after w v n e d h m = m ∙ ap (λ x. after x e) h
+
+-- ---- the judgements ----
+
+-- what is judged before first order, and first order
+pub issue_refused : (w : Processor) (count : ℕ) (k : Refusal) → count ≡ issued w.log
+    → refusal_of (issue_tests w.state w.pending w.request w.budget count) ≡ Some k → allowed w Issue ≡ Some k
+unfolding allowed tests_of
+issue_refused w count k n h = ap (λ c. refusal_of (issue_tests w.state w.pending w.request w.budget c)) (sym n) ∙ h
+
+pub issue_judged : (w : Processor) (count : ℕ) (g : Fetched) (o : Option Refusal) → count ≡ issued w.log
+    → refusal_of (issue_tests w.state w.pending w.request w.budget count) ≡ refusal_of (row_tests w.pending g)
+    → refusal_of (row_tests w.pending g) ≡ o → allowed w Issue ≡ o
+unfolding allowed tests_of
+issue_judged w count g o n h k =
+    ap (λ c. refusal_of (issue_tests w.state w.pending w.request w.budget c)) (sym n) ∙ h ∙ k
+
+pub read_judged : (w : Processor) (u : FunctionalUnit) (r o : Option Refusal)
+    → refusal_of (tests_found (seek (stage_at u) w.pending) (λ f. read_tests f.answer f.earlier f.member.instr)) ≡ r
+    → r ≡ o → allowed w (Read u) ≡ o
+unfolding allowed tests_of
+read_judged w u r o h k = h ∙ k
+
+pub finish_judged : (w : Processor) (u : FunctionalUnit) (r o : Option Refusal)
+    → refusal_of (tests_found (seek (stage_at u) w.pending) (λ f. finish_tests f.answer)) ≡ r → r ≡ o
+    → allowed w (Finish u) ≡ o
+unfolding allowed tests_of
+finish_judged w u r o h k = h ∙ k
+
+pub store_judged : (w : Processor) (u : FunctionalUnit) (size : ℕ) (r o : Option Refusal)
+    → size ≡ length w.state.memory
+    → refusal_of (tests_found (seek (stage_at u) w.pending)
+    (λ f. store_tests (record { area = w.state.area; size = size }) w.pending f.answer f.earlier
+    f.member.instr)) ≡ r → r ≡ o → allowed w (StoreResult u) ≡ o
+unfolding allowed tests_of bounds_of
+store_judged w u size r o n h k =
+    ap (λ z. refusal_of (tests_found (seek (stage_at u) w.pending)
+    (λ f. store_tests (record { area = w.state.area; size = z }) w.pending f.answer f.earlier
+    f.member.instr))) (sym n)
+    ∙ h ∙ k
+
+pub accept_judged : (w : Processor) (p : ℕ) (r o : Option Refusal)
+    → refusal_of (tests_found (seek (entry_at p) w.pending) (λ f. accept_tests w.busy f.earlier f.answer)) ≡ r → r ≡ o
+    → allowed w (Accept p) ≡ o
+unfolding allowed tests_of
+accept_judged w p r o h k = h ∙ k
+
+pub return_judged : (w : Processor) (n : ℕ) (r o : Option Refusal)
+    → refusal_of (tests_found (seek (arrival_at n) w.pending) (λ f. return_tests f.earlier f.answer)) ≡ r → r ≡ o
+    → allowed w (Return n) ≡ o
+unfolding allowed tests_of
+return_judged w n r o h k = h ∙ k
+
+pub free_judged : (w : Processor) (k : ℕ) (r o : Option Refusal) → refusal_of (free_tests w.busy k) ≡ r → r ≡ o
+    → allowed w (BankFree k) ≡ o
+unfolding allowed tests_of
+free_judged w k r o h e = h ∙ e
+
+pub ask_judged : (w : Processor) (n size : ℕ) (r : Result (Unit {0}) Refusal) (o : Option Refusal)
+    → size ≡ length w.state.memory → refusal_of (ask_tests w.asked w.request size n) ≡ refusal_in r → refusal_in r ≡ o
+    → allowed w (Ask n) ≡ o
+unfolding allowed tests_of
+ask_judged w n size r o z h e = ap (λ k. refusal_of (ask_tests w.asked w.request k n)) (sym z) ∙ h ∙ e
+
+pub exchange_judged : (w : Processor) (r o : Option Refusal)
+    → refusal_of (exchange_tests w.request w.pending w.state) ≡ r → r ≡ o → allowed w Exchange ≡ o
+unfolding allowed tests_of
+exchange_judged w r o h k = h ∙ k
+
+-- ---- the machines that are made ----
+
+pub read_made : (w : Processor) (u : FunctionalUnit) (m : Pending) (os : Operands) (g : Flight)
+    → sought (seek (stage_at u) w.pending) ≡ Some (record { member = m; answer = Waiting })
+    → os ≡ operands m.instr m.at w.state.registers
+    → g ≡ with_pending (flight w)
+    (replaced (seek (stage_at u) w.pending) w.pending (λ x. in_phase x (Before (HasRead os)) ∷ []))
+    → with_flight w g ≡ after w (Read u)
+unfolding after replaced after_found after_read stage_after_read
+read_made w u m os g h o e = ap (with_flight w) e ∙ found (seek (stage_at u) w.pending) h
+  where
+    found : (q : Option (Found Pending Stage)) → sought q ≡ Some (record { member = m; answer = Waiting })
+        → record w { pending = replaced q w.pending (λ x. in_phase x (Before (HasRead os)) ∷ []) }
+        ≡ after_found w q (after_read w)
+    found None k = absurd (no_sought (record { member = m; answer = Waiting }) k)
+    found (Some f) k =
+        ap (λ x. record w { pending = put_back f (in_phase f.member (Before (HasRead x)) ∷ []) })
+        (o ∙ ap (λ (x : Pending). operands x.instr x.at w.state.registers)
+        (sym (sought_member f (record { member = m; answer = Waiting }) k)))
+        ∙ ap (λ t. record w {
+          pending = put_back f
+              (in_phase f.member (Before (stage_after_read w.state.registers f.member.instr f.member.at t))
+              ∷ []);
+        }) (sym (sought_what f (record { member = m; answer = Waiting }) k))
+
+pub finish_made : (w : Processor) (u : FunctionalUnit) (m : Pending) (os : Operands) (v : UnitValue) (g : Flight)
+    → sought (seek (stage_at u) w.pending) ≡ Some (record { member = m; answer = HasRead os })
+    → v ≡ value_of m.instr os → g
+    ≡ with_pending (flight w) (replaced (seek (stage_at u) w.pending) w.pending
+    (λ x. in_phase x (Before (Finished v)) ∷ [])) → with_flight w g ≡ after w (Finish u)
+unfolding after replaced after_found after_finish stage_after_finish
+finish_made w u m os v g h o e = ap (with_flight w) e ∙ found (seek (stage_at u) w.pending) h
+  where
+    found : (q : Option (Found Pending Stage)) → sought q ≡ Some (record { member = m; answer = HasRead os })
+        → record w { pending = replaced q w.pending (λ x. in_phase x (Before (Finished v)) ∷ []) }
+        ≡ after_found w q (after_finish w)
+    found None k = absurd (no_sought (record { member = m; answer = HasRead os }) k)
+    found (Some f) k =
+        ap (λ x. record w { pending = put_back f (in_phase f.member (Before (Finished x)) ∷ []) })
+        (o ∙ ap (λ (x : Pending). value_of x.instr os)
+        (sym (sought_member f (record { member = m; answer = HasRead os }) k)))
+        ∙ ap (λ t. record w {
+          pending = put_back f
+              (in_phase f.member (Before (stage_after_finish f.member.instr t)) ∷ []);
+        }) (sym (sought_what f
+        (record { member = m; answer = HasRead os }) k))
+
+pub return_made : (w : Processor) (n : ℕ) (x : Arrival) (r : RegisterFile) (g : Flight) → allowed w (Return n) ≡ None
+    → IfSome (seek (arrival_at n) w.pending) (λ f. f.answer ≡ x) → r ≡ put w.state.registers (X x.channel) x.word
+    → g ≡ with_pending (flight w) (replaced (seek (arrival_at n) w.pending) w.pending (λ m. []))
+    → with_flight (record w { state = record w.state { registers = r } }) g ≡ after w (Return n)
+unfolding allowed tests_of after replaced after_found after_return write tests_found
+return_made w n x r g a h o e = ap (with_flight (record w { state = record w.state { registers = r } })) e
+    ∙ found (seek (arrival_at n) w.pending) a h
+  where
+    found : (q : Option (Found Pending Arrival))
+        → refusal_of (tests_found q (λ f. return_tests f.earlier f.answer)) ≡ None → IfSome q (λ f. f.answer ≡ x)
+        → record w { state = record w.state { registers = r }; pending = replaced q w.pending (λ m. []) }
+        ≡ after_found w q (after_return w)
+    found None k i = absurd (not_nothing k)
+    found (Some f) k i = ap (λ y. record w { state = record w.state { registers = y }; pending = put_back f [] })
+        (o ∙ ap (λ (y : Arrival). put w.state.registers (X y.channel) y.word) (sym i))
+
+by_access : (w : Processor) (f : Found Pending HopperEntry) (a : ℕ) (x : Access)
+    → record w {
+      state = record w.state { memory = (access_at w.state a x).memory };
+      pending = put_back f (kept f.member (left_by w.state.memory a x));
+      busy =
+          set w.busy (bank_of a) true;
+    } ≡ after_accept w f a x
+unfolding after_accept put_back kept in_phase access_at write poke
+by_access w f a (LoadInto n) = refl
+by_access w f a (StoreWord v) = refl
+
+pub accept_made : (w : Processor) (p : ℕ) (r : Reference) (s : State) (g : Flight) → allowed w (Accept p) ≡ None
+    → IfSome (seek (entry_at p) w.pending) (λ f. f.answer ≡ record { a = r.address; access = r.access })
+    → s ≡ record w.state { memory = (access_at w.state r.address r.access).memory }
+    → g ≡ record (flight w) {
+      pending = replaced (seek (entry_at p) w.pending) w.pending
+          (λ m. kept m (left_by w.state.memory r.address r.access));
+      busy = set w.busy (bank_of r.address) true;
+    }
+    → with_flight (record w { state = s }) g ≡ after w (Accept p)
+unfolding allowed tests_of after replaced after_found tests_found
+accept_made w p r s g a h es e = ap (with_flight (record w { state = s })) e
+    ∙ ap (λ t. record w {
+      state = t;
+      pending = replaced (seek (entry_at p) w.pending) w.pending
+          (λ x. kept x (left_by w.state.memory r.address r.access));
+      busy =
+          set w.busy (bank_of r.address) true;
+    }) es ∙ found (seek (entry_at p) w.pending) a h
+  where
+    found : (q : Option (Found Pending HopperEntry))
+        → refusal_of (tests_found q (λ f. accept_tests w.busy f.earlier f.answer)) ≡ None
+        → IfSome q (λ f. f.answer ≡ record { a = r.address; access = r.access })
+        → record w {
+          state = record w.state { memory = (access_at w.state r.address r.access).memory };
+          pending = replaced q w.pending (λ x. kept x (left_by w.state.memory r.address r.access));
+          busy =
+              set w.busy (bank_of r.address) true;
+        } ≡ after_found w q (λ f. after_accept w f f.answer.a f.answer.access)
+    found None k i = absurd (not_nothing k)
+    found (Some f) k i =
+        by_access w f r.address r.access ∙ ap (λ (y : HopperEntry). after_accept w f y.a y.access) (sym i)
+
+pub store_made : (w : Processor) (u : FunctionalUnit) (m : Pending) (v : UnitValue) (s : State) (place : Place)
+    (fault : Bool) (left : Option Outstanding) (g : Flight)
+    → sought (seek (stage_at u) w.pending) ≡ Some (record { member = m; answer = Finished v })
+    → s ≡ write_all w.state (same_for (number_in v) (puts_of (shape_of m.instr)))
+    → place ≡ gone s.place (jump_for (shape_of m.instr) v)
+    → fault ≡ (s.fault || fault_of (bounds_of w.state) (reference_for (shape_of m.instr) v))
+    → left ≡ rest_of (bounds_of w.state) (unwrap_or (place_for w.pending) 0) (reference_for (shape_of m.instr) v)
+    → g ≡ with_pending (flight w) (replaced (seek (stage_at u) w.pending) w.pending (λ x. kept x left))
+    → with_flight (record w { state = record s { place = place; fault = fault } }) g ≡ after w (StoreResult u)
+unfolding after replaced after_found after_store after_work work_of do_now mark go
+store_made w u m v s place fault left g h es ep ef el e =
+    let b : Bounds = bounds_of w.state in
+    let shape : Shape = shape_of m.instr in
+    ap (with_flight (record w { state = record s { place = place; fault = fault } })) e
+    ∙ ap (λ l. record w {
+      state = record s { place = place; fault = fault };
+      pending = replaced (seek (stage_at u) w.pending) w.pending (λ x. kept x l);
+    }) el
+    ∙ ap (λ t. record w {
+      state = t;
+      pending = replaced (seek (stage_at u) w.pending) w.pending
+          (λ x. kept x (rest_of b (unwrap_or (place_for w.pending) 0) (reference_for shape v)));
+    }) (
+    ap (λ x. record s { place = x; fault = fault }) ep
+    ∙ ap (λ x. record s { place = gone s.place (jump_for shape v); fault = x }) ef
+    ∙ ap (λ (t : State). record t {
+      place = gone t.place (jump_for shape v);
+      fault = t.fault
+          || fault_of b (reference_for shape v);
+    }) es
+    )
+    ∙ found (seek (stage_at u) w.pending) h
+  where
+    found : (q : Option (Found Pending Stage)) → sought q ≡ Some (record { member = m; answer = Finished v })
+        → record w {
+          state = do_now (bounds_of w.state) w.state (work_of (shape_of m.instr) v);
+          pending = replaced q w.pending
+              (λ x. kept x (rest_of (bounds_of w.state) (unwrap_or (place_for w.pending) 0)
+              (reference_for (shape_of m.instr) v)));
+        } ≡ after_found w q (λ f. after_store w f f.answer)
+    found None k = absurd (no_sought (record { member = m; answer = Finished v }) k)
+    found (Some f) k =
+        ap (λ (y : Pending). record w {
+          state = do_now (bounds_of w.state) w.state (work_of (shape_of y.instr) v);
+          pending = put_back f (kept f.member
+              (rest_of (bounds_of w.state) (unwrap_or (place_for w.pending) 0)
+              (reference_for (shape_of y.instr) v)));
+        }) (sym (sought_member f (record {
+          member =
+              m;
+          answer = Finished v;
+        }) k))
+        ∙ ap (λ t. after_store w f t) (sym (sought_what f (record { member = m; answer = Finished v }) k))
+
+pub bank_made : (w : Processor) (k : ℕ) (g : Flight) → g ≡ record (flight w) { busy = set w.busy k false }
+    → with_flight w g ≡ after w (BankFree k)
+unfolding after
+bank_made w k g e = ap (with_flight w) e
+
+pub ask_made : (w : Processor) (n : ℕ) (log : List LogStep) → log ≡ w.log
+    → record w { request = Some n; asked = w.asked + 1; log = log } ≡ after w (Ask n)
+unfolding after
+ask_made w n log e = ap (λ l. record w { request = Some n; asked = w.asked + 1; log = l }) e
+    ∙ ap (λ k. record w { request = Some n; asked = k }) (add-one w.asked)
+
+pub exchange_made : (w : Processor) (n : ℕ) (s : State) (log : List LogStep) → w.request ≡ Some n → s ≡ swap n w.state
+    → log ≡ w.log ++ Exchanged n ∷ [] → record w { state = s; log = log; request = None } ≡ after w Exchange
+unfolding after after_exchange
+exchange_made w n s log e es el =
+    ap (λ l. record w { state = s; log = l; request = None }) el
+    ∙ ap (λ t. record w { state = t; log = w.log ++ Exchanged n ∷ []; request = None }) es
+    ∙ ap (λ r. after_exchange w r) (sym e)
+
+-- what an issue leaves, but for its entry in the log, and the reservation that it answers
+pub record IsIssued (w : Processor) (before : Logged) (g : Fetched) (v : Processor) (log : Logged)
+    (given : Option Note) : Type 0 where
+  pub judged : refusal_of (row_tests w.pending g) ≡ None
+  pub left : record v { log = w.log ++ Issued ∷ [] } ≡ after_issue w g
+  pub noted : given ≡ note_by w g
+  pub same_log : log ≡ before
+  pub same_request : v.request ≡ w.request
+  pub same_budget : v.budget ≡ w.budget
+  pub numbered : v.last ≤ suc w.last
+
+pub issued_halting : (w : Processor) (log : Logged) (halt : Halt) (place : Place)
+    → IsIssued w log (Halting halt place) (record w { state = record w.state { place = place; halt = Some halt } }) log
+    None
+unfolding refusal_of row_tests after_issue move_to halt_by note_by
+issued_halting w log halt place =
+    record {
+      judged = refl;
+      left = refl;
+      noted = refl;
+      same_log = refl;
+      same_request = refl;
+      same_budget = refl;
+      numbered = omega arith;
+    }
+
+pub issued_passing : (w : Processor) (log : Logged) (place : Place)
+    → IsIssued w log (Passing place) (record w { state = record w.state { place = place } }) log None
+unfolding refusal_of row_tests after_issue move_to note_by
+issued_passing w log place = record {
+  judged = refl;
+  left = refl;
+  noted = refl;
+  same_log = refl;
+  same_request = refl;
+  same_budget = refl;
+  numbered = omega arith;
+}
+
+pub issued_taking : (w : Processor) (log : Logged) (i : Instr) (place : Place) (unit : FunctionalUnit) (number : ℕ)
+    (f : Flight) → refusal_of (row_tests w.pending (Taking i place)) ≡ None → unit ≡ unit_taken (flight w) i
+    → number ≡ suc w.last → f ≡ reserved_in (flight w) i w.state.place.p
+    → IsIssued w log (Taking i place) (with_flight (record w { state = record w.state { place = place } }) f) log
+    (Some (record { unit = unit; number = number }))
+unfolding after_issue move_to note_by
+issued_taking w log i place unit number f a eu en ef = record {
+  judged = a;
+  left = ap (with_flight (record w { state = record w.state { place = place }; log = w.log ++ Issued ∷ [] })) ef;
+  noted = ap (λ x. Some (record { unit = x; number = number })) eu
+      ∙ ap (λ x. Some (record { unit = unit_taken (flight w) i; number = x })) en;
+  same_log = refl;
+  same_request = refl;
+  same_budget = refl;
+  numbered = let n = ap (λ (x : Flight). x.last) ef in omega (arith, n);
+}
+
+pub issue_made : (w : Processor) (before log : Logged) (g : Fetched) (v : Processor) (given : Option Note)
+    (steps : List LogStep) → before.steps ≡ w.log → g ≡ fetch (bounds_of w.state) w.state.memory w.state.place
+    → IsIssued w before g v log given → steps ≡ log.steps ++ Issued ∷ [] → record v { log = steps } ≡ after w Issue
+unfolding after
+issue_made w before log g v given steps eb eg s el =
+    ap (λ l. record v { log = l })
+    (el ∙ ap (λ (l : Logged). l.steps ++ Issued ∷ []) s.same_log ∙ ap (λ l. l ++ Issued ∷ []) eb)
+    ∙ s.left
+    ∙ ap (after_issue w) eg
+
+pub issue_done : (w : Processor) (before log : Logged) (g : Fetched) (v : Processor) (given : Option Note)
+    → g ≡ fetch (bounds_of w.state) w.state.memory w.state.place → IsIssued w before g v log given
+    → DoneIssue given ≡ done_by w Issue
+unfolding done_by
+issue_done w before log g v given eg s = ap DoneIssue (s.noted ∙ ap (note_by w) eg)
+
+-- ---- room in the log ----
+
+pub owed_at_most : (is_open : Bool) (request : Option ℕ) (room : ℕ) → 3 ≤ room → owed is_open request ≤ room
+owed_at_most true None room h = omega arith
+owed_at_most false None room h = omega arith
+owed_at_most true (Some n) room h = omega arith
+owed_at_most false (Some n) room h = omega arith
+
+pub room_of_request : (is_open : Bool) (request : Option ℕ) (n room : ℕ) → owed is_open request ≤ room
+    → request ≡ Some n → 2 ≤ room
+room_of_request is_open request n room h e = two is_open (subst (λ r. owed is_open r ≤ room) e h)
+  where
+    two : (b : Bool) → owed b (Some n) ≤ room → 2 ≤ room
+    two true k = omega arith
+    two false k = omega arith
+
+pub owed_none : (is_open : Bool) (room : ℕ) → 1 ≤ room → owed is_open None ≤ room
+owed_none true room h = omega arith
+owed_none false room h = omega arith
+
+pub owed_issued : (was_open is_open : Bool) (request : Option ℕ) (old new spent : ℕ) → owed was_open request ≤ old
+    → is_open ≡ true → new + spent ≡ old → spent ≡ owed was_open None → owed is_open request ≤ new
+owed_issued true false request old new spent h e k i = cc
+owed_issued false false request old new spent h e k i = cc
+owed_issued true true None old new spent h e k i = omega (arith, h, k, i)
+owed_issued false true None old new spent h e k i = omega (arith, h, k, i)
+owed_issued true true (Some n) old new spent h e k i = omega (arith, h, k, i)
+owed_issued false true (Some n) old new spent h e k i = omega (arith, h, k, i)
+
+-- ---- numbers ----
+
+pub numbered_still : (last : ℕ) (old new : List LogStep) → new ≡ old → last ≤ issued old → last ≤ issued new
+numbered_still last old new e h = subst (λ l. last ≤ issued l) (sym e) h
+
+pub numbered_exchange : (last : ℕ) (old new : List LogStep) (n : ℕ) → new ≡ old ++ Exchanged n ∷ [] → last ≤ issued old
+    → last ≤ issued new
+numbered_exchange last old new n e h = subst (λ l. last ≤ issued l) (sym e) (after old h)
+  where
+    after : (xs : List LogStep) → last ≤ issued xs → last ≤ issued (xs ++ Exchanged n ∷ [])
+    after xs k = let a = issued-append xs (Exchanged n ∷ []) in omega (arith, a, k)
+
+pub numbered_issue : (before last : ℕ) (old new : List LogStep) → new ≡ old ++ Issued ∷ [] → before ≤ issued old
+    → last ≤ suc before → last ≤ issued new
+numbered_issue before last old new e h k =
+    let a : issued new ≡ issued old + 1 = ap issued e ∙ issued-more old in omega (arith, a, h, k)
+
+-- ---- a store from its parts ----
+
+pub bounds_at : (w : Processor) (size : ℕ) → size ≡ length w.state.memory
+    → record { area = w.state.area; size = size } ≡ bounds_of w.state
+unfolding bounds_of
+bounds_at w size e = ap (λ n. record { area = w.state.area; size = n }) e
+
+pub store_parts : (w : Processor) (u : FunctionalUnit) (size : ℕ) (m : Pending) (v : UnitValue)
+    (q : Option ProgramReference) (written rs : List Reg) (number : ℕ) (jump : Option ℕ) (s : State) (place : Place)
+    (fault : Bool) (rest : Option Rest) (g : Flight)
+    → sought (seek (stage_at u) w.pending) ≡ Some (record { member = m; answer = Finished v })
+    → size ≡ length w.state.memory
+    → q ≡ reference_for (shape_of m.instr) v
+    → ((p : ℕ) → outstanding_of p rest ≡ rest_of (record { area = w.state.area; size = size }) p q)
+    → written ≡ puts_of (shape_of m.instr) → rs ≡ written → number ≡ number_in v
+    → s ≡ write_all w.state (same_for number rs)
+    → jump ≡ jump_for (shape_of m.instr) v → place ≡ gone s.place jump
+    → fault ≡ (s.fault || fault_of (record { area = w.state.area; size = size }) q)
+    → g ≡ with_pending (flight w)
+    (replaced (seek (stage_at u) w.pending) w.pending
+    (λ x. kept x (outstanding_of (unwrap_or (place_for w.pending) 0) rest)))
+    → with_flight (record w { state = record s { place = place; fault = fault } }) g ≡ after w (StoreResult u)
+store_parts w u size m v q written rs number jump s place fault rest g p ez eq el ew er en es ej ep ef em =
+    store_made w u m v s place fault (outstanding_of (unwrap_or (place_for w.pending) 0) rest) g p
+    (es ∙ ap (λ l. write_all w.state (same_for number l)) (er ∙ ew)
+    ∙ ap (λ n. write_all w.state (same_for n (puts_of (shape_of m.instr)))) en)
+    (ep ∙ ap (gone s.place) ej)
+    (ef ∙ ap (λ b. s.fault || fault_of b q) (bounds_at w size ez)
+    ∙ ap (λ x. s.fault || fault_of (bounds_of w.state) x) eq)
+    (el (unwrap_or (place_for w.pending) 0)
+    ∙ ap (λ b. rest_of b (unwrap_or (place_for w.pending) 0) q) (bounds_at w size ez)
+    ∙ ap (rest_of (bounds_of w.state) (unwrap_or (place_for w.pending) 0)) eq)
+    em
+
+-- ---- boot ----
+
+pub booted : (memory copy : List ℕ) (s : State) (g : Flight) (log : Logged) (budget : ℕ) → s ≡ boot memory
+    → copy ≡ memory → g ≡ record { pending = []; busy = replicate 32 false; last = 0 } → log.steps ≡ []
+    → processor_of s g.pending g.busy None log budget 0 g.last copy false ≡ boot_processor memory budget
+unfolding boot_processor
+booted memory copy s g log budget es ec em el =
+    ap (λ x. record {
+      state = x;
+      pending = g.pending;
+      busy = g.busy;
+      request = None;
+      log = log.steps;
+      budget = budget;
+      asked = 0;
+      last = g.last;
+      boot_memory = copy;
+      seats_given = false;
+    }) es
+    ∙ ap (λ (x : Flight). record {
+      state = boot memory;
+      pending = x.pending;
+      busy = x.busy;
+      request = None;
+      log = log.steps;
+      budget = budget;
+      asked = 0;
+      last = x.last;
+      boot_memory = copy;
+      seats_given = false;
+    }) em
+    ∙ ap (λ x. record {
+      state = boot memory;
+      pending = [];
+      busy = replicate 32 false;
+      request = None;
+      log = x;
+      budget = budget;
+      asked = 0;
+      last = 0;
+      boot_memory = copy;
+      seats_given = false;
+    }) el
+    ∙ ap (λ x. record {
+      state = boot memory;
+      pending = [];
+      busy = replicate 32 false;
+      request = None;
+      log = [];
+      budget = budget;
+      asked = 0;
+      last = 0;
+      boot_memory = x;
+      seats_given = false;
+    }) ec
+
+slotted_none : (w : Processor) (memory : List ℕ) (budget : ℕ) → w ≡ boot_processor memory budget → IsSlottedWhole w
+unfolding boot_processor
+slotted_none w memory budget e = subst IsSlottedWhole (sym e) (record { apart = tt; proper = tt })
+
+pub boot_kept : (w : Processor) (memory : List ℕ) (budget : ℕ) (log : Logged) → w ≡ boot_processor memory budget
+    → w.request ≡ None → 1 ≤ log.room → w.last ≡ 0 → w.budget ≤ 10000000 → IsKept w log
+boot_kept w memory budget log e r h n l =
+    let k : IsRight w = subst IsRight (sym e) (boot_right memory budget) in
+    record {
+      sound = k.0;
+      replay = k.1;
+      slotted = slotted_none w memory budget e;
+      room = subst (λ q. owed log.is_open q ≤ log.room) (sym r) (owed_none log.is_open log.room h);
+      numbered =
+          omega (arith, n);
+      limit = l;
+    }
+
+-- giving the seats out changes nothing else
+pub seats_kept : (w : Processor) (log : Logged) → IsKept w log → IsKept (record w { seats_given = true }) log
+unfolding completed replayed
+seats_kept w log k = record {
+  sound = record { apart = k.sound.apart; request_fits = k.sound.request_fits };
+  replay = k.replay;
+  slotted = record { apart = k.slotted.apart; proper = k.slotted.proper };
+  room = k.room;
+  numbered = k.numbered;
+  limit = k.limit;
+}
+
+-- ---- a snapshot ----
+
+-- a drained machine's state is the replay of its log, and so are copies of them
+pub snap_replay : (w : Processor) (log : Logged) (s : State) (steps : List LogStep) (memory : List ℕ) → IsKept w log
+    → is_pending w.pending ≡ false → s ≡ w.state → steps ≡ w.log → memory ≡ w.boot_memory
+    → replay (boot memory) steps ≡ Some s
+snap_replay w log s steps memory k p es el em =
+    ap (λ m. replay (boot m) steps) em
+    ∙ ap (replay (boot w.boot_memory)) el
+    ∙ drained_replay w (k.sound, k.replay) (not_pending w.pending p)
+    ∙ ap Some (sym es)

@@ -1,0 +1,46 @@
+ghost use Rattle.std.specs.Prelude.{◌≡◌};
+ghost use Rattle.program_order.specs.declared.event.Event.TheVariants.{Ask, Exchange};
+ghost use Rattle.program_order.specs.Run.{IsAnswer, answer_of, settled};
+
+use crate::changing::exchange;
+use crate::judging::{judge_ask, judge_exchange};
+use crate::{Answer, Done, Machine};
+use relocation::PACKAGE_WORDS;
+
+impl Machine {
+    /// An exchange is asked for. Room is made in the log for three entries, so that no other event takes
+    /// memory.
+    pub(crate) fn ask(&mut self, at: u32) -> Answer
+        ensures answer { IsAnswer self.old (Ask at) result }
+        ensures after { self.new ≡ settled self.old (Ask at) result }
+    {
+        let size = self.state.memory.size();
+        if let Err(refusal) = judge_ask(self.asked, &self.request, size, at) {
+            return Err(refusal);
+        }
+        if let Err(refusal) = self.log.reserve(3) {
+            return Err(refusal);
+        }
+        self.request = Some(at);
+        self.asked += 1;
+        Ok(Done::Made)
+    }
+
+    /// The exchange that was asked for is made.
+    pub(crate) fn exchange(&mut self) -> Answer
+        ensures answer { result ≡ answer_of self.old Exchange }
+        ensures after { self.new ≡ settled self.old Exchange result }
+    {
+        let judged = judge_exchange(&self.request, &self.in_flight, &self.state);
+        let at = match judged {
+            Ok(at) => at,
+            Err(refusal) => return Err(refusal),
+        };
+        self.saved
+            .save_before_write(&self.state.memory, at, PACKAGE_WORDS);
+        exchange(&mut self.state, at);
+        self.log.exchanged(at);
+        self.request = None;
+        Ok(Done::Made)
+    }
+}

@@ -1,0 +1,92 @@
+ghost use Rattle.std.specs.Prelude.{◌≡◌, true, IfOk, IsSome, Some, None, MatchResult};
+ghost use Rattle.program_order.specs.declared.event.Event.TheVariants.{Read, Finish, Store};
+ghost use Rattle.program_order.specs.Run.{answer_of, settled};
+ghost use Rattle.instructions.specs.Operands.{row};
+ghost use Rattle.in_flight.specs.Tests.{refusal_in};
+ghost use Rattle.machine.specs.Tokens.{Seating, IsValueIn, slot, waits_in, reading_in};
+ghost use Rattle.program_order.specs.Events.{allowed, after};
+
+use crate::changing::{fault_after, rest_of, write_registers};
+use crate::judging::{judge_finish, judge_store};
+use crate::{Answer, Done, Machine};
+use in_flight::Pending;
+use instruction_table::{Refusal, Unit};
+use sequential::{jump, number, reference};
+use unit_ops::{Operands, UnitValue, value};
+
+impl Machine {
+    /// A unit reads its operands, all in this step. It answers the instruction that waited, and
+    /// what it has read.
+    pub(crate) fn read_operands(&mut self, unit: Unit) -> Result<(Pending, Operands), Refusal>
+        ensures answer { allowed self.old (Read unit) ≡ refusal_in result }
+        ensures after { MatchResult result (λ read. self.new ≡ after self.old (Read unit))
+            (λ refusal. self.new ≡ self.old) }
+        ensures unit { IfOk result (λ read. IsSome (row read.0.instr).unit) }
+        ensures number { IfOk result (λ read. waits_in read.0.number (slot self.old unit) ≡ true) }
+        ensures read { IfOk result (λ read. (seat : Seating)
+            → reading_in seat (slot self.new unit)
+            ≡ Some (record { seat = seat; number = read.0.number; instr = read.0.instr; operands = read.1 })) }
+    {
+        let (member, operands) = match self.in_flight.read(unit, &self.state.registers) {
+            Ok(read) => read,
+            Err(refusal) => return Err(refusal),
+        };
+        Ok((member, operands))
+    }
+
+    /// A unit reads its operands.
+    pub(crate) fn read_unit(&mut self, unit: Unit) -> Answer
+        ensures answer { result ≡ answer_of self.old (Read unit) }
+        ensures after { self.new ≡ settled self.old (Read unit) result }
+    {
+        match self.read_operands(unit) {
+            Ok(_) => Ok(Done::Made),
+            Err(refusal) => Err(refusal),
+        }
+    }
+
+    /// A unit has its value.
+    pub(crate) fn finish_unit(&mut self, unit: Unit) -> Answer
+        ensures answer { result ≡ answer_of self.old (Finish unit) }
+        ensures after { self.new ≡ settled self.old (Finish unit) result }
+    {
+        match judge_finish(&self.in_flight, unit) {
+            Err(refusal) => Err(refusal),
+            Ok((member, operands)) => {
+                self.put_value(unit, value(&member.instr, &operands));
+                Ok(Done::Made)
+            }
+        }
+    }
+
+    /// A unit has the value of what it has read.
+    pub(crate) fn put_value(&mut self, unit: Unit, value: UnitValue)
+        requires { IsValueIn value (slot self.old unit) }
+        ensures after { self.new ≡ after self.old (Finish unit) }
+        ensures allowed { allowed self.old (Finish unit) ≡ None }
+    {
+        self.in_flight.finish(unit, value);
+    }
+
+    /// A unit stores its result, jumps or makes its reference, and is released.
+    pub(crate) fn store_unit(&mut self, unit: Unit) -> Answer
+        ensures answer { result ≡ answer_of self.old (Store unit) }
+        ensures after { self.new ≡ settled self.old (Store unit) result }
+    {
+        let area = self.state.area;
+        let size = self.state.memory.size();
+        let (member, value) = match judge_store(&self.in_flight, &area, size, unit) {
+            Ok(found) => found,
+            Err(refusal) => return Err(refusal),
+        };
+        let instr = member.instr;
+        let reference = reference(&instr, &value);
+        let written = instr.puts();
+        write_registers(&mut self.state, written.as_slice(), number(&value));
+        self.state.place = self.state.place.after_jump(jump(&instr, &value));
+        self.state.fault = fault_after(self.state.fault, &area, size, &reference);
+        self.in_flight
+            .leave(unit, &rest_of(&area, size, &reference));
+        Ok(Done::Made)
+    }
+}

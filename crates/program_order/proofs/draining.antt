@@ -1,0 +1,5 @@
+-- Forty events drain a machine, and a drained machine goes on.
+pub mod Pigeons
+pub mod Counting
+pub mod Draining
+pub mod GoingOn

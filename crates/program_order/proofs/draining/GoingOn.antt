@@ -1,0 +1,222 @@
+-- A drained machine goes on: nothing that it does not ask for keeps it from the next instruction, or from an exchange.
+use Rattle.std.proofs.Common.{◌≡◌, ◌<◌, ◌≤◌, ℕ, Bool, true, false, cond, leb-true, List, [], ◌∷◌, Option, Some, None}
+use Rattle.std.proofs.Common.{refl, ap, ◌∙◌, arith}
+use Rattle.std.specs.Prelude.{◌&&◌, ◌||◌, IsSome, is_none, is_some, nat_le, not}
+use Rattle.std.specs.List.{list_any}
+use Rattle.instructions.specs.declared.instr.Reg.{Reg}
+use Rattle.instructions.specs.declared.instr.UnitKind.{UnitKind}
+use Rattle.instructions.specs.declared.instr.UnitKind.TheVariants.{Branch, Boolean, Shift, LongAdd as LongAddKind}
+use Rattle.instructions.specs.declared.instr.UnitKind.TheVariants.{Divide, Increment as IncrementKind}
+use Rattle.instructions.specs.declared.instr.Target.TheVariants.{A as TargetA, B as TargetB, X as TargetX}
+use Rattle.instructions.specs.declared.instr.Base.TheVariants.{A as BaseA, B as BaseB, X as BaseX}
+use Rattle.instructions.specs.declared.instr.Pair.TheVariants.{XPlusB, APlusB, AMinusB, BPlusB, BMinusB}
+use Rattle.instructions.specs.declared.instr.Instr.{Instr}
+use Rattle.instructions.specs.declared.instr.XTest.TheVariants.{Zero, NonZero, Positive, Negative, InRange, OutOfRange}
+use Rattle.instructions.specs.declared.instr.XTest.TheVariants.{Definite, Indefinite}
+use Rattle.instructions.specs.declared.instr.BTest.TheVariants.{Equal, NotEqual, GreaterOrEqual, Less}
+use Rattle.instructions.specs.declared.instr.Logic.TheVariants.{And, Or, Xor, AndNot, OrNot, XorNot}
+use Rattle.instructions.specs.declared.instr.Direction.TheVariants.{Left, Right}
+use Rattle.instructions.specs.declared.instr.Addition.TheVariants.{Sum, Difference}
+use Rattle.instructions.specs.declared.instr.Instr.TheVariants.{Stop, Pass, ReturnJump, Jump, BranchX, BranchB, Copy}
+use Rattle.instructions.specs.declared.instr.Instr.TheVariants.{Invert, Logical, ShiftBy, ShiftNominal, LongAdd, Mask}
+use Rattle.instructions.specs.declared.instr.Instr.TheVariants.{CountOnes, Increment}
+use Rattle.instructions.specs.declared.instr.Addends.TheVariants.{Address, Registers}
+use Rattle.instructions.specs.Each.{Each}
+use Rattle.instructions.specs.Shape.{shape_of, results}
+use Rattle.instructions.specs.Operands.{row}
+use Rattle.instruction_table.specs.declared.decoding.Decoded.{Decoded}
+use Rattle.instruction_table.specs.declared.decoding.Decoded.TheVariants.{Legal, Refused, Straddle}
+use Rattle.scoreboard.specs.Conflicts as conflict
+use Rattle.scoreboard.specs.Units.{units_of}
+use Rattle.sequential.specs.declared.fetching.Fetched.{Fetched}
+use Rattle.sequential.specs.declared.fetching.Fetched.TheVariants.{Halting, Passing, Taking}
+use Rattle.sequential.specs.declared.place.Place.{Place}
+use Rattle.sequential.specs.Log.{issued}
+use Rattle.sequential.specs.State.{Bounds, bounds_of, absolute}
+use Rattle.sequential.specs.Place.{moved_on}
+use Rattle.sequential.specs.Step.{fetch, fetched_by, fetched_from, here, met, word_seen}
+use Rattle.instruction_table.specs.Decoding.{reading_at}
+use Rattle.program_order.specs.declared.event.Event.TheVariants.{Issue, Exchange as MakeExchange}
+use Rattle.in_flight.specs.declared.pending.Pending.{Pending}
+use Rattle.in_flight.specs.Pending.{awaited}
+use Rattle.in_flight.specs.Tests.{Test, refusal_of, row_tests, unit_for}
+use Rattle.program_order.specs.Processor.{Processor}
+use Rattle.program_order.specs.Events.{allowed, tests_of}
+use Rattle.program_order.specs.Exchange.{exchange_tests}
+use Rattle.program_order.specs.Issue.{fetch_waits, issue_tests, waits_at}
+use Rattle.in_flight.specs.Lookup.{is_pending}
+use Rattle.program_order.proofs.theorem.Theorem.{not_pending}
+
+none_fails : (ts : List Test) → Each (λ t. t.fails ≡ false) ts → refusal_of ts ≡ None
+unfolding refusal_of
+none_fails [] h = refl
+none_fails (t ∷ ts) h = ap (λ b. cond b (Some t.refusal) (refusal_of ts)) h.0 ∙ none_fails ts h.1
+
+-- ---- what is fetched for a unit has one ----
+
+abbrev HasUnit : Fetched → Type 0
+HasUnit (Halting halt place) = Unit {0}
+HasUnit (Passing place) = Unit {0}
+HasUnit (Taking i place) = IsSome (row i).unit
+
+met_unit : (place after : Place) (i : Instr) → HasUnit (met place after i)
+unfolding met
+met_unit place after Stop = tt
+met_unit place after (ReturnJump K) = refl
+met_unit place after (Jump i K) = refl
+met_unit place after (BranchX Zero j K) = refl
+met_unit place after (BranchX NonZero j K) = refl
+met_unit place after (BranchX Positive j K) = refl
+met_unit place after (BranchX Negative j K) = refl
+met_unit place after (BranchX InRange j K) = refl
+met_unit place after (BranchX OutOfRange j K) = refl
+met_unit place after (BranchX Definite j K) = refl
+met_unit place after (BranchX Indefinite j K) = refl
+met_unit place after (BranchB Equal i j K) = refl
+met_unit place after (BranchB NotEqual i j K) = refl
+met_unit place after (BranchB GreaterOrEqual i j K) = refl
+met_unit place after (BranchB Less i j K) = refl
+met_unit place after (Copy i j) = refl
+met_unit place after (Logical And i j k) = refl
+met_unit place after (Logical Or i j k) = refl
+met_unit place after (Logical Xor i j k) = refl
+met_unit place after (Invert i k) = refl
+met_unit place after (Logical AndNot i j k) = refl
+met_unit place after (Logical OrNot i j k) = refl
+met_unit place after (Logical XorNot i j k) = refl
+met_unit place after (ShiftBy Left i jk) = refl
+met_unit place after (ShiftBy Right i jk) = refl
+met_unit place after (ShiftNominal Left i j k) = refl
+met_unit place after (ShiftNominal Right i j k) = refl
+met_unit place after (LongAdd Sum i j k) = refl
+met_unit place after (LongAdd Difference i j k) = refl
+met_unit place after (Mask i jk) = refl
+met_unit place after Pass = tt
+met_unit place after (CountOnes i k) = refl
+met_unit place after (Increment TargetA i (Address BaseA j K)) = refl
+met_unit place after (Increment TargetA i (Address BaseB j K)) = refl
+met_unit place after (Increment TargetA i (Address BaseX j K)) = refl
+met_unit place after (Increment TargetA i (Registers XPlusB j k)) = refl
+met_unit place after (Increment TargetA i (Registers APlusB j k)) = refl
+met_unit place after (Increment TargetA i (Registers AMinusB j k)) = refl
+met_unit place after (Increment TargetA i (Registers BPlusB j k)) = refl
+met_unit place after (Increment TargetA i (Registers BMinusB j k)) = refl
+met_unit place after (Increment TargetB i (Address BaseA j K)) = refl
+met_unit place after (Increment TargetB i (Address BaseB j K)) = refl
+met_unit place after (Increment TargetB i (Address BaseX j K)) = refl
+met_unit place after (Increment TargetB i (Registers XPlusB j k)) = refl
+met_unit place after (Increment TargetB i (Registers APlusB j k)) = refl
+met_unit place after (Increment TargetB i (Registers AMinusB j k)) = refl
+met_unit place after (Increment TargetB i (Registers BPlusB j k)) = refl
+met_unit place after (Increment TargetB i (Registers BMinusB j k)) = refl
+met_unit place after (Increment TargetX i (Address BaseA j K)) = refl
+met_unit place after (Increment TargetX i (Address BaseB j K)) = refl
+met_unit place after (Increment TargetX i (Address BaseX j K)) = refl
+met_unit place after (Increment TargetX i (Registers XPlusB j k)) = refl
+met_unit place after (Increment TargetX i (Registers APlusB j k)) = refl
+met_unit place after (Increment TargetX i (Registers AMinusB j k)) = refl
+met_unit place after (Increment TargetX i (Registers BPlusB j k)) = refl
+met_unit place after (Increment TargetX i (Registers BMinusB j k)) = refl
+
+read_unit : (p parcel word : ℕ) (d : Decoded) → HasUnit (fetched_by p parcel word d)
+unfolding fetched_by
+read_unit p parcel word (Legal i next) = met_unit (here p parcel word) (moved_on p word next) i
+read_unit p parcel word (Refused op) = tt
+read_unit p parcel word Straddle = tt
+
+from_unit : (p parcel : ℕ) (o : Option ℕ) → HasUnit (fetched_from p parcel o)
+unfolding fetched_from
+from_unit p parcel None = tt
+from_unit p parcel (Some word) = read_unit p parcel word (reading_at word parcel)
+
+fetched_unit : (b : Bounds) (memory : List ℕ) (place : Place) → HasUnit (fetch b memory place)
+unfolding fetch
+fetched_unit b memory place = from_unit place.p place.parcel (word_seen b memory place.p place.held)
+
+-- ---- nothing is pending ----
+
+kind_free : (kind : UnitKind) → is_none (unit_for [] (Some kind)) ≡ false
+unfolding conflict.unit_for conflict.free_unit conflict.first_free conflict.is_held units_of
+kind_free Branch = refl
+kind_free Boolean = refl
+kind_free Shift = refl
+kind_free LongAddKind = refl
+kind_free Divide = refl
+kind_free IncrementKind = refl
+
+unit_free : (o : Option UnitKind) → IsSome o → is_none (unit_for [] o) ≡ false
+unit_free None h = cc
+unit_free (Some kind) h = kind_free kind
+
+none_awaited : (rs : List Reg) → list_any (awaited []) rs ≡ false
+unfolding conflict.awaited
+none_awaited [] = refl
+none_awaited (r ∷ rs) = none_awaited rs
+
+row_passes : (g : Fetched) → HasUnit g → Each (λ t. t.fails ≡ false) (row_tests [] g)
+unfolding row_tests
+row_passes (Halting halt place) h = tt
+row_passes (Passing place) h = tt
+row_passes (Taking i place) h = (unit_free (row i).unit h, (none_awaited (results (shape_of i)), tt))
+
+nothing_delays : (o : Option ℕ) → waits_at o [] ≡ false
+unfolding waits_at
+nothing_delays None = refl
+nothing_delays (Some a) = refl
+
+and_false : (b : Bool) → (b && false) ≡ false
+and_false true = refl
+and_false false = refl
+
+fetch_goes : (b : Bounds) (place : Place) → fetch_waits b place [] ≡ false
+unfolding fetch_waits
+fetch_goes b place =
+    ap (λ x. is_none place.held && x) (nothing_delays (absolute b place.p)) ∙ and_false (is_none place.held)
+
+held_or_unasked : (r h : Option ℕ) → (is_none r || is_some h) ≡ true → (is_some r && is_none h) ≡ false
+held_or_unasked None h e = refl
+held_or_unasked (Some n) (Some word) e = refl
+held_or_unasked (Some n) None e = cc
+
+some_of : {K : Type 0} (o : Option K) → o ≡ None → is_some o ≡ false
+some_of o e = ap is_some e
+
+budget_left : (budget count : ℕ) → count < budget → nat_le budget count ≡ false
+budget_left budget count h = by_test (nat_le budget count) refl
+  where
+    by_test : (b : Bool) → nat_le budget count ≡ b → nat_le budget count ≡ false
+    by_test false e = e
+    by_test true e = let k : budget ≤ count = leb-true budget count e in absurd (omega (arith, h, k))
+
+pub issue_accepted : (w : Processor) → is_pending w.pending ≡ false → w.state.halt ≡ None → w.state.fault ≡ false
+    → issued w.log < w.budget → (is_none w.request || is_some w.state.place.held) ≡ true → allowed w Issue ≡ None
+unfolding allowed tests_of issue_tests
+issue_accepted w p h f b r =
+    ap (λ (ms : List Pending). refusal_of (issue_tests w.state ms w.request w.budget (issued w.log)))
+    (not_pending w.pending p)
+    ∙ none_fails (issue_tests w.state [] w.request w.budget (issued w.log)) (
+      some_of w.state.halt h,
+      (
+        f,
+        (
+          budget_left w.budget (issued w.log) b,
+          (
+            refl,
+            (
+              held_or_unasked w.request w.state.place.held r,
+              (
+                fetch_goes (bounds_of w.state) w.state.place,
+                row_passes (fetch (bounds_of w.state) w.state.memory w.state.place)
+                    (fetched_unit (bounds_of w.state) w.state.memory w.state.place),
+              ),
+            ),
+          ),
+        ),
+      ),
+    )
+
+pub exchange_accepted : (w : Processor) (at : ℕ) → is_pending w.pending ≡ false → w.request ≡ Some at
+    → (is_none w.state.halt && (not w.state.fault && is_some w.state.place.held)) ≡ false
+    → allowed w MakeExchange ≡ None
+unfolding allowed tests_of exchange_tests
+exchange_accepted w at p r m = none_fails (exchange_tests w.request w.pending w.state) (ap is_none r, (p, (m, tt)))

@@ -1,0 +1,142 @@
+-- A change that no pending instruction touches is made before them all as well as after them all.
+use Rattle.scoreboard.specs.Rows as board
+use Rattle.in_flight.specs.Pending.{progress_of, returning, row_of, is_branch, to_come}
+use Rattle.in_flight.proofs.asking.Asked.{comes, reads}
+use Rattle.sequential.specs.Place.{gone}
+use Rattle.in_flight.proofs.asking.Phases.{to_come_in, may_store}
+use Rattle.scoreboard.specs.Rows.{returning_to}
+use Rattle.std.proofs.Common.{◌≡◌, ℕ, false, List, [], ◌∷◌, ◌++◌, Option, Some, None, refl, ap, ◌∙◌, get_or}
+use Rattle.std.proofs.lemmas.Bool.{or_parts}
+use Rattle.std.specs.List.{list_any}
+use Rattle.program_order.proofs.effects.Members.{run-write, run-move, run-halt, run-mark, touches, run-poke, run-get}
+use Rattle.program_order.proofs.effects.Members.{run-word, run-halted, run-bounds, run-place}
+use Rattle.instructions.specs.RegisterLists.{is_in}
+use Rattle.instructions.specs.Shape.{Shape, puts_of}
+use Rattle.instructions.specs.declared.instr.Reg.{Reg}
+use Rattle.instructions.specs.declared.refusal.Halt.{Halt}
+use Rattle.instructions.specs.Each.{Each}
+use Rattle.program_order.specs.Complete.{complete, run}
+use Rattle.in_flight.specs.declared.pending.Pending.{Pending}
+use Rattle.registers.specs.Registers.{get}
+use Rattle.sequential.specs.State.{Bounds, bounds_of, go, halt_by, mark, move_to, poke, write, write_all}
+use Rattle.sequential.specs.Work.{do_now, fault_of, jump_for, reference_for, same_for, work_of}
+use Rattle.sequential.specs.declared.place.Place.{Place}
+use Rattle.sequential.specs.declared.state.State.{State}
+use Rattle.unit_ops.specs.declared.UnitValue.{UnitValue}
+
+-- the change is made before the instruction as well as after it
+abbrev pub Commutes : Bounds → (State → State) → Pending → Type 0
+Commutes b c m = (s : State) → run b (c s) m ≡ c (run b s m)
+
+pub complete-append : (b : Bounds) (s : State) (ms ns : List Pending)
+    → complete b s (ms ++ ns) ≡ complete b (complete b s ms) ns
+unfolding complete
+complete-append b s [] ns = refl
+complete-append b s (m ∷ ms) ns = complete-append b (run b s m) ms ns
+
+pub complete-change : (b : Bounds) (c : State → State) (ms : List Pending) → Each (Commutes b c) ms → (s : State)
+    → complete b (c s) ms ≡ c (complete b s ms)
+unfolding complete
+complete-change b c [] h s = refl
+complete-change b c (m ∷ ms) h s = ap (λ x. complete b x ms) (h.0 s) ∙ complete-change b c ms h.1 (run b s m)
+
+-- what each instruction leaves, all leave
+pub complete-keeps : {K : Type 0} (b : Bounds) (f : State → K) (ms : List Pending)
+    → Each (λ m. (s : State) → f (run b s m) ≡ f s) ms → (s : State) → f (complete b s ms) ≡ f s
+unfolding complete
+complete-keeps b f [] h s = refl
+complete-keeps b f (m ∷ ms) h s = complete-keeps b f ms h.1 (run b s m) ∙ h.0 s
+
+-- ---- the facts on pending instructions, as tests ----
+
+pub each_all : {K : Type 0} (P : K → Type 0) → ((x : K) → P x) → (xs : List K) → Each P xs
+each_all P f [] = tt
+each_all P f (x ∷ xs) = (f x, each_all P f xs)
+
+pub complete-bounds : (b : Bounds) (s : State) (ms : List Pending) → bounds_of (complete b s ms) ≡ bounds_of s
+complete-bounds b s ms = complete-keeps b bounds_of ms (each_all _ (λ m x. run-bounds b x m) ms) s
+
+pub complete-halted : (b : Bounds) (s : State) (ms : List Pending) → (complete b s ms).halt ≡ s.halt
+complete-halted b s ms = complete-keeps b (λ x. x.halt) ms (each_all _ (λ m x. run-halted b x m) ms) s
+
+-- it is no branch
+abbrev pub IsNoBranch : Pending → Type 0
+IsNoBranch m = is_branch m ≡ false
+
+pub each_no_branch : (ms : List Pending) → list_any is_branch ms ≡ false → Each IsNoBranch ms
+each_no_branch [] h = tt
+each_no_branch (m ∷ ms) h = let p = or_parts (is_branch m) (list_any is_branch ms) h in (p.0, each_no_branch ms p.1)
+
+each_step : {K : Type 0} (P Q : K → Type 0) → ((x : K) → P x → Q x) → (xs : List K) → Each P xs → Each Q xs
+each_step P Q f [] h = tt
+each_step P Q f (x ∷ xs) h = (f x h.0, each_step P Q f xs h.1)
+
+pub complete-place : (b : Bounds) (s : State) (ms : List Pending) → Each IsNoBranch ms
+    → (complete b s ms).place ≡ s.place
+complete-place b s ms h =
+    complete-keeps b (λ x. x.place) ms (each_step IsNoBranch _ (λ m e x. run-place b x m e) ms h) s
+
+pub complete-move : (b : Bounds) (s : State) (ms : List Pending) (k : Place) → Each IsNoBranch ms
+    → complete b (move_to s k) ms ≡ move_to (complete b s ms) k
+complete-move b s ms k h =
+    complete-change b (λ x. move_to x k) ms (each_step IsNoBranch _ (λ m e x. run-move b x m k e) ms h) s
+
+pub complete-halt : (b : Bounds) (s : State) (ms : List Pending) (k : Halt)
+    → complete b (halt_by s k) ms ≡ halt_by (complete b s ms) k
+complete-halt b s ms k = complete-change b (λ x. halt_by x k) ms (each_all _ (λ m x. run-halt b x m k) ms) s
+
+-- a word to which none stores
+pub complete-word : (b : Bounds) (s : State) (ms : List Pending) (a : ℕ) → Each (λ m. may_store a m ≡ false) ms
+    → get_or (complete b s ms).memory a 0 ≡ get_or s.memory a 0
+complete-word b s ms a h = complete-keeps b (λ x. get_or x.memory a 0) ms
+    (each_step (λ m. may_store a m ≡ false) _ (λ m e x. run-word b x m a e) ms h) s
+
+-- a register that is no result still to come
+pub complete-get : (b : Bounds) (s : State) (ms : List Pending) (r : Reg) → Each (λ m. comes r m ≡ false) ms
+    → get (complete b s ms).registers r ≡ get s.registers r
+unfolding comes board.comes row_of to_come board.to_come to_come_in board.to_come_in progress_of returning_to returning
+complete-get b s ms r h = complete-keeps b (λ x. get x.registers r) ms
+    (each_step (λ m. is_in (to_come m) r ≡ false) _ (λ m e x. run-get b x m r e) ms h) s
+
+pub complete-poke : (b : Bounds) (s : State) (ms : List Pending) (a w : ℕ) → Each (λ m. touches a m ≡ false) ms
+    → complete b (poke s a w) ms ≡ poke (complete b s ms) a w
+complete-poke b s ms a w h = complete-change b (λ x. poke x a w) ms
+    (each_step (λ m. touches a m ≡ false) _ (λ m e x. run-poke b x m a w e) ms h) s
+
+-- the register is neither a result still to come nor a source still to be read
+pub record IsFree (r : Reg) (m : Pending) : Type 0 where
+  pub not_to_come : is_in (to_come m) r ≡ false
+  pub not_read : is_in (reads m) r ≡ false
+
+pub complete-write : (b : Bounds) (s : State) (ms : List Pending) (r : Reg) (v : ℕ) → Each (IsFree r) ms
+    → complete b (write s r v) ms ≡ write (complete b s ms) r v
+complete-write b s ms r v h =
+    complete-change b (λ x. write x r v) ms
+    (each_step (IsFree r) _ (λ m e x. run-write b x m r v e.not_to_come e.not_read) ms h) s
+
+-- ---- what the store event does at once ----
+
+complete-write_all : (b : Bounds) (s : State) (ms : List Pending) (n : ℕ) (rs : List Reg)
+    → Each (λ r. Each (IsFree r) ms) rs
+    → complete b (write_all s (same_for n rs)) ms ≡ write_all (complete b s ms) (same_for n rs)
+unfolding write_all same_for
+complete-write_all b s ms n [] h = refl
+complete-write_all b s ms n (r ∷ rs) h =
+    complete-write_all b (write s r n) ms n rs h.1
+    ∙ ap (λ x. write_all x (same_for n rs)) (complete-write b s ms r n h.0)
+
+complete-go : (b : Bounds) (s : State) (ms : List Pending) (j : Option ℕ) → Each IsNoBranch ms
+    → complete b (go s j) ms ≡ go (complete b s ms) j
+unfolding go move_to gone
+complete-go b s ms None h = refl
+complete-go b s ms (Some to) h = complete-move b s ms (record { p = to; parcel = 0; held = None }) h
+
+pub complete-now : (b d : Bounds) (s : State) (ms : List Pending) (h : Shape) (x : UnitValue) → Each IsNoBranch ms
+    → Each (λ r. Each (IsFree r) ms) (puts_of h)
+    → complete b (do_now d s (work_of h x)) ms ≡ do_now d (complete b s ms) (work_of h x)
+unfolding do_now work_of
+complete-now b d s ms h x nb free =
+    complete-change b (λ y. mark y (fault_of d (reference_for h x))) ms (each_all _ (λ m y. run-mark b y m _) ms) _
+    ∙ ap (λ y. mark y (fault_of d (reference_for h x)))
+    (complete-go b _ ms (jump_for h x) nb
+    ∙ ap (λ y. go y (jump_for h x)) (complete-write_all b s ms _ (puts_of h) free))

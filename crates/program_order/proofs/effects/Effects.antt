@@ -1,0 +1,516 @@
+-- Changes of the state that don't touch one another, made in either order.
+use Rattle.in_flight.specs.Pending.{returning}
+use Rattle.sequential.specs.Place.{gone}
+use Rattle.scoreboard.specs.Rows.{returning_to}
+use Rattle.std.proofs.Common.{◌≡◌, ℕ, Bool, true, false, List, [], ◌∷◌, Option, Some, None, refl, sym, ap, ◌∙◌, get_or}
+use Rattle.std.proofs.Common.{eqb}
+use Rattle.std.specs.Prelude.{◌||◌}
+use Rattle.std.proofs.lemmas.Bool.{eqb-false, or_parts}
+use Rattle.std.proofs.lemmas.List.{get_or-set_other, set_comm, length-set}
+use Rattle.std.specs.List.{list_any}
+use Rattle.registers.proofs.RegisterLaws.{put_comm, get-put_other}
+use Rattle.instructions.specs.RegisterLists.{is_in}
+use Rattle.instructions.specs.Shape.{Jumps, Links, Loads, Puts, Shape, Stores, has_reference, has_store}
+use Rattle.instructions.specs.Shape.{is_branch_shape, loads_of, puts_of}
+use Rattle.instructions.specs.Operands.{reg_eq}
+use Rattle.instructions.specs.declared.instr.Reg.{Reg}
+use Rattle.instructions.specs.declared.instr.Reg.TheVariants.{X}
+use Rattle.instructions.specs.declared.refusal.Halt.{Halt}
+use Rattle.in_flight.proofs.asking.Phases.{target_of, targets_left}
+use Rattle.program_order.specs.Complete.{do_outstanding}
+use Rattle.program_order.specs.Units.{entering, rest_of}
+use Rattle.in_flight.specs.declared.pending.Outstanding.{Outstanding}
+use Rattle.in_flight.specs.declared.pending.Outstanding.TheVariants.{Accepted, Entered}
+use Rattle.registers.specs.Registers.{get}
+use Rattle.relocation.specs.declared.area.Access.{Access}
+use Rattle.relocation.specs.declared.area.Access.TheVariants.{Load as LoadInto, Store as StoreWord}
+use Rattle.sequential.specs.State.{Bounds, absolute, access_at, bounds_of, go, halt_by, mark, move_to, poke, write}
+use Rattle.sequential.specs.State.{write_all}
+use Rattle.sequential.specs.Work.{Work, do_now, fault_of, jump_for, reference_for, same_for, work_of, do_work, refer}
+use Rattle.sequential.specs.Work.{refer_at}
+use Rattle.sequential.specs.declared.place.Place.{Place}
+use Rattle.sequential.specs.declared.state.State.{State}
+use Rattle.sequential.specs.declared.work.ProgramReference.{ProgramReference}
+use Rattle.unit_ops.specs.declared.UnitValue.{UnitValue}
+
+unfoldable pub do_option : State → Option Outstanding → State
+do_option s None = s
+do_option s (Some l) = do_outstanding s l
+
+-- the whole of a row's work, in two parts: what it does now, and what is left
+unfoldable pub do_parts : Bounds → State → Work → State
+do_parts b s w = do_option (do_now b s w) (rest_of b 0 w.reference)
+
+-- ---- a register write ----
+
+pub write_comm : (s : State) (r t : Reg) (v w : ℕ) → reg_eq t r ≡ false
+    → write (write s r v) t w ≡ write (write s t w) r v
+unfolding write
+write_comm s r t v w h = ap (λ g. record s { registers = g }) (put_comm s.registers r t v w h)
+
+pub write_all-write : (s : State) (n : ℕ) (rs : List Reg) (r : Reg) (v : ℕ) → is_in rs r ≡ false
+    → write_all (write s r v) (same_for n rs) ≡ write (write_all s (same_for n rs)) r v
+unfolding write_all same_for is_in
+write_all-write s n [] r v h = refl
+write_all-write s n (t ∷ rs) r v h =
+    let p = or_parts (reg_eq r t) (list_any (reg_eq r) rs) h in
+    ap (λ x. write_all x (same_for n rs)) (sym (write_comm s t r n v p.0))
+    ∙ write_all-write (write s t n) n rs r v p.1
+
+go-write : (s : State) (j : Option ℕ) (r : Reg) (v : ℕ) → go (write s r v) j ≡ write (go s j) r v
+unfolding go write gone
+go-write s None r v = refl
+go-write s (Some to) r v = refl
+
+mark-write : (s : State) (f : Bool) (r : Reg) (v : ℕ) → mark (write s r v) f ≡ write (mark s f) r v
+unfolding mark write
+mark-write s f r v = refl
+
+pub do_outstanding-write : (s : State) (l : Outstanding) (r : Reg) (v : ℕ) → is_in (target_of l) r ≡ false
+    → do_outstanding (write s r v) l ≡ write (do_outstanding s l) r v
+unfolding do_outstanding access_at poke write target_of is_in returning_to returning
+do_outstanding-write s (Entered slot a (LoadInto n)) r v h =
+    sym (write_comm s (X n) r (get_or s.memory a 0) v (or_parts (reg_eq r (X n)) false h).0)
+do_outstanding-write s (Entered slot a (StoreWord w)) r v h = refl
+do_outstanding-write s (Accepted n w) r v h = sym (write_comm s (X n) r w v (or_parts (reg_eq r (X n)) false h).0)
+
+pub do_option-write : (s : State) (o : Option Outstanding) (r : Reg) (v : ℕ) → is_in (targets_left o) r ≡ false
+    → do_option (write s r v) o ≡ write (do_option s o) r v
+unfolding do_option targets_left
+do_option-write s None r v h = refl
+do_option-write s (Some l) r v h = do_outstanding-write s l r v h
+
+entering_targets : (slot n : ℕ) (o : Option ℕ) → targets_left (entering slot o (LoadInto n)) ≡ X n ∷ []
+unfolding entering targets_left target_of returning_to returning
+entering_targets slot n None = refl
+entering_targets slot n (Some a) = refl
+
+entering_nothing : (slot w : ℕ) (o : Option ℕ) → targets_left (entering slot o (StoreWord w)) ≡ []
+unfolding entering targets_left target_of returning_to returning
+entering_nothing slot w None = refl
+entering_nothing slot w (Some a) = refl
+
+pub rest_targets : (b : Bounds) (slot : ℕ) (h : Shape) (v : UnitValue)
+    → targets_left (rest_of b slot (reference_for h v)) ≡ loads_of h
+unfolding rest_of reference_for loads_of targets_left
+rest_targets b slot (Puts rs) v = refl
+rest_targets b slot (Loads n) v = entering_targets slot n (absolute b _)
+rest_targets b slot (Stores n) v = entering_nothing slot _ (absolute b _)
+rest_targets b slot Jumps v = refl
+rest_targets b slot Links v = entering_nothing slot _ (absolute b _)
+
+pub do_now-write : (b : Bounds) (s : State) (h : Shape) (x : UnitValue) (r : Reg) (v : ℕ) → is_in (puts_of h) r ≡ false
+    → do_now b (write s r v) (work_of h x) ≡ write (do_now b s (work_of h x)) r v
+unfolding do_now work_of
+do_now-write b s h x r v p =
+    ap (λ y. mark (go y (jump_for h x)) (fault_of b (reference_for h x))) (write_all-write s _ (puts_of h) r v p)
+    ∙ ap (λ y. mark y (fault_of b (reference_for h x))) (go-write _ (jump_for h x) r v)
+    ∙ mark-write _ _ r v
+
+pub do_parts-write : (b : Bounds) (s : State) (h : Shape) (x : UnitValue) (r : Reg) (v : ℕ)
+    → is_in (puts_of h) r ≡ false → is_in (loads_of h) r ≡ false
+    → do_parts b (write s r v) (work_of h x) ≡ write (do_parts b s (work_of h x)) r v
+unfolding do_parts work_of
+do_parts-write b s h x r v p q =
+    ap (λ y. do_option y (rest_of b 0 (reference_for h x))) (do_now-write b s h x r v p)
+    ∙ do_option-write _ (rest_of b 0 (reference_for h x)) r v (ap (λ rs. is_in rs r) (rest_targets b 0 h x) ∙ q)
+
+-- ---- a move of the place ----
+
+write_all-move : (s : State) (es : List (Reg × ℕ)) (p : Place) → write_all (move_to s p) es ≡ move_to (write_all s es) p
+unfolding write_all write move_to
+write_all-move s [] p = refl
+write_all-move s (e ∷ es) p = write_all-move (write s e.0 e.1) es p
+
+mark-move : (s : State) (f : Bool) (p : Place) → mark (move_to s p) f ≡ move_to (mark s f) p
+unfolding mark move_to
+mark-move s f p = refl
+
+pub do_outstanding-move : (s : State) (l : Outstanding) (p : Place)
+    → do_outstanding (move_to s p) l ≡ move_to (do_outstanding s l) p
+unfolding do_outstanding access_at poke write move_to
+do_outstanding-move s (Entered slot a (LoadInto n)) p = refl
+do_outstanding-move s (Entered slot a (StoreWord w)) p = refl
+do_outstanding-move s (Accepted n w) p = refl
+
+do_option-move : (s : State) (o : Option Outstanding) (p : Place)
+    → do_option (move_to s p) o ≡ move_to (do_option s o) p
+unfolding do_option
+do_option-move s None p = refl
+do_option-move s (Some l) p = do_outstanding-move s l p
+
+-- a row that is no branch leaves the place alone
+pub no_jump : (h : Shape) (x : UnitValue) → is_branch_shape h ≡ false → jump_for h x ≡ None
+unfolding jump_for
+no_jump h x e = rw e refl
+
+go-none : (s : State) (j : Option ℕ) → j ≡ None → go s j ≡ s
+unfolding go gone
+go-none s j e = rw e refl
+
+pub do_now-move : (b : Bounds) (s : State) (h : Shape) (x : UnitValue) (p : Place) → is_branch_shape h ≡ false
+    → do_now b (move_to s p) (work_of h x) ≡ move_to (do_now b s (work_of h x)) p
+unfolding do_now work_of
+do_now-move b s h x p e =
+    ap (λ y. mark y (fault_of b (reference_for h x)))
+    (go-none _ (jump_for h x) (no_jump h x e) ∙ write_all-move s _ p
+    ∙ sym (ap (λ y. move_to y p) (go-none _ (jump_for h x) (no_jump h x e))))
+    ∙ mark-move _ _ p
+
+pub do_parts-move : (b : Bounds) (s : State) (h : Shape) (x : UnitValue) (p : Place) → is_branch_shape h ≡ false
+    → do_parts b (move_to s p) (work_of h x) ≡ move_to (do_parts b s (work_of h x)) p
+unfolding do_parts work_of
+do_parts-move b s h x p e =
+    ap (λ y. do_option y (rest_of b 0 (reference_for h x))) (do_now-move b s h x p e)
+    ∙ do_option-move _ _ p
+
+-- ---- a halt ----
+
+write_all-halt : (s : State) (es : List (Reg × ℕ)) (k : Halt) → write_all (halt_by s k) es ≡ halt_by (write_all s es) k
+unfolding write_all write halt_by
+write_all-halt s [] k = refl
+write_all-halt s (e ∷ es) k = write_all-halt (write s e.0 e.1) es k
+
+go-halt : (s : State) (j : Option ℕ) (k : Halt) → go (halt_by s k) j ≡ halt_by (go s j) k
+unfolding go halt_by gone
+go-halt s None k = refl
+go-halt s (Some to) k = refl
+
+mark-halt : (s : State) (f : Bool) (k : Halt) → mark (halt_by s k) f ≡ halt_by (mark s f) k
+unfolding mark halt_by
+mark-halt s f k = refl
+
+pub do_outstanding-halt : (s : State) (l : Outstanding) (k : Halt)
+    → do_outstanding (halt_by s k) l ≡ halt_by (do_outstanding s l) k
+unfolding do_outstanding access_at poke write halt_by
+do_outstanding-halt s (Entered slot a (LoadInto n)) k = refl
+do_outstanding-halt s (Entered slot a (StoreWord w)) k = refl
+do_outstanding-halt s (Accepted n w) k = refl
+
+do_option-halt : (s : State) (o : Option Outstanding) (k : Halt) → do_option (halt_by s k) o ≡ halt_by (do_option s o) k
+unfolding do_option
+do_option-halt s None k = refl
+do_option-halt s (Some l) k = do_outstanding-halt s l k
+
+pub do_parts-halt : (b : Bounds) (s : State) (w : Work) (k : Halt)
+    → do_parts b (halt_by s k) w ≡ halt_by (do_parts b s w) k
+unfolding do_parts do_now
+do_parts-halt b s w k =
+    ap (λ y. do_option (mark (go y w.jump) (fault_of b w.reference)) (rest_of b 0 w.reference))
+    (write_all-halt s w.puts k)
+    ∙ ap (λ y. do_option (mark y (fault_of b w.reference)) (rest_of b 0 w.reference)) (go-halt _ w.jump k)
+    ∙ ap (λ y. do_option y (rest_of b 0 w.reference)) (mark-halt _ _ k)
+    ∙ do_option-halt _ _ k
+
+-- ---- a fault ----
+
+write_all-mark : (s : State) (es : List (Reg × ℕ)) (f : Bool) → write_all (mark s f) es ≡ mark (write_all s es) f
+unfolding write_all write mark
+write_all-mark s [] f = refl
+write_all-mark s (e ∷ es) f = write_all-mark (write s e.0 e.1) es f
+
+go-mark : (s : State) (j : Option ℕ) (f : Bool) → go (mark s f) j ≡ mark (go s j) f
+unfolding go mark gone
+go-mark s None f = refl
+go-mark s (Some to) f = refl
+
+or_swap : (x y z : Bool) → ((x || y) || z) ≡ ((x || z) || y)
+or_swap true y z = refl
+or_swap false true true = refl
+or_swap false true false = refl
+or_swap false false true = refl
+or_swap false false false = refl
+
+mark-mark : (s : State) (f g : Bool) → mark (mark s f) g ≡ mark (mark s g) f
+unfolding mark
+mark-mark s f g = ap (λ x. record s { fault = x }) (or_swap s.fault f g)
+
+pub do_outstanding-mark : (s : State) (l : Outstanding) (f : Bool)
+    → do_outstanding (mark s f) l ≡ mark (do_outstanding s l) f
+unfolding do_outstanding access_at poke write mark
+do_outstanding-mark s (Entered slot a (LoadInto n)) f = refl
+do_outstanding-mark s (Entered slot a (StoreWord w)) f = refl
+do_outstanding-mark s (Accepted n w) f = refl
+
+do_option-mark : (s : State) (o : Option Outstanding) (f : Bool) → do_option (mark s f) o ≡ mark (do_option s o) f
+unfolding do_option
+do_option-mark s None f = refl
+do_option-mark s (Some l) f = do_outstanding-mark s l f
+
+pub do_parts-mark : (b : Bounds) (s : State) (w : Work) (f : Bool) → do_parts b (mark s f) w ≡ mark (do_parts b s w) f
+unfolding do_parts do_now
+do_parts-mark b s w f =
+    ap (λ y. do_option (mark (go y w.jump) (fault_of b w.reference)) (rest_of b 0 w.reference))
+    (write_all-mark s w.puts f)
+    ∙ ap (λ y. do_option (mark y (fault_of b w.reference)) (rest_of b 0 w.reference)) (go-mark _ w.jump f)
+    ∙ ap (λ y. do_option y (rest_of b 0 w.reference)) (mark-mark _ f _)
+    ∙ do_option-mark _ _ f
+
+-- ---- a memory write ----
+
+write_all-poke : (s : State) (es : List (Reg × ℕ)) (a w : ℕ) → write_all (poke s a w) es ≡ poke (write_all s es) a w
+unfolding write_all write poke
+write_all-poke s [] a w = refl
+write_all-poke s (e ∷ es) a w = write_all-poke (write s e.0 e.1) es a w
+
+go-poke : (s : State) (j : Option ℕ) (a w : ℕ) → go (poke s a w) j ≡ poke (go s j) a w
+unfolding go poke gone
+go-poke s None a w = refl
+go-poke s (Some to) a w = refl
+
+mark-poke : (s : State) (f : Bool) (a w : ℕ) → mark (poke s a w) f ≡ poke (mark s f) a w
+unfolding mark poke
+mark-poke s f a w = refl
+
+-- what is left of a reference is about another address
+unfoldable pub later_touches : ℕ → Outstanding → Bool
+later_touches a (Entered slot k access) = eqb k a
+later_touches a (Accepted n w) = false
+
+pub do_outstanding-poke : (s : State) (l : Outstanding) (a w : ℕ) → later_touches a l ≡ false
+    → do_outstanding (poke s a w) l ≡ poke (do_outstanding s l) a w
+unfolding do_outstanding access_at poke write later_touches
+do_outstanding-poke s (Entered slot k (LoadInto n)) a w h =
+    ap (λ v. write (poke s a w) (X n) v) (get_or-set_other s.memory a k w 0 (eqb-false k a h))
+do_outstanding-poke s (Entered slot k (StoreWord v)) a w h =
+    ap (λ m. record s { memory = m }) (set_comm s.memory a k w v (λ e. eqb-false k a h (sym e)))
+do_outstanding-poke s (Accepted n v) a w h = refl
+
+pub no_reference : (h : Shape) (x : UnitValue) → has_reference h ≡ false → reference_for h x ≡ None
+unfolding reference_for has_reference
+no_reference (Puts rs) x e = refl
+no_reference (Loads n) x e = cc
+no_reference (Stores n) x e = cc
+no_reference Jumps x e = refl
+no_reference Links x e = cc
+
+pub do_now-poke : (b : Bounds) (s : State) (h : Shape) (x : UnitValue) (a w : ℕ)
+    → do_now b (poke s a w) (work_of h x) ≡ poke (do_now b s (work_of h x)) a w
+unfolding do_now work_of
+do_now-poke b s h x a w =
+    ap (λ y. mark (go y (jump_for h x)) (fault_of b (reference_for h x))) (write_all-poke s _ a w)
+    ∙ ap (λ y. mark y (fault_of b (reference_for h x))) (go-poke _ (jump_for h x) a w)
+    ∙ mark-poke _ _ a w
+
+no_rest : (b : Bounds) (s : State) (r : Option ProgramReference) → r ≡ None → do_option s (rest_of b 0 r) ≡ s
+unfolding do_option rest_of
+no_rest b s r e = rw e refl
+
+-- a row without a reference is done at the store event
+pub do_parts-now : (b : Bounds) (s : State) (h : Shape) (x : UnitValue) → has_reference h ≡ false
+    → do_parts b s (work_of h x) ≡ do_now b s (work_of h x)
+unfolding do_parts work_of
+do_parts-now b s h x e = no_rest b _ (reference_for h x) (no_reference h x e)
+
+pub do_parts-poke : (b : Bounds) (s : State) (h : Shape) (x : UnitValue) (a w : ℕ) → has_reference h ≡ false
+    → do_parts b (poke s a w) (work_of h x) ≡ poke (do_parts b s (work_of h x)) a w
+do_parts-poke b s h x a w e =
+    do_parts-now b (poke s a w) h x e ∙ do_now-poke b s h x a w ∙ ap (λ y. poke y a w) (sym (do_parts-now b s h x e))
+
+-- ---- what stays ----
+
+pub write_all_rest : (s : State) (es : List (Reg × ℕ))
+    → write_all s es ≡ record s { registers = (write_all s es).registers }
+unfolding write_all write
+write_all_rest s [] = refl
+write_all_rest s (e ∷ es) = write_all_rest (write s e.0 e.1) es
+
+write_all-get : (s : State) (n : ℕ) (rs : List Reg) (r : Reg) → is_in rs r ≡ false
+    → get (write_all s (same_for n rs)).registers r ≡ get s.registers r
+unfolding write_all same_for is_in write
+write_all-get s n [] r h = refl
+write_all-get s n (t ∷ rs) r h =
+    let p = or_parts (reg_eq r t) (list_any (reg_eq r) rs) h in
+    write_all-get (write s t n) n rs r p.1 ∙ get-put_other s.registers t r n p.0
+
+go-registers : (s : State) (j : Option ℕ) → (go s j).registers ≡ s.registers
+unfolding go gone
+go-registers s None = refl
+go-registers s (Some to) = refl
+
+go-memory : (s : State) (j : Option ℕ) → (go s j).memory ≡ s.memory
+unfolding go gone
+go-memory s None = refl
+go-memory s (Some to) = refl
+
+go-area : (s : State) (j : Option ℕ) → (go s j).area ≡ s.area
+unfolding go gone
+go-area s None = refl
+go-area s (Some to) = refl
+
+go-halted : (s : State) (j : Option ℕ) → (go s j).halt ≡ s.halt
+unfolding go gone
+go-halted s None = refl
+go-halted s (Some to) = refl
+
+pub do_outstanding-get : (s : State) (l : Outstanding) (r : Reg) → is_in (target_of l) r ≡ false
+    → get (do_outstanding s l).registers r ≡ get s.registers r
+unfolding do_outstanding access_at poke write target_of is_in returning_to returning
+do_outstanding-get s (Entered slot a (LoadInto n)) r h =
+    get-put_other s.registers (X n) r _ (or_parts (reg_eq r (X n)) false h).0
+do_outstanding-get s (Entered slot a (StoreWord w)) r h = refl
+do_outstanding-get s (Accepted n w) r h = get-put_other s.registers (X n) r _ (or_parts (reg_eq r (X n)) false h).0
+
+do_option-get : (s : State) (o : Option Outstanding) (r : Reg) → is_in (targets_left o) r ≡ false
+    → get (do_option s o).registers r ≡ get s.registers r
+unfolding do_option targets_left
+do_option-get s None r h = refl
+do_option-get s (Some l) r h = do_outstanding-get s l r h
+
+pub do_parts-get : (b : Bounds) (s : State) (h : Shape) (x : UnitValue) (r : Reg) → is_in (puts_of h) r ≡ false
+    → is_in (loads_of h) r ≡ false → get (do_parts b s (work_of h x)).registers r ≡ get s.registers r
+unfolding do_parts do_now work_of mark
+do_parts-get b s h x r p q =
+    do_option-get _ (rest_of b 0 (reference_for h x)) r (ap (λ rs. is_in rs r) (rest_targets b 0 h x) ∙ q)
+    ∙ ap (λ g. get g r) (go-registers _ (jump_for h x))
+    ∙ write_all-get s _ (puts_of h) r p
+
+-- what is left of a reference may store to the address
+unfoldable pub later_stores : ℕ → Outstanding → Bool
+later_stores a (Entered slot k (StoreWord w)) = eqb k a
+later_stores a (Entered slot k (LoadInto n)) = false
+later_stores a (Accepted n w) = false
+
+pub do_outstanding-word : (s : State) (l : Outstanding) (a : ℕ) → later_stores a l ≡ false
+    → get_or (do_outstanding s l).memory a 0 ≡ get_or s.memory a 0
+unfolding do_outstanding access_at poke write later_stores
+do_outstanding-word s (Entered slot k (LoadInto n)) a h = refl
+do_outstanding-word s (Entered slot k (StoreWord w)) a h =
+    get_or-set_other s.memory k a w 0 (λ e. eqb-false k a h (sym e))
+do_outstanding-word s (Accepted n w) a h = refl
+
+pub do_now-memory : (b : Bounds) (s : State) (w : Work) → (do_now b s w).memory ≡ s.memory
+unfolding do_now mark
+do_now-memory b s w = go-memory _ w.jump ∙ ap (λ y. y.memory) (write_all_rest s w.puts)
+
+entering_stores_not : (s : State) (slot n a : ℕ) (o : Option ℕ)
+    → get_or (do_option s (entering slot o (LoadInto n))).memory a 0 ≡ get_or s.memory a 0
+unfolding entering do_option do_outstanding access_at write
+entering_stores_not s slot n a None = refl
+entering_stores_not s slot n a (Some k) = refl
+
+rest_stores_not : (b : Bounds) (s : State) (slot a : ℕ) (h : Shape) (x : UnitValue) → has_store h ≡ false
+    → get_or (do_option s (rest_of b slot (reference_for h x))).memory a 0 ≡ get_or s.memory a 0
+unfolding rest_of reference_for has_store do_option
+rest_stores_not b s slot a (Puts rs) x e = refl
+rest_stores_not b s slot a (Loads n) x e = entering_stores_not s slot n a _
+rest_stores_not b s slot a (Stores n) x e = cc
+rest_stores_not b s slot a Jumps x e = refl
+rest_stores_not b s slot a Links x e = cc
+
+pub do_parts-word : (b : Bounds) (s : State) (h : Shape) (x : UnitValue) (a : ℕ) → has_store h ≡ false
+    → get_or (do_parts b s (work_of h x)).memory a 0 ≡ get_or s.memory a 0
+unfolding do_parts work_of
+do_parts-word b s h x a e = rest_stores_not b _ 0 a h x e ∙ ap (λ m. get_or m a 0) (do_now-memory b s _)
+
+pub do_outstanding-halted : (s : State) (l : Outstanding) → (do_outstanding s l).halt ≡ s.halt
+unfolding do_outstanding access_at poke write
+do_outstanding-halted s (Entered slot a (LoadInto n)) = refl
+do_outstanding-halted s (Entered slot a (StoreWord w)) = refl
+do_outstanding-halted s (Accepted n w) = refl
+
+do_option-halted : (s : State) (o : Option Outstanding) → (do_option s o).halt ≡ s.halt
+unfolding do_option
+do_option-halted s None = refl
+do_option-halted s (Some l) = do_outstanding-halted s l
+
+pub do_parts-halted : (b : Bounds) (s : State) (w : Work) → (do_parts b s w).halt ≡ s.halt
+unfolding do_parts do_now mark
+do_parts-halted b s w =
+    do_option-halted _ (rest_of b 0 w.reference) ∙ go-halted _ w.jump ∙ ap (λ y. y.halt) (write_all_rest s w.puts)
+
+pub do_outstanding-bounds : (s : State) (l : Outstanding) → bounds_of (do_outstanding s l) ≡ bounds_of s
+unfolding do_outstanding access_at poke write bounds_of
+do_outstanding-bounds s (Entered slot a (LoadInto n)) = refl
+do_outstanding-bounds s (Entered slot a (StoreWord w)) =
+    ap (λ n. record { area = s.area; size = n }) (length-set s.memory a w)
+do_outstanding-bounds s (Accepted n w) = refl
+
+do_option-bounds : (s : State) (o : Option Outstanding) → bounds_of (do_option s o) ≡ bounds_of s
+unfolding do_option
+do_option-bounds s None = refl
+do_option-bounds s (Some l) = do_outstanding-bounds s l
+
+go-bounds : (s : State) (j : Option ℕ) → bounds_of (go s j) ≡ bounds_of s
+unfolding go bounds_of gone
+go-bounds s None = refl
+go-bounds s (Some to) = refl
+
+pub do_now-bounds : (b : Bounds) (s : State) (w : Work) → bounds_of (do_now b s w) ≡ bounds_of s
+unfolding do_now mark bounds_of
+do_now-bounds b s w = go-bounds _ w.jump ∙ ap bounds_of (write_all_rest s w.puts)
+
+pub do_parts-bounds : (b : Bounds) (s : State) (w : Work) → bounds_of (do_parts b s w) ≡ bounds_of s
+unfolding do_parts
+do_parts-bounds b s w = do_option-bounds _ (rest_of b 0 w.reference) ∙ do_now-bounds b s w
+
+pub do_outstanding-place : (s : State) (l : Outstanding) → (do_outstanding s l).place ≡ s.place
+unfolding do_outstanding access_at poke write
+do_outstanding-place s (Entered slot a (LoadInto n)) = refl
+do_outstanding-place s (Entered slot a (StoreWord w)) = refl
+do_outstanding-place s (Accepted n w) = refl
+
+pub do_parts-place : (b : Bounds) (s : State) (h : Shape) (x : UnitValue) → is_branch_shape h ≡ false
+    → (do_parts b s (work_of h x)).place ≡ s.place
+unfolding move_to
+do_parts-place b s h x e = ap (λ y. y.place) (do_parts-move b s h x s.place e)
+
+-- ---- the work of a row is its two parts ----
+
+refer_at-is : (s : State) (o : Option ℕ) (access : Access) → refer_at s o access ≡ do_option s (entering 0 o access)
+unfolding refer_at do_option entering do_outstanding
+refer_at-is s (Some a) (LoadInto n) = refl
+refer_at-is s (Some a) (StoreWord w) = refl
+refer_at-is s None (LoadInto n) = refl
+refer_at-is s None (StoreWord w) = refl
+
+refer-is : (b : Bounds) (s : State) (r : Option ProgramReference) → refer b s r ≡ do_option s (rest_of b 0 r)
+unfolding refer rest_of do_option
+refer-is b s None = refl
+refer-is b s (Some r) = refer_at-is s (absolute b r.address) r.access
+
+pub do_work-is : (b : Bounds) (s : State) (w : Work) → do_work b s w ≡ do_parts b s w
+unfolding do_work do_parts
+do_work-is b s w = refer-is b (do_now b s w) w.reference
+
+by_parts : (b : Bounds) (s : State) (w : Work) (c : State → State) → do_parts b (c s) w ≡ c (do_parts b s w)
+    → do_work b (c s) w ≡ c (do_work b s w)
+by_parts b s w c h = do_work-is b (c s) w ∙ h ∙ ap c (sym (do_work-is b s w))
+
+pub do_work-write : (b : Bounds) (s : State) (h : Shape) (x : UnitValue) (r : Reg) (v : ℕ)
+    → is_in (puts_of h) r ≡ false → is_in (loads_of h) r ≡ false
+    → do_work b (write s r v) (work_of h x) ≡ write (do_work b s (work_of h x)) r v
+do_work-write b s h x r v p q = by_parts b s (work_of h x) (λ y. write y r v) (do_parts-write b s h x r v p q)
+
+pub do_work-move : (b : Bounds) (s : State) (h : Shape) (x : UnitValue) (p : Place) → is_branch_shape h ≡ false
+    → do_work b (move_to s p) (work_of h x) ≡ move_to (do_work b s (work_of h x)) p
+do_work-move b s h x p e = by_parts b s (work_of h x) (λ y. move_to y p) (do_parts-move b s h x p e)
+
+pub do_work-halt : (b : Bounds) (s : State) (w : Work) (k : Halt)
+    → do_work b (halt_by s k) w ≡ halt_by (do_work b s w) k
+do_work-halt b s w k = by_parts b s w (λ y. halt_by y k) (do_parts-halt b s w k)
+
+pub do_work-mark : (b : Bounds) (s : State) (w : Work) (f : Bool) → do_work b (mark s f) w ≡ mark (do_work b s w) f
+do_work-mark b s w f = by_parts b s w (λ y. mark y f) (do_parts-mark b s w f)
+
+pub do_work-poke : (b : Bounds) (s : State) (h : Shape) (x : UnitValue) (a w : ℕ) → has_reference h ≡ false
+    → do_work b (poke s a w) (work_of h x) ≡ poke (do_work b s (work_of h x)) a w
+do_work-poke b s h x a w e = by_parts b s (work_of h x) (λ y. poke y a w) (do_parts-poke b s h x a w e)
+
+pub do_work-get : (b : Bounds) (s : State) (h : Shape) (x : UnitValue) (r : Reg) → is_in (puts_of h) r ≡ false
+    → is_in (loads_of h) r ≡ false → get (do_work b s (work_of h x)).registers r ≡ get s.registers r
+do_work-get b s h x r p q = ap (λ y. get y.registers r) (do_work-is b s (work_of h x)) ∙ do_parts-get b s h x r p q
+
+pub do_work-word : (b : Bounds) (s : State) (h : Shape) (x : UnitValue) (a : ℕ) → has_store h ≡ false
+    → get_or (do_work b s (work_of h x)).memory a 0 ≡ get_or s.memory a 0
+do_work-word b s h x a e = ap (λ y. get_or y.memory a 0) (do_work-is b s (work_of h x)) ∙ do_parts-word b s h x a e
+
+pub do_work-halted : (b : Bounds) (s : State) (w : Work) → (do_work b s w).halt ≡ s.halt
+do_work-halted b s w = ap (λ y. y.halt) (do_work-is b s w) ∙ do_parts-halted b s w
+
+pub do_work-bounds : (b : Bounds) (s : State) (w : Work) → bounds_of (do_work b s w) ≡ bounds_of s
+do_work-bounds b s w = ap bounds_of (do_work-is b s w) ∙ do_parts-bounds b s w
+
+pub do_work-place : (b : Bounds) (s : State) (h : Shape) (x : UnitValue) → is_branch_shape h ≡ false
+    → (do_work b s (work_of h x)).place ≡ s.place
+do_work-place b s h x e = ap (λ y. y.place) (do_work-is b s (work_of h x)) ∙ do_parts-place b s h x e

@@ -1,0 +1,246 @@
+-- What one pending instruction doesn't touch.
+use Rattle.scoreboard.specs.Rows as board
+use Rattle.in_flight.specs.Pending.{has_read, progress_of, returning, row_of, is_branch, to_come}
+use Rattle.in_flight.proofs.asking.Asked.{reads}
+use Rattle.scoreboard.specs.Rows.{is_reserved, returning_to}
+use Rattle.std.specs.Prelude.{◌||◌}
+use Rattle.std.proofs.lemmas.Bool.{eqb-true, or_parts}
+use Rattle.std.proofs.Common.{◌≡◌, ℕ, Bool, true, false, cond, sym, subst, List, [], ◌∷◌, ◌++◌, Option, Some, None}
+use Rattle.std.proofs.Common.{refl, ap, ◌∙◌, get_or}
+use Rattle.std.specs.List.{list_any}
+use Rattle.instructions.proofs.Lists.{any_left, any_right, each_left, each_right}
+use Rattle.registers.proofs.RegisterLaws.{get-put_other, same_reg_flip}
+use Rattle.program_order.proofs.effects.Effects.{later_touches, later_stores, do_outstanding-write, do_work-write}
+use Rattle.program_order.proofs.effects.Effects.{do_outstanding-move, do_work-move, do_outstanding-halt, do_work-halt}
+use Rattle.program_order.proofs.effects.Effects.{do_outstanding-mark, do_work-mark, do_outstanding-poke, do_work-poke}
+use Rattle.program_order.proofs.effects.Effects.{do_outstanding-get, do_work-get, do_outstanding-word, do_work-word}
+use Rattle.program_order.proofs.effects.Effects.{do_outstanding-halted, do_work-halted, do_outstanding-bounds}
+use Rattle.program_order.proofs.effects.Effects.{do_work-bounds, do_outstanding-place, do_work-place}
+use Rattle.instructions.specs.RegisterLists.{is_in}
+use Rattle.instructions.specs.Shape.{Shape, has_reference, has_store, is_branch_shape, loads_of, puts_of, results}
+use Rattle.instructions.specs.Shape.{shape_of}
+use Rattle.instructions.specs.Operands.{reg_eq, sources_of, row, with_source}
+use Rattle.instructions.specs.declared.instr.Instr.{Instr}
+use Rattle.instructions.specs.declared.instr.Reg.{Reg}
+use Rattle.instructions.specs.declared.instr.Reg.TheVariants.{A, B, X}
+use Rattle.instructions.specs.declared.refusal.Halt.{Halt}
+use Rattle.in_flight.proofs.asking.Phases.{target_of, before_and, may_store, may_store_in, reads_in, to_come_in}
+use Rattle.instructions.specs.Each.{Each}
+use Rattle.program_order.specs.Complete.{run, run_phase, value_at}
+use Rattle.in_flight.specs.declared.pending.Outstanding.TheVariants.{Accepted, Entered}
+use Rattle.in_flight.specs.declared.pending.Pending.{Pending}
+use Rattle.in_flight.specs.declared.pending.Phase.{Phase}
+use Rattle.in_flight.specs.declared.pending.Phase.TheVariants.{After, Before}
+use Rattle.in_flight.specs.declared.pending.Stage.{Stage}
+use Rattle.in_flight.specs.declared.pending.Stage.TheVariants.{Finished, Read as HasRead, Waiting}
+use Rattle.registers.specs.Registers.{get, put}
+use Rattle.registers.specs.declared.file.RegisterFile.{RegisterFile}
+use Rattle.relocation.specs.declared.area.Access.TheVariants.{Load as LoadInto, Store as StoreWord}
+use Rattle.sequential.specs.State.{Bounds, bounds_of, halt_by, mark, move_to, poke, write}
+use Rattle.sequential.specs.Work.{do_work, operand_at, operands, work_of}
+use Rattle.sequential.specs.declared.place.Place.{Place}
+use Rattle.sequential.specs.declared.state.State.{State}
+use Rattle.unit_ops.specs.Values.{value_of}
+
+reg_eq_true : (r t : Reg) → reg_eq r t ≡ true → r ≡ t
+reg_eq_true (X m) (X n) h = ap X (eqb-true m n h)
+reg_eq_true (A m) (A n) h = ap A (eqb-true m n h)
+reg_eq_true (B m) (B n) h = ap B (eqb-true m n h)
+reg_eq_true (X m) (A n) h = cc
+reg_eq_true (X m) (B n) h = cc
+reg_eq_true (A m) (X n) h = cc
+reg_eq_true (A m) (B n) h = cc
+reg_eq_true (B m) (X n) h = cc
+reg_eq_true (B m) (A n) h = cc
+
+-- what holds of each register of a list holds of one that is among them
+holds_of_one : (P : Reg → Type 0) (r : Reg) (rs : List Reg) → list_any (reg_eq r) rs ≡ true → Each P rs → P r
+holds_of_one P r [] h e = cc
+holds_of_one P r (t ∷ rs) h e = by_test (reg_eq r t) refl h (λ k. holds_of_one P r rs k e.1)
+  where
+    by_test : (f : Bool) → reg_eq r t ≡ f → (f || list_any (reg_eq r) rs) ≡ true
+        → (list_any (reg_eq r) rs ≡ true → P r) → P r
+    by_test true i k rest = subst P (sym (reg_eq_true r t i)) e.0
+    by_test false i k rest = rest k
+
+b0_agrees : (g k : RegisterFile) (r : Reg) → r ≡ B 0 → get g r ≡ get k r
+unfolding get
+b0_agrees g k r e = ap (get g) e ∙ sym (ap (get k) e)
+
+-- registers that agree on the sources with one more agree on it
+operand-agree : (g k : RegisterFile) (rs : List Reg) (o : Option Reg)
+    → Each (λ r. get g r ≡ get k r) (with_source rs o) → Each (λ r. get g r ≡ get k r) rs
+    × (operand_at g o ≡ operand_at k o)
+unfolding operand_at
+operand-agree g k rs None h = (h, refl)
+operand-agree g k rs (Some r) h = by_test (reg_eq r (B 0)) refl (list_any (reg_eq r) rs) refl h
+  where
+    P : Reg → Type 0
+    P t = get g t ≡ get k t
+
+    by_test : (x : Bool) → reg_eq r (B 0) ≡ x → (y : Bool) → list_any (reg_eq r) rs ≡ y
+        → Each (λ t. get g t ≡ get k t) (cond (x || y) rs (rs ++ r ∷ [])) → Each (λ t. get g t ≡ get k t) rs
+        × (get g r ≡ get k r)
+    by_test true i y j e = (e, b0_agrees g k r (reg_eq_true r (B 0) i))
+    by_test false i true j e = (e, holds_of_one P r rs j e)
+    by_test false i false j e = (each_left P rs (r ∷ []) e, (each_right P rs (r ∷ []) e).0)
+
+-- registers that agree on the sources give the same operands
+pub operands-agree : (i : Instr) (at : ℕ) (g k : RegisterFile) → Each (λ r. get g r ≡ get k r) (sources_of i)
+    → operands i at g ≡ operands i at k
+unfolding operands
+operands-agree i at g k h =
+    let third = operand-agree g k (with_source (with_source [] (row i).first) (row i).second) (row i).outgoing h in
+    let second = operand-agree g k (with_source [] (row i).first) (row i).second third.0 in
+    let first = operand-agree g k [] (row i).first second.0 in
+    rw (first.1, second.1, third.1) refl
+
+put_agrees : (g : RegisterFile) (r : Reg) (v : ℕ) (rs : List Reg) → is_in rs r ≡ false
+    → Each (λ t. get (put g r v) t ≡ get g t) rs
+unfolding is_in
+put_agrees g r v [] h = tt
+put_agrees g r v (t ∷ rs) h =
+    let p = or_parts (reg_eq r t) (list_any (reg_eq r) rs) h in
+    (get-put_other g r t v (same_reg_flip r t p.0), put_agrees g r v rs p.1)
+
+value_at-put : (i : Instr) (at : ℕ) (t : Stage) (g : RegisterFile) (r : Reg) (v : ℕ)
+    → is_in (reads_in (sources_of i) (Before t)) r ≡ false → value_at i at t (put g r v) ≡ value_at i at t g
+unfolding value_at reads_in board.reads_in progress_of has_read
+value_at-put i at Waiting g r v h =
+    ap (value_of i) (operands-agree i at (put g r v) g (put_agrees g r v (sources_of i) h))
+value_at-put i at (HasRead os) g r v h = refl
+value_at-put i at (Finished x) g r v h = refl
+
+in_puts : (h : Shape) (r : Reg) → is_in (results h) r ≡ false → is_in (puts_of h) r ≡ false
+unfolding is_in results
+in_puts h r e = any_left (reg_eq r) (puts_of h) (loads_of h) e
+
+in_loads : (h : Shape) (r : Reg) → is_in (results h) r ≡ false → is_in (loads_of h) r ≡ false
+unfolding is_in results
+in_loads h r e = any_right (reg_eq r) (puts_of h) (loads_of h) e
+
+-- ---- in a phase ----
+
+phase-write : (b : Bounds) (s : State) (i : Instr) (at : ℕ) (p : Phase) (r : Reg) (v : ℕ)
+    → is_in (to_come_in (shape_of i) p) r ≡ false → is_in (reads_in (sources_of i) p) r ≡ false
+    → run_phase b (write s r v) i at p ≡ write (run_phase b s i at p) r v
+unfolding run_phase to_come_in write board.to_come_in progress_of returning_to returning target_of
+phase-write b s i at (Before t) r v c d =
+    ap (λ x. do_work b (write s r v) (work_of (shape_of i) x)) (value_at-put i at t s.registers r v d)
+    ∙ do_work-write b s (shape_of i) _ r v (in_puts (shape_of i) r c) (in_loads (shape_of i) r c)
+phase-write b s i at (After l) r v c d = do_outstanding-write s l r v c
+
+phase-move : (b : Bounds) (s : State) (i : Instr) (at : ℕ) (p : Phase) (k : Place)
+    → before_and (is_branch_shape (shape_of i)) p ≡ false
+    → run_phase b (move_to s k) i at p ≡ move_to (run_phase b s i at p) k
+unfolding run_phase before_and move_to is_reserved progress_of
+phase-move b s i at (Before t) k e = do_work-move b s (shape_of i) _ k e
+phase-move b s i at (After l) k e = do_outstanding-move s l k
+
+phase-halt : (b : Bounds) (s : State) (i : Instr) (at : ℕ) (p : Phase) (k : Halt)
+    → run_phase b (halt_by s k) i at p ≡ halt_by (run_phase b s i at p) k
+unfolding run_phase halt_by
+phase-halt b s i at (Before t) k = do_work-halt b s _ k
+phase-halt b s i at (After l) k = do_outstanding-halt s l k
+
+phase-mark : (b : Bounds) (s : State) (i : Instr) (at : ℕ) (p : Phase) (f : Bool)
+    → run_phase b (mark s f) i at p ≡ mark (run_phase b s i at p) f
+unfolding run_phase mark
+phase-mark b s i at (Before t) f = do_work-mark b s _ f
+phase-mark b s i at (After l) f = do_outstanding-mark s l f
+
+unfoldable pub touches_in : Bool → ℕ → Phase → Bool
+touches_in f a (Before t) = f
+touches_in f a (After l) = later_touches a l
+
+phase-poke : (b : Bounds) (s : State) (i : Instr) (at : ℕ) (p : Phase) (a w : ℕ)
+    → touches_in (has_reference (shape_of i)) a p ≡ false
+    → run_phase b (poke s a w) i at p ≡ poke (run_phase b s i at p) a w
+unfolding run_phase touches_in poke later_touches
+phase-poke b s i at (Before t) a w e = do_work-poke b s (shape_of i) _ a w e
+phase-poke b s i at (After l) a w e = do_outstanding-poke s l a w e
+
+phase-get : (b : Bounds) (s : State) (i : Instr) (at : ℕ) (p : Phase) (r : Reg)
+    → is_in (to_come_in (shape_of i) p) r ≡ false → get (run_phase b s i at p).registers r ≡ get s.registers r
+unfolding run_phase to_come_in board.to_come_in progress_of returning_to returning target_of
+phase-get b s i at (Before t) r c =
+    do_work-get b s (shape_of i) _ r (in_puts (shape_of i) r c) (in_loads (shape_of i) r c)
+phase-get b s i at (After l) r c = do_outstanding-get s l r c
+
+phase-word : (b : Bounds) (s : State) (i : Instr) (at : ℕ) (p : Phase) (a : ℕ)
+    → may_store_in (has_store (shape_of i)) a p ≡ false → get_or (run_phase b s i at p).memory a 0 ≡ get_or s.memory a 0
+unfolding run_phase may_store_in later_stores
+phase-word b s i at (Before t) a e = do_work-word b s (shape_of i) _ a e
+phase-word b s i at (After (Entered slot k (LoadInto n))) a e =
+    do_outstanding-word s (Entered slot k (LoadInto n)) a refl
+phase-word b s i at (After (Entered slot k (StoreWord w))) a e =
+    do_outstanding-word s (Entered slot k (StoreWord w)) a e
+phase-word b s i at (After (Accepted n w)) a e = do_outstanding-word s (Accepted n w) a refl
+
+phase-halted : (b : Bounds) (s : State) (i : Instr) (at : ℕ) (p : Phase) → (run_phase b s i at p).halt ≡ s.halt
+unfolding run_phase
+phase-halted b s i at (Before t) = do_work-halted b s _
+phase-halted b s i at (After l) = do_outstanding-halted s l
+
+phase-bounds : (b : Bounds) (s : State) (i : Instr) (at : ℕ) (p : Phase)
+    → bounds_of (run_phase b s i at p) ≡ bounds_of s
+unfolding run_phase
+phase-bounds b s i at (Before t) = do_work-bounds b s _
+phase-bounds b s i at (After l) = do_outstanding-bounds s l
+
+phase-place : (b : Bounds) (s : State) (i : Instr) (at : ℕ) (p : Phase)
+    → before_and (is_branch_shape (shape_of i)) p ≡ false → (run_phase b s i at p).place ≡ s.place
+unfolding run_phase before_and is_reserved progress_of
+phase-place b s i at (Before t) e = do_work-place b s (shape_of i) _ e
+phase-place b s i at (After l) e = do_outstanding-place s l
+
+-- ---- a pending instruction ----
+
+pub run-write : (b : Bounds) (s : State) (m : Pending) (r : Reg) (v : ℕ) → is_in (to_come m) r ≡ false
+    → is_in (reads m) r ≡ false → run b (write s r v) m ≡ write (run b s m) r v
+unfolding run to_come reads board.to_come row_of to_come_in board.reads reads_in board.to_come_in progress_of returning_to returning board.reads_in has_read
+run-write b s m r v c d = phase-write b s m.instr m.at m.phase r v c d
+
+pub run-move : (b : Bounds) (s : State) (m : Pending) (k : Place) → is_branch m ≡ false
+    → run b (move_to s k) m ≡ move_to (run b s m) k
+unfolding run is_branch board.is_branch row_of before_and is_reserved progress_of
+run-move b s m k e = phase-move b s m.instr m.at m.phase k e
+
+pub run-halt : (b : Bounds) (s : State) (m : Pending) (k : Halt) → run b (halt_by s k) m ≡ halt_by (run b s m) k
+unfolding run
+run-halt b s m k = phase-halt b s m.instr m.at m.phase k
+
+pub run-mark : (b : Bounds) (s : State) (m : Pending) (f : Bool) → run b (mark s f) m ≡ mark (run b s m) f
+unfolding run
+run-mark b s m f = phase-mark b s m.instr m.at m.phase f
+
+-- the instruction may read or write the absolute address
+unfoldable pub touches : ℕ → Pending → Bool
+touches a m = touches_in (has_reference (shape_of m.instr)) a m.phase
+
+pub run-poke : (b : Bounds) (s : State) (m : Pending) (a w : ℕ) → touches a m ≡ false
+    → run b (poke s a w) m ≡ poke (run b s m) a w
+unfolding run touches
+run-poke b s m a w e = phase-poke b s m.instr m.at m.phase a w e
+
+pub run-get : (b : Bounds) (s : State) (m : Pending) (r : Reg) → is_in (to_come m) r ≡ false
+    → get (run b s m).registers r ≡ get s.registers r
+unfolding run to_come board.to_come row_of to_come_in board.to_come_in progress_of returning_to returning
+run-get b s m r c = phase-get b s m.instr m.at m.phase r c
+
+pub run-word : (b : Bounds) (s : State) (m : Pending) (a : ℕ) → may_store a m ≡ false
+    → get_or (run b s m).memory a 0 ≡ get_or s.memory a 0
+unfolding run may_store
+run-word b s m a e = phase-word b s m.instr m.at m.phase a e
+
+pub run-halted : (b : Bounds) (s : State) (m : Pending) → (run b s m).halt ≡ s.halt
+unfolding run
+run-halted b s m = phase-halted b s m.instr m.at m.phase
+
+pub run-bounds : (b : Bounds) (s : State) (m : Pending) → bounds_of (run b s m) ≡ bounds_of s
+unfolding run
+run-bounds b s m = phase-bounds b s m.instr m.at m.phase
+
+pub run-place : (b : Bounds) (s : State) (m : Pending) → is_branch m ≡ false → (run b s m).place ≡ s.place
+unfolding run is_branch board.is_branch row_of before_and is_reserved progress_of
+run-place b s m e = phase-place b s m.instr m.at m.phase e

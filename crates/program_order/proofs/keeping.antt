@@ -1,0 +1,5 @@
+-- What each event keeps, and which refusals it may have.
+pub mod Sizes
+pub mod Slotted
+pub mod There
+pub mod Naming

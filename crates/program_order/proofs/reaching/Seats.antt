@@ -1,0 +1,141 @@
+-- Whether the seats were given out changes neither an answer nor what an event leaves.
+use Rattle.std.proofs.Common.{◌≡◌, ℕ, Bool, List, [], ◌∷◌, Option, Some, None, refl, sym, ap, ◌∙◌, subst, inl, inr}
+use Rattle.std.specs.Prelude.{Result, Ok, Err}
+use Rattle.instructions.specs.declared.refusal.Refusal.{Refusal}
+use Rattle.relocation.specs.declared.area.Access.{Access}
+use Rattle.relocation.specs.declared.area.Access.TheVariants.{Load as LoadInto, Store as StoreWord}
+use Rattle.sequential.specs.declared.fetching.Fetched.{Fetched}
+use Rattle.sequential.specs.declared.fetching.Fetched.TheVariants.{Halting, Passing, Taking}
+use Rattle.in_flight.specs.declared.pending.Pending.{Pending}
+use Rattle.program_order.specs.declared.event.Done.{Done}
+use Rattle.program_order.specs.declared.event.Done.TheVariants.{Issued as DoneIssue}
+use Rattle.program_order.specs.declared.event.Event.{Event}
+use Rattle.program_order.specs.declared.event.Event.TheVariants.{Issue, Read, Finish, Store, Accept, Return, BankFree}
+use Rattle.program_order.specs.declared.event.Event.TheVariants.{Ask, Exchange}
+use Rattle.in_flight.specs.declared.pending.Stage.{Stage}
+use Rattle.in_flight.specs.declared.pending.Stage.TheVariants.{Waiting, Read as HasRead, Finished}
+use Rattle.in_flight.specs.declared.pending.HopperEntry.{HopperEntry}
+use Rattle.program_order.specs.Run.{IsAnswer, IsAnswered, answer_by, answer_of, done_by, note_by, settled, settled_all}
+use Rattle.instructions.specs.Finding.{Found}
+use Rattle.program_order.specs.Processor.{Processor}
+use Rattle.program_order.specs.Events.{after, after_found, allowed, tests_of}
+use Rattle.program_order.specs.Memory.{after_accept, after_return}
+use Rattle.program_order.specs.Exchange.{after_exchange}
+use Rattle.program_order.specs.Units.{after_finish, after_read, after_store, after_work}
+use Rattle.program_order.specs.Issue.{after_issue}
+
+-- the machine, with its seats given out or not
+abbrev pub seated : Bool → Processor → Processor
+seated b w = record w { seats_given = b }
+
+same_note : (b : Bool) (w : Processor) (f : Fetched) → note_by (seated b w) f ≡ note_by w f
+unfolding note_by
+same_note b w (Halting h place) = refl
+same_note b w (Passing place) = refl
+same_note b w (Taking i place) = refl
+
+same_done : (b : Bool) (w : Processor) (e : Event) → done_by (seated b w) e ≡ done_by w e
+unfolding done_by
+same_done b w Issue = ap DoneIssue (same_note b w _)
+same_done b w (Read u) = refl
+same_done b w (Finish u) = refl
+same_done b w (Store u) = refl
+same_done b w (Accept p) = refl
+same_done b w (Return c) = refl
+same_done b w (BankFree k) = refl
+same_done b w (Ask n) = refl
+same_done b w Exchange = refl
+
+same_allowed : (b : Bool) (w : Processor) (e : Event) → allowed (seated b w) e ≡ allowed w e
+unfolding allowed tests_of
+same_allowed b w Issue = refl
+same_allowed b w (Read u) = refl
+same_allowed b w (Finish u) = refl
+same_allowed b w (Store u) = refl
+same_allowed b w (Accept p) = refl
+same_allowed b w (Return c) = refl
+same_allowed b w (BankFree k) = refl
+same_allowed b w (Ask n) = refl
+same_allowed b w Exchange = refl
+
+same_answer : (b : Bool) (w : Processor) (e : Event) → answer_of (seated b w) e ≡ answer_of w e
+unfolding answer_of
+same_answer b w e =
+    ap (λ d. answer_by d (allowed (seated b w) e)) (same_done b w e) ∙ ap (answer_by (done_by w e)) (same_allowed b w e)
+
+issue_after : (b : Bool) (w : Processor) (f : Fetched) → after_issue (seated b w) f ≡ seated b (after_issue w f)
+unfolding after_issue
+issue_after b w (Halting h place) = refl
+issue_after b w (Passing place) = refl
+issue_after b w (Taking i place) = refl
+
+-- what is made of the instruction that was found
+found_after : {K : Type 0} (b : Bool) (w : Processor) (o : Option (Found Pending K))
+    (f g : Found Pending K → Processor) → ((x : Found Pending K) → f x ≡ seated b (g x))
+    → after_found (seated b w) o f ≡ seated b (after_found w o g)
+unfolding after_found
+found_after b w None f g h = refl
+found_after b w (Some x) f g h = h x
+
+store_after : (b : Bool) (w : Processor) (f : Found Pending Stage) (t : Stage)
+    → after_store (seated b w) f t ≡ seated b (after_store w f t)
+unfolding after_store after_work
+store_after b w f Waiting = refl
+store_after b w f (HasRead os) = refl
+store_after b w f (Finished v) = refl
+
+accept_after : (b : Bool) (w : Processor) (f : Found Pending HopperEntry) (a : ℕ) (access : Access)
+    → after_accept (seated b w) f a access ≡ seated b (after_accept w f a access)
+unfolding after_accept
+accept_after b w f a (LoadInto n) = refl
+accept_after b w f a (StoreWord v) = refl
+
+exchange_after : (b : Bool) (w : Processor) (r : Option ℕ)
+    → after_exchange (seated b w) r ≡ seated b (after_exchange w r)
+unfolding after_exchange
+exchange_after b w None = refl
+exchange_after b w (Some n) = refl
+
+same_after : (b : Bool) (w : Processor) (e : Event) → after (seated b w) e ≡ seated b (after w e)
+unfolding after after_read after_finish after_return
+same_after b w Issue = issue_after b w _
+same_after b w (Read u) = found_after b w _ _ _ (λ x. refl)
+same_after b w (Finish u) = found_after b w _ _ _ (λ x. refl)
+same_after b w (Store u) = found_after b w _ _ _ (λ x. store_after b w x x.answer)
+same_after b w (Accept p) = found_after b w _ _ _ (λ x. accept_after b w x x.answer.a x.answer.access)
+same_after b w (Return c) = found_after b w _ _ _ (λ x. refl)
+same_after b w (BankFree k) = refl
+same_after b w (Ask n) = refl
+same_after b w Exchange = exchange_after b w w.request
+
+same_settled : (b : Bool) (w : Processor) (e : Event) (a : Result Done Refusal)
+    → settled (seated b w) e a ≡ seated b (settled w e a)
+unfolding settled
+same_settled b w e (Ok d) = same_after b w e
+same_settled b w e (Err k) = refl
+
+pub same_run : (b : Bool) (w : Processor) (events : List Event) (answers : List (Result Done Refusal))
+    → settled_all (seated b w) events answers ≡ seated b (settled_all w events answers)
+unfolding settled_all
+same_run b w [] answers = refl
+same_run b w (e ∷ events) [] = refl
+same_run b w (e ∷ events) (a ∷ answers) =
+    ap (λ x. settled_all x events answers) (same_settled b w e a) ∙ same_run b (settled w e a) events answers
+
+-- an answer that may be given may be given whether or not the seats were given out
+seated_answer : (b : Bool) (w : Processor) (e : Event) (a : Result Done Refusal) → IsAnswer w e a
+    → IsAnswer (seated b w) e a
+seated_answer b w e a (inl h) = inl (h ∙ sym (same_answer b w e))
+seated_answer b w e a (inr r) =
+    inr (record { want = r.want; ask = r.ask; otherwise_allowed = same_allowed b w e ∙ r.otherwise_allowed })
+
+pub seated_answers : (b : Bool) (w : Processor) (events : List Event) (answers : List (Result Done Refusal))
+    → IsAnswered w events answers → IsAnswered (seated b w) events answers
+seated_answers b w [] [] h = h
+seated_answers b w [] (a ∷ answers) h = h
+seated_answers b w (e ∷ events) [] h = h
+seated_answers b w (e ∷ events) (a ∷ answers) h = (
+  seated_answer b w e a h.0,
+  subst (λ x. IsAnswered x events answers) (sym (same_settled b w e a))
+      (seated_answers b (settled w e a) events answers h.1),
+)

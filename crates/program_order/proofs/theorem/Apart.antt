@@ -1,0 +1,266 @@
+-- What the tests of an event, and that pending instructions are apart, give for the earlier ones.
+use Rattle.scoreboard.specs.Conflicts as conflict
+use Rattle.scoreboard.specs.Rows as board
+use Rattle.in_flight.specs.Pending.{has_read, progress_of, returning, row_of, awaited, entered_in, has_turn, in_bank}
+use Rattle.in_flight.specs.Pending.{in_bank_in, is_branch, is_entered, to_be_read, to_come}
+use Rattle.in_flight.proofs.asking.Asked.{reads, comes, reads_it}
+use Rattle.in_flight.proofs.asking.Phases.{reads_in, before_and, may_store, may_store_in, target_of, to_come_in}
+use Rattle.scoreboard.specs.Rows.{is_reserved, returning_to}
+use Rattle.std.proofs.Common.{◌≡◌, ℕ, Bool, true, false, List, [], ◌∷◌, ◌++◌, Option, Some, None, refl, sym, ap, ◌∙◌}
+use Rattle.std.proofs.Common.{eqb}
+use Rattle.std.specs.Prelude.{◌&&◌}
+use Rattle.std.proofs.lemmas.Bool.{eqb-false, ne_eqb}
+use Rattle.std.specs.List.{list_any}
+use Rattle.instructions.proofs.Lists.{any_left, any_right, each_of_any, any_of_each, each_map, each_both, pairs_before}
+use Rattle.instructions.proofs.Lists.{pairs_with}
+use Rattle.program_order.proofs.effects.Effects.{later_touches, no_reference}
+use Rattle.program_order.proofs.effects.Members.{touches_in, touches}
+use Rattle.program_order.proofs.effects.Completing.{IsFree, IsNoBranch}
+use Rattle.hopper.specs.Hopper.{bank_of}
+use Rattle.instructions.specs.RegisterLists.{is_in, overlap}
+use Rattle.instructions.specs.Shape.{Jumps, Links, Loads, Puts, Shape, Stores, has_reference, has_store}
+use Rattle.instructions.specs.Shape.{is_branch_shape, loads_of, puts_of, results, shape_of}
+use Rattle.instructions.specs.Operands.{reg_eq}
+use Rattle.instructions.specs.declared.instr.Reg.{Reg}
+use Rattle.instructions.specs.declared.instr.Reg.TheVariants.{X}
+use Rattle.instructions.specs.Each.{Each, Pairs}
+use Rattle.in_flight.specs.Apart.{IsApart}
+use Rattle.in_flight.specs.Lookup.{in_phase}
+use Rattle.program_order.specs.Units.{rest_of}
+use Rattle.in_flight.specs.declared.pending.Outstanding.{Outstanding}
+use Rattle.in_flight.specs.declared.pending.Outstanding.TheVariants.{Accepted, Entered}
+use Rattle.in_flight.specs.declared.pending.Pending.{Pending}
+use Rattle.in_flight.specs.declared.pending.Phase.{Phase}
+use Rattle.in_flight.specs.declared.pending.Phase.TheVariants.{After, Before}
+use Rattle.in_flight.specs.declared.pending.Stage.{Stage}
+use Rattle.relocation.specs.declared.area.Access.{Access}
+use Rattle.relocation.specs.declared.area.Access.TheVariants.{Load as LoadInto, Store as StoreWord}
+use Rattle.sequential.specs.State.{Bounds}
+use Rattle.sequential.specs.Work.{reference_for}
+use Rattle.sequential.specs.declared.work.ProgramReference.{ProgramReference}
+use Rattle.unit_ops.specs.declared.UnitValue.{UnitValue}
+
+-- ---- rows and columns ----
+
+pub each_swap : {P Q : Type 0} (R : P → Q → Type 0) (ps : List P) (qs : List Q) → Each (λ p. Each (R p) qs) ps
+    → Each (λ q. Each (λ p. R p q) ps) qs
+each_swap R ps [] h = tt
+each_swap R ps (q ∷ qs) h = (
+  each_map (λ p. Each (R p) (q ∷ qs)) (λ p. R p q) (λ p k. k.0) ps h,
+  each_swap R ps qs (each_map (λ p. Each (R p) (q ∷ qs)) (λ p. Each (R p) qs) (λ p k. k.1) ps h),
+)
+
+-- ---- tests, spread out ----
+
+pub not_awaited : (es : List Pending) (rs : List Reg) → list_any (awaited es) rs ≡ false
+    → Each (λ r. Each (λ e. comes r e ≡ false) es) rs
+unfolding conflict.awaited comes board.comes row_of to_come board.to_come to_come_in board.to_come_in progress_of returning_to returning
+not_awaited es rs h =
+    each_of_any (awaited es) _ (λ r k. each_of_any (comes r) (λ e. comes r e ≡ false) (λ e i. i) es k) rs h
+
+pub none_reads : (es : List Pending) (rs : List Reg) → list_any (to_be_read es) rs ≡ false
+    → Each (λ r. Each (λ e. reads_it r e ≡ false) es) rs
+unfolding conflict.to_be_read reads_it board.reads_it row_of reads board.reads reads_in board.reads_in progress_of has_read
+none_reads es rs h =
+    each_of_any (to_be_read es) _ (λ r k. each_of_any (reads_it r) (λ e. reads_it r e ≡ false) (λ e i. i) es k) rs h
+
+-- ---- registers ----
+
+disjoint_each : (rs ts : List Reg) → overlap rs ts ≡ false → Each (λ r. is_in ts r ≡ false) rs
+unfolding overlap
+disjoint_each rs ts h = each_of_any (is_in ts) (λ r. is_in ts r ≡ false) (λ r k. k) rs h
+
+each_disjoint : (rs ts : List Reg) → Each (λ r. is_in ts r ≡ false) rs → overlap rs ts ≡ false
+unfolding overlap
+each_disjoint rs ts h = any_of_each (is_in ts) (λ r. is_in ts r ≡ false) (λ r k. k) rs h
+
+to_come_is : (m : Pending) (p : Phase) → m.phase ≡ p → to_come m ≡ to_come_in (shape_of m.instr) p
+unfolding to_come board.to_come row_of to_come_in board.to_come_in progress_of returning_to returning
+to_come_is m p e = ap (to_come_in (shape_of m.instr)) e
+
+results_free : (h : Shape) (ts : List Reg) → overlap (results h) ts ≡ false → Each (λ r. is_in ts r ≡ false) (puts_of h)
+unfolding overlap results
+results_free h ts k = each_of_any (is_in ts) (λ r. is_in ts r ≡ false) (λ r i. i) (puts_of h)
+    (any_left (is_in ts) (puts_of h) (loads_of h) k)
+
+pub results_still : (h : Shape) (ts : List Reg) → overlap (results h) ts ≡ false → overlap (loads_of h) ts ≡ false
+unfolding overlap results
+results_still h ts k = any_right (is_in ts) (puts_of h) (loads_of h) k
+
+-- the registers that an instruction is about to write at its store event are free of the earlier ones
+pub free_to_put : (es : List Pending) (m : Pending) (t : Stage) → m.phase ≡ Before t → Each (λ e. IsApart e m) es
+    → list_any (to_be_read es) (puts_of (shape_of m.instr)) ≡ false
+    → Each (λ r. Each (IsFree r) es) (puts_of (shape_of m.instr))
+unfolding to_come_in reads_it board.to_come_in progress_of returning_to returning board.reads_it row_of reads board.reads reads_in board.reads_in has_read
+free_to_put es m t e apart h =
+    let rs = puts_of (shape_of m.instr) in
+    let cols : Each (λ r. Each (λ e. is_in (to_come e) r ≡ false) es) rs =
+    each_swap (λ e r. is_in (to_come e) r ≡ false) es rs
+    (each_map (λ e. IsApart e m) (λ e. Each (λ r. is_in (to_come e) r ≡ false) rs)
+    (λ y a. results_free (shape_of m.instr) (to_come y)
+    (ap (λ l. overlap l (to_come y)) (sym (to_come_is m (Before t) e)) ∙ a.disjoint)) es apart) in
+    each_both (λ r. Each (λ e. is_in (to_come e) r ≡ false) es) (λ r. Each (λ e. reads_it r e ≡ false) es)
+    (λ r. Each (IsFree r) es)
+    (λ r p q. each_both (λ e. is_in (to_come e) r ≡ false) (λ e. reads_it r e ≡ false) (IsFree r)
+    (λ y i j. record { not_to_come = i; not_read = j }) es p q)
+    rs cols (none_reads es rs h)
+
+-- the register of a load that waits in its channel
+pub free_to_return : (es : List Pending) (m : Pending) (c w : ℕ) → m.phase ≡ After (Accepted c w)
+    → Each (λ e. IsApart e m) es → to_be_read es (X c) ≡ false → Each (IsFree (X c)) es
+unfolding to_come_in target_of reads_it board.to_come_in progress_of returning_to returning conflict.to_be_read board.reads_it row_of reads board.reads reads_in board.reads_in has_read
+free_to_return es m c w e apart h =
+    each_both (λ y. IsApart y m) (λ y. reads_it (X c) y ≡ false) (IsFree (X c))
+    (λ y a j. record {
+      not_to_come = (disjoint_each (X c ∷ []) (to_come y)
+          (ap (λ l. overlap l (to_come y)) (sym (to_come_is m _ e)) ∙ a.disjoint)).0;
+      not_read = j;
+    })
+    es apart (each_of_any (reads_it (X c)) (λ y. reads_it (X c) y ≡ false) (λ y i. i) es h)
+
+-- ---- references ----
+
+same_bank : (k a : ℕ) → eqb (bank_of k) (bank_of a) ≡ false → eqb k a ≡ false
+same_bank k a h = ne_eqb k a (λ e. eqb-false (bank_of k) (bank_of a) h (ap bank_of e))
+
+touches-from : (f : Bool) (a : ℕ) (p : Phase) → before_and f p ≡ false → in_bank_in (bank_of a) p ≡ false
+    → touches_in f a p ≡ false
+unfolding before_and in_bank_in touches_in later_touches is_reserved progress_of
+touches-from f a (Before t) h k = h
+touches-from f a (After (Entered slot x access)) h k = same_bank x a k
+touches-from f a (After (Accepted n w)) h k = refl
+
+store_from_reference : (h : Shape) → has_reference h ≡ false → has_store h ≡ false
+unfolding has_reference has_store
+store_from_reference (Puts rs) e = refl
+store_from_reference (Loads n) e = refl
+store_from_reference (Stores n) e = e
+store_from_reference Jumps e = refl
+store_from_reference Links e = e
+
+may_store-from : (h : Shape) (a : ℕ) (p : Phase) → before_and (has_reference h) p ≡ false
+    → in_bank_in (bank_of a) p ≡ false → may_store_in (has_store h) a p ≡ false
+unfolding before_and in_bank_in may_store_in is_reserved progress_of
+may_store-from h a (Before t) i k = store_from_reference h i
+may_store-from h a (After (Entered slot x (LoadInto n))) i k = refl
+may_store-from h a (After (Entered slot x (StoreWord w))) i k = same_bank x a k
+may_store-from h a (After (Accepted n w)) i k = refl
+
+and_true : (f : Bool) → (true && f) ≡ false → f ≡ false
+and_true f h = h
+
+-- where an instruction waits in the hopper, each earlier one has come to its store event
+pub turns_past : (es : List Pending) (m : Pending) (slot a : ℕ) (access : Access)
+    → m.phase ≡ After (Entered slot a access) → Each (λ e. IsApart e m) es → Each (λ e. has_turn e ≡ false) es
+unfolding is_entered entered_in
+turns_past es m slot a access e apart =
+    each_map (λ y. IsApart y m) (λ y. has_turn y ≡ false)
+    (λ y k. and_true (has_turn y) (ap (λ p. entered_in p && has_turn y) (sym e) ∙ k.in_turn)) es apart
+
+pub untouched : (es : List Pending) (a : ℕ) → Each (λ e. has_turn e ≡ false) es
+    → list_any (in_bank (bank_of a)) es ≡ false → Each (λ e. touches a e ≡ false) es
+unfolding has_turn in_bank touches board.has_turn row_of before_and is_reserved progress_of
+untouched es a h k =
+    each_both (λ y. has_turn y ≡ false) (λ y. in_bank (bank_of a) y ≡ false) (λ y. touches a y ≡ false)
+    (λ y i j. touches-from _ a y.phase i j) es h
+    (each_of_any (in_bank (bank_of a)) (λ y. in_bank (bank_of a) y ≡ false) (λ y i. i) es k)
+
+pub unstored : (es : List Pending) (a : ℕ) → Each (λ e. has_turn e ≡ false) es
+    → list_any (in_bank (bank_of a)) es ≡ false → Each (λ e. may_store a e ≡ false) es
+unfolding has_turn in_bank may_store board.has_turn row_of before_and is_reserved progress_of
+unstored es a h k =
+    each_both (λ y. has_turn y ≡ false) (λ y. in_bank (bank_of a) y ≡ false) (λ y. may_store a y ≡ false)
+    (λ y i j. may_store-from (shape_of y.instr) a y.phase i j) es h
+    (each_of_any (in_bank (bank_of a)) (λ y. in_bank (bank_of a) y ≡ false) (λ y i. i) es k)
+
+-- ---- branches ----
+
+pub no_branches : (es : List Pending) (m : Pending) → Each (λ e. IsApart e m) es → Each IsNoBranch es
+no_branches es m apart = each_map (λ y. IsApart y m) IsNoBranch (λ y k. k.no_branch) es apart
+
+-- ---- an instruction in another phase ----
+
+-- nothing of the new one is in the way that was not in the way of the old one
+pub record IsLess (m' m : Pending) : Type 0 where
+  pub comes_less : (ts : List Reg) → overlap (to_come m) ts ≡ false → overlap (to_come m') ts ≡ false
+  pub in_less : (r : Reg) → is_in (to_come m) r ≡ false → is_in (to_come m') r ≡ false
+  pub turn_less : has_turn m ≡ false → has_turn m' ≡ false
+  pub branch_less : is_branch m ≡ false → is_branch m' ≡ false
+
+and_less : (f x y : Bool) → (y ≡ false → x ≡ false) → (f && y) ≡ false → (f && x) ≡ false
+and_less true x y g h = g h
+and_less false x y g h = refl
+
+apart_of_less : (m' m l : Pending) → IsLess m' m → IsApart m l → IsApart m' l
+apart_of_less m' m l k a = record {
+  disjoint = each_disjoint (to_come l) (to_come m')
+      (each_map (λ r. is_in (to_come m) r ≡ false) (λ r. is_in (to_come m') r ≡ false) k.in_less (to_come l)
+      (disjoint_each (to_come l) (to_come m) a.disjoint));
+  in_turn = and_less (is_entered l) (has_turn m') (has_turn m) k.turn_less a.in_turn;
+  no_branch = k.branch_less a.no_branch;
+}
+
+apart_to_less : (e m' m : Pending) → IsLess m' m → (is_entered m' && has_turn e) ≡ false → IsApart e m → IsApart e m'
+apart_to_less e m' m k t a =
+    record { disjoint = k.comes_less (to_come e) a.disjoint; in_turn = t; no_branch = a.no_branch }
+
+-- an instruction put for one that it is less than
+pub pairs_less : (es : List Pending) (m' m : Pending) (ls : List Pending) → IsLess m' m
+    → Each (λ e. (is_entered m' && has_turn e) ≡ false) es → Pairs IsApart (es ++ m ∷ ls)
+    → Pairs IsApart (es ++ m' ∷ ls)
+pairs_less es m' m ls k t h =
+    pairs_with IsApart es m m' ls h
+    (each_both (λ e. IsApart e m) (λ e. (is_entered m' && has_turn e) ≡ false) (λ e. IsApart e m')
+    (λ e a i. apart_to_less e m' m k i a) es (pairs_before IsApart es m ls h) t)
+    (λ l a. apart_of_less m' m l k a)
+
+pub less_before : (m : Pending) (t u : Stage) → m.phase ≡ Before t → IsLess (in_phase m (Before u)) m
+unfolding in_phase to_come to_come_in has_turn is_branch before_and board.to_come row_of board.to_come_in progress_of returning_to returning board.has_turn board.is_branch is_reserved
+less_before m t u e = record {
+  comes_less = λ ts h. ap (λ p. overlap (to_come_in (shape_of m.instr) p) ts) (sym e) ∙ h;
+  in_less = λ r h. ap (λ p. is_in (to_come_in (shape_of m.instr) p) r) (sym e) ∙ h;
+  turn_less = λ h. ap (before_and (has_reference (shape_of m.instr))) (sym e) ∙ h;
+  branch_less = λ h. ap (before_and (is_branch_shape (shape_of m.instr))) (sym e) ∙ h;
+}
+
+pub less_after : (m : Pending) (t : Stage) (l : Outstanding) → m.phase ≡ Before t
+    → target_of l ≡ loads_of (shape_of m.instr) → IsLess (in_phase m (After l)) m
+unfolding in_phase to_come to_come_in has_turn is_branch before_and overlap is_in results board.to_come row_of board.to_come_in progress_of returning_to returning board.has_turn board.is_branch is_reserved target_of
+less_after m t l e f = record {
+  comes_less = λ ts h. ap (λ rs. overlap rs ts) f
+      ∙ results_still (shape_of m.instr) ts (ap (λ p. overlap (to_come_in (shape_of m.instr) p) ts) (sym e) ∙ h);
+  in_less = λ r h. ap (λ rs. is_in rs r) f
+      ∙ any_right (reg_eq r) (puts_of (shape_of m.instr)) (loads_of (shape_of m.instr))
+      (ap (λ p. is_in (to_come_in (shape_of m.instr) p) r) (sym e) ∙ h);
+  turn_less = λ h. refl;
+  branch_less = λ h. refl;
+}
+
+pub less_accepted : (m : Pending) (slot a n w : ℕ) → m.phase ≡ After (Entered slot a (LoadInto n))
+    → IsLess (in_phase m (After (Accepted n w))) m
+unfolding in_phase to_come to_come_in has_turn is_branch before_and target_of board.to_come row_of board.to_come_in progress_of returning_to returning board.has_turn board.is_branch is_reserved
+less_accepted m slot a n w e = record {
+  comes_less = λ ts h. ap (λ p. overlap (to_come_in (shape_of m.instr) p) ts) (sym e) ∙ h;
+  in_less = λ r h. ap (λ p. is_in (to_come_in (shape_of m.instr) p) r) (sym e) ∙ h;
+  turn_less = λ h. refl;
+  branch_less = λ h. refl;
+}
+
+-- a row of which something is left after its store event has a reference
+left_has_reference : (b : Bounds) (slot : ℕ) (h : Shape) (v : UnitValue) (l : Outstanding) (f : Bool)
+    → has_reference h ≡ f → rest_of b slot (reference_for h v) ≡ Some l → f ≡ true
+unfolding rest_of
+left_has_reference b slot h v l true e k = refl
+left_has_reference b slot h v l false e k = none_left (reference_for h v) (no_reference h v e) k
+  where
+    none_left : (r : Option ProgramReference) → r ≡ None → rest_of b slot r ≡ Some l → false ≡ true
+    none_left None i j = cc
+    none_left (Some r) i j = cc
+
+-- at a store event in turn, the earlier references have come to theirs
+pub turns_at_store : (b : Bounds) (slot : ℕ) (h : Shape) (v : UnitValue) (l : Outstanding) (es : List Pending)
+    → rest_of b slot (reference_for h v) ≡ Some l → (has_reference h && list_any has_turn es) ≡ false
+    → Each (λ e. has_turn e ≡ false) es
+turns_at_store b slot h v l es k t =
+    let e = left_has_reference b slot h v l (has_reference h) refl k in
+    each_of_any has_turn (λ y. has_turn y ≡ false) (λ y i. i) es (ap (λ f. f && list_any has_turn es) (sym e) ∙ t)

@@ -1,0 +1,2 @@
+-- What is known of the registers.
+pub mod RegisterLaws

@@ -1,0 +1,5 @@
+-- What a board is after each change.
+pub mod Right
+pub mod Changing
+pub mod Reserving
+pub mod OfKind

@@ -1,0 +1,535 @@
+-- A unit is reserved: who writes which register then, and what the board stands for.
+use Rattle.std.proofs.Common.{◌≡◌, ◌<◌, ◌≤◌, ℕ, zero, suc, Bool, true, false, cond, List, [], ◌∷◌, ◌++◌, Option, Some}
+use Rattle.std.proofs.Common.{None, refl, sym, ap, ◌∙◌, subst, eqb, get_or, set, length, arith}
+use Rattle.std.specs.Prelude.{is_some, ◌&&◌, ◌||◌, IfSome, unwrap_or, find, Ok, Err}
+use Rattle.std.specs.List.{list_any}
+use Rattle.std.proofs.lemmas.Bool.{eq-eqb, eqb-true, eqb-false, le-ltb, lt-ltb, or_parts}
+use Rattle.std.proofs.lemmas.List.{length-set, length-append, set-append_left, get_or_append_left, get_or-set_same}
+use Rattle.std.proofs.lemmas.List.{get_or-set_other}
+use Rattle.std.proofs.lemmas.List.Folds.{list_any-append}
+use Rattle.instructions.specs.declared.instr.Instr.{Instr}
+use Rattle.instructions.specs.declared.instr.Reg.{Reg}
+use Rattle.instructions.specs.declared.instr.Reg.TheVariants.{X, A, B}
+use Rattle.instructions.specs.declared.instr.Unit.{Unit as FunctionalUnit}
+use Rattle.instructions.specs.declared.instr.UnitKind.{UnitKind}
+use Rattle.instructions.specs.declared.refusal.Refusal.{Refusal}
+use Rattle.instructions.specs.declared.refusal.Refusal.TheVariants.{UnitBusy, ResultReserved}
+use Rattle.instructions.specs.RegisterLists.{is_in}
+use Rattle.instructions.specs.Shape.{shape_of, puts_of, results}
+use Rattle.instructions.specs.Operands.{row, sources_of, reg_eq}
+use Rattle.scoreboard.specs.Conflicts.{awaited, is_held, first_free, free_unit, unit_for, first_such}
+use Rattle.scoreboard.specs.Rows.{comes, to_come, to_come_in, holds}
+use Rattle.scoreboard.specs.Units.{unit_number, same_unit, units_of, may_take, first_unit}
+use Rattle.scoreboard.specs.declared.issued.Issued.{Issued}
+use Rattle.scoreboard.specs.declared.writer.Writer.{Writer}
+use Rattle.scoreboard.specs.declared.writer.Writer.TheVariants.{OfUnit, OfChannel}
+use Rattle.scoreboard.specs.declared.writers.Writers.{Writers}
+use Rattle.scoreboard.specs.Answers.{Standing, new_issued, reserve_answer, reserved}
+use Rattle.instructions.specs.Each.{Each, Pairs}
+use Rattle.scoreboard.specs.inner.Fields.{writers_with, is_taken, free_for}
+use Rattle.scoreboard.specs.Issued.{row_of, number_of, channel_of, written_by_channel, written_in, written_by, or_else}
+use Rattle.scoreboard.specs.Issued.{first_some, if_earlier, writer_of, writer_before}
+use Rattle.instructions.specs.Order.{sort_by, somes, IsSeated}
+use Rattle.scoreboard.specs.inner.View.{standing_of, seated, seat_in, seat_of, IsOther, IsOfKind, AreProducers}
+use Rattle.scoreboard.specs.inner.View.{first_produced, IsRight}
+use Rattle.scoreboard.specs.Writers.{IsRegister, writer_at, set_writer}
+use Rattle.instructions.proofs.Lists.{each_map}
+use Rattle.instructions.proofs.Seats.{within, seated_fill, sort_new}
+use Rattle.instructions.proofs.Sorted.{any_sort, before_place, after_place, somes-at}
+use Rattle.scoreboard.proofs.seating.Registers.{AreSized, reg_eq_same, set_gives, set_sized, each_sized, each_gives}
+use Rattle.scoreboard.proofs.seating.Writing.{some_any, any_same, some_written, all_earlier}
+use Rattle.scoreboard.proofs.seating.Seating.{pairs_put, each_here, each_put, writer_put, unit_below}
+use Rattle.scoreboard.proofs.seating.Standing.{none_any, unit_seat, nobody_holds, here_holds, produced_found, any_find}
+use Rattle.scoreboard.proofs.changing.Right.{right_again, producers_same}
+
+-- ---- the registers' writers ----
+
+with_sized : (ws : Writers) (u : FunctionalUnit) (rs : List Reg) (c : Option ℕ) → AreSized ws
+    → AreSized (writers_with ws u rs c)
+unfolding writers_with
+with_sized ws u rs None l = each_sized rs ws (Some (OfUnit u)) l
+with_sized ws u rs (Some n) l =
+    each_sized rs (set_writer ws (X n) (Some (OfChannel n))) (Some (OfUnit u))
+    (set_sized ws (X n) (Some (OfChannel n)) l)
+
+with_gives : (ws : Writers) (u : FunctionalUnit) (rs : List Reg) (c : Option ℕ) (r : Reg) → AreSized ws
+    → Each IsRegister rs → IfSome c (λ n. n < 8)
+    → writer_at (writers_with ws u rs c) r
+    ≡ or_else (cond (is_in rs r) (Some (OfUnit u)) (written_by_channel r c)) (writer_at ws r)
+unfolding writers_with or_else written_by_channel
+with_gives ws u rs None r l v b = each_gives rs ws r (Some (OfUnit u)) l v ∙ by_test (is_in rs r)
+  where
+    by_test : (t : Bool) → cond t (Some (OfUnit u)) (writer_at ws r)
+        ≡ or_else (cond t (Some (OfUnit u)) None) (writer_at ws r)
+    by_test true = refl
+    by_test false = refl
+with_gives ws u rs (Some n) r l v b =
+    each_gives rs (set_writer ws (X n) (Some (OfChannel n))) r (Some (OfUnit u))
+    (set_sized ws (X n) (Some (OfChannel n)) l) v
+    ∙ ap (λ q. cond (is_in rs r) (Some (OfUnit u)) q) (set_gives ws (X n) r (Some (OfChannel n)) l b)
+    ∙ by_tests (is_in rs r) (reg_eq r (X n))
+  where
+    by_tests : (p q : Bool) → cond p (Some (OfUnit u)) (cond q (Some (OfChannel n)) (writer_at ws r))
+        ≡ or_else (cond p (Some (OfUnit u)) (cond q (Some (OfChannel n)) None)) (writer_at ws r)
+    by_tests true q = refl
+    by_tests false true = refl
+    by_tests false false = refl
+
+-- ---- First order ----
+
+-- somebody is to write a register where it is a result still to come
+pub awaited_field : (units channels : List (Option Issued)) (producers : List (List (Option Writer))) (ws : Writers)
+    (last : ℕ) → IsRight units channels producers ws last → (r : Reg) → IsRegister r
+    → is_some (writer_at ws r) ≡ awaited row_of (sort_by number_of (seated units channels)) r
+unfolding seated awaited row_of writer_of
+awaited_field units channels producers ws last right r v =
+    ap is_some (right.written r v)
+    ∙ some_any (written_by r) (somes (units ++ channels))
+    ∙ any_same (λ y. is_some (written_by r y)) (λ y. comes r y.row) (some_written r) (somes (units ++ channels))
+    ∙ sym (any_sort number_of (λ y. comes r y.row) (somes (units ++ channels)))
+
+find_valid : (f g : Reg → Bool) → ((r : Reg) → IsRegister r → f r ≡ g r) → (rs : List Reg) → Each IsRegister rs
+    → find f rs ≡ find g rs
+find_valid f g h [] v = refl
+find_valid f g h (r ∷ rs) v =
+    ap (λ b. cond b (Some r) (find f rs)) (h r v.0) ∙ ap (λ o. cond (g r) (Some r) o) (find_valid f g h rs v.1)
+
+-- the first of the results that is still to come
+pub first_awaited : (units channels : List (Option Issued)) (producers : List (List (Option Writer))) (ws : Writers)
+    (last : ℕ) (rs : List Reg) (ps : List (Option Writer)) (o : Option Reg) → IsRight units channels producers ws last
+    → AreProducers (writer_at ws) rs ps → Each IsRegister rs → o ≡ first_produced rs ps
+    → o ≡ find (awaited row_of (sort_by number_of (seated units channels))) rs
+first_awaited units channels producers ws last rs ps o right h v e =
+    e ∙ produced_found (writer_at ws) rs ps h
+    ∙ find_valid (λ r. is_some (writer_at ws r)) (awaited row_of (sort_by number_of (seated units channels)))
+    (λ r k. awaited_field units channels producers ws last right r k) rs v
+
+-- where none passes, each fails
+found_none : (test : Reg → Bool) (rs : List Reg) → find test rs ≡ None → (r : Reg) → is_in rs r ≡ true → test r ≡ false
+unfolding is_in
+found_none test [] h r k = cc
+found_none test (s ∷ rs) h r k = by_tests (λ i j. found_none test rs i r j) (test s) refl h (reg_eq r s) refl k
+  where
+    by_tests : (find test rs ≡ None → is_in rs r ≡ true → test r ≡ false) → (t : Bool) → test s ≡ t
+        → cond t (Some s) (find test rs) ≡ None → (q : Bool) → reg_eq r s ≡ q → (q || is_in rs r) ≡ true
+        → test r ≡ false
+    by_tests rest true e i q f j = cc
+    by_tests rest false e i true f j = ap test (reg_eq_same r s f) ∙ e
+    by_tests rest false e i false f j = rest i j
+
+new_comes : (r : Reg) (i : Instr) (u : FunctionalUnit) (n : ℕ)
+    → comes r (new_issued i u n).row ≡ is_in (results (shape_of i)) r
+unfolding comes to_come to_come_in new_issued
+new_comes r i u n = refl
+
+-- none of the new results is still to come
+pub fresh : (units channels : List (Option Issued)) (i : Instr) (u : FunctionalUnit) (n : ℕ)
+    → find (awaited row_of (sort_by number_of (seated units channels))) (results (shape_of i)) ≡ None → (r : Reg)
+    → comes r (new_issued i u n).row ≡ true → list_any (λ z. comes r z.row) (somes (units ++ channels)) ≡ false
+unfolding seated awaited row_of
+fresh units channels i u n h r k =
+    sym (any_sort number_of (λ z. comes r z.row) (somes (units ++ channels)))
+    ∙ found_none (awaited row_of (sort_by number_of (seated units channels))) (results (shape_of i)) h r
+    (sym (new_comes r i u n) ∙ k)
+
+-- ---- the unit ----
+
+or_true : (b : Bool) → (b || true) ≡ true
+or_true true = refl
+or_true false = refl
+
+any_here : (t : Issued → Bool) (os : List (Option Issued)) (i : ℕ) (x : Issued) → get_or os i None ≡ Some x
+    → t x ≡ true → list_any t (somes os) ≡ true
+any_here t os i x h e =
+    ap (list_any t) (somes-at os i x h)
+    ∙ list_any-append t (before_place os i) (x ∷ after_place os i)
+    ∙ ap (λ b. list_any t (before_place os i) || (b || list_any t (after_place os i))) e
+    ∙ or_true (list_any t (before_place os i))
+
+-- a unit is held where its seat is taken
+pub held_taken : (units channels : List (Option Issued)) (producers : List (List (Option Writer))) (ws : Writers)
+    (last : ℕ) → IsRight units channels producers ws last → (u : FunctionalUnit)
+    → is_taken units u ≡ is_held row_of (sort_by number_of (seated units channels)) u
+unfolding seated is_held row_of
+held_taken units channels producers ws last right u = by_seat (get_or units (unit_number u) None) refl
+    ∙ sym (any_sort number_of (λ y. holds u y.row) (somes (units ++ channels)))
+  where
+    by_seat : (o : Option Issued) → get_or units (unit_number u) None ≡ o
+        → is_some o ≡ list_any (λ y. holds u y.row) (somes (units ++ channels))
+    by_seat None e = sym (none_any (λ y. holds u y.row) (somes (units ++ channels))
+        (nobody_holds u (units ++ channels) (unit_number u) refl
+        (unit_seat units channels u (unit_number u) None right.all_units refl e) right.sits))
+    by_seat (Some x) e =
+        let here = unit_seat units channels u (unit_number u) (Some x) right.all_units refl e in
+        sym (any_here (λ y. holds u y.row) (units ++ channels) (unit_number u) x here
+        (here_holds u (units ++ channels) (unit_number u) x refl here right.sits))
+
+first_free_same : (f g : FunctionalUnit → Bool) → ((u : FunctionalUnit) → f u ≡ g u) → (us : List FunctionalUnit)
+    → first_free f us ≡ first_free g us
+unfolding first_free
+first_free_same f g h [] = refl
+first_free_same f g h (u ∷ us) =
+    ap (λ b. cond b (first_free f us) (Some u)) (h u) ∙ ap (λ o. cond (g u) o (Some u)) (first_free_same f g h us)
+
+pub free_same : (units channels : List (Option Issued)) (producers : List (List (Option Writer))) (ws : Writers)
+    (last : ℕ) → IsRight units channels producers ws last → (k : Option UnitKind)
+    → free_for (is_taken units) k ≡ unit_for row_of (sort_by number_of (seated units channels)) k
+unfolding free_for unit_for free_unit
+free_same units channels producers ws last right None = refl
+free_same units channels producers ws last right (Some k) =
+    first_free_same (is_taken units) (is_held row_of (sort_by number_of (seated units channels)))
+    (held_taken units channels producers ws last right) (units_of k)
+
+first_is_free : (f : FunctionalUnit → Bool) (us : List FunctionalUnit) (u : FunctionalUnit) → first_free f us ≡ Some u
+    → f u ≡ false
+unfolding first_free
+first_is_free f [] u h = cc
+first_is_free f (v ∷ us) u h = by_test (first_is_free f us u) (f v) refl h
+  where
+    by_test : (first_free f us ≡ Some u → f u ≡ false) → (b : Bool) → f v ≡ b
+        → cond b (first_free f us) (Some v) ≡ Some u → f u ≡ false
+    by_test rest true e k = rest k
+    by_test rest false e k = let q : v ≡ u = cc in ap f (sym q) ∙ e
+
+none_there : (o : Option Issued) → is_some o ≡ false → o ≡ None
+none_there None h = refl
+none_there (Some x) h = cc
+
+-- it is one of them
+first_is_one : (f : FunctionalUnit → Bool) (us : List FunctionalUnit) (u : FunctionalUnit) → first_free f us ≡ Some u
+    → list_any (same_unit u) us ≡ true
+unfolding first_free same_unit
+first_is_one f [] u h = cc
+first_is_one f (v ∷ us) u h = by_test (first_is_one f us u) (f v) h
+  where
+    by_test : (first_free f us ≡ Some u → list_any (same_unit u) us ≡ true) → (b : Bool)
+        → cond b (first_free f us) (Some v) ≡ Some u → (same_unit u v || list_any (same_unit u) us) ≡ true
+    by_test rest true k = ap (λ b. same_unit u v || b) (rest k) ∙ or_true (same_unit u v)
+    by_test rest false k =
+        let q : v ≡ u = cc in
+        ap (λ w. same_unit u w || list_any (same_unit u) us) q
+        ∙ ap (λ b. b || list_any (same_unit u) us) (eq-eqb (unit_number u) (unit_number u) refl)
+
+free_kind : (units : List (Option Issued)) (k : Option UnitKind) (u : FunctionalUnit)
+    → free_for (is_taken units) k ≡ Some u → may_take k u ≡ true
+unfolding free_for may_take
+free_kind units None u h = cc
+free_kind units (Some k) u h = first_is_one (is_taken units) (units_of k) u h
+
+pub free_seat : (units : List (Option Issued)) (k : Option UnitKind) (u : FunctionalUnit)
+    → free_for (is_taken units) k ≡ Some u → get_or units (unit_number u) None ≡ None
+unfolding free_for
+free_seat units None u h = cc
+free_seat units (Some k) u h =
+    none_there (get_or units (unit_number u) None) (first_is_free (is_taken units) (units_of k) u h)
+
+-- ---- the answers ----
+
+pub busy_answer : (s : Standing) (i : Instr) (o : Option FunctionalUnit) → o ≡ None
+    → Err (UnitBusy (first_unit (row i).unit)) ≡ reserve_answer s i o
+unfolding reserve_answer
+busy_answer s i o e = ap (reserve_answer s i) (sym e)
+
+pub taken_answer : (s : Standing) (i : Instr) (o : Option FunctionalUnit) (u : FunctionalUnit) (q : Option Reg)
+    (r : Reg) → o ≡ Some u → q ≡ find (awaited row_of s.issued) (results (shape_of i)) → q ≡ Some r
+    → Err (ResultReserved r) ≡ reserve_answer s i o
+unfolding reserve_answer
+taken_answer s i o u q r e f g =
+    let t : find (awaited row_of s.issued) (results (shape_of i)) ≡ Some r = sym f ∙ g in
+    ap (λ z. Err (ResultReserved (unwrap_or z (B 0)))) (sym t)
+    ∙ sym (ap (λ b. cond b (Err (ResultReserved (first_such (awaited row_of s.issued) (results (shape_of i)))))
+    (Ok (u, suc s.last))) (any_find (awaited row_of s.issued) (results (shape_of i)) ∙ ap is_some t))
+    ∙ ap (reserve_answer s i) (sym e)
+
+pub reserved_answer : (s : Standing) (i : Instr) (o : Option FunctionalUnit) (u : FunctionalUnit) (n : ℕ) → o ≡ Some u
+    → find (awaited row_of s.issued) (results (shape_of i)) ≡ None → n ≡ suc s.last → Ok (u, n) ≡ reserve_answer s i o
+unfolding reserve_answer
+reserved_answer s i o u n e t k =
+    ap (λ m. Ok (u, m)) k
+    ∙ sym (ap (λ b. cond b (Err (ResultReserved (first_such (awaited row_of s.issued) (results (shape_of i)))))
+    (Ok (u, suc s.last))) (any_find (awaited row_of s.issued) (results (shape_of i)) ∙ ap is_some t))
+    ∙ ap (reserve_answer s i) (sym e)
+
+-- ---- what holds then ----
+
+front_seat : (units channels : List (Option Issued)) (j : ℕ) (z : Issued) → get_or units j None ≡ Some z
+    → get_or (units ++ channels) j None ≡ Some z
+front_seat units channels j z h = get_or_append_left units channels None j (within units j z h) ∙ h
+
+fresh_others : (last : ℕ) (y : Issued) (ys : List Issued) → y.number ≡ suc last → Each (λ x. x.number ≤ last) ys
+    → ((r : Reg) → comes r y.row ≡ true → list_any (λ z. comes r z.row) ys ≡ false) → Each (IsOther y) ys
+unfolding number_of
+fresh_others last y [] e n h = tt
+fresh_others last y (z ∷ ys) e n h = (
+  one z n.0 (λ r k. (or_parts (comes r z.row) (list_any (λ w. comes r w.row) ys) (h r k)).0),
+  fresh_others last y ys e n.1 (λ r k. (or_parts (comes r z.row) (list_any (λ w. comes r w.row) ys) (h r k)).1),
+)
+  where
+    one : (z : Issued) → z.number ≤ last → ((r : Reg) → comes r y.row ≡ true → comes r z.row ≡ false) → IsOther y z
+    one z l k =
+        record { number = λ q. omega (arith, l, q, e); results = λ r. by_test (comes r y.row) (comes r z.row) (k r) }
+      where
+        by_test : (a b : Bool) → (a ≡ true → b ≡ false) → (a && b) ≡ false
+        by_test true b f = f refl
+        by_test false b f = refl
+
+not_earlier : (n : ℕ) (r : Reg) (y : Issued) → n ≤ y.number → if_earlier n (written_by r) y ≡ None
+unfolding if_earlier
+not_earlier n r y h = ap (λ b. cond b (written_by r y) None) (le-ltb y.number n h)
+
+is_earlier : (n : ℕ) (r : Reg) (y : Issued) → y.number < n → if_earlier n (written_by r) y ≡ written_by r y
+unfolding if_earlier
+is_earlier n r y h = ap (λ b. cond b (written_by r y) None) (lt-ltb y.number n h)
+
+producers_valid : (f g : Reg → Option Writer) → ((r : Reg) → IsRegister r → g r ≡ f r)
+    → (rs : List Reg) (ps : List (Option Writer)) → Each IsRegister rs → AreProducers f rs ps → AreProducers g rs ps
+producers_valid f g h [] ps v k = tt
+producers_valid f g h (r ∷ rs) [] v k = absurd k
+producers_valid f g h (r ∷ rs) (p ∷ ps) v k = (k.0 ∙ sym (h r v.0), producers_valid f g h rs ps v.1 k.1)
+
+new_written : (r : Reg) (i : Instr) (u : FunctionalUnit) (n : ℕ)
+    → written_by r (new_issued i u n)
+    ≡ cond (is_in (puts_of (shape_of i)) r) (Some (OfUnit u)) (written_by_channel r (channel_of (shape_of i)))
+unfolding written_by written_in new_issued
+new_written r i u n = refl
+
+new_seat : (i : Instr) (u : FunctionalUnit) (n : ℕ) → seat_of (new_issued i u n) ≡ unit_number u
+unfolding seat_of seat_in new_issued
+new_seat i u n = refl
+
+new_number : (i : Instr) (u : FunctionalUnit) (n : ℕ) → (new_issued i u n).number ≡ n
+unfolding new_issued
+new_number i u n = refl
+
+new_sources : (i : Instr) (u : FunctionalUnit) (n : ℕ) → sources_of (new_issued i u n).row.instr ≡ sources_of i
+unfolding new_issued
+new_sources i u n = refl
+
+new_kind : (i : Instr) (u : FunctionalUnit) (n : ℕ) → may_take (row i).unit u ≡ true → IsOfKind (new_issued i u n)
+unfolding new_issued
+new_kind i u n h = h
+
+pub reserved_right : (units channels : List (Option Issued)) (producers : List (List (Option Writer))) (ws : Writers)
+    (last : ℕ) (u : FunctionalUnit) (k : ℕ) (i : Instr) (ps : List (Option Writer))
+    → IsRight units channels producers ws last → k ≡ unit_number u → get_or units k None ≡ None
+    → AreProducers (writer_at ws) (sources_of i) ps → Each IsRegister (sources_of i)
+    → Each IsRegister (puts_of (shape_of i)) → IfSome (channel_of (shape_of i)) (λ n. n < 8)
+    → ((r : Reg) → comes r (new_issued i u (suc last)).row ≡ true
+    → list_any (λ z. comes r z.row) (somes (units ++ channels)) ≡ false) → may_take (row i).unit u ≡ true
+    → IsRight (set units k (Some (new_issued i u (suc last)))) channels (set producers k ps)
+    (writers_with ws u (puts_of (shape_of i)) (channel_of (shape_of i))) (suc last)
+unfolding seated writer_before or_else
+reserved_right units channels producers ws last u k i ps right e h made sources puts channel new kind =
+    right_again (set units k (Some y)) channels (set os k (Some y)) (set producers k ps)
+    (writers_with ws u (puts_of (shape_of i)) (channel_of (shape_of i))) (suc last)
+    (set-append_left units channels k (Some y) inside) (length-set units k (Some y) ∙ right.all_units)
+    right.all_channels (length-set producers k ps ∙ right.all_producers)
+    (with_sized ws u (puts_of (shape_of i)) (channel_of (shape_of i)) right.all_writers)
+    (seated_fill seat_of os 0 k y (new_seat i u (suc last) ∙ omega (arith, e)) right.sits)
+    (pairs_put os k y empty room others right.apart)
+    (each_put (λ z. z.number ≤ suc last) os k y empty room (omega (arith, number)) below_next)
+    (each_put IsOfKind os k y empty room (new_kind i u (suc last) kind) right.kinds)
+    (λ r v. with_gives ws u (puts_of (shape_of i)) (channel_of (shape_of i)) r right.all_writers puts channel
+    ∙ ap (λ o. or_else o (writer_at ws r))
+    (sym (new_written r i u (suc last)) ∙ sym (is_earlier (suc (suc last)) r y (omega (arith, number))))
+    ∙ ap (or_else (if_earlier (suc (suc last)) (written_by r) y))
+    (right.written r v ∙ sym (all_earlier (suc last) r (somes os) below_next))
+    ∙ sym (writer_put (suc (suc last)) r os k y empty room others))
+    (λ j z q. by_place j z q (eqb j k) refl)
+  where
+    os : List (Option Issued)
+    os = units ++ channels
+
+    y : Issued
+    y = new_issued i u (suc last)
+
+    number : y.number ≡ suc last
+    number = new_number i u (suc last)
+
+    inside : k < length units
+    inside = let b = unit_below u in omega (arith, b, e, right.all_units)
+
+    empty : get_or os k None ≡ None
+    empty = unit_seat units channels u k None right.all_units e h
+
+    room : k < length os
+    room = let q = length-append units channels in omega (arith, q, inside)
+
+    others : Each (IsOther y) (somes os)
+    others = fresh_others last y (somes os) number right.counted new
+
+    below_next : Each (λ z. z.number ≤ suc last) (somes os)
+    below_next =
+        each_map (λ z. z.number ≤ last) (λ z. z.number ≤ suc last) (λ z q. omega (arith, q)) (somes os) right.counted
+
+    same : (n : ℕ) (r : Reg) → n ≤ suc last
+        → writer_before n (somes (set os k (Some y))) r ≡ writer_before n (somes os) r
+    same n r l = writer_put n r os k y empty room others
+        ∙ ap (λ o. or_else o (writer_before n (somes os) r)) (not_earlier n r y (omega (arith, l, number)))
+
+    by_place : (j : ℕ) (z : Issued) → get_or (set units k (Some y)) j None ≡ Some z → (b : Bool) → eqb j k ≡ b
+        → AreProducers (writer_before z.number (somes (set os k (Some y)))) (sources_of z.row.instr)
+        (get_or (set producers k ps) j [])
+    by_place j z q true b =
+        let p : j ≡ k = eqb-true j k b in
+        let t : Some y ≡ Some z = sym (get_or-set_same units k (Some y) None inside)
+        ∙ ap (λ m. get_or (set units k (Some y)) m None) (sym p) ∙ q in
+        let yz : y ≡ z = cc in
+        let own : get_or (set producers k ps) j [] ≡ ps = ap (λ m. get_or (set producers k ps) m []) p
+        ∙ get_or-set_same producers k ps [] (omega (arith, inside, right.all_units, right.all_producers)) in
+        subst (λ (v : Issued). AreProducers (writer_before v.number (somes (set os k (Some y))))
+        (sources_of v.row.instr) (get_or (set producers k ps) j [])) yz
+        (subst (λ rs. AreProducers (writer_before y.number (somes (set os k (Some y)))) rs
+        (get_or (set producers k ps) j [])) (sym (new_sources i u (suc last)))
+        (subst (λ l. AreProducers (writer_before y.number (somes (set os k (Some y)))) (sources_of i) l) (sym own)
+        (subst (λ n. AreProducers (writer_before n (somes (set os k (Some y)))) (sources_of i) ps) (sym number)
+        (producers_valid (writer_at ws) (writer_before (suc last) (somes (set os k (Some y))))
+        (λ r v. same (suc last) r (omega arith) ∙ all_earlier last r (somes os) right.counted
+        ∙ sym (right.written r v)) (sources_of i) ps sources made))))
+    by_place j z q false b =
+        let t : get_or units j None ≡ Some z = sym (get_or-set_other units k j (Some y) None (eqb-false j k b)) ∙ q in
+        let n : z.number ≤ last =
+        each_here (λ w. w.number ≤ last) os j z (front_seat units channels j z t) right.counted in
+        subst (λ l. AreProducers (writer_before z.number (somes (set os k (Some y)))) (sources_of z.row.instr) l)
+        (sym (get_or-set_other producers k j ps [] (eqb-false j k b)))
+        (producers_same (writer_before z.number (somes os)) (writer_before z.number (somes (set os k (Some y))))
+        (λ r. same z.number r (omega (arith, n))) (sources_of z.row.instr) (get_or producers j [])
+        (right.produced j z t))
+
+-- ---- what the board stands for then ----
+
+pub reserved_view : (units channels : List (Option Issued)) (producers : List (List (Option Writer))) (ws : Writers)
+    (last : ℕ) (u : FunctionalUnit) (k : ℕ) (i : Instr) → IsRight units channels producers ws last → k ≡ unit_number u
+    → get_or units k None ≡ None
+    → standing_of (set units k (Some (new_issued i u (suc last)))) channels (suc last)
+    ≡ reserved (standing_of units channels last) i (Ok (u, suc last))
+unfolding seated reserved number_of
+reserved_view units channels producers ws last u k i right e h =
+    let os : List (Option Issued) = units ++ channels in
+    let y : Issued = new_issued i u (suc last) in
+    let b = unit_below u in
+    let q = length-append units channels in
+    let number = new_number i u (suc last) in
+    ap (λ l. record { issued = l; last = suc last })
+    (ap (λ m. sort_by number_of (somes m))
+    (sym (set-append_left units channels k (Some y) (omega (arith, b, e, right.all_units))))
+    ∙ sort_new number_of os k y (unit_seat units channels u k None right.all_units e h)
+    (omega (arith, b, e, right.all_units, q))
+    (each_map (λ z. z.number ≤ last) (λ z. z.number < y.number) (λ z p. omega (arith, p, number)) (somes os)
+    right.counted))
+
+-- ---- a new board ----
+
+abbrev pub AreNone : {K : Type 0} → List (Option K) → Type 0
+AreNone os = Each (λ o. o ≡ None) os
+
+none_at : {K : Type 0} (os : List (Option K)) (j : ℕ) → AreNone os → get_or os j None ≡ None
+none_at [] j h = refl
+none_at (o ∷ os) zero h = h.0
+none_at (o ∷ os) (suc j) h = none_at os j h.1
+
+none_join : {K : Type 0} (xs ys : List (Option K)) → AreNone xs → AreNone ys → AreNone (xs ++ ys)
+none_join [] ys h k = k
+none_join (x ∷ xs) ys h k = (h.0, none_join xs ys h.1 k)
+
+no_somes : {K : Type 0} (os : List (Option K)) → AreNone os → somes os ≡ []
+unfolding somes
+no_somes [] h = refl
+no_somes (None ∷ os) h = no_somes os h.1
+no_somes (Some x ∷ os) h = absurd (let q : Some x ≡ None = h.0 in cc)
+
+none_seated : (os : List (Option Issued)) (k : ℕ) → AreNone os → IsSeated seat_of k os
+none_seated [] k h = tt
+none_seated (None ∷ os) k h = none_seated os (suc k) h.1
+none_seated (Some x ∷ os) k h = absurd (let q : Some x ≡ None = h.0 in cc)
+
+writer_none : (ws : Writers) (r : Reg) → AreNone ws.x → AreNone ws.a → AreNone ws.b → writer_at ws r ≡ None
+unfolding writer_at
+writer_none ws (X n) h k l = none_at ws.x n h
+writer_none ws (A n) h k l = none_at ws.a n k
+writer_none ws (B n) h k l = none_at ws.b n l
+
+-- nothing is reserved
+pub none_right : (units channels : List (Option Issued)) (producers : List (List (Option Writer))) (ws : Writers)
+    → AreNone units → AreNone channels → AreNone ws.x → AreNone ws.a → AreNone ws.b → length units ≡ 10
+    → length channels ≡ 8 → length producers ≡ 10 → AreSized ws → IsRight units channels producers ws 0
+unfolding writer_before first_some
+none_right units channels producers ws hu hc hx ha hb lu lc lp lw =
+    let none = no_somes (units ++ channels) (none_join units channels hu hc) in
+    right_again units channels (units ++ channels) producers ws 0 refl lu lc lp lw
+    (none_seated (units ++ channels) 0 (none_join units channels hu hc))
+    (subst (Pairs IsOther) (sym none) tt)
+    (subst (Each (λ x. x.number ≤ 0)) (sym none) tt)
+    (subst (Each IsOfKind) (sym none) tt)
+    (λ r v. writer_none ws r hx ha hb ∙ ap (λ l. writer_before (suc 0) l r) (sym none))
+    (λ j z h. absurd (let q : None ≡ Some z = sym (none_at units j hu) ∙ h in cc))
+
+pub none_view : (units channels : List (Option Issued)) → AreNone units → AreNone channels
+    → standing_of units channels 0 ≡ record { issued = []; last = 0 }
+unfolding seated sort_by
+none_view units channels hu hc =
+    ap (λ l. record { issued = sort_by number_of l; last = 0 })
+    (no_somes (units ++ channels) (none_join units channels hu hc))
+
+-- ---- the two clauses of a refusal ----
+
+pub refused_after : (s : Standing) (i : Instr) (k : Refusal) → s ≡ reserved s i (Err k)
+unfolding reserved
+refused_after s i k = refl
+
+-- ---- in the words of the code ----
+
+pub first_found : (units channels : List (Option Issued)) (producers : List (List (Option Writer))) (ws : Writers)
+    (last : ℕ) (i : Instr) (rs ss : List Reg) (ps : List (Option Writer)) (q : Option Reg)
+    → IsRight units channels producers ws last → AreProducers (writer_at ws) rs ps → Each IsRegister rs
+    → rs ≡ results (shape_of i) → ss ≡ results (shape_of i) → q ≡ first_produced ss ps
+    → q ≡ find (awaited row_of (sort_by number_of (seated units channels))) (results (shape_of i))
+first_found units channels producers ws last i rs ss ps q right h v er es eq =
+    let e : rs ≡ ss = er ∙ sym es in
+    first_awaited units channels producers ws last ss ps q right (subst (λ l. AreProducers (writer_at ws) l ps) e h)
+    (subst (Each IsRegister) e v) eq
+    ∙ ap (find (awaited row_of (sort_by number_of (seated units channels)))) es
+
+pub unit_found : (units channels : List (Option Issued)) (producers : List (List (Option Writer))) (ws : Writers)
+    (last : ℕ) (k : Option UnitKind) (o q : Option FunctionalUnit) → IsRight units channels producers ws last
+    → o ≡ free_for (is_taken units) k → o ≡ q → unit_for row_of (standing_of units channels last).issued k ≡ q
+unit_found units channels producers ws last k o q right e h =
+    sym (free_same units channels producers ws last right k) ∙ sym e ∙ h
+
+pub seat_found : (units : List (Option Issued)) (k : Option UnitKind) (o : Option FunctionalUnit) (u : FunctionalUnit)
+    (i : ℕ) → o ≡ free_for (is_taken units) k → o ≡ Some u → i ≡ unit_number u → get_or units i None ≡ None
+seat_found units k o u i e h q = ap (λ m. get_or units m None) q ∙ free_seat units k u (sym e ∙ h)
+
+pub kind_found : (units : List (Option Issued)) (k : Option UnitKind) (o : Option FunctionalUnit) (u : FunctionalUnit)
+    → o ≡ free_for (is_taken units) k → o ≡ Some u → may_take k u ≡ true
+kind_found units k o u e h = free_kind units k u (sym e ∙ h)
+
+pub new_right : (units channels : List (Option Issued)) (producers : List (List (Option Writer))) (ws ws' : Writers)
+    (last n : ℕ) (u : FunctionalUnit) (k : ℕ) (i : Instr) (rs : List Reg) (ps : List (Option Writer)) (y : Issued)
+    → IsRight units channels producers ws last → n ≡ suc last → k ≡ unit_number u → get_or units k None ≡ None
+    → rs ≡ sources_of i → AreProducers (writer_at ws) rs ps → Each IsRegister rs
+    → Each IsRegister (puts_of (shape_of i)) → IfSome (channel_of (shape_of i)) (λ m. m < 8)
+    → find (awaited row_of (sort_by number_of (seated units channels))) (results (shape_of i)) ≡ None
+    → may_take (row i).unit u ≡ true → y ≡ new_issued i u n
+    → ws' ≡ writers_with ws u (puts_of (shape_of i)) (channel_of (shape_of i))
+    → IsRight (set units k (Some y)) channels (set producers k ps) ws' n
+new_right units channels producers ws ws' last n u k i rs ps y right en e h er made sources puts channel none kind ey
+    ew =
+    subst (λ v. IsRight (set units k (Some y)) channels (set producers k ps) v n) (sym ew)
+    (subst (λ v. IsRight (set units k (Some v)) channels (set producers k ps)
+    (writers_with ws u (puts_of (shape_of i)) (channel_of (shape_of i))) n) (sym ey)
+    (subst (λ m. IsRight (set units k (Some (new_issued i u m))) channels (set producers k ps)
+    (writers_with ws u (puts_of (shape_of i)) (channel_of (shape_of i))) m) (sym en)
+    (reserved_right units channels producers ws last u k i ps right e h
+    (subst (λ l. AreProducers (writer_at ws) l ps) er made) (subst (Each IsRegister) er sources) puts channel
+    (fresh units channels i u (suc last) none) kind)))
+
+pub new_view : (units channels : List (Option Issued)) (producers : List (List (Option Writer))) (ws : Writers)
+    (last n : ℕ) (u : FunctionalUnit) (k : ℕ) (i : Instr) (y : Issued) → IsRight units channels producers ws last
+    → n ≡ suc last → k ≡ unit_number u → get_or units k None ≡ None → y ≡ new_issued i u n
+    → standing_of (set units k (Some y)) channels n ≡ reserved (standing_of units channels last) i (Ok (u, n))
+new_view units channels producers ws last n u k i y right en e h ey =
+    ap (λ v. standing_of (set units k (Some v)) channels n) ey
+    ∙ ap (λ m. standing_of (set units k (Some (new_issued i u m))) channels m) en
+    ∙ reserved_view units channels producers ws last u k i right e h
+    ∙ ap (λ m. reserved (standing_of units channels last) i (Ok (u, m))) (sym en)

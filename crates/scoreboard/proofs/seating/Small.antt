@@ -1,0 +1,204 @@
+-- Lists of registers and of writers, one element at a time.
+use Rattle.std.proofs.Common.{◌≡◌, ◌<◌, ◌≤◌, ◌+◌, ℕ, zero, suc, Bool, true, false, cond, ltb, List, [], ◌∷◌, ◌++◌}
+use Rattle.std.proofs.Common.{Option, Some, None, length, get_or, set, map, take, drop, refl, sym, ap, ◌∙◌, arith}
+use Rattle.std.specs.Prelude.{◌&&◌, ◌||◌, find, is_some, slice_get, IfSome}
+use Rattle.std.specs.List.{list_any}
+use Rattle.std.proofs.lemmas.List.{set-get_or}
+use Rattle.instructions.specs.declared.instr.Reg.{Reg}
+use Rattle.scoreboard.specs.declared.writer.Writer.{Writer}
+use Rattle.scoreboard.specs.declared.issued.Issued.{Issued}
+use Rattle.instructions.specs.Each.{Each}
+use Rattle.instructions.specs.RegisterLists.{is_in}
+use Rattle.instructions.specs.Operands.{sources_of}
+use Rattle.scoreboard.specs.declared.row.Progress.{Progress}
+use Rattle.scoreboard.specs.declared.row.Progress.TheVariants.{Reserved, Left}
+use Rattle.scoreboard.specs.inner.Fields.{forget_in_taken, seat_waits, seat_reads}
+use Rattle.scoreboard.specs.Rows.{is_unread, reads, reads_in, reads_it}
+use Rattle.scoreboard.specs.inner.View.{AreProducers, first_produced}
+use Rattle.scoreboard.specs.Writers.{IsRegister, writer_if, is_expected, forget}
+
+-- ---- a change of each element, in place ----
+
+mapped_at : {K : Type 0} (f : K → K) (xs : List K) (i : ℕ) (d z : K) → i < length xs
+    → z ≡ f (get_or (map f (take i xs) ++ drop i xs) i d)
+    → set (map f (take i xs) ++ drop i xs) i z ≡ map f (take (suc i) xs) ++ drop (suc i) xs
+mapped_at f [] i d z h k = absurd (omega arith)
+mapped_at f (x ∷ xs) zero d z h k = ap (λ v. v ∷ xs) k
+mapped_at f (x ∷ xs) (suc i) d z h k = ap (λ l. f x ∷ l) (mapped_at f xs i d z (omega arith) k)
+
+pub mapped_more : {K : Type 0} (f : K → K) (xs ys : List K) (i : ℕ) (d z : K) → i < length xs → ys ≡ map f (take i xs)
+    ++ drop i xs → z ≡ f (get_or ys i d) → set ys i z ≡ map f (take (i + 1) xs) ++ drop (i + 1) xs
+mapped_more f xs ys i d z h e k =
+    let s : suc i ≡ i + 1 = omega arith in
+    ap (λ l. set l i z) e
+    ∙ mapped_at f xs i d z h (k ∙ ap (λ l. f (get_or l i d)) e)
+    ∙ ap (λ n. map f (take n xs) ++ drop n xs) s
+
+-- one that stays as it is
+pub mapped_same : {K : Type 0} (f : K → K) (xs ys : List K) (i : ℕ) (d : K) → i < length xs → ys ≡ map f (take i xs)
+    ++ drop i xs → get_or ys i d ≡ f (get_or ys i d) → ys ≡ map f (take (i + 1) xs) ++ drop (i + 1) xs
+mapped_same f xs ys i d h e k = sym (set-get_or ys i d) ∙ mapped_more f xs ys i d (get_or ys i d) h e k
+
+pub expected_goes : (w : Writer) (o : Option Writer) → is_expected w o ≡ true → None ≡ forget w o
+unfolding is_expected forget
+expected_goes w None h = refl
+expected_goes w (Some v) h = sym (ap (λ b. cond b None (Some v)) h)
+
+pub other_stays : (w : Writer) (o : Option Writer) → is_expected w o ≡ false → o ≡ forget w o
+unfolding is_expected forget
+other_stays w None h = refl
+other_stays w (Some v) h = sym (ap (λ b. cond b None (Some v)) h)
+
+-- ---- the producers of the units that are taken ----
+
+pub taken_more : (w : Writer) (os : List (Option Issued)) (pss qss : List (List (Option Writer))) (i : ℕ)
+    (o : Option Issued) (ps : List (Option Writer)) → i < length os → i < length pss → o ≡ get_or os i o
+    → is_some o ≡ true → qss ≡ forget_in_taken w (take i os) pss → ps ≡ map (forget w) (get_or qss i [])
+    → set qss i ps ≡ forget_in_taken w (take (i + 1) os) pss
+unfolding forget_in_taken
+taken_more w os pss qss i o ps h l g t e k =
+    let s : suc i ≡ i + 1 = omega arith in
+    ap (λ m. set m i ps) e
+    ∙ step os pss i o ps h l g t (k ∙ ap (λ m. map (forget w) (get_or m i [])) e)
+    ∙ ap (λ n. forget_in_taken w (take n os) pss) s
+  where
+    step : (os : List (Option Issued)) (pss : List (List (Option Writer))) (i : ℕ) (o : Option Issued)
+        (ps : List (Option Writer)) → i < length os → i < length pss → o ≡ get_or os i o → is_some o ≡ true
+        → ps ≡ map (forget w) (get_or (forget_in_taken w (take i os) pss) i [])
+        → set (forget_in_taken w (take i os) pss) i ps ≡ forget_in_taken w (take (suc i) os) pss
+    step [] pss i o ps h l g t k = absurd (omega arith)
+    step (x ∷ os) [] i o ps h l g t k = absurd (omega arith)
+    step (None ∷ os) (qs ∷ pss) zero o ps h l g t k = let q : is_some o ≡ false = ap is_some g in cc
+    step (Some x ∷ os) (qs ∷ pss) zero o ps h l g t k = ap (λ m. m ∷ pss) k
+    step (None ∷ os) (qs ∷ pss) (suc i) o ps h l g t k =
+        ap (λ m. qs ∷ m) (step os pss i o ps (omega arith) (omega arith) g t k)
+    step (Some x ∷ os) (qs ∷ pss) (suc i) o ps h l g t k =
+        ap (λ m. map (forget w) qs ∷ m) (step os pss i o ps (omega arith) (omega arith) g t k)
+
+pub free_more : (w : Writer) (os : List (Option Issued)) (pss qss : List (List (Option Writer))) (i : ℕ)
+    (o : Option Issued) → i < length os → i < length pss → o ≡ get_or os i o → is_some o ≡ false
+    → qss ≡ forget_in_taken w (take i os) pss → qss ≡ forget_in_taken w (take (i + 1) os) pss
+unfolding forget_in_taken
+free_more w os pss qss i o h l g t e =
+    let s : suc i ≡ i + 1 = omega arith in
+    e ∙ step os pss i o h l g t ∙ ap (λ n. forget_in_taken w (take n os) pss) s
+  where
+    step : (os : List (Option Issued)) (pss : List (List (Option Writer))) (i : ℕ) (o : Option Issued) → i < length os
+        → i < length pss → o ≡ get_or os i o → is_some o ≡ false
+        → forget_in_taken w (take i os) pss ≡ forget_in_taken w (take (suc i) os) pss
+    step [] pss i o h l g t = absurd (omega arith)
+    step (x ∷ os) [] i o h l g t = absurd (omega arith)
+    step (None ∷ os) (qs ∷ pss) zero o h l g t = refl
+    step (Some x ∷ os) (qs ∷ pss) zero o h l g t = let q : is_some o ≡ true = ap is_some g in cc
+    step (None ∷ os) (qs ∷ pss) (suc i) o h l g t = ap (λ m. qs ∷ m) (step os pss i o (omega arith) (omega arith) g t)
+    step (Some x ∷ os) (qs ∷ pss) (suc i) o h l g t =
+        ap (λ m. map (forget w) qs ∷ m) (step os pss i o (omega arith) (omega arith) g t)
+
+-- ---- the first register with a producer ----
+
+pub produced_here : (rs : List Reg) (ps : List (Option Writer)) (i : ℕ) (r : Reg) (p : Option Writer) → i < length rs
+    → r ≡ get_or rs i r → i < length ps → p ≡ get_or ps i p → is_some p ≡ true
+    → Some r ≡ first_produced (drop i rs) (drop i ps)
+unfolding first_produced
+produced_here [] ps i r p h e k g t = absurd (omega arith)
+produced_here (x ∷ rs) [] i r p h e k g t = absurd (omega arith)
+produced_here (x ∷ rs) (None ∷ ps) zero r p h e k g t = let q : is_some p ≡ false = ap is_some g in cc
+produced_here (x ∷ rs) (Some w ∷ ps) zero r p h e k g t = ap Some e
+produced_here (x ∷ rs) (o ∷ ps) (suc i) r p h e k g t = produced_here rs ps i r p (omega arith) e (omega arith) g t
+
+pub produced_after : (rs : List Reg) (ps : List (Option Writer)) (i j : ℕ) (p : Option Writer) → j ≡ i + 1
+    → i < length rs → i < length ps → p ≡ get_or ps i p → is_some p ≡ false
+    → first_produced (drop j rs) (drop j ps) ≡ first_produced (drop i rs) (drop i ps)
+unfolding first_produced
+produced_after rs ps i j p e h k g t =
+    let s : j ≡ suc i = omega arith in
+    ap (λ n. first_produced (drop n rs) (drop n ps)) s ∙ step rs ps i p h k g t
+  where
+    step : (rs : List Reg) (ps : List (Option Writer)) (i : ℕ) (p : Option Writer) → i < length rs → i < length ps
+        → p ≡ get_or ps i p → is_some p ≡ false
+        → first_produced (drop (suc i) rs) (drop (suc i) ps) ≡ first_produced (drop i rs) (drop i ps)
+    step [] ps i p h k g t = absurd (omega arith)
+    step (x ∷ rs) [] i p h k g t = absurd (omega arith)
+    step (x ∷ rs) (None ∷ ps) zero p h k g t = refl
+    step (x ∷ rs) (Some w ∷ ps) zero p h k g t = let q : is_some p ≡ true = ap is_some g in cc
+    step (x ∷ rs) (o ∷ ps) (suc i) p h k g t = step rs ps i p (omega arith) (omega arith) g t
+
+pub produced_nowhere : (rs : List Reg) (ps : List (Option Writer)) (i : ℕ) → length rs ≤ i
+    → None ≡ first_produced (drop i rs) (drop i ps)
+unfolding first_produced
+produced_nowhere [] ps zero h = refl
+produced_nowhere [] ps (suc i) h = refl
+produced_nowhere (x ∷ rs) ps zero h = absurd (omega arith)
+produced_nowhere (x ∷ rs) [] (suc i) h = nobody (drop i rs)
+  where
+    nobody : (rs : List Reg) → None ≡ first_produced rs []
+    nobody [] = refl
+    nobody (r ∷ rs) = refl
+produced_nowhere (x ∷ rs) (p ∷ ps) (suc i) h = produced_nowhere rs ps i (omega arith)
+
+-- where there is no writer there is no first
+pub none_produced : (rs : List Reg) (ps : List (Option Writer)) → list_any is_some ps ≡ false
+    → None ≡ first_produced rs ps
+unfolding first_produced
+none_produced [] ps h = refl
+none_produced (r ∷ rs) [] h = refl
+none_produced (r ∷ rs) (None ∷ ps) h = none_produced rs ps h
+none_produced (r ∷ rs) (Some w ∷ ps) h = cc
+
+-- ---- the writers of at most three registers ----
+
+pub three_writers : (f : Reg → Option Writer) (rs : List Reg) (a b c : Option Writer) → length rs ≤ 3
+    → a ≡ writer_if f (slice_get rs 0) → b ≡ writer_if f (slice_get rs 1) → c ≡ writer_if f (slice_get rs 2)
+    → AreProducers f rs (a ∷ b ∷ c ∷ [])
+unfolding writer_if
+three_writers f [] a b c h e g k = tt
+three_writers f (r ∷ []) a b c h e g k = (e, tt)
+three_writers f (r ∷ s ∷ []) a b c h e g k = (e, (g, tt))
+three_writers f (r ∷ s ∷ t ∷ []) a b c h e g k = (e, (g, (k, tt)))
+three_writers f (r ∷ s ∷ t ∷ u ∷ rs) a b c h e g k = absurd (omega arith)
+
+pub three_registers : (rs : List Reg) → length rs ≤ 3 → IfSome (slice_get rs 0) IsRegister
+    → IfSome (slice_get rs 1) IsRegister → IfSome (slice_get rs 2) IsRegister → Each IsRegister rs
+three_registers [] h e g k = tt
+three_registers (r ∷ []) h e g k = (e, tt)
+three_registers (r ∷ s ∷ []) h e g k = (e, (g, tt))
+three_registers (r ∷ s ∷ t ∷ []) h e g k = (e, (g, (k, tt)))
+three_registers (r ∷ s ∷ t ∷ u ∷ rs) h e g k = absurd (omega arith)
+
+-- ---- nothing is to be read ----
+
+no_source : (n : ℕ) (r : Reg) (o : Option Issued) → seat_waits n o ≡ false → seat_reads n r o ≡ false
+unfolding seat_waits seat_reads reads_it reads is_unread reads_in is_in
+no_source n r None h = refl
+no_source n r (Some x) h = by_test (ltb x.number n) x.row.progress h
+  where
+    by_test : (b : Bool) (p : Progress) → (b && is_unread p) ≡ false
+        → (b && is_in (reads_in (sources_of x.row.instr) p) r) ≡ false
+    by_test false p k = refl
+    by_test true (Reserved false) k = cc
+    by_test true (Reserved true) k = refl
+    by_test true (Left returning) k = refl
+
+no_sources : (n : ℕ) (r : Reg) (os : List (Option Issued)) → list_any (seat_waits n) os ≡ false
+    → list_any (seat_reads n r) os ≡ false
+no_sources n r [] h = refl
+no_sources n r (o ∷ os) h =
+    let both = neither (seat_waits n o) (list_any (seat_waits n) os) h in
+    ap (λ b. b || list_any (seat_reads n r) os) (no_source n r o both.0) ∙ no_sources n r os both.1
+  where
+    neither : (a b : Bool) → (a || b) ≡ false → (a ≡ false) × (b ≡ false)
+    neither false b k = (refl, k)
+    neither true b k = cc
+
+-- in no register none is found
+pub none_in_nothing : (f : Reg → Bool) (rs : List Reg) → length rs ≡ 0 → find f rs ≡ None
+none_in_nothing f [] h = refl
+none_in_nothing f (r ∷ rs) h = absurd (omega (arith, h))
+
+-- where nobody has still to read, no register is found
+pub none_to_be_read : (n : ℕ) (os : List (Option Issued)) (rs : List Reg) → list_any (seat_waits n) os ≡ false
+    → find (λ r. list_any (seat_reads n r) os) rs ≡ None
+none_to_be_read n os [] h = refl
+none_to_be_read n os (r ∷ rs) h =
+    ap (λ b. cond b (Some r) (find (λ v. list_any (seat_reads n v) os) rs)) (no_sources n r os h)
+    ∙ none_to_be_read n os rs h

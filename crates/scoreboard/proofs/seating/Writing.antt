@@ -1,0 +1,316 @@
+-- Who writes a register: the first answer of a list, and what one row answers.
+use Rattle.std.proofs.Common.{◌≡◌, ◌≤◌, ℕ, suc, Bool, true, false, cond, List, [], ◌∷◌, ◌++◌, Option, Some, None, refl}
+use Rattle.std.proofs.Common.{sym, ap, ◌∙◌, eqb, ltb, map, arith}
+use Rattle.std.specs.Prelude.{is_some, ◌&&◌, ◌||◌}
+use Rattle.std.specs.List.{list_any}
+use Rattle.std.proofs.lemmas.Bool.{eq-eqb, ne_eqb, lt-ltb}
+use Rattle.instructions.specs.declared.instr.Reg.{Reg}
+use Rattle.instructions.specs.declared.instr.Reg.TheVariants.{X, A, B}
+use Rattle.instructions.specs.declared.instr.Unit.{Unit as FunctionalUnit}
+use Rattle.instructions.specs.RegisterLists.{is_in}
+use Rattle.instructions.specs.Shape.{Shape, Puts, Loads, Stores, Jumps, Links, shape_of, puts_of, loads_of, results}
+use Rattle.instructions.specs.Operands.{reg_eq}
+use Rattle.scoreboard.specs.declared.row.Progress.{Progress}
+use Rattle.scoreboard.specs.declared.row.Progress.TheVariants.{Reserved, Left}
+use Rattle.scoreboard.specs.Rows.{comes, to_come, to_come_in, returning_to}
+use Rattle.scoreboard.specs.Units.{unit_number, same_unit}
+use Rattle.scoreboard.specs.declared.issued.Issued.{Issued}
+use Rattle.scoreboard.specs.declared.writer.Writer.{Writer}
+use Rattle.scoreboard.specs.declared.writer.Writer.TheVariants.{OfUnit, OfChannel}
+use Rattle.instructions.specs.Each.{Each}
+use Rattle.scoreboard.specs.Issued.{channel_of, written_by_channel, written_in, written_by, or_else, first_some}
+use Rattle.scoreboard.specs.Issued.{writer_of, if_earlier, writer_before}
+use Rattle.scoreboard.specs.inner.View.{AreProducers, seat_in, seat_of}
+use Rattle.scoreboard.specs.Writers.{same_writer, forget}
+
+-- ---- the first answer ----
+
+pub some_any : {M W : Type 0} (f : M → Option W) (xs : List M)
+    → is_some (first_some f xs) ≡ list_any (λ x. is_some (f x)) xs
+unfolding first_some or_else
+some_any f [] = refl
+some_any {M} {W} f (x ∷ xs) = by_answer (f x) (some_any f xs)
+  where
+    by_answer : (o : Option W) → is_some (first_some f xs) ≡ list_any (λ y. is_some (f y)) xs
+        → is_some (or_else o (first_some f xs)) ≡ (is_some o || list_any (λ y. is_some (f y)) xs)
+    by_answer None e = e
+    by_answer (Some w) e = refl
+
+pub any_same : {M : Type 0} (f g : M → Bool) → ((x : M) → f x ≡ g x) → (xs : List M) → list_any f xs ≡ list_any g xs
+any_same f g h [] = refl
+any_same f g h (x ∷ xs) = ap (λ b. b || list_any f xs) (h x) ∙ ap (λ b. g x || b) (any_same f g h xs)
+
+pub first_same : {M W : Type 0} (f g : M → Option W) (xs : List M) → Each (λ x. f x ≡ g x) xs
+    → first_some f xs ≡ first_some g xs
+unfolding first_some
+first_same f g [] h = refl
+first_same f g (x ∷ xs) h = ap (λ o. or_else o (first_some f xs)) h.0 ∙ ap (or_else (g x)) (first_same f g xs h.1)
+
+-- one of two answers at most
+abbrev pub IsAlone : {M W : Type 0} → (M → Option W) → M → M → Type 0
+IsAlone f x y = (is_some (f x) && is_some (f y)) ≡ false
+
+swap : {W : Type 0} (o p q : Option W) → (is_some o && is_some p) ≡ false
+    → or_else p (or_else o q) ≡ or_else o (or_else p q)
+unfolding or_else
+swap None p q h = refl
+swap (Some v) None q h = refl
+swap (Some v) (Some w) q h = cc
+
+-- where others answer only if it does not, its place does not matter
+pub first_at : {M W : Type 0} (f : M → Option W) (bs : List M) (x : M) (as_ : List M) → Each (IsAlone f x) bs
+    → first_some f (bs ++ x ∷ as_) ≡ or_else (f x) (first_some f (bs ++ as_))
+unfolding first_some
+first_at f [] x as_ h = refl
+first_at f (b ∷ bs) x as_ h =
+    ap (or_else (f b)) (first_at f bs x as_ h.1) ∙ swap (f x) (f b) (first_some f (bs ++ as_)) h.0
+
+pub first_replaced : {M W : Type 0} (f : M → Option W) (bs : List M) (x y : M) (as_ : List M) → f x ≡ f y
+    → first_some f (bs ++ x ∷ as_) ≡ first_some f (bs ++ y ∷ as_)
+unfolding first_some
+first_replaced f [] x y as_ h = ap (λ o. or_else o (first_some f as_)) h
+first_replaced f (b ∷ bs) x y as_ h = ap (or_else (f b)) (first_replaced f bs x y as_ h)
+
+-- and where it answers, no other does
+pub first_none : {M W : Type 0} (f : M → Option W) (x : M) (ys : List M) → Each (IsAlone f x) ys → is_some (f x) ≡ true
+    → first_some f ys ≡ None
+unfolding first_some or_else
+first_none f x [] h e = refl
+first_none {M} {W} f x (y ∷ ys) h e = by_answer (f y) h.0 (first_none f x ys h.1 e)
+  where
+    by_answer : (o : Option W) → (is_some (f x) && is_some o) ≡ false → first_some f ys ≡ None
+        → or_else o (first_some f ys) ≡ None
+    by_answer None k i = i
+    by_answer (Some w) k i = let q : (is_some (f x) && true) ≡ true = ap (λ b. b && true) e in cc
+
+pub forget_first : {M : Type 0} (w : Writer) (f : M → Option Writer) (ys : List M)
+    → Each (λ y. forget w (f y) ≡ f y) ys → forget w (first_some f ys) ≡ first_some f ys
+unfolding first_some or_else forget
+forget_first w f [] h = refl
+forget_first w f (y ∷ ys) h = by_answer (f y) h.0 (forget_first w f ys h.1)
+  where
+    by_answer : (o : Option Writer) → forget w o ≡ o → forget w (first_some f ys) ≡ first_some f ys
+        → forget w (or_else o (first_some f ys)) ≡ or_else o (first_some f ys)
+    by_answer None k i = i
+    by_answer (Some v) k i = k
+
+-- what is left when its writer has written
+pub forgotten_rest : (w : Writer) (o rest : Option Writer) → (is_some o ≡ true → rest ≡ None) → forget w rest ≡ rest
+    → or_else (forget w o) rest ≡ forget w (or_else o rest)
+unfolding or_else forget
+forgotten_rest w None rest h k = sym k
+forgotten_rest w (Some v) rest h k = by_test (same_writer v w)
+  where
+    by_test : (b : Bool) → or_else (cond b None (Some v)) rest ≡ cond b None (Some v)
+    by_test true = h refl
+    by_test false = refl
+
+-- ---- what one row answers ----
+
+in_nothing_more : (rs : List Reg) (r : Reg) → is_in (rs ++ []) r ≡ is_in rs r
+unfolding is_in
+in_nothing_more [] r = refl
+in_nothing_more (x ∷ rs) r = ap (λ b. reg_eq r x || b) (in_nothing_more rs r)
+
+some_if : {W : Type 0} (b : Bool) (w : W) → is_some (cond b (Some w) None) ≡ b
+some_if true w = refl
+some_if false w = refl
+
+some_in : (r : Reg) (u : FunctionalUnit) (s : Shape) (p : Progress)
+    → is_some (written_in r u s p) ≡ is_in (to_come_in s p) r
+unfolding written_in written_by_channel channel_of to_come_in results puts_of loads_of is_in returning_to
+some_in r u (Puts rs) (Reserved b) = some_if (is_in rs r) (OfUnit u) ∙ sym (in_nothing_more rs r)
+some_in r u (Loads n) (Reserved b) = by_tests (reg_eq r (A n)) (reg_eq r (X n))
+  where
+    by_tests : (p q : Bool) → is_some (cond (p || false) (Some (OfUnit u)) (cond q (Some (OfChannel n)) None))
+        ≡ (p || (q || false))
+    by_tests true q = refl
+    by_tests false true = refl
+    by_tests false false = refl
+some_in r u (Stores n) (Reserved b) = some_if (is_in (A n ∷ []) r) (OfUnit u)
+some_in r u Jumps (Reserved b) = refl
+some_in r u Links (Reserved b) = refl
+some_in r u s (Left None) = refl
+some_in r u s (Left (Some n)) = by_test (reg_eq r (X n))
+  where
+    by_test : (q : Bool) → is_some (cond q (Some (OfChannel n)) None) ≡ (q || false)
+    by_test true = refl
+    by_test false = refl
+
+-- somebody writes the register for it where it is a result still to come
+pub some_written : (r : Reg) (x : Issued) → is_some (written_by r x) ≡ comes r x.row
+unfolding written_by comes to_come
+some_written r x = some_in r x.row.unit (shape_of x.row.instr) x.row.progress
+
+-- a channel is no unit
+pub channel_no_unit : (u : FunctionalUnit) (r : Reg) (o : Option ℕ)
+    → forget (OfUnit u) (written_by_channel r o) ≡ written_by_channel r o
+unfolding forget written_by_channel same_writer
+channel_no_unit u r None = refl
+channel_no_unit u r (Some n) = by_test (reg_eq r (X n))
+  where
+    by_test : (b : Bool) → forget (OfUnit u) (cond b (Some (OfChannel n)) None) ≡ cond b (Some (OfChannel n)) None
+    by_test true = refl
+    by_test false = refl
+
+unit_kept_in : (u : FunctionalUnit) (r : Reg) (v : FunctionalUnit) (s : Shape) (p : Progress)
+    → (seat_in v p ≡ unit_number u → ⊥) → forget (OfUnit u) (written_in r v s p) ≡ written_in r v s p
+unfolding forget written_in same_writer same_unit seat_in
+unit_kept_in u r v s (Reserved has_read) h = by_test (is_in (puts_of s) r)
+  where
+    by_test : (b : Bool) → forget (OfUnit u) (cond b (Some (OfUnit v)) (written_by_channel r (channel_of s)))
+        ≡ cond b (Some (OfUnit v)) (written_by_channel r (channel_of s))
+    by_test true = ap (λ b. cond b None (Some (OfUnit v))) (ne_eqb (unit_number v) (unit_number u) h)
+    by_test false = channel_no_unit u r (channel_of s)
+unit_kept_in u r v s (Left o) h = channel_no_unit u r o
+
+-- one in another seat than the unit's is not written by the unit
+pub unit_kept : (u : FunctionalUnit) (r : Reg) (y : Issued) → (seat_of y ≡ unit_number u → ⊥)
+    → forget (OfUnit u) (written_by r y) ≡ written_by r y
+unfolding written_by seat_of
+unit_kept u r y h = unit_kept_in u r y.row.unit (shape_of y.row.instr) y.row.progress h
+
+other_channel : (n m : ℕ) (r : Reg) → (eqb n m || false) ≡ false
+    → forget (OfChannel n) (written_by_channel r (Some m)) ≡ written_by_channel r (Some m)
+unfolding forget written_by_channel same_writer
+other_channel n m r h = by_test (reg_eq r (X m))
+  where
+    ne : eqb m n ≡ false
+    ne = ne_eqb m n (λ e. let q : (eqb n m || false) ≡ true = ap (λ b. b || false) (eq-eqb n m (sym e)) in cc)
+
+    by_test : (b : Bool) → forget (OfChannel n) (cond b (Some (OfChannel m)) None) ≡ cond b (Some (OfChannel m)) None
+    by_test true = ap (λ b. cond b None (Some (OfChannel m))) ne
+    by_test false = refl
+
+channel_kept_in : (n : ℕ) (r : Reg) (v : FunctionalUnit) (s : Shape) (p : Progress)
+    → is_in (to_come_in s p) (X n) ≡ false → forget (OfChannel n) (written_in r v s p) ≡ written_in r v s p
+unfolding forget written_in same_writer to_come_in results puts_of loads_of is_in returning_to channel_of written_by_channel
+channel_kept_in n r v (Puts rs) (Reserved has_read) h = by_test (is_in rs r)
+  where
+    by_test : (b : Bool) → forget (OfChannel n) (cond b (Some (OfUnit v)) None) ≡ cond b (Some (OfUnit v)) None
+    by_test true = refl
+    by_test false = refl
+channel_kept_in n r v (Loads m) (Reserved has_read) h = by_test (is_in (A m ∷ []) r)
+  where
+    by_test : (b : Bool) → forget (OfChannel n) (cond b (Some (OfUnit v)) (written_by_channel r (Some m)))
+        ≡ cond b (Some (OfUnit v)) (written_by_channel r (Some m))
+    by_test true = refl
+    by_test false = other_channel n m r h
+channel_kept_in n r v (Stores m) (Reserved has_read) h = by_test (is_in (A m ∷ []) r)
+  where
+    by_test : (b : Bool) → forget (OfChannel n) (cond b (Some (OfUnit v)) None) ≡ cond b (Some (OfUnit v)) None
+    by_test true = refl
+    by_test false = refl
+channel_kept_in n r v Jumps (Reserved has_read) h = refl
+channel_kept_in n r v Links (Reserved has_read) h = refl
+channel_kept_in n r v s (Left None) h = refl
+channel_kept_in n r v s (Left (Some m)) h = other_channel n m r h
+
+-- one that does not load Xn is not written by channel n
+pub channel_kept : (n : ℕ) (r : Reg) (y : Issued) → comes (X n) y.row ≡ false
+    → forget (OfChannel n) (written_by r y) ≡ written_by r y
+unfolding written_by comes to_come
+channel_kept n r y h = channel_kept_in n r y.row.unit (shape_of y.row.instr) y.row.progress h
+
+left_in : (u v : FunctionalUnit) (r : Reg) (s : Shape) (has_read : Bool) → same_unit v u ≡ true
+    → written_by_channel r (channel_of s) ≡ forget (OfUnit u) (written_in r v s (Reserved has_read))
+unfolding forget written_in same_writer written_by_channel channel_of puts_of is_in
+left_in u v r (Puts rs) has_read h = by_test (is_in rs r)
+  where
+    by_test : (b : Bool) → None ≡ forget (OfUnit u) (cond b (Some (OfUnit v)) None)
+    by_test true = sym (ap (λ b. cond b None (Some (OfUnit v))) h)
+    by_test false = refl
+left_in u v (X m) (Loads n) has_read h = by_test (eqb m n)
+  where
+    by_test : (b : Bool) → cond b (Some (OfChannel n)) None ≡ forget (OfUnit u) (cond b (Some (OfChannel n)) None)
+    by_test true = refl
+    by_test false = refl
+left_in u v (A m) (Loads n) has_read h = by_test (eqb m n)
+  where
+    by_test : (b : Bool) → None ≡ forget (OfUnit u) (cond (b || false) (Some (OfUnit v)) None)
+    by_test true = sym (ap (λ b. cond b None (Some (OfUnit v))) h)
+    by_test false = refl
+left_in u v (B m) (Loads n) has_read h = refl
+left_in u v r (Stores n) has_read h = by_test (is_in (A n ∷ []) r)
+  where
+    by_test : (b : Bool) → None ≡ forget (OfUnit u) (cond b (Some (OfUnit v)) None)
+    by_test true = sym (ap (λ b. cond b None (Some (OfUnit v))) h)
+    by_test false = refl
+left_in u v r Jumps has_read h = refl
+left_in u v r Links has_read h = refl
+
+-- what is written for one that has left its unit
+pub left_written : (u : FunctionalUnit) (r : Reg) (x : Issued) (has_read : Bool) → x.row.progress ≡ Reserved has_read
+    → same_unit x.row.unit u ≡ true
+    → written_by_channel r (channel_of (shape_of x.row.instr)) ≡ forget (OfUnit u) (written_by r x)
+unfolding written_by
+left_written u r x has_read e h = left_in u x.row.unit r (shape_of x.row.instr) has_read h
+    ∙ ap (λ p. forget (OfUnit u) (written_in r x.row.unit (shape_of x.row.instr) p)) (sym e)
+
+-- and for one that has returned
+pub returned_written : (n : ℕ) (r : Reg) (x : Issued) → x.row.progress ≡ Left (Some n)
+    → None ≡ forget (OfChannel n) (written_by r x)
+unfolding written_by written_in written_by_channel forget same_writer
+returned_written n r x e =
+    by_test (reg_eq r (X n)) ∙ ap (λ p. forget (OfChannel n) (written_in r x.row.unit (shape_of x.row.instr) p)) (sym e)
+  where
+    by_test : (b : Bool) → None ≡ forget (OfChannel n) (cond b (Some (OfChannel n)) None)
+    by_test true = sym (ap (λ b. cond b None (Some (OfChannel n))) (eq-eqb n n refl))
+    by_test false = refl
+
+-- ---- by number ----
+
+pub earlier_some : (n : ℕ) (r : Reg) (y : Issued)
+    → is_some (if_earlier n (written_by r) y) ≡ (ltb y.number n && comes r y.row)
+unfolding if_earlier
+earlier_some n r y = by_test (ltb y.number n)
+  where
+    by_test : (b : Bool) → is_some (cond b (written_by r y) None) ≡ (b && comes r y.row)
+    by_test true = some_written r y
+    by_test false = refl
+
+pub earlier_alone : (n : ℕ) (r : Reg) (x y : Issued) → (comes r x.row && comes r y.row) ≡ false
+    → IsAlone (if_earlier n (written_by r)) x y
+earlier_alone n r x y h =
+    ap (λ b. b && is_some (if_earlier n (written_by r) y)) (earlier_some n r x)
+    ∙ ap (λ b. (ltb x.number n && comes r x.row) && b) (earlier_some n r y)
+    ∙ by_tests (ltb x.number n) (comes r x.row) (ltb y.number n) (comes r y.row) h
+  where
+    by_tests : (a b c d : Bool) → (b && d) ≡ false → ((a && b) && (c && d)) ≡ false
+    by_tests false b c d h = refl
+    by_tests true false c d h = refl
+    by_tests true true false d h = refl
+    by_tests true true true d h = h
+
+pub earlier_forget : (w : Writer) (n : ℕ) (r : Reg) (y : Issued) → forget w (written_by r y) ≡ written_by r y
+    → forget w (if_earlier n (written_by r) y) ≡ if_earlier n (written_by r) y
+unfolding if_earlier forget
+earlier_forget w n r y h = by_test (ltb y.number n)
+  where
+    by_test : (b : Bool) → forget w (cond b (written_by r y) None) ≡ cond b (written_by r y) None
+    by_test true = h
+    by_test false = refl
+
+pub earlier_at : (last : ℕ) (r : Reg) (y : Issued) → y.number ≤ last
+    → if_earlier (suc last) (written_by r) y ≡ written_by r y
+unfolding if_earlier
+earlier_at last r y h = ap (λ b. cond b (written_by r y) None) (lt-ltb y.number (suc last) (omega arith))
+
+-- among those with a number up to the last all are earlier than the next
+pub all_earlier : (last : ℕ) (r : Reg) (xs : List Issued) → Each (λ x. x.number ≤ last) xs
+    → writer_before (suc last) xs r ≡ writer_of xs r
+unfolding writer_before writer_of
+all_earlier last r xs h = first_same (if_earlier (suc last) (written_by r)) (written_by r) xs (each xs h)
+  where
+    each : (ys : List Issued) → Each (λ x. x.number ≤ last) ys
+        → Each (λ x. if_earlier (suc last) (written_by r) x ≡ written_by r x) ys
+    each [] k = tt
+    each (y ∷ ys) k = (earlier_at last r y k.0, each ys k.1)
+
+-- ---- lists of producers ----
+
+pub producers_forget : (w : Writer) (f g : Reg → Option Writer) → ((r : Reg) → g r ≡ forget w (f r))
+    → (rs : List Reg) (ps : List (Option Writer)) → AreProducers f rs ps → AreProducers g rs (map (forget w) ps)
+producers_forget w f g h [] ps k = tt
+producers_forget w f g h (r ∷ rs) [] k = absurd k
+producers_forget w f g h (r ∷ rs) (p ∷ ps) k = (ap (forget w) k.0 ∙ sym (h r), producers_forget w f g h rs ps k.1)
