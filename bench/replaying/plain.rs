@@ -3,16 +3,16 @@
 //!
 //! `plain LOG` reads a deck of `core`, `at`, `word`, `start`, `show` and `end` lines on standard input, goes
 //! through the log and prints the dump, as `cdc6600 replay LOG` does. It takes deck and log to be right, and
-//! panics where they aren't.
+//! panics where they aren't. bench/running takes its parts.
 
 use std::fmt::Write;
 use std::io::Read;
 
-const ONES60: u64 = (1 << 60) - 1;
-const ONES18: u32 = (1 << 18) - 1;
+pub const ONES60: u64 = (1 << 60) - 1;
+pub const ONES18: u32 = (1 << 18) - 1;
 
 /// How many parcels an instruction has by its opcode's two digits; 0 where the opcode is refused.
-const PARCELS: [u32; 64] = [
+pub const PARCELS: [u32; 64] = [
     1, 2, 2, 2, 2, 2, 2, 2, // 00 to 07
     1, 1, 1, 1, 1, 1, 1, 1, // 10 to 17
     1, 1, 1, 1, 0, 0, 0, 0, // 20 to 27
@@ -23,49 +23,49 @@ const PARCELS: [u32; 64] = [
     2, 2, 2, 1, 1, 1, 1, 1, // 70 to 77
 ];
 
-enum Halt {
+pub enum Halt {
     Stop,
     Illegal(u32),
     Straddle,
     Fetch,
 }
 
-struct State {
-    x: [u64; 8],
-    a: [u32; 8],
-    b: [u32; 8],
-    memory: Vec<u64>,
-    p: u32,
-    parcel: u32,
-    held: Option<u64>,
-    ra: u32,
-    fl: u32,
-    mode: u32,
-    halt: Option<Halt>,
-    fault: bool,
+pub struct State {
+    pub x: [u64; 8],
+    pub a: [u32; 8],
+    pub b: [u32; 8],
+    pub memory: Vec<u64>,
+    pub p: u32,
+    pub parcel: u32,
+    pub held: Option<u64>,
+    pub ra: u32,
+    pub fl: u32,
+    pub mode: u32,
+    pub halt: Option<Halt>,
+    pub fault: bool,
 }
 
-fn add60(left: u64, right: u64) -> u64 {
+pub fn add60(left: u64, right: u64) -> u64 {
     let total = left + right;
     (total + ((total + 1) >> 60)) & ONES60
 }
 
-fn add18(left: u32, right: u32) -> u32 {
+pub fn add18(left: u32, right: u32) -> u32 {
     let total = left + right;
     (total + ((total + 1) >> 18)) & ONES18
 }
 
-fn rotate_left(x: u64, count: u32) -> u64 {
+pub fn rotate_left(x: u64, count: u32) -> u64 {
     let by = count % 60;
     ((x << by) & ONES60) | (x >> (60 - by))
 }
 
-fn shift_right(x: u64, count: u32) -> u64 {
+pub fn shift_right(x: u64, count: u32) -> u64 {
     let by = count.min(59);
     if x >> 59 == 0 { x >> by } else { (ONES60 - (ONES60 >> by)) | (x >> by) }
 }
 
-fn shift_nominal(b: u32, x: u64, left: bool) -> u64 {
+pub fn shift_nominal(b: u32, x: u64, left: bool) -> u64 {
     let negative = b >> 17 == 1;
     let magnitude = if negative { ONES18 - b } else { b };
     if left != negative {
@@ -77,22 +77,22 @@ fn shift_nominal(b: u32, x: u64, left: bool) -> u64 {
     }
 }
 
-fn low18(x: u64) -> u32 {
+pub fn low18(x: u64) -> u32 {
     x as u32 & ONES18
 }
 
-fn extended(index: u32) -> u64 {
+pub fn extended(index: u32) -> u64 {
     let sign = if index >> 17 == 1 { ONES60 - u64::from(ONES18) } else { 0 };
     sign | u64::from(index)
 }
 
 /// The order of two B registers: -0 comes before +0.
-fn order(b: u32) -> u32 {
+pub fn order(b: u32) -> u32 {
     b ^ 0o400000
 }
 
 impl State {
-    fn boot(memory: Vec<u64>) -> State {
+    pub fn boot(memory: Vec<u64>) -> State {
         State {
             x: [0; 8],
             a: [0; 8],
@@ -109,25 +109,25 @@ impl State {
         }
     }
 
-    fn absolute(&self, address: u32) -> Option<usize> {
+    pub fn absolute(&self, address: u32) -> Option<usize> {
         let at = (self.ra + address) as usize;
         if address < self.fl && at < self.memory.len() { Some(at) } else { None }
     }
 
-    fn out_of_range(&mut self) {
+    pub fn out_of_range(&mut self) {
         if self.mode >> 12 & 1 == 1 {
             self.fault = true;
         }
     }
 
-    fn store(&mut self, address: u32, word: u64) {
+    pub fn store(&mut self, address: u32, word: u64) {
         match self.absolute(address) {
             Some(at) => self.memory[at] = word,
             None => self.out_of_range(),
         }
     }
 
-    fn load(&mut self, address: u32) -> u64 {
+    pub fn load(&mut self, address: u32) -> u64 {
         match self.absolute(address) {
             Some(at) => self.memory[at],
             None => {
@@ -137,7 +137,7 @@ impl State {
         }
     }
 
-    fn set_a(&mut self, i: usize, address: u32) {
+    pub fn set_a(&mut self, i: usize, address: u32) {
         self.a[i] = address;
         match i {
             0 => {}
@@ -146,25 +146,25 @@ impl State {
         }
     }
 
-    fn set_b(&mut self, i: usize, value: u32) {
+    pub fn set_b(&mut self, i: usize, value: u32) {
         if i != 0 {
             self.b[i] = value;
         }
     }
 
-    fn jump(&mut self, to: u32) {
+    pub fn jump(&mut self, to: u32) {
         self.p = to;
         self.parcel = 0;
         self.held = None;
     }
 
-    fn jump_if(&mut self, taken: bool, to: u32) {
+    pub fn jump_if(&mut self, taken: bool, to: u32) {
         if taken {
             self.jump(to);
         }
     }
 
-    fn x_holds(&self, test: usize, x: u64) -> bool {
+    pub fn x_holds(&self, test: usize, x: u64) -> bool {
         let upper = x >> 48;
         match test {
             0 => x == 0 || x == ONES60,
@@ -179,7 +179,7 @@ impl State {
     }
 
     /// What SA, SB and SX set their register to, by the opcode's second digit.
-    fn index(&self, m: u32, j: usize, k: usize, address: u32) -> u32 {
+    pub fn index(&self, m: u32, j: usize, k: usize, address: u32) -> u32 {
         match m {
             0 => add18(self.a[j], address),
             1 => add18(self.b[j], address),
@@ -192,7 +192,7 @@ impl State {
         }
     }
 
-    fn step(&mut self) {
+    pub fn step(&mut self) {
         let word = match self.held {
             Some(word) => word,
             None => match self.absolute(self.p) {
@@ -266,7 +266,7 @@ impl State {
         }
     }
 
-    fn issue_many(&mut self, count: u64) {
+    pub fn issue_many(&mut self, count: u64) {
         for _ in 0..count {
             if self.halt.is_some() {
                 return;
@@ -276,7 +276,7 @@ impl State {
     }
 
     /// The registers and the sixteen words at an address change places.
-    fn exchange(&mut self, at: usize) {
+    pub fn exchange(&mut self, at: usize) {
         let status = u32::from(self.halt.is_some()) + 2 * u32::from(self.fault);
         let upper = [self.p, self.ra, self.fl, self.mode, 0, 0, 0, status];
         let incoming = self.memory[at..at + 16].to_vec();
@@ -296,7 +296,7 @@ impl State {
         (self.halt, self.fault) = (None, false);
     }
 
-    fn replay(&mut self, log: &str) {
+    pub fn replay(&mut self, log: &str) {
         for entry in log.split(' ').filter(|entry| *entry != "none") {
             match entry.split_at(1) {
                 ("E", at) => self.exchange(octal(at) as usize),
@@ -306,7 +306,7 @@ impl State {
         }
     }
 
-    fn dump(&self, shows: &[(usize, usize)], log: &str) -> String {
+    pub fn dump(&self, shows: &[(usize, usize)], log: &str) -> String {
         let held = self.held.map_or(String::from("none"), |word| format!("{word:020o}"));
         let halt = match self.halt {
             None => String::from("running"),
@@ -332,12 +332,12 @@ impl State {
     }
 }
 
-fn octal(digits: &str) -> u64 {
+pub fn octal(digits: &str) -> u64 {
     u64::from_str_radix(digits, 8).expect("octal digits")
 }
 
 /// The memory, and the first and last address of each `show` line.
-fn deck(text: &str) -> (Vec<u64>, Vec<(usize, usize)>) {
+pub fn deck(text: &str) -> (Vec<u64>, Vec<(usize, usize)>) {
     let (mut memory, mut place, mut shows) = (Vec::new(), 0, Vec::new());
     for line in text.lines() {
         let (name, rest) = line.split_once(' ').unwrap_or((line, ""));

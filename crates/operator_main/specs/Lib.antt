@@ -1,4 +1,3 @@
--- When a run makes its requests for exchanges, and how the program ends.
+-- How the program ends.
 -- Source: ours.
-pub mod Requests
 pub mod Status

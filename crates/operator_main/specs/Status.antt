@@ -49,10 +49,3 @@ fault_status faults.OutOfMemory = OutOfMemory
 fault_status faults.Read = Device
 fault_status faults.Write = Device
 fault_status faults.Stuck = Running
-
--- the refusals of an issue that end a run, since a drain doesn't help against them: `E1`, `E2` and `E3`
-abbrev pub is_end : Refusal → Bool
-is_end (refusals.Halted halt) = true
-is_end refusals.Faulted = true
-is_end refusals.Budget = true
-is_end other = false

@@ -5,10 +5,7 @@
 mod arguments;
 mod fault;
 mod program;
-mod references;
-mod requests;
 mod running;
-mod seats;
 mod status;
 
 use std::env;

@@ -13,6 +13,7 @@ use std::alloc::Global;
 use std::io;
 use std::io::{BufReader, BufWriter, Read, Write};
 use std::sync::Wait;
+use std::thread::Threads;
 
 /// Says on the fault stream why the program ends, and answers its exit status.
 pub fn refused<F: Write>(faults: &mut F, fault: ProgramFault) -> u8 {
@@ -49,7 +50,7 @@ fn unparsed<W: Write, F: Write>(output: &mut W, faults: &mut F, error: Error) ->
 ///
 /// # Errors
 /// Why the dump wasn't printed; a beginning of it may have been.
-fn run_deck<T: Wait, I: Input, O: Output>(
+fn run_deck<T: Threads + Wait + Sync, I: Input, O: Output>(
     rt: &T,
     alloc: Global,
     input: &mut I,
@@ -82,7 +83,7 @@ fn replay_log<I: Input, O: Output>(
 
 /// Does what is asked, with buffers between, so that neither a byte that is read nor a piece that is
 /// written costs a call of the system.
-fn perform<T: Wait, R: Read, W: Write>(
+fn perform<T: Threads + Wait + Sync, R: Read, W: Write>(
     rt: &T,
     alloc: Global,
     request: Request<'_>,
@@ -117,7 +118,7 @@ fn perform<T: Wait, R: Read, W: Write>(
 
 /// The whole program, over its arguments without the program's name, its input, output and fault
 /// stream. It answers the exit status, which a failed write to the fault stream doesn't change.
-pub fn program<T: Wait, R: Read, W: Write, F: Write>(
+pub fn program<T: Threads + Wait + Sync, R: Read, W: Write, F: Write>(
     rt: &T,
     alloc: Global,
     words: &[String],

@@ -1,4 +1,4 @@
-use super::tests::{Dump, deck, expect_answers, expect_ran, expect_replayed};
+use super::tests::{Dump, deck, expect_answers, expect_ran, expect_ran_by_one, expect_replayed};
 use std::test::Fail;
 
 /// X2 is not written before the earlier sum has read it, and that waits for the load of X1.
@@ -113,7 +113,26 @@ fn address_fault(rt: HostRuntime) -> Result<(), Fail> {
         shows: "",
         log: "E40 I2",
     };
-    expect_ran(&rt, deck, 4, dump)
+    expect_replayed(&rt, deck, 4, dump)?;
+    let logs = ["E40 I2", "E40 I3", "E40 I4", "E40 I5", "E40 I6"];
+    expect_ran_by_one(&rt, deck, 4, logs.as_slice())
+}
+
+/// A run in which nothing more can be issued before the fault is recorded: the load that comes next has the same
+/// results.
+#[test]
+fn fault_at_once(rt: HostRuntime) -> Result<(), Fail> {
+    let deck = deck(
+        rt.alloc(),
+        ["at 43\nword 00010000000000000000\nat 100\nword 51100000205110000001\n"].as_slice(),
+    )?;
+    let dump = Dump {
+        begins: "P 000000 PARCEL 2 HELD 51100000205110000001\nHALT running FAULT address\nRA 000100 FL 000020 EM 010000\n",
+        registers: [("A1", "20")].as_slice(),
+        shows: "",
+        log: "E40 I1",
+    };
+    expect_ran(&rt, deck.as_slice(), 4, dump)
 }
 
 /// The same loads where exit mode sets no fault.

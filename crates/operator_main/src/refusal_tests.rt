@@ -5,6 +5,7 @@ use std::io::{Read, Write};
 use std::process::Abort;
 use std::sync::Wait;
 use std::test::Fail;
+use std::thread::Threads;
 
 /// A first text, then another so many times, and then a last one: a long input that isn't kept anywhere.
 #[derive(Drop)]
@@ -51,7 +52,7 @@ impl Write for Counting {
 }
 
 fn expect_refused(
-    rt: &(impl Abort + AllocGlobal + Wait),
+    rt: &(impl Abort + AllocGlobal + Threads + Wait + Sync),
     deck: &[u8],
     told: &[u8],
 ) -> Result<(), Fail> {
@@ -64,7 +65,7 @@ fn expect_refused(
 
 /// A deck of a first text, a second one so many times, and a last one.
 fn expect_refused_long(
-    rt: &(impl Abort + AllocGlobal + Wait),
+    rt: &(impl Abort + AllocGlobal + Threads + Wait + Sync),
     first: &[u8],
     repeated: (&[u8], u32),
     last: &[u8],
@@ -196,7 +197,7 @@ fn refused_schedules(rt: HostRuntime) -> Result<(), Fail> {
 
 /// How the program ends on a text that is made up, how often it writes and how the last write ends.
 fn expect_made_up(
-    rt: &(impl Abort + AllocGlobal + Wait),
+    rt: &(impl Abort + AllocGlobal + Threads + Wait + Sync),
     text: &str,
     input: MadeUp<'_>,
     writes: u64,

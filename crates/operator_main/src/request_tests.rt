@@ -1,66 +1,12 @@
 use super::program::program;
-use super::requests::Requests;
-use super::tests::{Dump, expect_answers, expect_ran, expect_run, joined, words};
-use job_deck::Ask;
+use super::tests::{
+    Dump, expect_answers, expect_ran, expect_ran_by_one, expect_replayed, expect_run, joined, words,
+};
 use std::alloc::{AllocError, Global};
 use std::process::Abort;
 use std::sync::Wait;
 use std::test::Fail;
-
-/// The requests that are due before each of eight instructions, where each exchange is made at once.
-#[test]
-fn requests_in_turn(rt: HostRuntime) -> Result<(), Fail> {
-    let asks = [
-        Ask { at: 0o60, after: 4 },
-        Ask {
-            at: 0o100,
-            after: 2,
-        },
-        Ask {
-            at: 0o120,
-            after: 4,
-        },
-        Ask {
-            at: 0o140,
-            after: 0,
-        },
-        Ask {
-            at: 0o160,
-            after: 9,
-        },
-    ];
-    let mut requests = Requests::new(rt.alloc(), 0o40, asks.as_slice())?;
-    let mut made = Vec::new(rt.alloc());
-    for issued in 0..8u32 {
-        for _ in 0..3u32 {
-            if let Some(ask) = requests.take_due() {
-                made.push((issued, ask.at))?;
-                requests.exchanged();
-            }
-        }
-        requests.issued();
-    }
-    let wanted = [(0, 0o40), (0, 0o140), (2, 0o100), (4, 0o60), (4, 0o120)];
-    assert_eq!(rt; made.as_slice(), wanted.as_slice());
-    Ok(())
-}
-
-/// None is due while one waits.
-#[test]
-fn waiting_request(rt: HostRuntime) -> Result<(), Fail> {
-    let asks = [Ask { at: 0o60, after: 0 }];
-    let mut requests = Requests::new(rt.alloc(), 0o40, asks.as_slice())?;
-    assert!(rt; !requests.is_waiting());
-    assert_eq!(rt; requests.take_due(), Some(Ask { at: 0o40, after: 0 }));
-    assert!(rt; requests.is_waiting());
-    requests.issued();
-    assert_eq!(rt; requests.take_due(), None);
-    requests.exchanged();
-    assert_eq!(rt; requests.take_due(), Some(Ask { at: 0o60, after: 0 }));
-    requests.exchanged();
-    assert_eq!(rt; requests.take_due(), None);
-    Ok(())
-}
+use std::thread::Threads;
 
 /// Packages at 0, 20, 40 and 60, all of which take the same program from its first word on: five passes and a
 /// stop, so that a word ends after four instructions.
@@ -70,7 +16,7 @@ const PACKAGES: &str =
 /// A deck with these lines after the packages runs to this log and status, and the replay of the log prints the
 /// same dump with the same status.
 fn expect_log(
-    rt: &(impl Abort + AllocGlobal + Wait),
+    rt: &(impl Abort + AllocGlobal + Threads + Wait + Sync),
     lines: &str,
     budget: &str,
     status: u8,
@@ -166,7 +112,8 @@ fn requests_out_of_budget(rt: HostRuntime) -> Result<(), Fail> {
     Ok(())
 }
 
-/// A program with an address fault in the middle of a word is exchanged out, with the fault in its package.
+/// A program with an address fault in the middle of a word is exchanged out, with the fault in its package. Two more
+/// passes may have been issued by then.
 #[test]
 fn request_after_a_fault(rt: HostRuntime) -> Result<(), Fail> {
     let faulting =
@@ -186,7 +133,9 @@ fn request_after_a_fault(rt: HostRuntime) -> Result<(), Fail> {
         shows: "M 000020 00000000000000000000\nM 000021 00000200000020000000\nM 000022 00000020000000000000\nM 000023 00010000000000000000\nM 000027 00000002000000000000\n",
         log: "E0 I1 E20 I1",
     };
-    expect_ran(&rt, deck.as_slice(), 0, dump)
+    expect_replayed(&rt, deck.as_slice(), 0, dump)?;
+    let logs = ["E0 I1 E20 I1", "E0 I2 E20 I1", "E0 I3 E20 I1"];
+    expect_ran_by_one(&rt, deck.as_slice(), 0, logs.as_slice())
 }
 
 /// A program of two loads and a product between them at 100, a second package at 60, and another line.

@@ -1,160 +1,90 @@
-ghost use Rattle.std.specs.Prelude.{◌≡◌, ◌≤◌};
-ghost use Rattle.operator_main.specs.Status.{is_end};
+//! A run of a deck by threads: a worker for each unit, one for memory, and this thread, which issues.
+ghost use Rattle.std.specs.Prelude.{◌≡◌, ◌≤◌, [], true, Some, IfOk, MatchResult};
+ghost use Rattle.instructions.specs.declared.refusal.Refusal.TheVariants.{OutOfMemory};
+ghost use Rattle.sequential.specs.Replay.{boot, replay};
+ghost use Rattle.program_order.specs.Headline.{IsFaultedRun};
+ghost use Rattle.program_order.specs.Processor.{boot_processor};
+ghost use Rattle.deck.specs.inner.Views.{asked};
 
-use super::references::{makes_references, settle};
-use super::requests::Requests;
-use super::seats::Seats;
 use instruction_table::Refusal;
 use job_deck::Deck;
-use machine::{Machine, Note, Snapshot};
-use machine_lock::{Seen, Shared};
-use std::alloc::Global;
+use machine::{Machine, Snapshot};
+use std::alloc::{AllocError, Global};
 use std::sync::Wait;
+use std::thread::Threads;
+use unit_workers::{Gates, Open, Orders, run_threads};
 
-/// Whether a run ends where an issue is refused so: the machine is halted or faulted, or its budget is
-/// used up.
-fn ends_run(refusal: &Refusal) -> bool
-    ensures { result ≡ is_end refusal.now }
-{
-    matches!(
-        refusal,
-        Refusal::Halted(_) | Refusal::Faulted | Refusal::Budget
-    )
-}
-
-/// How a run goes on after a step.
-#[derive(Clone, Copy, Drop)]
-enum Course {
-    GoesOn,
-    Ends,
-}
-
-/// A run under way: the machine under its lock, the seats of its units, and the requests for exchanges.
-struct Operation {
-    shared: Shared,
-    seen: Seen,
-    seats: Seats,
-    requests: Requests,
-}
-
-impl Operation {
-    /// Asks for the exchange that is due, if one is.
-    ///
-    /// # Errors
-    /// What was refused.
-    fn ask_due<T: Wait>(&mut self, rt: &T) -> Result<(), Refusal> {
-        match self.requests.take_due() {
-            Some(ask) => self.shared.ask(rt, &mut self.seen, ask.at),
-            None => Ok(()),
-        }
-    }
-
-    /// Makes the exchange that waits, if one does, and answers whether it was made. It isn't while the machine
-    /// runs in the middle of a word.
-    ///
-    /// # Errors
-    /// What else was refused.
-    fn exchange_waiting<T: Wait>(&mut self, rt: &T) -> Result<bool, Refusal> {
-        if !self.requests.is_waiting() {
-            return Ok(false);
-        }
-        match self.shared.exchange(rt, &mut self.seen) {
-            Ok(()) => {
-                self.requests.exchanged();
-                Ok(true)
-            }
-            Err(Refusal::MidWord) => Ok(false),
-            Err(refusal) => Err(refusal),
-        }
-    }
-
-    /// Takes a reservation to its end: through its unit, and its reference through memory.
-    ///
-    /// # Errors
-    /// What was refused.
-    fn work<T: Wait>(&mut self, rt: &T, note: Note) -> Result<(), Refusal> {
-        self.seats.serve(rt, &self.shared, note)?;
-        if makes_references(note.unit) {
-            settle(rt, &self.shared)
-        } else {
-            Ok(())
-        }
-    }
-
-    /// Issues the next instruction and takes its reservation to its end. The run ends where the machine is
-    /// halted, faulted or out of budget.
-    ///
-    /// # Errors
-    /// What else was refused.
-    fn issue<T: Wait>(&mut self, rt: &T) -> Result<Course, Refusal> {
-        match self.shared.issue(rt, &mut self.seen) {
-            Ok(note) => {
-                self.requests.issued();
-                if let Some(note) = note {
-                    self.work(rt, note)?;
-                }
-                Ok(Course::GoesOn)
-            }
-            Err(refusal) if ends_run(&refusal) => Ok(Course::Ends),
-            Err(refusal) => Err(refusal),
-        }
-    }
-
-    /// Asks for the exchange that is due, and then makes the one that waits or issues an instruction. The
-    /// machine is drained before and after.
-    ///
-    /// # Errors
-    /// What was refused.
-    fn step<T: Wait>(&mut self, rt: &T) -> Result<Course, Refusal> {
-        self.ask_due(rt)?;
-        if self.exchange_waiting(rt)? {
-            return Ok(Course::GoesOn);
-        }
-        self.issue(rt)
-    }
-
-    /// Goes on to the run's end.
-    ///
-    /// # Errors
-    /// What was refused before.
-    fn finish<T: Wait>(&mut self, rt: &T) -> Result<(), Refusal> {
-        for _ in rt.forever() {
-            if let Course::Ends = self.step(rt)? {
-                return Ok(());
-            }
-        }
-        Ok(())
-    }
-}
-
-/// Boots a machine with a deck's memory, puts it under its lock and runs it to the end, with the deck's
-/// requests for exchanges.
+/// What a run of this deck is to do: it starts with the package of `start`, and makes the requests of the `ask`
+/// lines. None is left to be made at any time.
 ///
 /// # Errors
-/// `OutOfMemory`, and what the machine refuses before its run is at its end.
-pub fn run<T: Wait>(rt: &T, alloc: Global, deck: &Deck, budget: u64) -> Result<Snapshot, Refusal>
-    requires { budget ≤ 10000000 }
+/// No memory was to be had.
+#[tactic(auto, using(std::proofs::lemmas::List::map_more))]
+fn orders(alloc: Global, deck: &Deck) -> Result<Orders, AllocError>
+    ensures start { IfOk result (λ orders. orders.start ≡ deck.now.start) }
+    ensures after { IfOk result (λ orders. orders.after.items ≡ asked deck.now.asks.items) }
+    ensures free { IfOk result (λ orders. orders.free.items ≡ []) }
 {
-    let Ok(requests) = Requests::new(alloc, deck.start, deck.asks.as_slice()) else {
+    let mut after = Vec::new(alloc);
+    for ask in &deck.asks {
+        after.push((ask.at, u64::from(ask.after)))?;
+    }
+    Ok(Orders {
+        start: deck.start,
+        after,
+        free: Vec::new(alloc),
+    })
+}
+
+/// A machine that was just booted with the deck's memory.
+///
+/// # Errors
+/// `OutOfMemory`.
+fn booted(alloc: Global, deck: &Deck, budget: u64) -> Result<Machine, Refusal>
+    requires { budget ≤ 10000000 }
+    ensures machine { MatchResult result (λ machine. machine ≡ boot_processor deck.now.image.memory budget)
+        (λ refusal. refusal ≡ OutOfMemory) }
+{
+    match deck.image.memory().copy() {
+        Ok(memory) => Machine::boot(alloc, memory, budget),
+        Err(refusal) => Err(refusal),
+    }
+}
+
+/// A gate for each unit that holds nobody.
+fn open_gates() -> Gates<Open> {
+    Gates {
+        branch: Open,
+        boolean: Open,
+        shift: Open,
+        long_add: Open,
+        divide: Open,
+        increment1: Open,
+        increment2: Open,
+    }
+}
+
+/// Boots a machine with a deck's memory and runs it to the end by threads, with the deck's requests for exchanges. The
+/// machine that is answered has come to its state by its log on the memory with which it was booted.
+///
+/// # Errors
+/// `OutOfMemory`, also where a thread couldn't be started, and what the machine refuses before its run is at its end.
+#[tactic(auto, using(program_order::proofs::theorem::Headline::replay_faulted))]
+pub fn run<T: Threads + Wait + Sync>(
+    rt: &T,
+    alloc: Global,
+    deck: &Deck,
+    budget: u64,
+) -> Result<Snapshot, Refusal>
+    requires { budget ≤ 10000000 }
+    ensures replay { IfOk result (λ snapshot. replay (boot snapshot.boot_memory) snapshot.log ≡ Some snapshot.state) }
+    ensures fault { IfOk result (λ snapshot. snapshot.state.fault ≡ true
+        → IsFaultedRun snapshot.log snapshot.boot_memory snapshot.state) }
+{
+    let Ok(orders) = orders(alloc, deck) else {
         return Err(Refusal::OutOfMemory);
     };
-    let machine = Machine::boot(alloc, deck.image.memory().copy()?, budget)?;
-    let (shared, seats, seen) = Shared::open(machine)?;
-    let mut operation = Operation {
-        shared,
-        seen,
-        seats: Seats::of(seats),
-        requests,
-    };
-    let finished = operation.finish(rt);
-    let Operation {
-        shared,
-        mut seen,
-        seats,
-        requests: _,
-    } = operation;
-    seats.leave();
-    shared.end(rt);
-    finished?;
-    shared.snapshot(rt, &mut seen)
+    let machine = booted(alloc, deck, budget)?;
+    let ended = run_threads(rt, alloc, machine, &orders, open_gates())?;
+    Ok(ended.snapshot)
 }

@@ -9,6 +9,7 @@ use std::alloc::{AllocError, Global};
 use std::process::Abort;
 use std::sync::Wait;
 use std::test::Fail;
+use std::thread::Threads;
 
 pub fn words(alloc: Global, texts: &[&str]) -> Result<Vec<String>, AllocError> {
     let mut all = Vec::new(alloc);
@@ -28,7 +29,7 @@ pub fn joined(alloc: Global, texts: &[&[u8]]) -> Result<Vec<u8>, AllocError> {
 }
 
 pub fn expect_run(
-    rt: &(impl Abort + AllocGlobal + Wait),
+    rt: &(impl Abort + AllocGlobal + Threads + Wait + Sync),
     texts: &[&str],
     input: &[u8],
     status: u8,
@@ -147,7 +148,7 @@ pub fn deck(alloc: Global, lines: &[&str]) -> Result<Vec<u8>, AllocError> {
 
 /// The replay of the dump's log on a deck ends so and prints this dump.
 pub fn expect_replayed(
-    rt: &(impl Abort + AllocGlobal + Wait),
+    rt: &(impl Abort + AllocGlobal + Threads + Wait + Sync),
     deck: &[u8],
     status: u8,
     dump: Dump<'_>,
@@ -157,9 +158,53 @@ pub fn expect_replayed(
     expect_run(rt, texts.as_slice(), deck, status, printed.as_slice(), b"")
 }
 
+/// What the program prints and its status, where it says nothing on the fault stream.
+fn answered(
+    rt: &(impl Abort + AllocGlobal + Threads + Wait + Sync),
+    texts: &[&str],
+    input: &[u8],
+) -> Result<(u8, Vec<u8>), Fail> {
+    let words = words(rt.alloc(), texts)?;
+    let mut input = input;
+    let mut output = Vec::new(rt.alloc());
+    let mut faults = Vec::new(rt.alloc());
+    let answer = program(
+        rt,
+        rt.alloc(),
+        words.as_slice(),
+        &mut input,
+        &mut output,
+        &mut faults,
+    );
+    assert!(rt; faults.as_slice().is_empty());
+    Ok((answer, output))
+}
+
+/// A run prints the dump of the replay of one of these logs, with this status. What is issued before an address fault
+/// is recorded depends on when the fault's unit gets on.
+pub fn expect_ran_by_one(
+    rt: &(impl Abort + AllocGlobal + Threads + Wait + Sync),
+    deck: &[u8],
+    status: u8,
+    logs: &[&str],
+) -> Result<(), Fail> {
+    let (ended, printed) = answered(rt, ["run"].as_slice(), deck)?;
+    assert_eq!(rt; ended, status);
+    let mut found = 0u32;
+    for log in logs {
+        let (ended, replayed) = answered(rt, ["replay", *log].as_slice(), deck)?;
+        assert_eq!(rt; ended, status);
+        if printed == replayed {
+            found = found.saturating_add(1);
+        }
+    }
+    assert_eq!(rt; found, 1);
+    Ok(())
+}
+
 /// The run of a deck ends so and prints this dump, and so does the replay of its log.
 pub fn expect_ran(
-    rt: &(impl Abort + AllocGlobal + Wait),
+    rt: &(impl Abort + AllocGlobal + Threads + Wait + Sync),
     deck: &[u8],
     status: u8,
     dump: Dump<'_>,
@@ -179,7 +224,7 @@ pub fn expect_ran(
 /// A machine with this deck, exchanged to the package at 40, gives these answers to these events, and this dump
 /// at the last line.
 pub fn expect_answers(
-    rt: &(impl Abort + AllocGlobal + Wait),
+    rt: &(impl Abort + AllocGlobal + Threads + Wait + Sync),
     deck: &[u8],
     answers: &[(&str, &str)],
     last: &str,
@@ -231,7 +276,7 @@ fn two_adds(rt: HostRuntime) -> Result<(), Fail> {
 
 /// A program of one word at 100, the dump's first lines and its log.
 fn expect_halted(
-    rt: &(impl Abort + AllocGlobal + Wait),
+    rt: &(impl Abort + AllocGlobal + Threads + Wait + Sync),
     word: &[u8],
     begins: &[u8],
     log: &[u8],
@@ -345,7 +390,7 @@ fn replays_no_bad_log(rt: HostRuntime) -> Result<(), Fail> {
 
 /// A session of a deck with its schedule, and how what is printed begins and ends.
 fn expect_session(
-    rt: &(impl Abort + AllocGlobal + Wait),
+    rt: &(impl Abort + AllocGlobal + Threads + Wait + Sync),
     deck: &[u8],
     schedule: &[u8],
     begins: &[u8],

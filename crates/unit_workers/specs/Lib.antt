@@ -1,3 +1,5 @@
--- The definitions of what workers count, and of the order in which a run makes its requests. Source: ours.
+-- The definitions of what workers count, of the order in which a run makes its requests, and of when it ends.
+-- Source: ours.
+pub mod Ending
 pub mod Requests
 pub mod Tallies

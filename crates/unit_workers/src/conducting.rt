@@ -1,5 +1,7 @@
 //! What the issuing thread does: it makes the requests for exchanges that are due, issues, sends each reservation on
 //! the lane of its unit, and makes the exchanges.
+ghost use Rattle.std.specs.Prelude.{◌≡◌};
+ghost use Rattle.unit_workers.specs.Ending.{is_end};
 
 use crate::crew::Lines;
 use crate::requests::Requests;
@@ -17,6 +19,16 @@ enum Course {
     Waits,
     /// The run is at its end.
     Ends,
+}
+
+/// Whether a run ends where an issue is refused so: the machine is halted or faulted, or its budget is used up.
+fn ends_run(refusal: &Refusal) -> bool
+    ensures { result ≡ is_end refusal.now }
+{
+    matches!(
+        refusal,
+        Refusal::Halted(_) | Refusal::Faulted | Refusal::Budget
+    )
 }
 
 /// Asks for the exchange that is due, if one is.
@@ -99,9 +111,7 @@ fn step<R: Wait>(
             Ok(Course::GoesOn)
         }
         Err(Refusal::ExchangeWaiting) => exchange(rt, shared, seen, requests),
-        Err(Refusal::Halted(_)) | Err(Refusal::Faulted) | Err(Refusal::Budget) => {
-            finish(rt, shared, seen, requests)
-        }
+        Err(refusal) if ends_run(&refusal) => finish(rt, shared, seen, requests),
         Err(_) => Ok(Course::Waits),
     }
 }
