@@ -1,10 +1,10 @@
 -- The entries of a log, with one more at the end or a count raised.
 use Rattle.std.proofs.Common.{◌≡◌, ◌<◌, ◌≤◌, ◌+◌, ◌-◌, ℕ, zero, suc, true, false, List, [], ◌∷◌, ◌++◌, Some, None}
-use Rattle.std.proofs.Common.{length, refl, sym, ap, ◌∙◌, append_assoc, append-nil, arith}
-use Rattle.std.specs.Prelude.{replicate, slice_get, slice_set}
+use Rattle.std.proofs.Common.{length, refl, sym, ap, subst, ◌∙◌, append_assoc, append-nil, arith}
+use Rattle.std.specs.Prelude.{Bool, if◌then◌else◌, replicate, slice_get, slice_set}
 use Rattle.sequential.specs.declared.log.Entry.{Entry}
 use Rattle.sequential.specs.declared.log.Entry.TheVariants.{Issued as Count, Exchange}
-use Rattle.sequential.specs.Log.{steps_of, entries_of, one_before, more_after, ends_open, issued}
+use Rattle.sequential.specs.Log.{Logged, steps_of, entries_of, one_before, more_after, ends_open, ends_issuing, issued}
 use Rattle.sequential.specs.Replay.{LogStep, Issued, Exchanged}
 
 pub steps-append : (es fs : List Entry) → steps_of (es ++ fs) ≡ steps_of es ++ steps_of fs
@@ -231,3 +231,74 @@ pub shortest_after_exchange : (es fs : List Entry) (n : ℕ) → es ≡ entries_
     → fs ≡ entries_of (steps_of fs)
 shortest_after_exchange es fs n h p = p ∙ ap (λ l. l ++ Exchange n ∷ []) h ∙ sym (shortest_exchange (steps_of es) n)
     ∙ ap entries_of (sym (exchange_added es n)) ∙ ap (λ l. entries_of (steps_of l)) (sym p)
+
+-- ---- whether the last step is an instruction ----
+
+an_entry_before : (es : List Entry) → (e : Entry) × (fs : List Entry) × (one_before es ≡ e ∷ fs)
+an_entry_before [] = (Count 1, [], refl)
+an_entry_before (Count n ∷ es) = (Count (n + 1), es, refl)
+an_entry_before (Exchange n ∷ es) = (Count 1, Exchange n ∷ es, refl)
+
+an_entry : (s : LogStep) (steps : List LogStep) → (e : Entry) × (es : List Entry) × (entries_of (s ∷ steps) ≡ e ∷ es)
+unfolding entries_of
+an_entry Issued steps = an_entry_before (entries_of steps)
+an_entry (Exchanged n) steps = (Exchange n, entries_of steps, refl)
+
+open_before : (e : Entry) (es : List Entry) → ends_open (one_before (e ∷ es)) ≡ ends_open (e ∷ es)
+unfolding ends_open
+open_before (Count n) [] = refl
+open_before (Exchange n) [] = refl
+open_before (Count n) (f ∷ es) = refl
+open_before (Exchange n) (f ∷ es) = refl
+
+shortest_open : (steps : List LogStep) → ends_open (entries_of steps) ≡ ends_issuing steps
+unfolding ends_open ends_issuing entries_of
+shortest_open [] = refl
+shortest_open (Issued ∷ []) = refl
+shortest_open (Exchanged n ∷ []) = refl
+shortest_open (Issued ∷ s ∷ steps) =
+    let r = an_entry s steps in
+    ap (λ l. ends_open (one_before l)) r.2 ∙ open_before r.0 r.1 ∙ ap ends_open (sym r.2) ∙ shortest_open (s ∷ steps)
+shortest_open (Exchanged n ∷ s ∷ steps) =
+    let r = an_entry s steps in
+    ap (λ l. ends_open (Exchange n ∷ l)) r.2 ∙ ap ends_open (sym r.2) ∙ shortest_open (s ∷ steps)
+
+-- the last entry is a count where the last step is an instruction, as the entries are the shortest ones
+pub open_as_issuing : (es : List Entry) → es ≡ entries_of (steps_of es) → ends_open es ≡ ends_issuing (steps_of es)
+open_as_issuing es h = ap ends_open h ∙ shortest_open (steps_of es)
+
+-- room for a count of its own, where one is needed
+pub room_for_count : (es : List Entry) (log : Logged) (spare : ℕ) → es ≡ entries_of (steps_of es)
+    → record { steps = steps_of es; room = spare } ≡ log → (ends_issuing log.steps ≡ false → 0 < log.room)
+    → ends_open es ≡ false → 0 < spare
+room_for_count es log spare h e asked closed =
+    subst (λ (l : Logged). ends_issuing l.steps ≡ false → 0 < l.room) (sym e) asked
+    (sym (open_as_issuing es h) ∙ closed)
+
+spent : (is_open : Bool) (length capacity new : ℕ) → new ≡ length + (if is_open then 0 else 1)
+    → (is_open ≡ false → 0 < capacity - length)
+    → capacity - new + (if is_open then 0 else 1) ≡ capacity - length
+spent true length capacity new e room = omega (arith, e)
+spent false length capacity new e room = let k = room refl in omega (arith, e, k)
+
+-- what is left of the room after instructions
+pub room_after_count : (es : List Entry) (log : Logged) (length capacity new : ℕ) → es ≡ entries_of (steps_of es)
+    → record { steps = steps_of es; room = capacity - length } ≡ log
+    → (ends_issuing log.steps ≡ false → 0 < log.room) → new ≡ length + (if ends_open es then 0 else 1)
+    → capacity - new + (if ends_issuing log.steps then 0 else 1) ≡ log.room
+room_after_count es log length capacity new h e asked k =
+    subst (λ (l : Logged). capacity - new + (if ends_issuing l.steps then 0 else 1) ≡ l.room) e
+    (ap (λ b. capacity - new + (if b then 0 else 1)) (sym (open_as_issuing es h))
+    ∙ spent (ends_open es) length capacity new k (room_for_count es log (capacity - length) h e asked))
+
+pub issuing_no_more : (steps : List LogStep) (n : ℕ) → ends_issuing (steps ++ Exchanged n ∷ []) ≡ false
+unfolding ends_issuing
+issuing_no_more [] n = refl
+issuing_no_more (s ∷ []) n = refl
+issuing_no_more (s ∷ t ∷ steps) n = issuing_no_more (t ∷ steps) n
+
+pub issuing_after : (steps : List LogStep) → ends_issuing (steps ++ Issued ∷ []) ≡ true
+unfolding ends_issuing
+issuing_after [] = refl
+issuing_after (s ∷ []) = refl
+issuing_after (s ∷ t ∷ steps) = issuing_after (t ∷ steps)

@@ -11,8 +11,6 @@ pub record Logged : Type 0 where
   pub steps : List LogStep
   -- how many entries can be added without memory
   pub room : ℕ
-  -- the last entry is a count of instructions, so that one more needs no entry of its own
-  pub is_open : Bool
 
 -- the steps of a log's entries: a count stands for so many instructions
 unfoldable pub steps_of : List Entry → List LogStep
@@ -45,6 +43,13 @@ ends_open [] = false
 ends_open (Count n ∷ []) = true
 ends_open (Exchange n ∷ []) = false
 ends_open (e ∷ f ∷ es) = ends_open (f ∷ es)
+
+-- the last step is an instruction, so that one more needs no entry of its own
+unfoldable pub ends_issuing : List LogStep → Bool
+ends_issuing [] = false
+ends_issuing (Issued ∷ []) = true
+ends_issuing (Exchanged n ∷ []) = false
+ends_issuing (s ∷ t ∷ steps) = ends_issuing (t ∷ steps)
 
 -- how many instructions there are; E3 budget compares this number with the budget
 unfoldable pub issued : List LogStep → ℕ

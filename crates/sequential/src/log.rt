@@ -1,7 +1,7 @@
 ghost use Rattle.std.specs.Prelude.{◌≡◌, ◌<◌, ◌≤◌, ◌+◌, ◌++◌, ◌^◌, [], ◌∷◌, true, false, MatchResult, if◌then◌else◌};
 ghost use Rattle.std.specs.Prelude.{◌-◌, length, slice_get, Some, is_some, IfSome, replicate};
 ghost use Rattle.instructions.specs.declared.refusal.Refusal.TheVariants.{OutOfMemory};
-ghost use Rattle.sequential.specs.Log.{issued, steps_of, entries_of, more_after, ends_open};
+ghost use Rattle.sequential.specs.Log.{issued, steps_of, entries_of, more_after, ends_open, ends_issuing};
 ghost use Rattle.sequential.specs.declared.log.Entry.TheVariants.{Issued as Count};
 ghost use Rattle.std.specs.Vec.{vec_len, vec_capacity};
 ghost use Rattle.sequential.specs.Replay.{Issued, Exchanged};
@@ -71,14 +71,13 @@ pub struct Log {
 impl Model for Log {
     ghost use Rattle.std.specs.Prelude.{◌≡◌, ◌-◌};
     ghost use Rattle.std.specs.Vec.{vec_len, vec_capacity};
-    ghost use Rattle.sequential.specs.Log.{Logged, steps_of, entries_of, ends_open, issued};
+    ghost use Rattle.sequential.specs.Log.{Logged, steps_of, entries_of, issued};
 
     ghost Value = { Logged };
 
     ghost view = { λ l. record {
       steps = steps_of l.entries.items;
       room = vec_capacity l.entries - vec_len l.entries;
-      is_open = ends_open l.entries.items;
     } };
 
     ghost invariant = { λ l. record {
@@ -89,10 +88,9 @@ impl Model for Log {
 
 impl Log {
     /// The empty log.
-    #[tactic(auto, unfolding(crate::specs::Log::steps_of, crate::specs::Log::entries_of, crate::specs::Log::ends_open, crate::specs::Log::issued))]
+    #[tactic(auto, unfolding(crate::specs::Log::steps_of, crate::specs::Log::entries_of, crate::specs::Log::issued))]
     pub fn new(alloc: Global) -> Log
         ensures steps { result.steps ≡ [] }
-        ensures is_open { result.is_open ≡ false }
     {
         Log {
             entries: Vec::new(alloc),
@@ -137,7 +135,6 @@ impl Log {
     /// `OutOfMemory`; the log stays as it was in either case.
     pub fn reserve(&mut self, more: u32) -> Result<(), Refusal>
         ensures steps { self.new.steps ≡ self.old.steps }
-        ensures is_open { self.new.is_open ≡ self.old.is_open }
         ensures room { MatchResult result (λ _. more ≤ self.new.room) (λ refusal. refusal ≡ OutOfMemory) }
         ensures kept { self.old.room ≤ self.new.room }
     {
@@ -152,18 +149,18 @@ impl Log {
         requires { 0 < self.old.room }
         ensures steps { self.new.steps ≡ self.old.steps ++ Exchanged at ∷ [] }
         ensures room { self.new.room + 1 ≡ self.old.room }
-        ensures is_open { self.new.is_open ≡ false }
+        ensures issuing { ends_issuing self.new.steps ≡ false }
     {
         self.entries.push_reserved(Entry::Exchange(at));
     }
 
     /// Adds an instruction: one more to the last count, or else an entry of its own.
     pub fn issued(&mut self)
-        requires room { self.old.is_open ≡ false → 0 < self.old.room }
+        requires room { ends_issuing self.old.steps ≡ false → 0 < self.old.room }
         requires count { issued self.old.steps + 1 < 2 ^ 64 }
         ensures steps { self.new.steps ≡ self.old.steps ++ Issued ∷ [] }
-        ensures room { self.new.room + (if self.old.is_open then 0 else 1) ≡ self.old.room }
-        ensures is_open { self.new.is_open ≡ true }
+        ensures room { self.new.room + (if ends_issuing self.old.steps then 0 else 1) ≡ self.old.room }
+        ensures issuing { ends_issuing self.new.steps ≡ true }
     {
         add(&mut self.entries, 1);
         self.issues += 1;
@@ -171,7 +168,7 @@ impl Log {
 
     /// Adds so many instructions.
     pub fn issued_many(&mut self, count: u64)
-        requires room { self.old.is_open ≡ false → 0 < self.old.room }
+        requires room { ends_issuing self.old.steps ≡ false → 0 < self.old.room }
         requires count { issued self.old.steps + count < 2 ^ 64 }
         ensures steps { self.new.steps ≡ self.old.steps ++ replicate count Issued }
     {

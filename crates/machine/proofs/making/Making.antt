@@ -28,7 +28,7 @@ use Rattle.sequential.specs.Work.{operands, same_for, fault_of, jump_for, refere
 use Rattle.sequential.specs.Step.{fetch}
 use Rattle.sequential.specs.Swap.{swap}
 use Rattle.sequential.specs.Replay.{LogStep, Issued, Exchanged, boot, replay}
-use Rattle.sequential.specs.Log.{Logged, issued}
+use Rattle.sequential.specs.Log.{Logged, ends_issuing, issued}
 use Rattle.in_flight.specs.declared.flight.Rest.{Rest}
 use Rattle.program_order.specs.declared.event.Note.{Note}
 use Rattle.hopper.specs.declared.reference.Reference.{Reference}
@@ -66,7 +66,7 @@ use Rattle.program_order.proofs.theorem.Theorem.{IsRight, event_kept, boot_right
 -- ---- what stays right ----
 
 pub still_kept : (w v : Processor) (e : Event) (old new : Logged) → allowed w e ≡ None → v ≡ after w e → IsKept w old
-    → owed new.is_open v.request ≤ new.room → v.last ≤ issued v.log → v.budget ≤ 10000000 → IsKept v new
+    → owed (ends_issuing new.steps) v.request ≤ new.room → v.last ≤ issued v.log → v.budget ≤ 10000000 → IsKept v new
 still_kept w v e old new a h k room numbered limit =
     let r : IsRight v = subst IsRight (sym h) (event_kept w e a (k.sound, k.replay)) in
     record {
@@ -577,7 +577,8 @@ boot_kept w memory budget log e r h n l =
       sound = k.0;
       replay = k.1;
       slotted = slotted_none w memory budget e;
-      room = subst (λ q. owed log.is_open q ≤ log.room) (sym r) (owed_none log.is_open log.room h);
+      room = subst (λ q. owed (ends_issuing log.steps) q ≤ log.room) (sym r)
+          (owed_none (ends_issuing log.steps) log.room h);
       numbered =
           omega (arith, n);
       limit = l;

@@ -1,7 +1,7 @@
 use Rattle.std.proofs.Common.{sym, ap, ◌∙◌, ◌∷◌, [], ◌++◌}
-use Rattle.sequential.specs.Log.{Logged, steps_of, ends_open, issued}
+use Rattle.sequential.specs.Log.{Logged, steps_of, ends_issuing, issued}
 use Rattle.sequential.specs.Replay.{Exchanged}
-use Rattle.sequential.proofs.Entries.{exchange_added, closed_by_exchange, issued-exchange, shortest_after_exchange}
+use Rattle.sequential.proofs.Entries.{exchange_added, issuing_no_more, issued-exchange, shortest_after_exchange}
 use Rattle.sequential.proofs.log.Log.exchanged.Goals as goal
 
 pub invariant_of-self : goal.invariant_of-self
@@ -18,6 +18,6 @@ returns-clause-steps c = ap steps_of c.push_reserved.ensures.items
     ∙ exchange_added c.self.inside.entries.items c.args.at
     ∙ ap (λ (l : Logged). l.steps ++ Exchanged c.args.at ∷ []) c.self.view_is
 
-pub returns-clause-is_open : goal.returns-clause-is_open
-returns-clause-is_open c =
-    ap ends_open c.push_reserved.ensures.items ∙ closed_by_exchange c.self.inside.entries.items c.args.at
+pub returns-clause-issuing : goal.returns-clause-issuing
+returns-clause-issuing c =
+    ap ends_issuing (returns-clause-steps c) ∙ issuing_no_more c.args.self.now.steps c.args.at
