@@ -8,7 +8,7 @@ use Rattle.device_text.specs.declared.line.Took.TheVariants.{Whole, Long}
 use Rattle.device_text.proofs.Moving.{Moves-weaker, Moves-trans}
 use Rattle.deck.specs.Deck.{Judged, Goes, Ends, Good, Bad, deck, read_all, read_from, read_on, judged_first}
 use Rattle.deck.specs.Deck.{judged_line}
-use Rattle.deck.specs.inner.Views.{sketch, plan}
+use Rattle.deck.specs.Views.{sketch, plan}
 use Rattle.deck.specs.Reading.{Refuses, GivesErr, FollowsErr}
 use Rattle.deck.specs.declared.deck.Draft.{Draft}
 use Rattle.deck.specs.declared.deck.Deck.{Deck}

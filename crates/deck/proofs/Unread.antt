@@ -8,7 +8,7 @@ use Rattle.deck.specs.Deck.{judged_first, judged_line}
 use Rattle.device_text.specs.Device.{Moves}
 use Rattle.device_text.specs.Line.{IsText, ReadsPart, lines_of, onto}
 use Rattle.deck.specs.Reading.{EndsWithin, Refuses, is_cut, is_read}
-use Rattle.deck.specs.inner.Views.{sketch}
+use Rattle.deck.specs.Views.{sketch}
 use Rattle.deck.specs.declared.deck.Deck.{Deck}
 use Rattle.deck.specs.declared.deck.Draft.{Draft}
 use Rattle.deck.specs.declared.deck.DeckError.{DeckError}

@@ -28,6 +28,8 @@ pub data Said : Type 0 where
   SaysShow : List ℕ → List ℕ → Said
   -- `ask N after K`: N and K
   SaysAsk : List ℕ → List ℕ → Said
+  -- `ask N free`
+  SaysFree : List ℕ → Said
   -- `end`
   SaysEnd : Said
   -- any other line: the fault is `unknown`
@@ -43,7 +45,10 @@ said_of (word ∷ a ∷ []) =
     else if bytes_eq word (codes "word") then SaysWord a
     else if bytes_eq word (codes "start") then SaysStart a
     else SaysNothing
-said_of (word ∷ a ∷ b ∷ []) = if bytes_eq word (codes "show") then SaysShow a b else SaysNothing
+said_of (word ∷ a ∷ b ∷ []) =
+    if bytes_eq word (codes "show") then SaysShow a b
+    else if bytes_eq word (codes "ask") && bytes_eq b (codes "free") then SaysFree a
+    else SaysNothing
 said_of (word ∷ a ∷ b ∷ c ∷ []) =
     if bytes_eq word (codes "ask") && bytes_eq b (codes "after") then SaysAsk a c else SaysNothing
 said_of (word ∷ a ∷ b ∷ c ∷ d ∷ more) = SaysNothing
@@ -63,14 +68,16 @@ said_in text =
     if begins_with (codes "code") (fields_of text) then said_code (from_space text) else said_of (fields_of text)
 
 -- a deck: the words of memory, the package of the first exchange, those of the later ones, each with how many
--- instructions are issued before it is asked for, and what is shown
+-- instructions are issued before it is asked for, those that are asked for at any time, and what is shown
 pub record Plan : Type 0 where
   -- the words of memory, and which of them the deck placed
   pub image : Placed
   -- the N of `start`
   pub start : ℕ
-  -- the N and the K of each `ask` line, in the order of the lines
+  -- the N and the K of each `ask N after K`, in the order of the lines
   pub asks : List (ℕ × ℕ)
+  -- the N of each `ask N free`, in the order of the lines
+  pub free : List ℕ
   -- the A and the B of each `show` line, in the order of the lines
   pub shows : List (ℕ × ℕ)
 
@@ -82,6 +89,7 @@ pub record Sketch : Type 0 where
   -- the N of `start`, if that line has come
   pub start : Option ℕ
   pub asks : List (ℕ × ℕ)
+  pub free : List ℕ
   pub shows : List (ℕ × ℕ)
 
 -- what a line does to a deck: it goes on, it is whole, or the line is at fault
@@ -108,17 +116,26 @@ is_no_size n = nat_lt n 32 || nat_lt 131072 n
 abbrev pub judged_core : Said → Judged
 judged_core (SaysCore w) = with_number (number_of 10 6 w)
     (λ n. refuse_if (is_no_size n) faults.Size
-    (Goes (record { image = blank n; place = 0; start = None; asks = []; shows = [] })))
+    (Goes (record { image = blank n; place = 0; start = None; asks = []; free = []; shows = [] })))
 judged_core other = Faulty faults.Unknown
 
 -- what an `end` line does: the deck is whole, or the fault is `no start`
 abbrev pub ended : Sketch → Option ℕ → Judged
 ended s None = Faulty faults.NoStart
-ended s (Some n) = Ends (record { image = s.image; start = n; asks = s.asks; shows = s.shows })
+ended s (Some n) = Ends (record { image = s.image; start = n; asks = s.asks; free = s.free; shows = s.shows })
 
 -- how many words memory has
 abbrev pub size : Sketch → ℕ
 size s = length s.image.memory
+
+-- as many `ask` lines as a deck may have came
+abbrev pub has_all_asks : Sketch → Bool
+has_all_asks s = nat_le 64 (length s.asks + length s.free)
+
+-- a deck that has one more request for an exchange with the package at n, or its fault: `many`, and then `package`
+abbrev pub with_request : Sketch → ℕ → Sketch → Judged
+with_request s n next =
+    refuse_if (has_all_asks s) faults.Many (refuse_if (not (package_fits n (size s))) faults.Package (Goes next))
 
 -- a word goes to the place, which moves on by one
 abbrev pub with_word : Sketch → ℕ → Sketch
@@ -152,8 +169,8 @@ judged s (SaysShow a b) =
 judged s (SaysAsk a k) =
     with_number (number_of 8 6 a) (λ n. with_number (number_of 10 8 k) (λ count.
     refuse_if (nat_lt 10000000 count) faults.Number
-    (refuse_if (nat_le 64 (length s.asks)) faults.Many
-    (refuse_if (not (package_fits n (size s))) faults.Package (Goes (record s { asks = s.asks ++ (n, count) ∷ [] }))))))
+    (with_request s n (record s { asks = s.asks ++ (n, count) ∷ [] }))))
+judged s (SaysFree a) = with_number (number_of 8 6 a) (λ n. with_request s n (record s { free = s.free ++ n ∷ [] }))
 judged s SaysEnd = ended s s.start
 judged s SaysNothing = Faulty faults.Unknown
 

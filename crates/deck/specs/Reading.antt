@@ -2,7 +2,7 @@
 -- Source: ours.
 use Rattle.std.specs.Prelude.{◌≡◌, ℕ, ◌<◌, ◌≤◌, List, [], ◌∷◌, length, Bool, true, false, Result, Ok, Err, ⊤}
 use Rattle.deck.specs.Deck.{Reading, Good, Bad, Judged, Goes, Ends, Faulty}
-use Rattle.deck.specs.inner.Views.{plan, sketch}
+use Rattle.deck.specs.Views.{plan, sketch}
 use Rattle.deck.specs.declared.deck.Deck.{Deck}
 use Rattle.deck.specs.declared.deck.Step.{Step}
 use Rattle.deck.specs.declared.deck.Step.TheVariants as steps

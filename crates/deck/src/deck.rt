@@ -19,12 +19,13 @@ pub struct Ask {
 }
 
 /// A deck: the words of memory, the absolute address of the first exchange package, the requests for later
-/// exchanges, and what is shown.
+/// exchanges, the absolute addresses of the packages that are asked for at any time, and what is shown.
 #[derive(Drop)]
 pub struct Deck {
     pub image: Image,
     pub start: u32,
     pub asks: Vec<Ask>,
+    pub free: Vec<u32>,
     pub shows: Vec<Show>,
 }
 
@@ -36,6 +37,7 @@ pub struct Draft {
     pub place: u32,
     pub start: Option<u32>,
     pub asks: Vec<Ask>,
+    pub free: Vec<u32>,
     pub shows: Vec<Show>,
 }
 

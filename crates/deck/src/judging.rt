@@ -1,8 +1,9 @@
-ghost use Rattle.std.specs.Prelude.{◌≡◌, ◌≤◌, ℕ, List, [], length, vec_len};
+ghost use Rattle.std.specs.Prelude.{◌≡◌, ◌≤◌, ℕ, List, [], length, vec_len, MatchOption};
 ghost use Rattle.deck.specs.Deck.{judged, judged_core, judged_first, judged_line, SaysCore, SaysAt, SaysWord, SaysCode};
-ghost use Rattle.deck.specs.Deck.{SaysStart, SaysShow, SaysAsk, SaysEnd};
+ghost use Rattle.deck.specs.Deck.{SaysStart, SaysShow, SaysAsk, SaysFree, SaysEnd};
+ghost use Rattle.deck.specs.Deck.{Sketch, Goes, Faulty, with_request};
 ghost use Rattle.deck.specs.inner.Said.{said};
-ghost use Rattle.deck.specs.inner.Views.{sketch, Answers};
+ghost use Rattle.deck.specs.Views.{sketch, Answers};
 
 use crate::Image;
 use crate::coding::{parcels_in, word_of};
@@ -17,7 +18,7 @@ use word60::{Word18, Word60};
 /// How many `show` lines a deck has at most.
 const SHOWS: usize = 64;
 
-/// How many `ask` lines a deck has at most.
+/// How many `ask` lines a deck has at most, with a number of instructions or free.
 const ASKS: usize = 64;
 
 /// How many instructions an `ask` line waits for at most.
@@ -48,6 +49,7 @@ fn core_line(alloc: Global, line: Line<'_>) -> Result<Step, LineError>
         place: 0,
         start: None,
         asks: Vec::new(alloc),
+        free: Vec::new(alloc),
         shows: Vec::new(alloc),
     }))
 }
@@ -156,7 +158,21 @@ fn show_line(mut draft: Draft, first: &[u8], last: &[u8]) -> Result<Step, LineEr
     }
 }
 
-/// An `ask` line.
+/// Why a deck can't have one more request, for the package at an absolute address.
+fn request_fault(draft: &Draft, at: u32) -> Option<DeckFault>
+    ensures { MatchOption result ((next : Sketch) → with_request (sketch draft.now) at next ≡ Goes next)
+        (λ fault. (next : Sketch) → with_request (sketch draft.now) at next ≡ Faulty fault) }
+{
+    if draft.asks.len() + draft.free.len() >= ASKS {
+        return Some(DeckFault::Many);
+    }
+    if !package_fits(at, draft.image.size()) {
+        return Some(DeckFault::Package);
+    }
+    None
+}
+
+/// A line `ask N after K`.
 fn ask_line(mut draft: Draft, address: &[u8], count: &[u8]) -> Result<Step, LineError>
     ensures { Answers result (judged (sketch draft) (SaysAsk address.now count.now)) }
 {
@@ -169,18 +185,32 @@ fn ask_line(mut draft: Draft, address: &[u8], count: &[u8]) -> Result<Step, Line
     if count > MOST_ISSUES {
         return Err(LineError::Faulty(DeckFault::Number));
     }
-    if draft.asks.len() >= ASKS {
-        return Err(LineError::Faulty(DeckFault::Many));
-    }
     let at = address as u32;
-    if !package_fits(at, draft.image.size()) {
-        return Err(LineError::Faulty(DeckFault::Package));
+    if let Some(fault) = request_fault(&draft, at) {
+        return Err(LineError::Faulty(fault));
     }
     let ask = Ask {
         at,
         after: count as u32,
     };
     match draft.asks.push(ask) {
+        Ok(()) => Ok(Step::Goes(draft)),
+        Err(_) => Err(LineError::OutOfMemory),
+    }
+}
+
+/// A line `ask N free`.
+fn free_line(mut draft: Draft, address: &[u8]) -> Result<Step, LineError>
+    ensures { Answers result (judged (sketch draft) (SaysFree address.now)) }
+{
+    let Some(address) = number(8, 6, address) else {
+        return Err(LineError::Faulty(DeckFault::Number));
+    };
+    let at = address as u32;
+    if let Some(fault) = request_fault(&draft, at) {
+        return Err(LineError::Faulty(fault));
+    }
+    match draft.free.push(at) {
         Ok(()) => Ok(Step::Goes(draft)),
         Err(_) => Err(LineError::OutOfMemory),
     }
@@ -195,6 +225,7 @@ fn end_line(draft: Draft) -> Result<Step, LineError>
         place: _,
         start,
         asks,
+        free,
         shows,
     } = draft;
     match start {
@@ -203,6 +234,7 @@ fn end_line(draft: Draft) -> Result<Step, LineError>
             image,
             start,
             asks,
+            free,
             shows,
         })),
     }
@@ -221,6 +253,7 @@ pub fn judge(draft: Draft, text: &[u8]) -> Result<Step, LineError>
         Line::Start(address) => start_line(draft, address),
         Line::Show(first, last) => show_line(draft, first, last),
         Line::Ask(address, count) => ask_line(draft, address, count),
+        Line::AskFree(address) => free_line(draft, address),
         Line::End => end_line(draft),
         Line::Unknown => Err(LineError::Faulty(DeckFault::Unknown)),
     }

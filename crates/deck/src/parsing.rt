@@ -18,6 +18,8 @@ pub enum Line<'a> {
     Show(&'a [u8], &'a [u8]),
     /// The address of the package, and how many instructions are issued before it is asked for.
     Ask(&'a [u8], &'a [u8]),
+    /// The address of the package that is asked for at any time.
+    AskFree(&'a [u8]),
     End,
     Unknown,
 }
@@ -77,6 +79,8 @@ fn line_of_fields<'a>(word: &[u8], rest: Option<&'a [u8]>) -> Line<'a>
     let Some(rest) = rest else {
         return if word == b"show".as_slice() {
             Line::Show(first, second)
+        } else if word == b"ask".as_slice() && second == b"free".as_slice() {
+            Line::AskFree(first)
         } else {
             Line::Unknown
         };

@@ -2,7 +2,7 @@ ghost use Rattle.std.specs.Prelude.{◌≡◌, ◌||◌, ◌≤◌, ◌∷◌, �
 ghost use Rattle.device_text.specs.Device.{Moves};
 ghost use Rattle.deck.specs.Deck.{deck, Judged};
 ghost use Rattle.device_text.specs.Line.{ReadsPart, lines_of};
-ghost use Rattle.deck.specs.inner.Views.{Answers};
+ghost use Rattle.deck.specs.Views.{Answers};
 ghost use Rattle.deck.specs.Reading.{EndsWithin, Gives, GivesDeck, GivesRefusal, Refuses, Follows, is_cut, is_read};
 
 use crate::deck::{Deck, DeckError, LineError, Step};

@@ -15,8 +15,16 @@ fn joined(alloc: Global, texts: &[&str]) -> Result<Vec<u8>, AllocError> {
 }
 
 /// A deck of four words.
-const FOUR_WORDS: &str =
-    "core 256\nat 100\nword 71100000057120000003\nword 36312374214600000000\nat 41\nword 100000000000000\nword 00000020000000000000\nstart 40\nend\n";
+const FOUR_WORDS: &str = "\
+    core 256\n\
+    at 100\n\
+    word 71100000057120000003\n\
+    word 36312374214600000000\n\
+    at 41\n\
+    word 100000000000000\n\
+    word 00000020000000000000\n\
+    start 40\n\
+    end\n";
 
 /// The word that a `code` line of these texts places at 2.
 fn expect_coded(rt: &(impl Abort + AllocGlobal), texts: &str, word: u64) -> Result<(), Fail> {
@@ -108,7 +116,13 @@ fn faulty_asks(rt: HostRuntime) -> Result<(), Fail> {
     for (line, fault) in [
         ("ask", DeckFault::Unknown),
         ("ask 40", DeckFault::Unknown),
-        ("ask 40 free", DeckFault::Unknown),
+        ("ask 40 freely", DeckFault::Unknown),
+        ("ask 40 free 3", DeckFault::Unknown),
+        ("asks 40 free", DeckFault::Unknown),
+        ("ask 8 free", DeckFault::Number),
+        ("ask  free", DeckFault::Number),
+        ("ask 0000040 free", DeckFault::Number),
+        ("ask 361 free", DeckFault::Package),
         ("ask 40 after", DeckFault::Unknown),
         ("ask 40 before 3", DeckFault::Unknown),
         ("ask 40 after 3 4", DeckFault::Unknown),
@@ -134,15 +148,18 @@ fn faulty_asks(rt: HostRuntime) -> Result<(), Fail> {
 #[test]
 fn many_asks(rt: HostRuntime) -> Result<(), Fail> {
     let mut asks = Vec::from_slice(rt.alloc(), ["core 256\n"].as_slice())?;
-    for _ in 0..64u32 {
+    for _ in 0..32u32 {
         asks.push("ask 40 after 3\n")?;
+        asks.push("ask 40 free\n")?;
     }
     for (line, fault) in [
         ("end\n", DeckFault::NoStart),
         ("ask 40 after 3\n", DeckFault::Many),
         ("ask 361 after 3\n", DeckFault::Many),
         ("ask 361 after 10000001\n", DeckFault::Number),
-        ("ask 40 free\n", DeckFault::Unknown),
+        ("ask 40 free\n", DeckFault::Many),
+        ("ask 361 free\n", DeckFault::Many),
+        ("ask 8 free\n", DeckFault::Number),
     ] {
         asks.push(line)?;
         expect_refused(&rt, asks.as_slice(), 66, fault)?;
@@ -155,7 +172,7 @@ fn many_asks(rt: HostRuntime) -> Result<(), Fail> {
 #[test]
 fn asks(rt: HostRuntime) -> Result<(), Fail> {
     let mut input =
-        b"core 256\nask 000360 after 10000000\nstart 0\nask 40 after 00000003\nask 20 after 3\nend\n".as_slice();
+        b"core 256\nask 000360 after 10000000\nask 60 free\nstart 0\nask 40 after 00000003\nask 20 after 3\nask 000000 free\nend\n".as_slice();
     let Ok(deck) = read_deck(rt.alloc(), &mut input) else {
         return Err(Fail::from(AllocError));
     };
@@ -168,6 +185,7 @@ fn asks(rt: HostRuntime) -> Result<(), Fail> {
         Ask { at: 0o20, after: 3 },
     ];
     assert_eq!(rt; deck.asks.as_slice(), wanted.as_slice());
+    assert_eq!(rt; deck.free.as_slice(), [0o60, 0].as_slice());
     Ok(())
 }
 

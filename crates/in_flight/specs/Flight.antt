@@ -6,7 +6,7 @@ use Rattle.instructions.specs.declared.instr.Instr.{Instr}
 use Rattle.instructions.specs.declared.instr.Unit.{Unit as FunctionalUnit}
 use Rattle.instructions.specs.declared.instr.Unit.TheVariants.{Branch}
 use Rattle.instructions.specs.Shape.{Shape, has_reference}
-use Rattle.instructions.specs.Operands.{row}
+use Rattle.instructions.specs.Operands.{uses}
 use Rattle.relocation.specs.declared.area.Access.{Access}
 use Rattle.relocation.specs.declared.area.Access.TheVariants.{Load, Store}
 use Rattle.scoreboard.specs.Answers.{Standing}
@@ -98,7 +98,7 @@ left_by memory a (Store w) = None
 
 -- the unit that an instruction takes
 abbrev pub unit_taken : Flight → Instr → FunctionalUnit
-unit_taken f i = unwrap_or (unit_for f.pending (row i).unit) Branch
+unit_taken f i = unwrap_or (unit_for f.pending (uses i).unit) Branch
 
 -- one instruction more, which waits in its unit
 abbrev pub reserved_in : Flight → Instr → ℕ → Flight

@@ -14,7 +14,7 @@ use Rattle.instructions.specs.declared.refusal.Refusal.TheVariants.{ResultHeld, 
 use Rattle.instructions.specs.declared.refusal.Refusal.TheVariants.{OlderInBank, Nothing}
 use Rattle.instructions.specs.Finding.{Found}
 use Rattle.instructions.specs.Shape.{shape_of, puts_of, results, has_reference}
-use Rattle.instructions.specs.Operands.{row, sources_of}
+use Rattle.instructions.specs.Operands.{uses, sources_of}
 use Rattle.hopper.specs.Hopper.{bank_of}
 use Rattle.scoreboard.specs.Conflicts as conflict
 use Rattle.scoreboard.specs.Conflicts.{first_such, result_reserved, operand_awaited, result_held, out_of_turn}
@@ -65,7 +65,7 @@ unfoldable pub row_tests : List Pending → Fetched → List Test
 row_tests ms (Halting h place) = []
 row_tests ms (Passing place) = []
 row_tests ms (Taking i place) =
-    record { fails = is_none (unit_for ms (row i).unit); refusal = UnitBusy (first_unit (row i).unit) }
+    record { fails = is_none (unit_for ms (uses i).unit); refusal = UnitBusy (first_unit (uses i).unit) }
     ∷ record {
       fails = result_reserved row_of ms (results (shape_of i));
       refusal = ResultReserved (first_such (awaited ms) (results (shape_of i)));

@@ -37,8 +37,8 @@ abbrev pub entry : List TableEntry → ℕ → TableEntry
 entry row m = get_or row m (Short Pass)
 
 -- the readings of 010 to 017, by the digit i: a return jump, and seven refused opcodes
-abbrev pub rows_01 : ℕ → List TableEntry
-rows_01 K =
+abbrev pub extended : ℕ → List TableEntry
+extended K =
     Long (ReturnJump K)
     ∷ Refused (Extended 0 1 1)
     ∷ Refused (Extended 0 1 2)
@@ -50,14 +50,14 @@ rows_01 K =
     ∷ []
 
 -- the reading of 01 by the digit i: 010 is a return jump, and 011 to 017 are refused
-abbrev pub refused_01 : ℕ → ℕ → TableEntry
-refused_01 i K = entry (rows_01 K) i
+abbrev pub extended_at : ℕ → ℕ → TableEntry
+extended_at i K = entry (extended K) i
 
 -- the readings of 00 to 07, by the digit m: a stop and the branches, of which 01 and 03 go on by the digit i
 abbrev pub branches : ℕ → ℕ → ℕ → List TableEntry
 branches i j K =
     Short Stop
-    ∷ refused_01 i K
+    ∷ extended_at i K
     ∷ Long (Jump i K)
     ∷ Long (BranchX (x_test_at i) j K)
     ∷ Long (BranchB Equal i j K)

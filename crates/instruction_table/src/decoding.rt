@@ -2,7 +2,7 @@ ghost use Rattle.instruction_table.specs.Table.{parcels_of, IsInstr, StandsAt};
 ghost use Rattle.std.specs.Prelude.{ℕ, length, ◌≡◌, ◌<◌, ◌≤◌, ◌+◌, ◌*◌, ◌^◌};
 ghost use Rattle.instruction_table.specs.Pattern.{IsByTable, IsReadAs, parcels_from};
 ghost use Rattle.instruction_table.specs.Decoding.{branches, logicals, shifts, additions, others, increments, rows};
-ghost use Rattle.instruction_table.specs.Decoding.{x_test_at, refused_01, entry, entry_of, following_at, digits_at};
+ghost use Rattle.instruction_table.specs.Decoding.{x_test_at, extended_at, entry, entry_of, following_at, digits_at};
 ghost use Rattle.instruction_table.specs.Decoding.{reading_at, GoesOn};
 
 use crate::{
@@ -61,7 +61,7 @@ fn refused(f: u16, m: Digit) -> TableEntry
 /// 010 to 017.
 #[inline(always)]
 fn return_jump(i: Digit, to: Word18) -> TableEntry
-    ensures { result ≡ refused_01 i to }
+    ensures { result ≡ extended_at i to }
 {
     match i.get() {
         0 => TableEntry::Long(Instr::ReturnJump { to }),

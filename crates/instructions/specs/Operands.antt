@@ -22,7 +22,7 @@ use Rattle.instructions.specs.declared.instr.Instr.TheVariants.{Invert, Logical,
 use Rattle.instructions.specs.declared.instr.Instr.TheVariants.{CountOnes, Increment}
 
 -- the registers and the unit of an instruction
-pub record Row : Type 0 where
+pub record Uses : Type 0 where
   -- the kind of unit that it takes, none for a pass and a stop
   pub unit : Option UnitKind
   -- the first operand, if it has one
@@ -34,8 +34,8 @@ pub record Row : Type 0 where
   -- the result registers, Ai before the Xi that is loaded
   pub results : List Reg
 
--- a row that stores no register
-abbrev pub line : Option UnitKind → Option Reg → Option Reg → List Reg → Row
+-- what an instruction uses that stores no register
+abbrev pub line : Option UnitKind → Option Reg → Option Reg → List Reg → Uses
 line unit first second results =
     record { unit = unit; first = first; second = second; outgoing = None; results = results }
 
@@ -69,8 +69,8 @@ pair_reg AMinusB j = A j
 pair_reg BPlusB j = B j
 pair_reg BMinusB j = B j
 
--- a row of 50 to 77
-abbrev pub increment : Target → ℕ → Option Reg → Option Reg → Row
+-- what one of 50 to 77 uses
+abbrev pub increment : Target → ℕ → Option Reg → Option Reg → Uses
 increment target i first second =
     record {
       unit = Some IncrementKind;
@@ -80,24 +80,24 @@ increment target i first second =
       results = set_by target i;
     }
 
--- the rows: unit, first operand, second operand, results
-abbrev pub row : Instr → Row
-row Stop = line None None None []
-row (ReturnJump K) = line (Some Branch) None None []
-row (Jump i K) = line (Some Branch) (Some (B i)) None []
-row (BranchX test j K) = line (Some Branch) (Some (X j)) None []
-row (BranchB test i j K) = line (Some Branch) (Some (B i)) (Some (B j)) []
-row (Copy i j) = line (Some Boolean) (Some (X j)) None (X i ∷ [])
-row (Logical op i j k) = line (Some Boolean) (Some (X j)) (Some (X k)) (X i ∷ [])
-row (Invert i k) = line (Some Boolean) (Some (X k)) None (X i ∷ [])
-row (ShiftBy direction i jk) = line (Some Shift) (Some (X i)) None (X i ∷ [])
-row (ShiftNominal direction i j k) = line (Some Shift) (Some (B j)) (Some (X k)) (X i ∷ [])
-row (LongAdd op i j k) = line (Some LongAddKind) (Some (X j)) (Some (X k)) (X i ∷ [])
-row (Mask i jk) = line (Some Shift) None None (X i ∷ [])
-row Pass = line None None None []
-row (CountOnes i k) = line (Some Divide) (Some (X k)) None (X i ∷ [])
-row (Increment target i (Address base j K)) = increment target i (Some (base_reg base j)) None
-row (Increment target i (Registers pair j k)) = increment target i (Some (pair_reg pair j)) (Some (B k))
+-- what each instruction uses: unit, first operand, second operand, results
+abbrev pub uses : Instr → Uses
+uses Stop = line None None None []
+uses (ReturnJump K) = line (Some Branch) None None []
+uses (Jump i K) = line (Some Branch) (Some (B i)) None []
+uses (BranchX test j K) = line (Some Branch) (Some (X j)) None []
+uses (BranchB test i j K) = line (Some Branch) (Some (B i)) (Some (B j)) []
+uses (Copy i j) = line (Some Boolean) (Some (X j)) None (X i ∷ [])
+uses (Logical op i j k) = line (Some Boolean) (Some (X j)) (Some (X k)) (X i ∷ [])
+uses (Invert i k) = line (Some Boolean) (Some (X k)) None (X i ∷ [])
+uses (ShiftBy direction i jk) = line (Some Shift) (Some (X i)) None (X i ∷ [])
+uses (ShiftNominal direction i j k) = line (Some Shift) (Some (B j)) (Some (X k)) (X i ∷ [])
+uses (LongAdd op i j k) = line (Some LongAddKind) (Some (X j)) (Some (X k)) (X i ∷ [])
+uses (Mask i jk) = line (Some Shift) None None (X i ∷ [])
+uses Pass = line None None None []
+uses (CountOnes i k) = line (Some Divide) (Some (X k)) None (X i ∷ [])
+uses (Increment target i (Address base j K)) = increment target i (Some (base_reg base j)) None
+uses (Increment target i (Registers pair j k)) = increment target i (Some (pair_reg pair j)) (Some (B k))
 
 -- the same register
 abbrev pub reg_eq : Reg → Reg → Bool
@@ -116,4 +116,4 @@ with_source sources (Some reg) =
 -- first of them that is a result still to come
 abbrev pub sources_of : Instr → List Reg
 sources_of instr =
-    with_source (with_source (with_source [] (row instr).first) (row instr).second) (row instr).outgoing
+    with_source (with_source (with_source [] (uses instr).first) (uses instr).second) (uses instr).outgoing

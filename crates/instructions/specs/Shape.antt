@@ -1,4 +1,4 @@
--- What a row does with its value, whatever its opcode.
+-- What an instruction does with its value, whatever its opcode.
 -- Source: ours.
 use Rattle.std.specs.Prelude.{ℕ, Bool, true, false, List, [], ◌∷◌, ◌++◌}
 use Rattle.instructions.specs.declared.instr.Reg.{Reg}
@@ -6,9 +6,9 @@ use Rattle.instructions.specs.declared.instr.Reg.TheVariants.{X, A}
 use Rattle.instructions.specs.declared.instr.Target.TheVariants.{A as TargetA}
 use Rattle.instructions.specs.declared.instr.Instr.{Instr}
 use Rattle.instructions.specs.declared.instr.Instr.TheVariants.{ReturnJump, Jump, BranchX, BranchB, Increment}
-use Rattle.instructions.specs.Operands.{row, by_reference}
+use Rattle.instructions.specs.Operands.{uses, by_reference}
 
--- what a row does with its value: it writes registers, loads, stores, jumps or links
+-- what an instruction does with its value: it writes registers, loads, stores, jumps or links
 pub data Shape : Type 0 where
   -- writes its results (none for SB0, a pass and a stop), and makes no reference
   Puts : (registers : List Reg) → Shape
@@ -28,7 +28,7 @@ shape_of (Jump i K) = Jumps
 shape_of (BranchX test j K) = Jumps
 shape_of (BranchB test i j K) = Jumps
 shape_of (Increment TargetA i addends) = by_reference i (Puts (A 0 ∷ [])) (Loads i) (Stores i)
-shape_of instr = Puts (row instr).results
+shape_of instr = Puts (uses instr).results
 
 -- the registers that are written at the store event
 unfoldable pub puts_of : Shape → List Reg

@@ -2,7 +2,7 @@ ghost use Rattle.std.specs.Prelude.{◌≡◌, ◌<◌, ◌≤◌, ◌+◌, ◌�
 ghost use Rattle.std.specs.List.{list_any};
 ghost use Rattle.arrayvec.specs.ArrayVec.{array_vec_len};
 ghost use Rattle.instructions.specs.Shape.{shape_of, results as results_of_shape};
-ghost use Rattle.instructions.specs.Operands.{row, stored, with_source, sources_of, base_reg, pair_reg, reg_eq};
+ghost use Rattle.instructions.specs.Operands.{uses, stored, with_source, sources_of, base_reg, pair_reg, reg_eq};
 
 use crate::{Addends, Base, Digit, Instr, Pair, Reg, Target, UnitKind};
 use arrayvec::ArrayVec;
@@ -20,7 +20,7 @@ impl Default for Reg {
 
 /// The kind of unit that an instruction is issued to; a pass or a stop has none.
 pub fn unit_kind(instr: &Instr) -> Option<UnitKind>
-    ensures { result ≡ (row instr.now).unit }
+    ensures { result ≡ (uses instr.now).unit }
 {
     match instr {
         Instr::Stop | Instr::Pass => None,
@@ -43,7 +43,7 @@ pub fn unit_kind(instr: &Instr) -> Option<UnitKind>
 /// The registers that an instruction sets: at most two, A before X, and never B0.
 #[tactic(auto, unfolding(crate::specs::Shape::shape_of, crate::specs::Shape::puts_of, crate::specs::Shape::loads_of, crate::specs::Shape::results))]
 pub fn results(instr: &Instr) -> ArrayVec<Reg, 2>
-    ensures row { result.items ≡ (row instr.now).results }
+    ensures uses { result.items ≡ (uses instr.now).results }
     ensures shape { result.items ≡ results_of_shape (shape_of instr.now) }
 {
     let mut results = ArrayVec::new();
@@ -181,9 +181,9 @@ fn stored(target: Target, i: Digit) -> Option<Reg>
 /// The registers that the operands of an instruction come from.
 #[inline(always)]
 pub fn operand_registers(instr: &Instr) -> OperandRegisters
-    ensures first { result.first ≡ (row instr.now).first }
-    ensures second { result.second ≡ (row instr.now).second }
-    ensures outgoing { result.outgoing ≡ (row instr.now).outgoing }
+    ensures first { result.first ≡ (uses instr.now).first }
+    ensures second { result.second ≡ (uses instr.now).second }
+    ensures outgoing { result.outgoing ≡ (uses instr.now).outgoing }
 {
     match *instr {
         Instr::Stop | Instr::Pass | Instr::ReturnJump { .. } | Instr::Mask { .. } => {

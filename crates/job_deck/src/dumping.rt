@@ -5,7 +5,7 @@ ghost use Rattle.job_deck.specs.Dump.{held_text, place_line, halt_text, fault_te
 ghost use Rattle.job_deck.specs.Dump.{index_line, x_line, x_lines, state_lines, register_lines, word_line, show_lines};
 ghost use Rattle.job_deck.specs.Dump.{log_text, log_line, spaced_entry, dump_text};
 ghost use Rattle.device_text.specs.Pieces.{text_of};
-ghost use Rattle.deck.specs.inner.Views.{shown_of, shown};
+ghost use Rattle.deck.specs.Views.{shown_of, shown};
 ghost use Rattle.instructions.specs.declared.refusal.Refusal.TheVariants.{Write as WriteRefusal};
 ghost use Rattle.sequential.specs.Log.{entries_of};
 

@@ -5,7 +5,7 @@ ghost use Rattle.device_text.specs.Device.{Writes, failed_after};
 ghost use Rattle.job_deck.specs.Dump.{log_line};
 ghost use Rattle.job_deck.specs.Session.{IsReply, not_drained_text};
 ghost use Rattle.job_deck.specs.inner.Holding.{Closes, Dumps, is_write_error, last_said};
-ghost use Rattle.deck.specs.inner.Views.{shown};
+ghost use Rattle.deck.specs.Views.{shown};
 
 use crate::dumping::{dump_to, put_log_line};
 use crate::session::SessionError;

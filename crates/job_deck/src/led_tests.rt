@@ -47,8 +47,20 @@ fn held<R: Read, W: Write>(
 /// An exchange and an issue, and a drain.
 #[test]
 fn to_its_end(rt: HostRuntime) -> Result<(), Fail> {
-    let mut input =
-        "core 256\nat 41\nword 00000100000000000000\nword 00000020000000000000\nat 100\ncode SX1 B0+5; PS\nstart 40\nend\nask 40\nexchange\nissue\ndrain\n".as_bytes();
+    let mut input = "\
+        core 256\n\
+        at 41\n\
+        word 00000100000000000000\n\
+        word 00000020000000000000\n\
+        at 100\n\
+        code SX1 B0+5; PS\n\
+        start 40\n\
+        end\n\
+        ask 40\n\
+        exchange\n\
+        issue\n\
+        drain\n"
+        .as_bytes();
     let mut output = Vec::new(rt.alloc());
     assert!(rt; held(rt.alloc(), &mut input, &mut output, 4).is_ok());
     assert!(rt;

@@ -3,7 +3,7 @@ ghost use Rattle.deck.specs.Deck.{deck};
 ghost use Rattle.device_text.specs.Device.{Moves, failed_after};
 ghost use Rattle.job_deck.specs.Listing.{is_read_refusal, is_write_refusal};
 ghost use Rattle.job_deck.specs.Replaying.{replayed, Prints, Replays};
-ghost use Rattle.deck.specs.inner.Views.{plan, shown};
+ghost use Rattle.deck.specs.Views.{plan, shown};
 
 use crate::dumping::dump_to;
 use crate::logs::read_log;
@@ -31,19 +31,12 @@ fn print_replay<O: Output>(
     ensures failure { O.has_failed output.new ≡ (O.has_failed output.old || is_write_refusal result) }
     ensures same { O.lender output.new ≡ O.lender output.old }
 {
-    let log = match read_log(alloc, text) {
-        Ok(Some(log)) => log,
-        Ok(None) => return Ok(None),
-        Err(refusal) => return Err(refusal),
+    let Some(log) = read_log(alloc, text)? else {
+        return Ok(None);
     };
-    let memory = match deck.image.memory().copy() {
-        Ok(memory) => memory,
-        Err(refusal) => return Err(refusal),
-    };
+    let memory = deck.image.memory().copy()?;
     let mut state = State::boot(memory);
-    if let Err(refusal) = sequential::replay(&mut state, &log) {
-        return Err(refusal);
-    }
+    sequential::replay(&mut state, &log)?;
     match dump_to(output, &state, &log, deck) {
         Ok(()) => Ok(Some(state)),
         Err(_) => Err(Refusal::Write),

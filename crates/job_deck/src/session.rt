@@ -7,7 +7,7 @@ ghost use Rattle.device_text.specs.Device.{Moves, failed_after};
 ghost use Rattle.job_deck.specs.Listing.{is_read_refusal, is_write_refusal};
 ghost use Rattle.job_deck.specs.inner.Holding.{Converses, IsMade, is_read_error, is_write_error, refusal_of};
 ghost use Rattle.job_deck.specs.Told.{Performs, Tells};
-ghost use Rattle.deck.specs.inner.Views.{shown};
+ghost use Rattle.deck.specs.Views.{shown};
 
 use crate::answering::put_answer;
 use crate::ending::finish;
@@ -123,10 +123,8 @@ fn booted(alloc: Global, deck: &Deck, budget: u64) -> Result<Machine, Refusal>
         (λ refusal. refusal ≡ OutOfMemory) }
     ensures reached { IfOk result (λ machine. IsReached deck.now.image.memory budget [] [] machine) }
 {
-    match deck.image.memory().copy() {
-        Ok(memory) => Machine::boot(alloc, memory, budget),
-        Err(refusal) => Err(refusal),
-    }
+    let memory = deck.image.memory().copy()?;
+    Machine::boot(alloc, memory, budget)
 }
 
 /// Why a session ended, as a refusal.

@@ -71,11 +71,22 @@ pub fn joined(alloc: Global, texts: &[&str]) -> Result<Vec<u8>, AllocError> {
 }
 
 /// A deck of four words.
-const FOUR_WORDS: &str =
-    "core 256\nat 100\nword 71100000057120000003\nword 36312374214600000000\nat 41\nword 100000000000000\nword 00000020000000000000\nstart 40\nend\n";
+const FOUR_WORDS: &str = "\
+    core 256\n\
+    at 100\n\
+    word 71100000057120000003\n\
+    word 36312374214600000000\n\
+    at 41\n\
+    word 100000000000000\n\
+    word 00000020000000000000\n\
+    start 40\n\
+    end\n";
 
-const FOUR_LINES: &str =
-    "000041 00000100000000000000 PS; BX0 X0; PS; PS\n000042 00000020000000000000 PS; JP B0+0; PS\n000100 71100000057120000003 SX1 B0+5; SX2 B0+3\n000101 36312374214600000000 IX3 X1+X2; IX4 X2-X1; NO; PS\n";
+const FOUR_LINES: &str = "\
+    000041 00000100000000000000 PS; BX0 X0; PS; PS\n\
+    000042 00000020000000000000 PS; JP B0+0; PS\n\
+    000100 71100000057120000003 SX1 B0+5; SX2 B0+3\n\
+    000101 36312374214600000000 IX3 X1+X2; IX4 X2-X1; NO; PS\n";
 
 #[test]
 fn lists(rt: HostRuntime) -> Result<(), Fail> {

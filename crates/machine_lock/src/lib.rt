@@ -1,19 +1,28 @@
-//! The machine under one lock, for several threads: each event is made while the lock is held, and a
-//! unit's computing needs none.
+//! The machine under one lock, for several threads, beside a word that counts the steps of its log: each event is made
+//! while the lock is held, and a unit's computing needs none.
 #![tactic(auto)]
 
 mod locked;
+mod rule;
 mod seen;
 mod shared;
+mod signal;
+mod word;
 
+pub use rule::Naming;
 pub use seen::Seen;
-pub use shared::Shared;
+pub use shared::{Ground, Shared};
+pub use signal::{Signal, Signals};
 
 #[cfg(test)]
-mod crew;
-#[cfg(test)]
-mod fixtures;
+mod example_tests;
 #[cfg(test)]
 mod schedule_tests;
+#[cfg(test)]
+mod signal_tests;
+#[cfg(test)]
+mod test_crew;
+#[cfg(test)]
+mod test_fixtures;
 #[cfg(test)]
 mod tests;

@@ -1,54 +1,135 @@
-ghost use Rattle.std.specs.Prelude.{◌≡◌, ◌||◌, ◌⊎◌, true, false, Some, IfErr, IfOk, MatchResult};
+ghost use Rattle.std.specs.Prelude.{◌≡◌, ◌||◌, ◌⊎◌, ℕ, true, false, Some, IfErr, IfOk, MatchResult};
 ghost use Rattle.instructions.specs.declared.refusal.Refusal.TheVariants.{NotDrained, OutOfMemory, Stranger};
-ghost use Rattle.sequential.specs.Replay.{boot, replay};
-ghost use Rattle.program_order.specs.declared.event.Event.TheVariants.{Read, Finish, Store};
+ghost use Rattle.sequential.specs.Replay.{Issued, Exchanged, boot, replay};
+ghost use Rattle.program_order.specs.declared.event.Event.TheVariants.{Issue, Ask, Exchange, Read, Finish, Store};
 ghost use Rattle.program_order.specs.Headline.{IsFaultedRun};
 ghost use Rattle.program_order.specs.Refusals.{may_refuse, is_stranger, is_read_refusal, is_store_refusal};
 ghost use Rattle.program_order.specs.Run.{IsAnswer, settled};
 ghost use Rattle.machine.specs.Tokens.{one_more};
 ghost use Rattle.program_order.specs.Events.{after};
-ghost use Rattle.machine_lock.specs.inner.Kept.{with_whole};
+ghost use Rattle.machine_lock.specs.Known.{IsMade, Learnt, IsNoteOf, IsWhyOf, note_in};
+ghost use Rattle.machine_lock.specs.inner.Kept.{IsCurrent, is_of_memory, with_whole};
+ghost use Rattle.machine_lock.specs.inner.Rules.{IsKeeper, past};
 
+use crate::Seen;
+use crate::rule::{Naming, Pass};
+use crate::word::Word;
 use instruction_table::Refusal;
 use machine::{Answer, Computed, Event, Finished, Loaded, Machine, Note, Reserved, Seat, Snapshot};
-use std::marker::Model;
+use std::marker::{Brand, Model, PhantomData};
 
-/// What the lock keeps: a machine, and whether its users were told to end. Whenever the lock is got, the
-/// effects made so far, with those still to come, are the replay of the machine's log on the memory with
-/// which it was booted: each method leaves it so, by `Machine::keeps_replay`.
+/// What the lock keeps: a machine with the pass that knows its log, and whether its users were told to end. Whenever
+/// the lock is got, the effects made so far, with those still to come, are the replay of the machine's log on the
+/// memory with which it was booted: each method leaves it so, by `Machine::keeps_replay`. And the pass's list is the
+/// log: what is logged is recorded, for its caller, before the lock is let go.
 #[derive(Drop)]
-pub(crate) struct Locked {
+pub(crate) struct Locked<K: Naming> {
     machine: Machine,
     is_ended: bool,
+    pass: Pass,
+    of: PhantomData<K>,
 }
 
-impl Model for Locked {
-    ghost use Rattle.machine_lock.specs.inner.Kept.{Kept, KeepsReplay};
+impl<K: Naming> Model for Locked<K> {
+    ghost use Rattle.machine_lock.specs.inner.Kept.{Kept, IsLocked};
 
     ghost Value = { Kept };
 
     ghost view = { λ l. record { whole = l.machine; is_ended = l.is_ended } };
 
-    ghost invariant = { λ l. KeepsReplay l.machine };
+    ghost invariant = { λ l. IsLocked K.table l.machine l.pass };
 }
 
-impl Locked {
-    /// A machine whose users weren't told to end.
-    pub(crate) fn new(machine: Machine) -> Locked
+impl<K: Naming> Locked<K> {
+    /// A machine whose users weren't told to end, with the pass that knows its log.
+    pub(crate) fn new(machine: Machine, pass: Pass) -> Locked<K>
+        requires { IsKeeper K.table (past machine) pass }
         ensures { result ≡ record { whole = machine; is_ended = false } }
     {
         machine.keeps_replay();
         Locked {
             machine,
             is_ended: false,
+            pass,
+            of: PhantomData,
         }
     }
 
-    /// Makes an event, or refuses it.
+    /// The event `Issue`. Its caller has then made the last step of the log, or else has seen the log.
+    ///
+    /// # Errors
+    /// What an issue may refuse.
+    pub(crate) fn issue(&mut self, word: &Word<K>, seen: &mut Seen<K>) -> Answer
+        ensures answer { IsAnswer self.old.whole Issue result }
+        ensures after { self.new ≡ with_whole self.old (settled self.old.whole Issue result) }
+        ensures named { IfErr result (λ refusal. may_refuse Issue refusal ≡ true) }
+        ensures current { IsCurrent self.new.whole seen.new }
+        ensures seen { MatchResult result
+            (λ done. IsMade Issued seen.old seen.new × IsNoteOf seen.new (note_in done))
+            (λ refusal. Learnt seen.old seen.new × IsWhyOf seen.new refusal) }
+    {
+        match self.machine.apply(Event::Issue) {
+            Ok(done) => {
+                word.record::<Brand>(&mut self.pass, &mut seen.pass, &self.machine);
+                self.machine.keeps_replay();
+                Ok(done)
+            }
+            Err(refusal) => {
+                word.compare(&mut self.pass, &mut seen.pass);
+                Err(refusal)
+            }
+        }
+    }
+
+    /// The event `Ask`. Its caller has then seen the log.
+    ///
+    /// # Errors
+    /// What a request may refuse.
+    pub(crate) fn ask(&mut self, word: &Word<K>, seen: &mut Seen<K>, at: u32) -> Answer
+        ensures answer { IsAnswer self.old.whole (Ask at) result }
+        ensures after { self.new ≡ with_whole self.old (settled self.old.whole (Ask at) result) }
+        ensures named { IfErr result (λ refusal. may_refuse (Ask at) refusal ≡ true) }
+        ensures current { IsCurrent self.new.whole seen.new }
+        ensures seen { Learnt seen.old seen.new }
+    {
+        let answer = self.machine.apply(Event::Ask(at));
+        self.machine.keeps_replay();
+        word.compare(&mut self.pass, &mut seen.pass);
+        answer
+    }
+
+    /// The event `Exchange`. Its caller has then made the last step of the log, or else has seen the log.
+    ///
+    /// # Errors
+    /// What an exchange may refuse.
+    pub(crate) fn exchange(&mut self, word: &Word<K>, seen: &mut Seen<K>) -> Answer
+        ensures answer { IsAnswer self.old.whole Exchange result }
+        ensures after { self.new ≡ with_whole self.old (settled self.old.whole Exchange result) }
+        ensures named { IfErr result (λ refusal. may_refuse Exchange refusal ≡ true) }
+        ensures current { IsCurrent self.new.whole seen.new }
+        ensures seen { MatchResult result
+            (λ done. (n : ℕ) × (self.old.whole.request ≡ Some n) × IsMade (Exchanged n) seen.old seen.new)
+            (λ refusal. Learnt seen.old seen.new × IsWhyOf seen.new refusal) }
+    {
+        match self.machine.apply(Event::Exchange) {
+            Ok(done) => {
+                word.record::<Brand>(&mut self.pass, &mut seen.pass, &self.machine);
+                self.machine.keeps_replay();
+                Ok(done)
+            }
+            Err(refusal) => {
+                word.compare(&mut self.pass, &mut seen.pass);
+                Err(refusal)
+            }
+        }
+    }
+
+    /// Makes an event of memory, or refuses it: it logs nothing.
     ///
     /// # Errors
     /// What the event may refuse.
     pub(crate) fn apply(&mut self, event: Event) -> Answer
+        requires { is_of_memory event ≡ true }
         ensures answer { IsAnswer self.old.whole event result }
         ensures after { self.new ≡ with_whole self.old (settled self.old.whole event result) }
         ensures named { IfErr result (λ refusal. may_refuse event refusal ≡ true) }
@@ -122,17 +203,27 @@ impl Locked {
         stored
     }
 
-    /// The state, the log and the boot memory of the machine, if it is drained.
+    /// The state, the log and the boot memory of the machine, if it is drained. Its caller has then seen the log.
     ///
     /// # Errors
     /// `NotDrained` or `OutOfMemory`.
-    pub(crate) fn snapshot(&self) -> Result<Snapshot, Refusal>
+    pub(crate) fn snapshot(
+        &mut self,
+        word: &Word<K>,
+        seen: &mut Seen<K>,
+    ) -> Result<Snapshot, Refusal>
+        ensures after { self.new ≡ self.old }
+        ensures current { IsCurrent self.new.whole seen.new }
+        ensures seen { Learnt seen.old seen.new }
+        ensures fresh { IfOk result
+            (λ snapshot. (snapshot.boot_memory ≡ seen.new.boot_memory) × (snapshot.log ≡ seen.new.log)) }
         ensures replay { IfOk result (λ snapshot. replay (boot snapshot.boot_memory) snapshot.log
             ≡ Some snapshot.state) }
         ensures fault { IfOk result (λ snapshot. snapshot.state.fault ≡ true
             → IsFaultedRun snapshot.log snapshot.boot_memory snapshot.state) }
         ensures named { IfErr result (λ refusal. (refusal ≡ NotDrained) ⊎ (refusal ≡ OutOfMemory)) }
     {
+        word.compare(&mut self.pass, &mut seen.pass);
         self.machine.snapshot()
     }
 

@@ -1,7 +1,7 @@
 //! Schedules by the calls of `Shared`, with each answer that the machine gives to the event of that name.
 
-use crate::crew::{MADE, Schedule};
-use crate::fixtures::{FIRST, SECOND, x};
+use crate::test_crew::{MADE, Schedule};
+use crate::test_fixtures::{FIRST, SECOND, x};
 use instruction_table::{Digit, Halt, Refusal, Reg, Unit};
 use machine::{Answer, Done, Event, Note};
 use sequential::Entry;

@@ -1,93 +1,229 @@
-ghost use Rattle.std.specs.Prelude.{◌≡◌, ◌||◌, ◌⊎◌, true, false, Some, IfErr, IfOk, MatchResult};
+ghost use Rattle.std.specs.Prelude.{◌≡◌, ◌||◌, ◌⊎◌, ℕ, true, false, [], Some, IfErr, IfOk, MatchResult};
 ghost use Rattle.instructions.specs.declared.refusal.Refusal.TheVariants.{Nothing, NotDrained, OutOfMemory, Stranger};
-ghost use Rattle.sequential.specs.Replay.{boot, replay};
+ghost use Rattle.sequential.specs.Replay.{Issued, Exchanged, boot, replay};
 ghost use Rattle.program_order.specs.Headline.{IsFaultedRun};
 ghost use Rattle.program_order.specs.Refusals.{may_refuse, is_stranger, is_nothing, is_issue_refusal, is_read_refusal};
 ghost use Rattle.program_order.specs.Refusals.{is_store_refusal, is_accept_refusal, is_return_refusal, is_ask_refusal};
 ghost use Rattle.program_order.specs.Refusals.{is_exchange_refusal};
 ghost use Rattle.machine.specs.Tokens.{new_seats, one_more};
+ghost use Rattle.machine_lock.specs.Known.{known, IsMade, Learnt, IsNoteOf, IsWhyOf, AreApart, NumbersApart};
+ghost use Rattle.machine_lock.specs.inner.Kept.{is_of_memory};
 
 use crate::Seen;
 use crate::locked::Locked;
+use crate::rule::{Naming, Pass, Progress};
+use crate::signal::Signals;
+use crate::word::Word;
 use instruction_table::Refusal;
-use machine::{Computed, Done, Event, Finished, Loaded, Machine, Note, Reserved, Seat, Snapshot};
-use std::sync::{Mutex, Wait};
+use machine::{
+    Answer, Computed, Done, Event, Finished, Loaded, Machine, Note, Reserved, Seat, Snapshot,
+};
+use std::alloc::Global;
+use std::marker::Model;
+use std::sync::{Arc, Mutex, Wait};
 
-/// A machine that several threads drive: each call makes one event while it holds the lock.
+/// A progress word that no machine stands beside yet. A contract sees which it is.
+#[derive(Drop)]
+pub struct Ground {
+    table: Progress,
+    pass: Pass,
+}
+
+impl Model for Ground {
+    ghost use Rattle.std.specs.Prelude.{◌≡◌, []};
+    ghost use Rattle.atomic_table.specs.Seated.{TableId};
+    ghost use Rattle.machine_lock.specs.inner.Rules.{fresh};
+
+    ghost Value = { TableId };
+
+    ghost view = { λ g. g.table.shared.table_id };
+
+    ghost invariant = { λ g. (g.table.shared.table_id.words ≡ 1) × (g.pass.table_id ≡ g.table.shared.table_id)
+        × (g.pass.me ≡ (fresh, [])) };
+}
+
+impl Ground {
+    /// A progress word.
+    ///
+    /// # Errors
+    /// `OutOfMemory`.
+    pub fn new(alloc: Global) -> Result<Ground, Refusal>
+        ensures { IfErr result (λ refusal. refusal ≡ OutOfMemory) }
+    {
+        let Ok((table, pass)) = Progress::of_words(alloc, &[0], &()) else {
+            return Err(Refusal::OutOfMemory);
+        };
+        Ok(Ground { table, pass })
+    }
+}
+
+/// Leaves all seats.
+fn leave_all(seats: [Seat; 7]) {
+    let [
+        branch,
+        boolean,
+        shift,
+        long_add,
+        divide,
+        increment1,
+        increment2,
+    ] = seats;
+    branch.leave();
+    boolean.leave();
+    shift.leave();
+    long_add.leave();
+    divide.leave();
+    increment1.leave();
+    increment2.leave();
+}
+
+/// A machine that several threads drive, beside its progress word: each call makes one event while it holds the lock.
 ///
 /// No contract here says what the machine was when the lock was got: others may have changed it. What an
 /// event answers and leaves is stated in full on the machine's method of that name; a call's contract
-/// keeps what its caller holds, a token or a snapshot.
+/// keeps what its caller holds: a token, a snapshot, and what the caller has seen of the log.
 #[derive(Drop)]
-pub struct Shared {
-    locked: Mutex<Locked>,
+pub struct Shared<K: Naming> {
+    word: Arc<Word<K>, Global>,
+    locked: Mutex<Locked<K>>,
+    signals: Signals,
 }
 
-impl Shared {
-    /// Puts a machine under the lock, and gives its seats out: one for each unit in use, in the order of
-    /// the units' numbers.
+impl<K: Naming> Shared<K> {
+    /// Puts a machine under the lock, beside the progress word that K names, and gives its seats out: one for each
+    /// unit in use, in the order of the units' numbers; and what has been seen of it, the boot memory and the log so
+    /// far, none of whose steps is the caller's.
     ///
     /// # Errors
-    /// `Nothing` where the machine's seats were given out before; the machine is dropped.
-    pub fn open(machine: Machine) -> Result<(Shared, [Seat; 7], Seen), Refusal>
+    /// `Nothing` where the machine's seats were given out before, and else `OutOfMemory`; the machine is dropped.
+    pub fn open(
+        alloc: Global,
+        ground: Ground,
+        machine: Machine,
+    ) -> Result<(Shared<K>, [Seat; 7], Seen<K>), Refusal>
+        requires { ground ≡ K.table }
         ensures { MatchResult result
-            (λ opened. (machine.seats_given ≡ false) × (opened.1 ≡ new_seats))
-            (λ refusal. (machine.seats_given ≡ true) × (refusal ≡ Nothing)) }
+            (λ opened. (machine.seats_given ≡ false) × (opened.1 ≡ new_seats)
+            × (opened.2 ≡ known machine.boot_memory machine.log []))
+            (λ refusal. ((machine.seats_given ≡ true) × (refusal ≡ Nothing))
+            ⊎ ((machine.seats_given ≡ false) × (refusal ≡ OutOfMemory))) }
     {
         let mut machine = machine;
         let Some(seats) = machine.seats() else {
             return Err(Refusal::Nothing);
         };
-        let locked = Mutex::new(Locked::new(machine));
-        Ok((Shared { locked }, seats, Seen::new()))
+        match Self::beside(alloc, ground, machine) {
+            Ok((shared, seen)) => Ok((shared, seats, seen)),
+            Err(refusal) => {
+                leave_all(seats);
+                Err(refusal)
+            }
+        }
+    }
+
+    /// Puts a machine under the lock, beside its progress word.
+    ///
+    /// # Errors
+    /// `OutOfMemory`; the machine is dropped.
+    fn beside(
+        alloc: Global,
+        ground: Ground,
+        machine: Machine,
+    ) -> Result<(Shared<K>, Seen<K>), Refusal>
+        requires { ground ≡ K.table }
+        ensures { MatchResult result (λ made. made.1 ≡ known machine.boot_memory machine.log [])
+            (λ refusal. refusal ≡ OutOfMemory) }
+    {
+        let Ground { table, mut pass } = ground;
+        let word: Arc<Word<K>, Global> = match Arc::new(alloc, Word::of(table)) {
+            Ok(word) => word,
+            Err(_) => return Err(Refusal::OutOfMemory),
+        };
+        let Ok(again) = Arc::try_clone(&word) else {
+            return Err(Refusal::OutOfMemory);
+        };
+        word.start(&mut pass, &machine);
+        let seen = Seen {
+            pass: word.again(&mut pass),
+            word: again,
+        };
+        let locked = Mutex::new(Locked::new(machine, pass));
+        let shared = Shared {
+            word,
+            locked,
+            signals: Signals::new(),
+        };
+        Ok((shared, seen))
     }
 
     /// Issues the next instruction: the event `Issue`. It answers the reservation of an instruction that
-    /// has a unit.
+    /// has a unit. The issue is then the last step of the log that its caller has seen, and the caller's own; after a
+    /// refusal its caller has seen the log.
     ///
     /// # Errors
     /// What an issue may refuse.
     #[tactic(auto, unfolding(program_order::specs::Refusals::may_refuse))]
-    pub fn issue<R: Wait>(&self, rt: &R, _seen: &mut Seen) -> Result<Option<Note>, Refusal>
-        ensures { IfErr result (λ refusal. is_issue_refusal refusal ≡ true) }
+    pub fn issue<R: Wait>(&self, rt: &R, seen: &mut Seen<K>) -> Result<Option<Note>, Refusal>
+        ensures seen { MatchResult result (λ note. IsMade Issued seen.old seen.new × IsNoteOf seen.new note)
+            (λ refusal. Learnt seen.old seen.new × IsWhyOf seen.new refusal) }
+        ensures named { IfErr result (λ refusal. is_issue_refusal refusal ≡ true) }
     {
-        match self.locked.lock(rt).apply(Event::Issue) {
+        match self.locked.lock(rt).issue(&self.word, seen) {
             Ok(Done::Issued(note)) => Ok(note),
             Ok(Done::Made) => Ok(None),
             Err(refusal) => Err(refusal),
         }
     }
 
-    /// Makes an event of which no more is told than whether it was made.
+    /// Asks for an exchange with the package at an absolute address: the event `Ask`. Its caller has then seen the log.
+    ///
+    /// # Errors
+    /// What a request may refuse.
+    #[tactic(auto, unfolding(program_order::specs::Refusals::may_refuse))]
+    pub fn ask<R: Wait>(&self, rt: &R, seen: &mut Seen<K>, at: u32) -> Result<(), Refusal>
+        ensures seen { Learnt seen.old seen.new }
+        ensures named { IfErr result (λ refusal. is_ask_refusal refusal ≡ true) }
+    {
+        let asked = self.locked.lock(rt).ask(&self.word, seen, at);
+        match asked {
+            Ok(_) => {
+                self.signals.changes.raise();
+                Ok(())
+            }
+            Err(refusal) => Err(refusal),
+        }
+    }
+
+    /// Makes the exchange that was asked for: the event `Exchange`. It is then the last step of the log that its caller
+    /// has seen, and the caller's own; after a refusal its caller has seen the log.
+    ///
+    /// # Errors
+    /// What an exchange may refuse.
+    #[tactic(auto, unfolding(program_order::specs::Refusals::may_refuse))]
+    pub fn exchange<R: Wait>(&self, rt: &R, seen: &mut Seen<K>) -> Result<(), Refusal>
+        ensures seen { MatchResult result (λ _. (n : ℕ) × IsMade (Exchanged n) seen.old seen.new)
+            (λ refusal. Learnt seen.old seen.new × IsWhyOf seen.new refusal) }
+        ensures named { IfErr result (λ refusal. is_exchange_refusal refusal ≡ true) }
+    {
+        let made = self.locked.lock(rt).exchange(&self.word, seen);
+        match made {
+            Ok(_) => {
+                self.signals.changes.raise();
+                Ok(())
+            }
+            Err(refusal) => Err(refusal),
+        }
+    }
+
+    /// Makes an event of memory, of which no more is told than whether it was made.
     fn make<R: Wait>(&self, rt: &R, event: Event) -> Result<(), Refusal>
+        requires { is_of_memory event ≡ true }
         ensures { IfErr result (λ refusal. may_refuse event refusal ≡ true) }
     {
         match self.locked.lock(rt).apply(event) {
             Ok(_) => Ok(()),
             Err(refusal) => Err(refusal),
         }
-    }
-
-    /// Asks for an exchange with the package at an absolute address: the event `Ask`.
-    ///
-    /// # Errors
-    /// What a request may refuse.
-    #[tactic(auto, unfolding(program_order::specs::Refusals::may_refuse))]
-    pub fn ask<R: Wait>(&self, rt: &R, _seen: &mut Seen, at: u32) -> Result<(), Refusal>
-        ensures { IfErr result (λ refusal. is_ask_refusal refusal ≡ true) }
-    {
-        self.make(rt, Event::Ask(at))
-    }
-
-    /// Makes the exchange that was asked for: the event `Exchange`.
-    ///
-    /// # Errors
-    /// What an exchange may refuse.
-    #[tactic(auto, unfolding(program_order::specs::Refusals::may_refuse))]
-    pub fn exchange<R: Wait>(&self, rt: &R, _seen: &mut Seen) -> Result<(), Refusal>
-        ensures { IfErr result (λ refusal. is_exchange_refusal refusal ≡ true) }
-    {
-        self.make(rt, Event::Exchange)
     }
 
     /// Takes on a reservation with the seat of its unit.
@@ -138,7 +274,11 @@ impl Shared {
         ensures given_back { IfErr result
             (λ back. (back.1 ≡ token) × ((is_stranger back.0 || is_store_refusal back.0) ≡ true)) }
     {
-        self.locked.lock(rt).store(token)
+        let stored = self.locked.lock(rt).store(token);
+        if let Ok(seat) = &stored {
+            self.signals.stored(seat.unit());
+        }
+        stored
     }
 
     /// Memory takes the reference in a place of the hopper, 0 to 3: the event `Accept`.
@@ -149,7 +289,9 @@ impl Shared {
     pub fn accept<R: Wait>(&self, rt: &R, place: u8) -> Result<(), Refusal>
         ensures { IfErr result (λ refusal. (is_nothing refusal || is_accept_refusal refusal) ≡ true) }
     {
-        self.make(rt, Event::Accept(place))
+        self.make(rt, Event::Accept(place))?;
+        self.signals.changes.raise();
+        Ok(())
     }
 
     /// The load in a channel, 1 to 5, writes its register: the event `Return`.
@@ -160,7 +302,9 @@ impl Shared {
     pub fn return_load<R: Wait>(&self, rt: &R, channel: u8) -> Result<(), Refusal>
         ensures { IfErr result (λ refusal. (is_nothing refusal || is_return_refusal refusal) ≡ true) }
     {
-        self.make(rt, Event::Return(channel))
+        self.make(rt, Event::Return(channel))?;
+        self.signals.changes.raise();
+        Ok(())
     }
 
     /// A bank, 0 to 31, is no longer busy: the event `BankFree`.
@@ -176,18 +320,34 @@ impl Shared {
 
     /// The state, the log and the boot memory of the machine, if it is drained. The state is the replay of
     /// the log on that memory; and where it has the fault, the log since the last exchange is a beginning of
-    /// the program's run that includes the instruction which set it.
+    /// the program's run that includes the instruction which set it. The log begins with what its caller had seen, and
+    /// is what its caller has seen then.
     ///
     /// # Errors
     /// `NotDrained` or `OutOfMemory`.
-    pub fn snapshot<R: Wait>(&self, rt: &R, _seen: &mut Seen) -> Result<Snapshot, Refusal>
+    pub fn snapshot<R: Wait>(&self, rt: &R, seen: &mut Seen<K>) -> Result<Snapshot, Refusal>
+        ensures seen { Learnt seen.old seen.new }
+        ensures fresh { IfOk result
+            (λ snapshot. (snapshot.boot_memory ≡ seen.new.boot_memory) × (snapshot.log ≡ seen.new.log)) }
         ensures replay { IfOk result (λ snapshot. replay (boot snapshot.boot_memory) snapshot.log
             ≡ Some snapshot.state) }
         ensures fault { IfOk result (λ snapshot. snapshot.state.fault ≡ true
             → IsFaultedRun snapshot.log snapshot.boot_memory snapshot.state) }
         ensures named { IfErr result (λ refusal. (refusal ≡ NotDrained) ⊎ (refusal ≡ OutOfMemory)) }
     {
-        self.locked.lock(rt).snapshot()
+        self.locked.lock(rt).snapshot(&self.word, seen)
+    }
+
+    /// Two callers tell each other what they have seen: both have then seen the same steps, which begin with what each
+    /// had seen. No step was made by both, and no reservation's number was answered to both. It waits for nobody.
+    pub fn meet(&self, one: &mut Seen<K>, other: &mut Seen<K>)
+        ensures one { Learnt one.old one.new }
+        ensures other { Learnt other.old other.new }
+        ensures same { (one.new.boot_memory ≡ other.new.boot_memory) × (one.new.log ≡ other.new.log) }
+        ensures apart { AreApart one.new.mine other.new.mine }
+        ensures numbers { NumbersApart one.new other.new }
+    {
+        self.word.meet(&mut one.pass, &mut other.pass)
     }
 
     /// Whether no issued instruction has an effect still to come.
@@ -198,10 +358,16 @@ impl Shared {
     /// Tells those who use the machine to end.
     pub fn end<R: Wait>(&self, rt: &R) {
         self.locked.lock(rt).end();
+        self.signals.raise_all();
     }
 
     /// Whether its users were told to end.
     pub fn ended<R: Wait>(&self, rt: &R) -> bool {
         self.locked.lock(rt).ended()
+    }
+
+    /// What those who use the machine tell one another.
+    pub fn signals(&self) -> &Signals {
+        &self.signals
     }
 }

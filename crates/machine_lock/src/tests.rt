@@ -1,8 +1,13 @@
-use crate::fixtures::{FIRST, SECOND, booted, leave, note, word, x};
-use crate::{Seen, Shared};
+ghost use Rattle.std.specs.Prelude.{◌≡◌};
+
+use crate::test_fixtures::{FIRST, SECOND, booted, leave, note, word, x};
+use crate::{Ground, Naming, Seen, Shared};
 use instruction_table::{Refusal, Unit};
 use machine::{Computed, Finished, Loaded, Machine, Note, Reserved, Seat};
 use sequential::Entry;
+use std::alloc::Global;
+use std::marker::Brand;
+use std::process::Abort;
 use std::sync::Wait;
 use std::test::Fail;
 use std::thread::{Threads, join};
@@ -10,13 +15,20 @@ use std::thread::{Threads, join};
 /// SX1 B0+5, with stops after it.
 const FIVE: &str = "71100000050000000000";
 
+/// Four passes.
+const PASSES: &str = "46000460004600046000";
+
 /// What an issue answers for an instruction that has a unit.
 fn issued(unit: Unit, number: u64) -> Result<Option<Note>, Refusal> {
     Ok(Some(note(unit, number)))
 }
 
 /// Asks for the exchange with the package at 40 (octal), and makes it.
-fn start<R: Wait>(rt: &R, shared: &Shared, seen: &mut Seen) -> Result<(), Refusal> {
+fn start<K: Naming, R: Wait>(
+    rt: &R,
+    shared: &Shared<K>,
+    seen: &mut Seen<K>,
+) -> Result<(), Refusal> {
     shared.ask(rt, seen, 0o40)?;
     shared.exchange(rt, seen)
 }
@@ -40,7 +52,8 @@ fn of_increments(seats: [Seat; 7]) -> (Seat, Seat) {
     (increment1, increment2)
 }
 
-fn leave_all(seats: [Seat; 7]) -> [(Unit, u64); 7] {
+/// Leaves all seats, and answers of each its unit and its count.
+pub(crate) fn leave_all(seats: [Seat; 7]) -> [(Unit, u64); 7] {
     let [
         branch,
         boolean,
@@ -62,7 +75,12 @@ fn leave_all(seats: [Seat; 7]) -> [(Unit, u64); 7] {
 }
 
 /// Claims; the seat where that is refused.
-fn claim<R: Wait>(rt: &R, shared: &Shared, seat: Seat, note: Note) -> Result<Reserved, Seat> {
+fn claim<K: Naming, R: Wait>(
+    rt: &R,
+    shared: &Shared<K>,
+    seat: Seat,
+    note: Note,
+) -> Result<Reserved, Seat> {
     match shared.claim(rt, seat, note) {
         Err((_, seat)) => Err(seat),
         Ok(reserved) => Ok(reserved),
@@ -70,7 +88,7 @@ fn claim<R: Wait>(rt: &R, shared: &Shared, seat: Seat, note: Note) -> Result<Res
 }
 
 /// Reads; the seat where that is refused.
-fn read<R: Wait>(rt: &R, shared: &Shared, token: Reserved) -> Result<Loaded, Seat> {
+fn read<K: Naming, R: Wait>(rt: &R, shared: &Shared<K>, token: Reserved) -> Result<Loaded, Seat> {
     match shared.read(rt, token) {
         Err((_, reserved)) => Err(reserved.abandon()),
         Ok(loaded) => Ok(loaded),
@@ -78,7 +96,11 @@ fn read<R: Wait>(rt: &R, shared: &Shared, token: Reserved) -> Result<Loaded, Sea
 }
 
 /// Finishes; the seat where that is refused.
-fn finish<R: Wait>(rt: &R, shared: &Shared, token: Computed) -> Result<Finished, Seat> {
+fn finish<K: Naming, R: Wait>(
+    rt: &R,
+    shared: &Shared<K>,
+    token: Computed,
+) -> Result<Finished, Seat> {
     match shared.finish(rt, token) {
         Err((_, computed)) => Err(computed.abandon()),
         Ok(finished) => Ok(finished),
@@ -86,7 +108,7 @@ fn finish<R: Wait>(rt: &R, shared: &Shared, token: Computed) -> Result<Finished,
 }
 
 /// Stores, and answers whether that was accepted.
-fn store<R: Wait>(rt: &R, shared: &Shared, token: Finished) -> (Seat, bool) {
+fn store<K: Naming, R: Wait>(rt: &R, shared: &Shared<K>, token: Finished) -> (Seat, bool) {
     match shared.store(rt, token) {
         Err((_, finished)) => (finished.abandon(), false),
         Ok(seat) => (seat, true),
@@ -94,13 +116,13 @@ fn store<R: Wait>(rt: &R, shared: &Shared, token: Finished) -> (Seat, bool) {
 }
 
 /// From read to finish; the seat where that is refused.
-fn work<R: Wait>(rt: &R, shared: &Shared, token: Reserved) -> Result<Finished, Seat> {
+fn work<K: Naming, R: Wait>(rt: &R, shared: &Shared<K>, token: Reserved) -> Result<Finished, Seat> {
     let computed = read(rt, shared, token)?.compute();
     finish(rt, shared, computed)
 }
 
 /// From read to store. It answers whether all was accepted.
-fn carry_out<R: Wait>(rt: &R, shared: &Shared, token: Reserved) -> (Seat, bool) {
+fn carry_out<K: Naming, R: Wait>(rt: &R, shared: &Shared<K>, token: Reserved) -> (Seat, bool) {
     match work(rt, shared, token) {
         Err(seat) => (seat, false),
         Ok(finished) => store(rt, shared, finished),
@@ -108,7 +130,7 @@ fn carry_out<R: Wait>(rt: &R, shared: &Shared, token: Reserved) -> (Seat, bool) 
 }
 
 /// From claim to store. It answers whether all was accepted.
-fn serve<R: Wait>(rt: &R, shared: &Shared, seat: Seat, note: Note) -> (Seat, bool) {
+fn serve<K: Naming, R: Wait>(rt: &R, shared: &Shared<K>, seat: Seat, note: Note) -> (Seat, bool) {
     match claim(rt, shared, seat, note) {
         Err(seat) => (seat, false),
         Ok(reserved) => carry_out(rt, shared, reserved),
@@ -117,10 +139,10 @@ fn serve<R: Wait>(rt: &R, shared: &Shared, seat: Seat, note: Note) -> (Seat, boo
 
 /// Whether a snapshot shows these words in X1 and X2, and in the log the exchange with so many
 /// instructions after it.
-fn shows<R: Wait>(
+fn shows<K: Naming, R: Wait>(
     rt: &R,
-    shared: &Shared,
-    seen: &mut Seen,
+    shared: &Shared<K>,
+    seen: &mut Seen<K>,
     x1: &str,
     x2: &str,
     issues: u64,
@@ -135,14 +157,32 @@ fn shows<R: Wait>(
 }
 
 /// The units and counts of the seats that are given with a machine, or why it is refused.
-fn opened(machine: Machine) -> Result<[(Unit, u64); 7], Refusal> {
-    let (_, seats, _) = Shared::open(machine)?;
+fn opened<K: Naming>(
+    alloc: Global,
+    ground: Ground,
+    machine: Machine,
+) -> Result<[(Unit, u64); 7], Refusal>
+    requires { ground ≡ K.table }
+{
+    let (_, seats, _) = Shared::<K>::open(alloc, ground, machine)?;
     Ok(leave_all(seats))
 }
 
+/// The same beside a progress word of its own.
+fn opened_anew(alloc: Global, machine: Machine) -> Result<[(Unit, u64); 7], Refusal> {
+    let ground = Ground::new(alloc)?;
+    opened::<Brand>(alloc, ground, machine)
+}
+
 /// A machine under its lock that none serves: all seats are left.
-fn unserved(machine: Machine) -> Result<Shared, Refusal> {
-    let (shared, seats, _) = Shared::open(machine)?;
+fn unserved<K: Naming>(
+    alloc: Global,
+    ground: Ground,
+    machine: Machine,
+) -> Result<Shared<K>, Refusal>
+    requires { ground ≡ K.table }
+{
+    let (shared, seats, _) = Shared::<K>::open(alloc, ground, machine)?;
     leave_all(seats);
     Ok(shared)
 }
@@ -172,16 +212,16 @@ fn opening(rt: HostRuntime) -> Result<(), Fail> {
         (Unit::Increment1, 0),
         (Unit::Increment2, 0),
     ];
-    assert!(rt; opened(fresh) == Ok(units));
+    assert!(rt; opened_anew(rt.alloc(), fresh) == Ok(units));
     assert!(rt; gives_seats(&mut given));
-    assert!(rt; opened(given) == Err(Refusal::Nothing));
+    assert!(rt; opened_anew(rt.alloc(), given) == Err(Refusal::Nothing));
     Ok(())
 }
 
 /// The seat that a refused claim gave back, with the refusal; None where it is accepted.
-fn refused_claim<R: Wait>(
+fn refused_claim<K: Naming, R: Wait>(
     rt: &R,
-    shared: &Shared,
+    shared: &Shared<K>,
     seat: Seat,
     note: Note,
 ) -> (Seat, Option<Refusal>) {
@@ -192,7 +232,11 @@ fn refused_claim<R: Wait>(
 }
 
 /// The token, given back by a read that is a stranger's; the seat where that isn't so.
-fn strange_read<R: Wait>(rt: &R, shared: &Shared, token: Reserved) -> Result<Reserved, Seat> {
+fn strange_read<K: Naming, R: Wait>(
+    rt: &R,
+    shared: &Shared<K>,
+    token: Reserved,
+) -> Result<Reserved, Seat> {
     match shared.read(rt, token) {
         Err((Refusal::Stranger, reserved)) => Ok(reserved),
         Err((_, reserved)) => Err(reserved.abandon()),
@@ -201,7 +245,11 @@ fn strange_read<R: Wait>(rt: &R, shared: &Shared, token: Reserved) -> Result<Res
 }
 
 /// The same of a finish.
-fn strange_finish<R: Wait>(rt: &R, shared: &Shared, token: Computed) -> Result<Computed, Seat> {
+fn strange_finish<K: Naming, R: Wait>(
+    rt: &R,
+    shared: &Shared<K>,
+    token: Computed,
+) -> Result<Computed, Seat> {
     match shared.finish(rt, token) {
         Err((Refusal::Stranger, computed)) => Ok(computed),
         Err((_, computed)) => Err(computed.abandon()),
@@ -210,7 +258,11 @@ fn strange_finish<R: Wait>(rt: &R, shared: &Shared, token: Computed) -> Result<C
 }
 
 /// The same of a store.
-fn strange_store<R: Wait>(rt: &R, shared: &Shared, token: Finished) -> Result<Finished, Seat> {
+fn strange_store<K: Naming, R: Wait>(
+    rt: &R,
+    shared: &Shared<K>,
+    token: Finished,
+) -> Result<Finished, Seat> {
     match shared.store(rt, token) {
         Err((Refusal::Stranger, finished)) => Ok(finished),
         Err((_, finished)) => Err(finished.abandon()),
@@ -220,10 +272,10 @@ fn strange_store<R: Wait>(rt: &R, shared: &Shared, token: Finished) -> Result<Fi
 
 /// Takes a reservation from claim to finish through its machine. Each of its tokens is offered to another
 /// machine first, which gives it back. The seat where anything is otherwise.
-fn finish_beside<R: Wait>(
+fn finish_beside<K: Naming, J: Naming, R: Wait>(
     rt: &R,
-    own: &Shared,
-    other: &Shared,
+    own: &Shared<K>,
+    other: &Shared<J>,
     seat: Seat,
     note: Note,
 ) -> Result<Finished, Seat> {
@@ -236,10 +288,10 @@ fn finish_beside<R: Wait>(
 }
 
 /// The same, and stores. It answers whether all was as it should be.
-fn serve_beside<R: Wait>(
+fn serve_beside<K: Naming, J: Naming, R: Wait>(
     rt: &R,
-    own: &Shared,
-    other: &Shared,
+    own: &Shared<K>,
+    other: &Shared<J>,
     seat: Seat,
     note: Note,
 ) -> (Seat, bool) {
@@ -255,21 +307,58 @@ fn serve_beside<R: Wait>(
 fn strangers(rt: HostRuntime) -> Result<(), Fail> {
     let machine = booted(rt.alloc(), &[(0o100, FIVE)])?;
     let idle = booted(rt.alloc(), &[(0o100, FIVE)])?;
-    let other = unserved(idle)?;
-    let (own, seats, mut seen) = Shared::open(machine)?;
+    let ground = Ground::new(rt.alloc())?;
+    let other_ground = Ground::new(rt.alloc())?;
+    strangers_of::<Brand, _>(&rt, rt.alloc(), ground, machine, other_ground, idle)
+}
+
+/// The first machine stands beside the word that K names.
+fn strangers_of<K: Naming, R: Wait + Abort>(
+    rt: &R,
+    alloc: Global,
+    ground: Ground,
+    machine: Machine,
+    other_ground: Ground,
+    idle: Machine,
+) -> Result<(), Fail>
+    requires { ground ≡ K.table }
+{
+    let (own, seats, seen) = Shared::<K>::open(alloc, ground, machine)?;
+    strangers_beside::<K, Brand, _>(rt, alloc, &own, seats, seen, other_ground, idle)
+}
+
+/// The second stands beside the word that J names.
+fn strangers_beside<K: Naming, J: Naming, R: Wait + Abort>(
+    rt: &R,
+    alloc: Global,
+    own: &Shared<K>,
+    seats: [Seat; 7],
+    mut seen: Seen<K>,
+    ground: Ground,
+    idle: Machine,
+) -> Result<(), Fail>
+    requires { ground ≡ J.table }
+{
     let (increment1, increment2) = of_increments(seats);
     increment2.leave();
-    let started = start(&rt, &own, &mut seen);
-    let first = own.issue(&rt, &mut seen);
+    let other: Shared<J> = match unserved(alloc, ground, idle) {
+        Ok(other) => other,
+        Err(refusal) => {
+            increment1.leave();
+            return Err(refusal.into());
+        }
+    };
+    let started = start(rt, own, &mut seen);
+    let first = own.issue(rt, &mut seen);
     let never = note(Unit::Increment1, 2);
-    let (seat, refusal) = refused_claim(&rt, &own, increment1, never);
+    let (seat, refusal) = refused_claim(rt, own, increment1, never);
     let given = note(Unit::Increment1, 1);
-    let (seat, is_stored) = serve_beside(&rt, &own, &other, seat, given);
+    let (seat, is_stored) = serve_beside(rt, own, &other, seat, given);
     let stored = seat.leave();
     assert!(rt; started == Ok(()) && first == issued(Unit::Increment1, 1));
     assert!(rt; refusal == Some(Refusal::Stranger));
     assert!(rt; is_stored && stored == 1);
-    assert!(rt; shows(&rt, &own, &mut seen, "5", "0", 1));
+    assert!(rt; shows(rt, own, &mut seen, "5", "0", 1));
     Ok(())
 }
 
@@ -277,18 +366,30 @@ fn strangers(rt: HostRuntime) -> Result<(), Fail> {
 #[test]
 fn ending(rt: HostRuntime) -> Result<(), Fail> {
     let machine = booted(rt.alloc(), &[])?;
-    let shared = unserved(machine)?;
-    assert!(rt; !shared.ended(&rt));
-    shared.end(&rt);
-    assert!(rt; shared.ended(&rt));
+    let ground = Ground::new(rt.alloc())?;
+    ending_of::<Brand, _>(&rt, rt.alloc(), ground, machine)
+}
+
+fn ending_of<K: Naming, R: Wait + Abort>(
+    rt: &R,
+    alloc: Global,
+    ground: Ground,
+    machine: Machine,
+) -> Result<(), Fail>
+    requires { ground ≡ K.table }
+{
+    let shared: Shared<K> = unserved(alloc, ground, machine)?;
+    assert!(rt; !shared.ended(rt));
+    shared.end(rt);
+    assert!(rt; shared.ended(rt));
     Ok(())
 }
 
 /// Takes the seat out of a place and serves a reservation with it. It answers how many were stored with
 /// the seat, which is left, and whether all was accepted.
-fn serve_from<R: Wait>(
+fn serve_from<K: Naming, R: Wait>(
     rt: &R,
-    shared: &Shared,
+    shared: &Shared<K>,
     place: &mut Option<Seat>,
     note: Note,
 ) -> (u64, bool) {
@@ -314,9 +415,9 @@ fn is_empty(place: Option<Seat>) -> bool {
 
 /// Serves a reservation of each Increment unit in a thread of its own. It answers how many were stored
 /// with either seat, None where anything was refused.
-fn serve_both<R: Threads + Wait + Sync>(
+fn serve_both<K: Naming + Send + Sync, R: Threads + Wait + Sync>(
     rt: &R,
-    shared: &Shared,
+    shared: &Shared<K>,
     increment1: Seat,
     increment2: Seat,
 ) -> Option<(u64, u64)> {
@@ -340,17 +441,83 @@ fn serve_both<R: Threads + Wait + Sync>(
 #[test]
 fn two_threads(rt: HostRuntime) -> Result<(), Fail> {
     let machine = booted(rt.alloc(), &[(0o100, FIRST), (0o101, SECOND)])?;
-    let (shared, seats, mut seen) = Shared::open(machine)?;
+    let ground = Ground::new(rt.alloc())?;
+    two_threads_of::<Brand, _>(&rt, rt.alloc(), ground, machine)
+}
+
+fn two_threads_of<K: Naming + Send + Sync, R: Threads + Wait + Abort + Sync>(
+    rt: &R,
+    alloc: Global,
+    ground: Ground,
+    machine: Machine,
+) -> Result<(), Fail>
+    requires { ground ≡ K.table }
+{
+    let (shared, seats, mut seen) = Shared::<K>::open(alloc, ground, machine)?;
     let (increment1, increment2) = of_increments(seats);
-    let started = start(&rt, &shared, &mut seen);
-    let first = shared.issue(&rt, &mut seen);
-    let second = shared.issue(&rt, &mut seen);
-    let was_drained = shared.drained(&rt);
-    let stored = serve_both(&rt, &shared, increment1, increment2);
+    let started = start(rt, &shared, &mut seen);
+    let first = shared.issue(rt, &mut seen);
+    let second = shared.issue(rt, &mut seen);
+    let was_drained = shared.drained(rt);
+    let stored = serve_both(rt, &shared, increment1, increment2);
     assert!(rt; started == Ok(()) && !was_drained);
     assert!(rt; first == issued(Unit::Increment1, 1) && second == issued(Unit::Increment2, 2));
     assert!(rt; stored == Some((1, 1)));
-    assert!(rt; shared.drained(&rt));
-    assert!(rt; shows(&rt, &shared, &mut seen, "5", "3", 2));
+    assert!(rt; shared.drained(rt));
+    assert!(rt; shows(rt, &shared, &mut seen, "5", "3", 2));
+    Ok(())
+}
+
+/// The log of a snapshot that a holder takes has the exchange with so many instructions after it.
+fn has_log<K: Naming, R: Wait>(
+    rt: &R,
+    shared: &Shared<K>,
+    seen: &mut Seen<K>,
+    issues: u64,
+) -> bool {
+    match shared.snapshot(rt, seen) {
+        Ok(snapshot) => {
+            snapshot.log().entries() == [Entry::Exchange(0o40), Entry::Issued(issues)].as_slice()
+        }
+        Err(_) => false,
+    }
+}
+
+/// The issuer, with four issues after the first exchange, meets a second holder that knows the exchange alone. The
+/// second holder's next snapshot has them, and so has what is issued then by the second holder the next place.
+#[test]
+fn meeting(rt: HostRuntime) -> Result<(), Fail> {
+    let machine = booted(rt.alloc(), &[(0o100, PASSES), (0o101, FIVE)])?;
+    let ground = Ground::new(rt.alloc())?;
+    meeting_of::<Brand, _>(&rt, rt.alloc(), ground, machine)
+}
+
+fn meeting_of<K: Naming, R: Wait + Abort>(
+    rt: &R,
+    alloc: Global,
+    ground: Ground,
+    machine: Machine,
+) -> Result<(), Fail>
+    requires { ground ≡ K.table }
+{
+    let (shared, seats, mut seen) = Shared::<K>::open(alloc, ground, machine)?;
+    leave_all(seats);
+    let started = start(rt, &shared, &mut seen);
+    let mut other = seen.split()?;
+    let issues = [
+        shared.issue(rt, &mut seen),
+        shared.issue(rt, &mut seen),
+        shared.issue(rt, &mut seen),
+        shared.issue(rt, &mut seen),
+    ];
+    shared.meet(&mut seen, &mut other);
+    assert!(rt; started == Ok(()));
+    assert!(rt; issues == [Ok(None), Ok(None), Ok(None), Ok(None)]);
+    assert!(rt; has_log(rt, &shared, &mut other, 4));
+    let fifth = shared.issue(rt, &mut other);
+    shared.meet(&mut other, &mut seen);
+    let pending = shared.snapshot(rt, &mut seen).err();
+    assert!(rt; fifth == issued(Unit::Increment1, 1));
+    assert!(rt; pending == Some(Refusal::NotDrained));
     Ok(())
 }

@@ -10,6 +10,26 @@ const BUDGET: u64 = 1_000_000;
 /// The largest budget.
 pub const LARGEST_BUDGET: u64 = 10_000_000;
 
+/// What `--version` prints after the program's name.
+const VERSION: &str = "0.1.0";
+
+/// The end of the text that `--help` prints.
+const AFTER_HELP: &str = "\
+Example:
+  cdc6600 run < decks/two-adds.deck
+
+Exit status:
+  0  the program stopped, or all that was asked for is printed
+  1  the deck or the schedule is refused
+  2  the command line is refused, or the log on it
+  3  the program was halted by a refused opcode, a straddling instruction or a fetch out of range
+  4  the machine has an address fault
+  5  the budget is used up, or the log has no more
+  6  no memory was to be had
+  7  a read or a write failed
+
+Decks, schedules, logs and dumps are described in docs/formats.md.";
+
 /// What the command line asks for.
 #[derive(Clone, Copy, Debug, Drop, PartialEq, Eq)]
 pub enum Request<'a> {
@@ -59,6 +79,9 @@ fn accepted<'a>(alloc: Global) -> Result<Command<'a>, AllocError> {
         .override_usage("cdc6600 list");
     Command::new(alloc, "cdc6600")
         .about("A CDC 6600 central processor with its scoreboard")
+        .version(VERSION)
+        .after_help(AFTER_HELP)
+        .arg_required_else_help(true)
         .no_binary_name(true)
         .subcommand_required(true)
         .disable_help_subcommand(true)

@@ -100,7 +100,10 @@ fn address_fault(rt: HostRuntime) -> Result<(), Fail> {
     let mut answers = LOADS_ANSWERED.to_vec(rt.alloc())?;
     answers.push(("issue", "E2 faulted"))?;
     let dump = Dump {
-        begins: "P 000001 PARCEL 1 HELD 46000460004600000000\nHALT running FAULT address\nRA 000100 FL 000020 EM 010000\n",
+        begins: "\
+            P 000001 PARCEL 1 HELD 46000460004600000000\n\
+            HALT running FAULT address\n\
+            RA 000100 FL 000020 EM 010000\n",
         registers,
         shows: "",
         log: "E40 I3",
@@ -127,7 +130,10 @@ fn fault_at_once(rt: HostRuntime) -> Result<(), Fail> {
         ["at 43\nword 00010000000000000000\nat 100\nword 51100000205110000001\n"].as_slice(),
     )?;
     let dump = Dump {
-        begins: "P 000000 PARCEL 2 HELD 51100000205110000001\nHALT running FAULT address\nRA 000100 FL 000020 EM 010000\n",
+        begins: "\
+            P 000000 PARCEL 2 HELD 51100000205110000001\n\
+            HALT running FAULT address\n\
+            RA 000100 FL 000020 EM 010000\n",
         registers: [("A1", "20")].as_slice(),
         shows: "",
         log: "E40 I1",
@@ -163,8 +169,14 @@ fn fault_mode_off(rt: HostRuntime) -> Result<(), Fail> {
 /// and the fetch waits for the store.
 #[test]
 fn stores_to_code(rt: HostRuntime) -> Result<(), Fail> {
-    let lines =
-        "at 41\nword 00000100000000000001\nat 56\nword 76211000000000000000\nat 100\nword 56610567007611046000\nshow 100 101\n";
+    let lines = "\
+        at 41\n\
+        word 00000100000000000001\n\
+        at 56\n\
+        word 76211000000000000000\n\
+        at 100\n\
+        word 56610567007611046000\n\
+        show 100 101\n";
     let deck = deck(rt.alloc(), [lines].as_slice())?;
     let deck = deck.as_slice();
     let answers = [
@@ -243,8 +255,19 @@ fn full_hopper(rt: HostRuntime) -> Result<(), Fail> {
 /// A store into the second page of a memory that has one word there.
 #[test]
 fn stores_past_a_page(rt: HostRuntime) -> Result<(), Fail> {
-    let deck =
-        b"core 257\nat 40\nword 00000100000000000000\nat 42\nword 00000401000000000000\nat 56\nword 7\nat 100\nword 51600004000000000000\nstart 40\nshow 400 400\nend\n";
+    let deck = b"\
+        core 257\n\
+        at 40\n\
+        word 00000100000000000000\n\
+        at 42\n\
+        word 00000401000000000000\n\
+        at 56\n\
+        word 7\n\
+        at 100\n\
+        word 51600004000000000000\n\
+        start 40\n\
+        show 400 400\n\
+        end\n";
     let dump = Dump {
         begins: "P 000100 PARCEL 2 HELD 51600004000000000000\nHALT stop FAULT none\nRA 000000 FL 000401 EM 000000\n",
         registers: [("A6", "400"), ("X6", "7")].as_slice(),

@@ -110,7 +110,7 @@ fn refused_decks(rt: HostRuntime) -> Result<(), Fail> {
         ("core 256\ncode NO;NO\n", "2: instruction"),
         ("core 256\ncode NO; NO; NO; SX1 B0+5\n", "2: full"),
         ("core 256\nat 377\ncode NO\ncode sx1\n", "4: range"),
-        ("core 256\nask 40 free\n", "2: unknown"),
+        ("core 256\nask 40 freely\n", "2: unknown"),
         ("core 256\nEND\n", "2: unknown"),
         ("core 256\nend \n", "2: unknown"),
         ("core 256\nat 8\n", "2: number"),

@@ -10,8 +10,23 @@ use std::thread::Threads;
 
 /// Packages at 0, 20, 40 and 60, all of which take the same program from its first word on: five passes and a
 /// stop, so that a word ends after four instructions.
-const PACKAGES: &str =
-    "core 256\nat 1\nword 200000000000000\nword 20000000000000\nat 21\nword 200000000000000\nword 20000000000000\nat 41\nword 200000000000000\nword 20000000000000\nat 61\nword 200000000000000\nword 20000000000000\nat 200\ncode NO; NO; NO; NO\ncode NO; PS\n";
+const PACKAGES: &str = "\
+    core 256\n\
+    at 1\n\
+    word 200000000000000\n\
+    word 20000000000000\n\
+    at 21\n\
+    word 200000000000000\n\
+    word 20000000000000\n\
+    at 41\n\
+    word 200000000000000\n\
+    word 20000000000000\n\
+    at 61\n\
+    word 200000000000000\n\
+    word 20000000000000\n\
+    at 200\n\
+    code NO; NO; NO; NO\n\
+    code NO; PS\n";
 
 /// A deck with these lines after the packages runs to this log and status, and the replay of the log prints the
 /// same dump with the same status.
@@ -130,7 +145,12 @@ fn request_after_a_fault(rt: HostRuntime) -> Result<(), Fail> {
     let dump = Dump {
         begins: "P 000000 PARCEL 0 HELD 00000460004600046000\nHALT stop FAULT none\nRA 000100 FL 000020 EM 000000\n",
         registers: [].as_slice(),
-        shows: "M 000020 00000000000000000000\nM 000021 00000200000020000000\nM 000022 00000020000000000000\nM 000023 00010000000000000000\nM 000027 00000002000000000000\n",
+        shows: "\
+            M 000020 00000000000000000000\n\
+            M 000021 00000200000020000000\n\
+            M 000022 00000020000000000000\n\
+            M 000023 00010000000000000000\n\
+            M 000027 00000002000000000000\n",
         log: "E0 I1 E20 I1",
     };
     expect_replayed(&rt, deck.as_slice(), 0, dump)?;
@@ -143,7 +163,28 @@ fn two_packages(alloc: Global, line: &str) -> Result<Vec<u8>, AllocError> {
     joined(
         alloc,
         [
-            b"core 256\nat 40\nword 00000000000000000000\nword 00000100000000000010\nword 00000020000000000011\nat 51\nword 5\nat 60\nword 00000001000000000000\nword 00000100000000000000\nword 00000020000000000000\nat 100\ncode SA2 B1+B0; BX3 X1*X2; SA1 B2+B0; NO\nat 110\nword 6\nword 3\nstart 40\nshow 60 63\nshow 67 67\nshow 71 73\n".as_slice(),
+            b"\
+                core 256\n\
+                at 40\n\
+                word 00000000000000000000\n\
+                word 00000100000000000010\n\
+                word 00000020000000000011\n\
+                at 51\n\
+                word 5\n\
+                at 60\n\
+                word 00000001000000000000\n\
+                word 00000100000000000000\n\
+                word 00000020000000000000\n\
+                at 100\n\
+                code SA2 B1+B0; BX3 X1*X2; SA1 B2+B0; NO\n\
+                at 110\n\
+                word 6\n\
+                word 3\n\
+                start 40\n\
+                show 60 63\n\
+                show 67 67\n\
+                show 71 73\n"
+                .as_slice(),
             line.as_bytes(),
             b"end\n",
         ]
@@ -156,7 +197,15 @@ fn two_packages(alloc: Global, line: &str) -> Result<Vec<u8>, AllocError> {
 const EXCHANGED: Dump<'static> = Dump {
     begins: "P 000001 PARCEL 0 HELD 00000000000000000000\nHALT stop FAULT none\nRA 000100 FL 000020 EM 000000\n",
     registers: &[],
-    shows: "M 000060 00000001000000000000\nM 000061 00000100000011000010\nM 000062 00000020000010000011\nM 000063 00000000000000000000\nM 000067 00000000000000000000\nM 000071 00000000000000000003\nM 000072 00000000000000000006\nM 000073 00000000000000000004\n",
+    shows: "\
+        M 000060 00000001000000000000\n\
+        M 000061 00000100000011000010\n\
+        M 000062 00000020000010000011\n\
+        M 000063 00000000000000000000\n\
+        M 000067 00000000000000000000\n\
+        M 000071 00000000000000000003\n\
+        M 000072 00000000000000000006\n\
+        M 000073 00000000000000000004\n",
     log: "E40 I4 E60 I1",
 };
 
@@ -187,6 +236,14 @@ fn exchange_asked_in_mid_word(rt: HostRuntime) -> Result<(), Fail> {
     expect_answers(&rt, deck.as_slice(), answers.as_slice(), "end\n", EXCHANGED)
 }
 
+/// A request at any time is made before the first word, at its end or at the stop.
+#[test]
+fn request_at_any_time(rt: HostRuntime) -> Result<(), Fail> {
+    let deck = two_packages(rt.alloc(), "ask 60 free\n")?;
+    let logs = ["E40 E60 I1", "E40 I4 E60 I1", "E40 I5 E60 I1"];
+    expect_ran_by_one(&rt, deck.as_slice(), 0, logs.as_slice())
+}
+
 /// The same exchange by a run. A program that has stopped has a 1 as its status. A request that isn't reached
 /// changes nothing.
 #[test]
@@ -195,7 +252,15 @@ fn later_requests(rt: HostRuntime) -> Result<(), Fail> {
     expect_ran(&rt, deck.as_slice(), 0, EXCHANGED)?;
     let deck = two_packages(rt.alloc(), "ask 60 after 5\n")?;
     let dump = Dump {
-        shows: "M 000060 00000001000000000000\nM 000061 00000100000011000010\nM 000062 00000020000010000011\nM 000063 00000000000000000000\nM 000067 00000001000000000000\nM 000071 00000000000000000003\nM 000072 00000000000000000006\nM 000073 00000000000000000004\n",
+        shows: "\
+            M 000060 00000001000000000000\n\
+            M 000061 00000100000011000010\n\
+            M 000062 00000020000010000011\n\
+            M 000063 00000000000000000000\n\
+            M 000067 00000001000000000000\n\
+            M 000071 00000000000000000003\n\
+            M 000072 00000000000000000006\n\
+            M 000073 00000000000000000004\n",
         log: "E40 I5 E60 I1",
         ..EXCHANGED
     };
@@ -211,7 +276,15 @@ fn later_requests(rt: HostRuntime) -> Result<(), Fail> {
             ("X2", "6"),
             ("X3", "4"),
         ],
-        shows: "M 000060 00000001000000000000\nM 000061 00000100000000000000\nM 000062 00000020000000000000\nM 000063 00000000000000000000\nM 000067 00000000000000000000\nM 000071 00000000000000000000\nM 000072 00000000000000000000\nM 000073 00000000000000000000\n",
+        shows: "\
+            M 000060 00000001000000000000\n\
+            M 000061 00000100000000000000\n\
+            M 000062 00000020000000000000\n\
+            M 000063 00000000000000000000\n\
+            M 000067 00000000000000000000\n\
+            M 000071 00000000000000000000\n\
+            M 000072 00000000000000000000\n\
+            M 000073 00000000000000000000\n",
         log: "E40 I5",
         ..EXCHANGED
     };

@@ -1,10 +1,10 @@
 //! A run of a deck by threads: a worker for each unit, one for memory, and this thread, which issues.
-ghost use Rattle.std.specs.Prelude.{◌≡◌, ◌≤◌, [], true, Some, IfOk, MatchResult};
+ghost use Rattle.std.specs.Prelude.{◌≡◌, ◌≤◌, true, Some, IfOk, MatchResult};
 ghost use Rattle.instructions.specs.declared.refusal.Refusal.TheVariants.{OutOfMemory};
 ghost use Rattle.sequential.specs.Replay.{boot, replay};
 ghost use Rattle.program_order.specs.Headline.{IsFaultedRun};
 ghost use Rattle.program_order.specs.Processor.{boot_processor};
-ghost use Rattle.deck.specs.inner.Views.{asked};
+ghost use Rattle.deck.specs.Views.{asked};
 
 use instruction_table::Refusal;
 use job_deck::Deck;
@@ -15,7 +15,7 @@ use std::thread::Threads;
 use unit_workers::{Gates, Open, Orders, run_threads};
 
 /// What a run of this deck is to do: it starts with the package of `start`, and makes the requests of the `ask`
-/// lines. None is left to be made at any time.
+/// lines, after so many instructions or at any time.
 ///
 /// # Errors
 /// No memory was to be had.
@@ -23,7 +23,7 @@ use unit_workers::{Gates, Open, Orders, run_threads};
 fn orders(alloc: Global, deck: &Deck) -> Result<Orders, AllocError>
     ensures start { IfOk result (λ orders. orders.start ≡ deck.now.start) }
     ensures after { IfOk result (λ orders. orders.after.items ≡ asked deck.now.asks.items) }
-    ensures free { IfOk result (λ orders. orders.free.items ≡ []) }
+    ensures free { IfOk result (λ orders. orders.free.items ≡ deck.now.free.items) }
 {
     let mut after = Vec::new(alloc);
     for ask in &deck.asks {
@@ -32,7 +32,7 @@ fn orders(alloc: Global, deck: &Deck) -> Result<Orders, AllocError>
     Ok(Orders {
         start: deck.start,
         after,
-        free: Vec::new(alloc),
+        free: Vec::from_slice(alloc, deck.free.as_slice())?,
     })
 }
 
@@ -45,10 +45,8 @@ fn booted(alloc: Global, deck: &Deck, budget: u64) -> Result<Machine, Refusal>
     ensures machine { MatchResult result (λ machine. machine ≡ boot_processor deck.now.image.memory budget)
         (λ refusal. refusal ≡ OutOfMemory) }
 {
-    match deck.image.memory().copy() {
-        Ok(memory) => Machine::boot(alloc, memory, budget),
-        Err(refusal) => Err(refusal),
-    }
+    let memory = deck.image.memory().copy()?;
+    Machine::boot(alloc, memory, budget)
 }
 
 /// A gate for each unit that holds nobody.

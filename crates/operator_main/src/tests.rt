@@ -28,6 +28,27 @@ pub fn joined(alloc: Global, texts: &[&[u8]]) -> Result<Vec<u8>, AllocError> {
     Ok(all)
 }
 
+/// The program's status with these arguments and this input, what it prints and what it says of faults.
+fn answered(
+    rt: &(impl Abort + AllocGlobal + Threads + Wait + Sync),
+    texts: &[&str],
+    input: &[u8],
+) -> Result<(u8, Vec<u8>, Vec<u8>), Fail> {
+    let words = words(rt.alloc(), texts)?;
+    let mut input = input;
+    let mut output = Vec::new(rt.alloc());
+    let mut faults = Vec::new(rt.alloc());
+    let status = program(
+        rt,
+        rt.alloc(),
+        words.as_slice(),
+        &mut input,
+        &mut output,
+        &mut faults,
+    );
+    Ok((status, output, faults))
+}
+
 pub fn expect_run(
     rt: &(impl Abort + AllocGlobal + Threads + Wait + Sync),
     texts: &[&str],
@@ -36,34 +57,55 @@ pub fn expect_run(
     printed: &[u8],
     told: &[u8],
 ) -> Result<(), Fail> {
-    let words = words(rt.alloc(), texts)?;
-    let mut input = input;
-    let mut output = Vec::new(rt.alloc());
-    let mut faults = Vec::new(rt.alloc());
-    let answer = program(
-        rt,
-        rt.alloc(),
-        words.as_slice(),
-        &mut input,
-        &mut output,
-        &mut faults,
-    );
+    let (ended, output, faults) = answered(rt, texts, input)?;
     assert_eq!(rt; faults.as_slice(), told);
     assert_eq!(rt; output.as_slice(), printed);
-    assert_eq!(rt; answer, status);
+    assert_eq!(rt; ended, status);
     Ok(())
 }
 
 /// A deck that adds 5 and 3, subtracts them and stops.
-pub const TWO_ADDS: &[u8] =
-    b"core 256\nat 40\nword 00000000000000000000\nword 00000100000000000000\nword 00000020000000000000\nat 100\nword 71100000057120000003\nword 36312374214600000000\nstart 40\nshow 100 101\nend\n";
+pub const TWO_ADDS: &[u8] = b"\
+    core 256\n\
+    at 40\n\
+    word 00000000000000000000\n\
+    word 00000100000000000000\n\
+    word 00000020000000000000\n\
+    at 100\n\
+    word 71100000057120000003\n\
+    word 36312374214600000000\n\
+    start 40\n\
+    show 100 101\n\
+    end\n";
 
-pub const TWO_ADDS_DUMP: &[u8] =
-    b"P 000001 PARCEL 3 HELD 36312374214600000000\nHALT stop FAULT none\nRA 000100 FL 000020 EM 000000\nA 000000 000000 000000 000000 000000 000000 000000 000000\nB 000000 000000 000000 000000 000000 000000 000000 000000\nX0 00000000000000000000\nX1 00000000000000000005\nX2 00000000000000000003\nX3 00000000000000000010\nX4 77777777777777777775\nX5 00000000000000000000\nX6 00000000000000000000\nX7 00000000000000000000\nM 000100 71100000057120000003\nM 000101 36312374214600000000\nLOG E40 I6\n";
+pub const TWO_ADDS_DUMP: &[u8] = b"\
+    P 000001 PARCEL 3 HELD 36312374214600000000\n\
+    HALT stop FAULT none\n\
+    RA 000100 FL 000020 EM 000000\n\
+    A 000000 000000 000000 000000 000000 000000 000000 000000\n\
+    B 000000 000000 000000 000000 000000 000000 000000 000000\n\
+    X0 00000000000000000000\n\
+    X1 00000000000000000005\n\
+    X2 00000000000000000003\n\
+    X3 00000000000000000010\n\
+    X4 77777777777777777775\n\
+    X5 00000000000000000000\n\
+    X6 00000000000000000000\n\
+    X7 00000000000000000000\n\
+    M 000100 71100000057120000003\n\
+    M 000101 36312374214600000000\n\
+    LOG E40 I6\n";
 
 /// A deck that shifts X3 to the left and then comes to an opcode that is refused.
-pub const LEFT_SHIFT: &[u8] =
-    b"core 256\nat 41\nword 00000100000000000000\nword 00000020000000000000\nat 100\nword 20301301234600046000\nstart 40\nend\n";
+pub const LEFT_SHIFT: &[u8] = b"\
+    core 256\n\
+    at 41\n\
+    word 00000100000000000000\n\
+    word 00000020000000000000\n\
+    at 100\n\
+    word 20301301234600046000\n\
+    start 40\n\
+    end\n";
 
 /// What a dump has that isn't the same in each: the lines before the registers, the registers that aren't +0
 /// with their digits from the first that isn't 0 on, the words that are shown, and the log.
@@ -158,28 +200,6 @@ pub fn expect_replayed(
     expect_run(rt, texts.as_slice(), deck, status, printed.as_slice(), b"")
 }
 
-/// What the program prints and its status, where it says nothing on the fault stream.
-fn answered(
-    rt: &(impl Abort + AllocGlobal + Threads + Wait + Sync),
-    texts: &[&str],
-    input: &[u8],
-) -> Result<(u8, Vec<u8>), Fail> {
-    let words = words(rt.alloc(), texts)?;
-    let mut input = input;
-    let mut output = Vec::new(rt.alloc());
-    let mut faults = Vec::new(rt.alloc());
-    let answer = program(
-        rt,
-        rt.alloc(),
-        words.as_slice(),
-        &mut input,
-        &mut output,
-        &mut faults,
-    );
-    assert!(rt; faults.as_slice().is_empty());
-    Ok((answer, output))
-}
-
 /// A run prints the dump of the replay of one of these logs, with this status. What is issued before an address fault
 /// is recorded depends on when the fault's unit gets on.
 pub fn expect_ran_by_one(
@@ -188,12 +208,14 @@ pub fn expect_ran_by_one(
     status: u8,
     logs: &[&str],
 ) -> Result<(), Fail> {
-    let (ended, printed) = answered(rt, ["run"].as_slice(), deck)?;
+    let (ended, printed, told) = answered(rt, ["run"].as_slice(), deck)?;
     assert_eq!(rt; ended, status);
+    assert!(rt; told.is_empty());
     let mut found = 0u32;
     for log in logs {
-        let (ended, replayed) = answered(rt, ["replay", *log].as_slice(), deck)?;
+        let (ended, replayed, told) = answered(rt, ["replay", *log].as_slice(), deck)?;
         assert_eq!(rt; ended, status);
+        assert!(rt; told.is_empty());
         if printed == replayed {
             found = found.saturating_add(1);
         }
@@ -254,20 +276,75 @@ pub fn expect_answers(
 }
 
 /// The deck of two adds after three instructions.
-const THREE_DUMP: &[u8] =
-    b"P 000001 PARCEL 1 HELD 36312374214600000000\nHALT running FAULT none\nRA 000100 FL 000020 EM 000000\nA 000000 000000 000000 000000 000000 000000 000000 000000\nB 000000 000000 000000 000000 000000 000000 000000 000000\nX0 00000000000000000000\nX1 00000000000000000005\nX2 00000000000000000003\nX3 00000000000000000010\nX4 00000000000000000000\nX5 00000000000000000000\nX6 00000000000000000000\nX7 00000000000000000000\nM 000100 71100000057120000003\nM 000101 36312374214600000000\nLOG E40 I3\n";
+const THREE_DUMP: &[u8] = b"\
+    P 000001 PARCEL 1 HELD 36312374214600000000\n\
+    HALT running FAULT none\n\
+    RA 000100 FL 000020 EM 000000\n\
+    A 000000 000000 000000 000000 000000 000000 000000 000000\n\
+    B 000000 000000 000000 000000 000000 000000 000000 000000\n\
+    X0 00000000000000000000\n\
+    X1 00000000000000000005\n\
+    X2 00000000000000000003\n\
+    X3 00000000000000000010\n\
+    X4 00000000000000000000\n\
+    X5 00000000000000000000\n\
+    X6 00000000000000000000\n\
+    X7 00000000000000000000\n\
+    M 000100 71100000057120000003\n\
+    M 000101 36312374214600000000\n\
+    LOG E40 I3\n";
 
 /// The same deck after four instructions.
-const FOUR_DUMP: &[u8] =
-    b"P 000001 PARCEL 2 HELD 36312374214600000000\nHALT running FAULT none\nRA 000100 FL 000020 EM 000000\nA 000000 000000 000000 000000 000000 000000 000000 000000\nB 000000 000000 000000 000000 000000 000000 000000 000000\nX0 00000000000000000000\nX1 00000000000000000005\nX2 00000000000000000003\nX3 00000000000000000010\nX4 77777777777777777775\nX5 00000000000000000000\nX6 00000000000000000000\nX7 00000000000000000000\nM 000100 71100000057120000003\nM 000101 36312374214600000000\nLOG E40 I4\n";
+const FOUR_DUMP: &[u8] = b"\
+    P 000001 PARCEL 2 HELD 36312374214600000000\n\
+    HALT running FAULT none\n\
+    RA 000100 FL 000020 EM 000000\n\
+    A 000000 000000 000000 000000 000000 000000 000000 000000\n\
+    B 000000 000000 000000 000000 000000 000000 000000 000000\n\
+    X0 00000000000000000000\n\
+    X1 00000000000000000005\n\
+    X2 00000000000000000003\n\
+    X3 00000000000000000010\n\
+    X4 77777777777777777775\n\
+    X5 00000000000000000000\n\
+    X6 00000000000000000000\n\
+    X7 00000000000000000000\n\
+    M 000100 71100000057120000003\n\
+    M 000101 36312374214600000000\n\
+    LOG E40 I4\n";
 
 /// The same deck before any exchange.
-const BOOT_DUMP: &[u8] =
-    b"P 000000 PARCEL 0 HELD none\nHALT stop FAULT none\nRA 000000 FL 000000 EM 000000\nA 000000 000000 000000 000000 000000 000000 000000 000000\nB 000000 000000 000000 000000 000000 000000 000000 000000\nX0 00000000000000000000\nX1 00000000000000000000\nX2 00000000000000000000\nX3 00000000000000000000\nX4 00000000000000000000\nX5 00000000000000000000\nX6 00000000000000000000\nX7 00000000000000000000\nM 000100 71100000057120000003\nM 000101 36312374214600000000\nLOG none\n";
+const BOOT_DUMP: &[u8] = b"\
+    P 000000 PARCEL 0 HELD none\n\
+    HALT stop FAULT none\n\
+    RA 000000 FL 000000 EM 000000\n\
+    A 000000 000000 000000 000000 000000 000000 000000 000000\n\
+    B 000000 000000 000000 000000 000000 000000 000000 000000\n\
+    X0 00000000000000000000\n\
+    X1 00000000000000000000\n\
+    X2 00000000000000000000\n\
+    X3 00000000000000000000\n\
+    X4 00000000000000000000\n\
+    X5 00000000000000000000\n\
+    X6 00000000000000000000\n\
+    X7 00000000000000000000\n\
+    M 000100 71100000057120000003\n\
+    M 000101 36312374214600000000\n\
+    LOG none\n";
 
 /// The lines from RA to X7 of a program at 100 with 20 words whose registers are all +0.
-const ZEROS: &[u8] =
-    b"RA 000100 FL 000020 EM 000000\nA 000000 000000 000000 000000 000000 000000 000000 000000\nB 000000 000000 000000 000000 000000 000000 000000 000000\nX0 00000000000000000000\nX1 00000000000000000000\nX2 00000000000000000000\nX3 00000000000000000000\nX4 00000000000000000000\nX5 00000000000000000000\nX6 00000000000000000000\nX7 00000000000000000000\n";
+const ZEROS: &[u8] = b"\
+    RA 000100 FL 000020 EM 000000\n\
+    A 000000 000000 000000 000000 000000 000000 000000 000000\n\
+    B 000000 000000 000000 000000 000000 000000 000000 000000\n\
+    X0 00000000000000000000\n\
+    X1 00000000000000000000\n\
+    X2 00000000000000000000\n\
+    X3 00000000000000000000\n\
+    X4 00000000000000000000\n\
+    X5 00000000000000000000\n\
+    X6 00000000000000000000\n\
+    X7 00000000000000000000\n";
 
 #[test]
 fn two_adds(rt: HostRuntime) -> Result<(), Fail> {
@@ -328,9 +405,22 @@ fn lists(rt: HostRuntime) -> Result<(), Fail> {
     expect_run(
         &rt,
         ["list"].as_slice(),
-        b"core 256\nat 41\nword 00000100000000000000\nword 00000020000000000000\nat 100\ncode SX1 B0+5; SX2 B0+3\ncode IX3 X1+X2; IX4 X2-X1; NO; PS\nstart 40\nend\n",
+        b"\
+            core 256\n\
+            at 41\n\
+            word 00000100000000000000\n\
+            word 00000020000000000000\n\
+            at 100\n\
+            code SX1 B0+5; SX2 B0+3\n\
+            code IX3 X1+X2; IX4 X2-X1; NO; PS\n\
+            start 40\n\
+            end\n",
         0,
-        b"000041 00000100000000000000 PS; BX0 X0; PS; PS\n000042 00000020000000000000 PS; JP B0+0; PS\n000100 71100000057120000003 SX1 B0+5; SX2 B0+3\n000101 36312374214600000000 IX3 X1+X2; IX4 X2-X1; NO; PS\n",
+        b"\
+            000041 00000100000000000000 PS; BX0 X0; PS; PS\n\
+            000042 00000020000000000000 PS; JP B0+0; PS\n\
+            000100 71100000057120000003 SX1 B0+5; SX2 B0+3\n\
+            000101 36312374214600000000 IX3 X1+X2; IX4 X2-X1; NO; PS\n",
         b"",
     )
 }
@@ -422,7 +512,16 @@ fn answers_conflicts(rt: HostRuntime) -> Result<(), Fail> {
         &rt,
         TWO_ADDS,
         b"ask 40\nexchange\nissue\nissue\nissue\nissue\nread longadd\ndrain\n",
-        b"ok\nok\nok increment1 1\nok increment2 2\nok longadd 3\nE7 unit busy longadd\nE9 operand awaited X1\nP 000001 PARCEL 1 HELD 36312374214600000000\nHALT running FAULT none\n",
+        b"\
+            ok\n\
+            ok\n\
+            ok increment1 1\n\
+            ok increment2 2\n\
+            ok longadd 3\n\
+            E7 unit busy longadd\n\
+            E9 operand awaited X1\n\
+            P 000001 PARCEL 1 HELD 36312374214600000000\n\
+            HALT running FAULT none\n",
         b"LOG E40 I3\n",
     )
 }
@@ -432,7 +531,18 @@ fn answers_in_mid_word(rt: HostRuntime) -> Result<(), Fail> {
     expect_session(
         &rt,
         TWO_ADDS,
-        b"ask 40\nexchange\nissue\nread increment1\nfinish increment1\nstore increment1\nask 60\nexchange\nissue\nissue\nend\n",
+        b"\
+            ask 40\n\
+            exchange\n\
+            issue\n\
+            read increment1\n\
+            finish increment1\n\
+            store increment1\n\
+            ask 60\n\
+            exchange\n\
+            issue\n\
+            issue\n\
+            end\n",
         b"ok\nok\nok increment1 1\nok\nok\nok\nok\nE25 mid word\nok increment1 2\nE5 exchange waiting\nNOT DRAINED\n",
         b"LOG E40 I2\n",
     )
@@ -456,7 +566,14 @@ fn answers_an_illegal_opcode(rt: HostRuntime) -> Result<(), Fail> {
         &rt,
         LEFT_SHIFT,
         b"ask 40\nexchange\nissue\nissue\nissue\ndrain\n",
-        b"ok\nok\nok shift 1\nok\nE1 halted illegal 30\nP 000000 PARCEL 1 HELD 20301301234600046000\nHALT illegal 30 FAULT none\n",
+        b"\
+            ok\n\
+            ok\n\
+            ok shift 1\n\
+            ok\n\
+            E1 halted illegal 30\n\
+            P 000000 PARCEL 1 HELD 20301301234600046000\n\
+            HALT illegal 30 FAULT none\n",
         b"LOG E40 I2\n",
     )
 }
@@ -482,7 +599,24 @@ fn fetches_out_of_range(rt: HostRuntime) -> Result<(), Fail> {
         ["run"].as_slice(),
         b"core 256\nstart 360\nshow 376 377\nshow 0 0\nend\n",
         3,
-        b"P 000000 PARCEL 0 HELD none\nHALT fetch FAULT none\nRA 000000 FL 000000 EM 000000\nA 000000 000000 000000 000000 000000 000000 000000 000000\nB 000000 000000 000000 000000 000000 000000 000000 000000\nX0 00000000000000000000\nX1 00000000000000000000\nX2 00000000000000000000\nX3 00000000000000000000\nX4 00000000000000000000\nX5 00000000000000000000\nX6 00000000000000000000\nX7 00000000000000000000\nM 000376 00000000000000000000\nM 000377 00000000000000000000\nM 000000 00000000000000000000\nLOG E360 I1\n",
+        b"\
+            P 000000 PARCEL 0 HELD none\n\
+            HALT fetch FAULT none\n\
+            RA 000000 FL 000000 EM 000000\n\
+            A 000000 000000 000000 000000 000000 000000 000000 000000\n\
+            B 000000 000000 000000 000000 000000 000000 000000 000000\n\
+            X0 00000000000000000000\n\
+            X1 00000000000000000000\n\
+            X2 00000000000000000000\n\
+            X3 00000000000000000000\n\
+            X4 00000000000000000000\n\
+            X5 00000000000000000000\n\
+            X6 00000000000000000000\n\
+            X7 00000000000000000000\n\
+            M 000376 00000000000000000000\n\
+            M 000377 00000000000000000000\n\
+            M 000000 00000000000000000000\n\
+            LOG E360 I1\n",
         b"",
     )
 }
@@ -493,9 +627,44 @@ fn prints_each_register(rt: HostRuntime) -> Result<(), Fail> {
     expect_run(
         &rt,
         ["run"].as_slice(),
-        b"core 256\nword 77000007000010777777\nword 77000020000011000001\nword 77000010000012000002\nword 77020001000013000003\nword 77777777000014000004\nword 77777777000015000005\nword 77777777000016000006\nword 77777777000017000007\nword 20\nword 21\nword 22\nword 23\nword 24\nword 25\nword 26\nword 77777777777777777727\nstart 0\nshow 7 7\nend\n",
+        b"\
+            core 256\n\
+            word 77000007000010777777\n\
+            word 77000020000011000001\n\
+            word 77000010000012000002\n\
+            word 77020001000013000003\n\
+            word 77777777000014000004\n\
+            word 77777777000015000005\n\
+            word 77777777000016000006\n\
+            word 77777777000017000007\n\
+            word 20\n\
+            word 21\n\
+            word 22\n\
+            word 23\n\
+            word 24\n\
+            word 25\n\
+            word 26\n\
+            word 77777777777777777727\n\
+            start 0\n\
+            show 7 7\n\
+            end\n",
         0,
-        b"P 000007 PARCEL 0 HELD 00000000000000000000\nHALT stop FAULT none\nRA 000020 FL 000010 EM 020001\nA 000010 000011 000012 000013 000014 000015 000016 000017\nB 000000 000001 000002 000003 000004 000005 000006 000007\nX0 00000000000000000020\nX1 00000000000000000021\nX2 00000000000000000022\nX3 00000000000000000023\nX4 00000000000000000024\nX5 00000000000000000025\nX6 00000000000000000026\nX7 77777777777777777727\nM 000007 00000001000000000000\nLOG E0 I1\n",
+        b"\
+            P 000007 PARCEL 0 HELD 00000000000000000000\n\
+            HALT stop FAULT none\n\
+            RA 000020 FL 000010 EM 020001\n\
+            A 000010 000011 000012 000013 000014 000015 000016 000017\n\
+            B 000000 000001 000002 000003 000004 000005 000006 000007\n\
+            X0 00000000000000000020\n\
+            X1 00000000000000000021\n\
+            X2 00000000000000000022\n\
+            X3 00000000000000000023\n\
+            X4 00000000000000000024\n\
+            X5 00000000000000000025\n\
+            X6 00000000000000000026\n\
+            X7 77777777777777777727\n\
+            M 000007 00000001000000000000\n\
+            LOG E0 I1\n",
         b"",
     )
 }
@@ -583,13 +752,14 @@ fn usage(rt: HostRuntime) -> Result<(), Fail> {
     let none: &[&str] = &[];
     for (texts, status, begins) in [
         (["--help"].as_slice(), 0, "A CDC 6600"),
+        (["--version"].as_slice(), 0, "cdc6600 0.1.0\n"),
         (["run", "--help"].as_slice(), 0, "Runs the deck"),
         (["list", "--help"].as_slice(), 0, "Prints the words"),
         (["replay", "--help"].as_slice(), 0, "Goes through LOG"),
         (["events", "--help"].as_slice(), 0, "Makes the events"),
         (["replay"].as_slice(), 2, "error: "),
         (["replay", "E40", "I4"].as_slice(), 2, "error: "),
-        (none, 2, "error: "),
+        (none, 2, "A CDC 6600"),
         (["walk"].as_slice(), 2, "error: "),
         (["help"].as_slice(), 2, "error: "),
         (["run", "more"].as_slice(), 2, "error: "),

@@ -3,3 +3,5 @@ pub mod Sizes
 pub mod Slotted
 pub mod There
 pub mod Naming
+pub mod Numbering
+pub mod Telling

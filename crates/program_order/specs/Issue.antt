@@ -8,7 +8,7 @@ use Rattle.instructions.specs.declared.instr.Unit.TheVariants.{Branch}
 use Rattle.instructions.specs.declared.refusal.Halt.TheVariants.{Stop}
 use Rattle.instructions.specs.declared.refusal.Refusal.TheVariants.{Halted, Faulted, Budget, BranchPending}
 use Rattle.instructions.specs.declared.refusal.Refusal.TheVariants.{ExchangeWaiting, FetchWait}
-use Rattle.instructions.specs.Operands.{row}
+use Rattle.instructions.specs.Operands.{uses}
 use Rattle.sequential.specs.declared.fetching.Fetched.{Fetched}
 use Rattle.sequential.specs.declared.fetching.Fetched.TheVariants.{Halting, Passing, Taking}
 use Rattle.sequential.specs.declared.place.Place.{Place}
@@ -58,7 +58,7 @@ after_issue w (Taking i place) = record w {
     instr = i;
     at = w.state.place.p;
     number = suc w.last;
-    unit = unwrap_or (unit_for w.pending (row i).unit) Branch;
+    unit = unwrap_or (unit_for w.pending (uses i).unit) Branch;
     phase = Before Waiting;
   } ∷ [];
   log = w.log ++ Issued ∷ [];

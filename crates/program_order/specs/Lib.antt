@@ -14,3 +14,4 @@ pub mod Headline
 pub mod Working
 pub mod Reached
 pub mod Refusals
+pub mod Telling

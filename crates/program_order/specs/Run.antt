@@ -4,7 +4,7 @@ use Rattle.std.specs.Prelude.{Err, unwrap_or}
 use Rattle.instructions.specs.declared.instr.Unit.TheVariants.{Branch}
 use Rattle.instructions.specs.declared.refusal.Refusal.{Refusal}
 use Rattle.instructions.specs.declared.refusal.Refusal.TheVariants.{OutOfMemory}
-use Rattle.instructions.specs.Operands.{row}
+use Rattle.instructions.specs.Operands.{uses}
 use Rattle.sequential.specs.declared.fetching.Fetched.{Fetched}
 use Rattle.sequential.specs.declared.fetching.Fetched.TheVariants.{Halting, Passing, Taking}
 use Rattle.sequential.specs.State.{bounds_of}
@@ -24,7 +24,7 @@ unfoldable pub note_by : Processor → Fetched → Option Note
 note_by w (Halting halt place) = None
 note_by w (Passing place) = None
 note_by w (Taking i place) =
-    Some (record { unit = unwrap_or (unit_for w.pending (row i).unit) Branch; number = suc w.last })
+    Some (record { unit = unwrap_or (unit_for w.pending (uses i).unit) Branch; number = suc w.last })
 
 -- what a made event is answered: an issue's reservation, or that the event was made
 unfoldable pub done_by : Processor → Event → Done

@@ -10,7 +10,7 @@ use Rattle.instructions.specs.declared.refusal.Refusal.TheVariants.{UnitBusy, Re
 use Rattle.instructions.specs.declared.refusal.Refusal.TheVariants.{ResultHeld, OutOfTurn}
 use Rattle.instructions.specs.Finding.{Found}
 use Rattle.instructions.specs.Shape.{shape_of, puts_of, results, has_reference}
-use Rattle.instructions.specs.Operands.{row, sources_of}
+use Rattle.instructions.specs.Operands.{uses, sources_of}
 use Rattle.scoreboard.specs.declared.row.Progress.{Progress}
 use Rattle.scoreboard.specs.declared.row.Progress.TheVariants.{Reserved, Left}
 use Rattle.scoreboard.specs.Rows.{holds}
@@ -77,7 +77,7 @@ turn_answer (Some f) = unless (has_reference (shape_of f.answer) && out_of_turn 
 -- first order: E7, unit busy, where no unit of the kind is free; E8, result reserved, where a result register is a
 -- result still to come; else the unit and the next number
 unfoldable pub reserve_answer : Standing → Instr → Option FunctionalUnit → Result (FunctionalUnit × ℕ) Refusal
-reserve_answer s i None = Err (UnitBusy (first_unit (row i).unit))
+reserve_answer s i None = Err (UnitBusy (first_unit (uses i).unit))
 reserve_answer s i (Some unit) =
     if result_reserved row_of s.issued (results (shape_of i))
     then Err (ResultReserved (first_such (awaited row_of s.issued) (results (shape_of i))))

@@ -3,7 +3,7 @@
 ghost use Rattle.std.specs.Prelude.{◌≡◌, ◌<◌, ◌+◌, ◌^◌, [], IsSome};
 ghost use Rattle.std.specs.List.{list_any};
 ghost use Rattle.instructions.specs.Finding.{seek, replaced};
-ghost use Rattle.instructions.specs.Operands.{row};
+ghost use Rattle.instructions.specs.Operands.{uses};
 ghost use Rattle.scoreboard.specs.Rows.{is_branch, has_store_turn};
 ghost use Rattle.scoreboard.specs.Units.{unit_number};
 ghost use Rattle.scoreboard.specs.Issued.{row_of};
@@ -100,10 +100,10 @@ impl Board {
     /// `UnitBusy` where no unit of the kind is free, with the lower-numbered one; else `ResultReserved` with the
     /// first of its result registers, A before X, that somebody is to write.
     pub fn try_reserve(&mut self, instr: &Instr) -> Result<(Unit, u64), Refusal>
-        requires unit { IsSome (row instr.now).unit }
+        requires unit { IsSome (uses instr.now).unit }
         requires number { self.old.last + 1 < 2 ^ 64 }
         ensures answer { result ≡ reserve_answer self.old instr.now
-            (unit_for row_of self.old.issued (row instr.now).unit) }
+            (unit_for row_of self.old.issued (uses instr.now).unit) }
         ensures after { self.new ≡ reserved self.old instr.now result }
     {
         let Some(unit) = free_unit_for(&self.units, instr) else {

@@ -4,7 +4,7 @@
 ghost use Rattle.std.specs.Prelude.{IfSome, ◌≡◌, ◌≤◌, ◌<◌, ◌||◌, ◌∷◌, [], length, find, is_some};
 ghost use Rattle.std.specs.List.{list_any};
 ghost use Rattle.instructions.specs.declared.instr.Unit.TheVariants.{Branch};
-ghost use Rattle.instructions.specs.Operands.{row};
+ghost use Rattle.instructions.specs.Operands.{uses};
 ghost use Rattle.scoreboard.specs.Conflicts.{first_free};
 ghost use Rattle.scoreboard.specs.Units.{units_of, first_unit};
 ghost use Rattle.scoreboard.specs.Rows.{has_store_turn};
@@ -185,7 +185,7 @@ fn free_unit(units: &[Option<Issued>], kind: UnitKind) -> Option<Unit>
 /// The lower-numbered unit of an instruction's kind, Branch where it takes no unit.
 #[tactic(auto, unfolding(crate::specs::Units::first_unit, crate::specs::Units::head_unit, crate::specs::Units::units_of))]
 pub(crate) fn first_unit(instr: &Instr) -> Unit
-    ensures { result ≡ first_unit (row instr.now).unit }
+    ensures { result ≡ first_unit (uses instr.now).unit }
 {
     match unit_kind(instr) {
         None => Unit::Branch,
@@ -202,7 +202,7 @@ pub(crate) fn first_unit(instr: &Instr) -> Unit
 #[tactic(auto, unfolding(crate::specs::inner::Fields::free_for))]
 pub(crate) fn free_unit_for(units: &[Option<Issued>], instr: &Instr) -> Option<Unit>
     requires { length units.now ≡ 10 }
-    ensures { result ≡ free_for (is_taken units.now) (row instr.now).unit }
+    ensures { result ≡ free_for (is_taken units.now) (uses instr.now).unit }
 {
     match unit_kind(instr) {
         Some(kind) => free_unit(units, kind),

@@ -1,3 +1,4 @@
 pub mod Entries
 pub mod Performing
 pub mod Runs
+pub mod Taken

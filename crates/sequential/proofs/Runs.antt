@@ -129,7 +129,8 @@ split_steps (e ∷ es) (suc i) d h =
     ∙ ap (λ l. l ++ (steps_of (get_or es i d ∷ []) ++ steps_of (drop (suc i) es)))
     (sym (steps-append (e ∷ []) (take i es)))
 
-taken_steps : (es : List Entry) (i : ℕ) (d : Entry) → i < length es → steps_of (take (suc i) es) ≡ steps_of (take i es)
+pub taken_steps : (es : List Entry) (i : ℕ) (d : Entry) → i < length es → steps_of (take (suc i) es) ≡ steps_of
+    (take i es)
     ++ steps_of (get_or es i d ∷ [])
 unfolding steps_of
 taken_steps [] i d h = absurd (omega (arith, h))

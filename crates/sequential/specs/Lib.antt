@@ -6,4 +6,5 @@ pub mod Work
 pub mod Step
 pub mod Swap
 pub mod Replay
+pub mod Taken
 pub mod Log

@@ -6,7 +6,7 @@ use Rattle.instructions.specs.declared.instr.Instr.{Instr}
 use Rattle.instructions.specs.declared.instr.Reg.{Reg}
 use Rattle.instructions.specs.declared.instr.Reg.TheVariants.{X}
 use Rattle.instructions.specs.Shape.{Shape, Puts, Loads, Stores, Jumps, Links, puts_of, is_branch_shape}
-use Rattle.instructions.specs.Operands.{row}
+use Rattle.instructions.specs.Operands.{uses}
 use Rattle.registers.specs.declared.file.RegisterFile.{RegisterFile}
 use Rattle.registers.specs.Registers.{get, put}
 use Rattle.relocation.specs.declared.area.Access.{Access}
@@ -27,9 +27,9 @@ operand_at g (Some r) = get g r
 -- what an instruction of the word at an address computes with
 unfoldable pub operands : Instr → ℕ → RegisterFile → Operands
 operands instr place g = record {
-  first = operand_at g (row instr).first;
-  second = operand_at g (row instr).second;
-  outgoing = operand_at g (row instr).outgoing;
+  first = operand_at g (uses instr).first;
+  second = operand_at g (uses instr).second;
+  outgoing = operand_at g (uses instr).outgoing;
   place = place;
 }
 
@@ -90,7 +90,7 @@ reference_for (Stores n) v = Some (record { address = address_in v; access = Sto
 reference_for Jumps v = None
 reference_for Links v = Some (record { address = address_in v; access = StoreWord (word_in v) })
 
--- what a row does with this value
+-- what an instruction does with this value
 unfoldable pub work_of : Shape → UnitValue → Work
 work_of shape v = record {
   puts = same_for (number_in v) (puts_of shape);
@@ -103,7 +103,7 @@ unfoldable pub fault_of : Bounds → Option ProgramReference → Bool
 fault_of b None = false
 fault_of b (Some r) = stops_at_fault b && is_none (absolute b r.address)
 
--- the registers of a row that writes one or none, as a list
+-- the registers of an instruction that writes one or none, as a list
 abbrev pub listed : Option Reg → List Reg
 listed None = []
 listed (Some r) = r ∷ []

@@ -51,17 +51,14 @@ impl State {
     pub fn copy(&self) -> Result<State, Refusal>
         ensures { MatchResult result (λ state. state ≡ self.now) (λ refusal. refusal ≡ OutOfMemory) }
     {
-        match self.memory.copy() {
-            Ok(memory) => Ok(State {
-                registers: self.registers,
-                memory,
-                place: self.place,
-                area: self.area,
-                halt: self.halt,
-                fault: self.fault,
-            }),
-            Err(refusal) => Err(refusal),
-        }
+        Ok(State {
+            registers: self.registers,
+            memory: self.memory.copy()?,
+            place: self.place,
+            area: self.area,
+            halt: self.halt,
+            fault: self.fault,
+        })
     }
 
     /// The package that the exchange leaves in memory.

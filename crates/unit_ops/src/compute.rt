@@ -1,5 +1,5 @@
 ghost use Rattle.std.specs.Prelude.{◌≡◌, ◌+◌, ◌%◌, ◌^◌, ◌==◌, IsSome};
-ghost use Rattle.instructions.specs.Operands.{row};
+ghost use Rattle.instructions.specs.Operands.{uses};
 ghost use Rattle.unit_ops.specs.Values.{x_holds, is_zero, is_out_of_range, is_indefinite, b_holds, rank, logic};
 ghost use Rattle.unit_ops.specs.Values.{is_negative, magnitude, shifted_out, shifted_nominally, shifted, added};
 ghost use Rattle.unit_ops.specs.Values.{pair_value, addends_value, increment_value, branch_to, value_of, destination};
@@ -221,7 +221,7 @@ fn branch_to(taken: bool, to: Word18) -> UnitValue
 /// What the unit of an instruction computes from its operands. `PS` and `NO` have no unit, and no value.
 #[inline(always)]
 pub fn value(instr: &Instr, operands: &Operands) -> UnitValue
-    requires { IsSome (row instr.now).unit }
+    requires { IsSome (uses instr.now).unit }
     ensures { result ≡ value_of instr.now operands.now }
 {
     let x = operands.first;

@@ -1,5 +1,5 @@
 ghost use Rattle.std.specs.Prelude.{IsSome};
-ghost use Rattle.instructions.specs.Operands.{row};
+ghost use Rattle.instructions.specs.Operands.{uses};
 
 use crate::{Operands, UnitValue, branch_taken, value};
 use instruction_table::read_text;
@@ -15,7 +15,7 @@ fn word(octal: &[u8]) -> Result<Word60, Fail> {
 
 /// What an instruction of the word at 777777 answers to two operands.
 fn answer(instr: &Instr, first: Word60, second: Word60) -> UnitValue
-    requires { IsSome (row instr.now).unit }
+    requires { IsSome (uses instr.now).unit }
 {
     value(
         instr,

@@ -3,11 +3,12 @@
 ghost use Rattle.std.specs.Prelude.{◌≡◌};
 ghost use Rattle.unit_workers.specs.Ending.{is_end};
 
+use crate::asking::FreeRequests;
 use crate::crew::Lines;
 use crate::requests::Requests;
-use crossbeam_utils::Backoff;
+use crate::waiting::Waiting;
 use instruction_table::Refusal;
-use machine_lock::{Seen, Shared};
+use machine_lock::{Naming, Seen, Shared};
 use std::sync::Wait;
 
 /// How a run goes on after a step.
@@ -31,20 +32,63 @@ fn ends_run(refusal: &Refusal) -> bool
     )
 }
 
-/// Asks for the exchange that is due, if one is.
+/// The requests that a run has still to make.
+#[derive(Drop)]
+pub struct Agenda<'a> {
+    /// Those that the issuing thread makes.
+    requests: Requests,
+    /// The package of the one that was due and has still to be asked for, since another request waits.
+    refused: Option<u32>,
+    /// Those that a thread of its own makes.
+    free: &'a FreeRequests<'a>,
+}
+
+impl<'a> Agenda<'a> {
+    /// Nothing is asked for yet.
+    pub fn new(requests: Requests, free: &'a FreeRequests<'a>) -> Agenda<'a> {
+        Agenda {
+            requests,
+            refused: None,
+            free,
+        }
+    }
+
+    /// The package of the request that is to be made now.
+    fn due(&mut self) -> Option<u32> {
+        if self.refused.is_some() {
+            return self.refused;
+        }
+        let (at, _) = self.requests.take_due()?;
+        Some(at)
+    }
+
+    /// An exchange was made: that of the request that was taken last, unless it has still to be asked for.
+    fn exchanged(&mut self) {
+        if self.refused.is_none() {
+            self.requests.exchanged();
+        }
+    }
+}
+
+/// Asks for the exchange that is due, if one is and no other waits.
 ///
 /// # Errors
-/// What was refused.
-fn ask_due<R: Wait>(
+/// What else was refused.
+fn ask_due<K: Naming, R: Wait>(
     rt: &R,
-    shared: &Shared,
-    seen: &mut Seen,
-    requests: &mut Requests,
+    shared: &Shared<K>,
+    seen: &mut Seen<K>,
+    agenda: &mut Agenda<'_>,
 ) -> Result<(), Refusal> {
-    match requests.take_due() {
-        Some((at, _)) => shared.ask(rt, seen, at),
-        None => Ok(()),
+    let Some(at) = agenda.due() else {
+        return Ok(());
+    };
+    match shared.ask(rt, seen, at) {
+        Ok(()) => agenda.refused = None,
+        Err(Refusal::ExchangeBusy) => agenda.refused = Some(at),
+        Err(refusal) => return Err(refusal),
     }
+    Ok(())
 }
 
 /// Makes the exchange that waits, as soon as the machine is drained. Where it runs in the middle of a word the
@@ -52,15 +96,15 @@ fn ask_due<R: Wait>(
 ///
 /// # Errors
 /// What else was refused.
-fn exchange<R: Wait>(
+fn exchange<K: Naming, R: Wait>(
     rt: &R,
-    shared: &Shared,
-    seen: &mut Seen,
-    requests: &mut Requests,
+    shared: &Shared<K>,
+    seen: &mut Seen<K>,
+    agenda: &mut Agenda<'_>,
 ) -> Result<Course, Refusal> {
     match shared.exchange(rt, seen) {
         Ok(()) => {
-            requests.exchanged();
+            agenda.exchanged();
             Ok(Course::GoesOn)
         }
         Err(Refusal::NotDrained) => Ok(Course::Waits),
@@ -69,20 +113,26 @@ fn exchange<R: Wait>(
     }
 }
 
-/// Where no more is issued: makes the exchange that waits. The run ends where none waits and the machine is drained.
+/// Where no more is issued: makes the exchange that waits. The run ends where none waits or is still to be asked for,
+/// and the machine is drained.
 ///
 /// # Errors
 /// What was refused.
-fn finish<R: Wait>(
+fn finish<K: Naming, R: Wait>(
     rt: &R,
-    shared: &Shared,
-    seen: &mut Seen,
-    requests: &mut Requests,
+    shared: &Shared<K>,
+    seen: &mut Seen<K>,
+    agenda: &mut Agenda<'_>,
 ) -> Result<Course, Refusal> {
-    if requests.is_waiting() {
-        return exchange(rt, shared, seen, requests);
+    // Looked at first: who asks counts afterwards, so where none is left all were asked for.
+    let are_left = agenda.free.are_left();
+    match exchange(rt, shared, seen, agenda) {
+        Err(Refusal::Nothing) => {}
+        course => return course,
     }
-    if shared.drained(rt) {
+    if agenda.refused.is_some() {
+        Ok(Course::GoesOn)
+    } else if !are_left && shared.drained(rt) {
         Ok(Course::Ends)
     } else {
         Ok(Course::Waits)
@@ -94,44 +144,62 @@ fn finish<R: Wait>(
 ///
 /// # Errors
 /// What was refused, but for what others' events help against.
-fn step<R: Wait>(
+fn step<K: Naming, R: Wait>(
     rt: &R,
-    shared: &Shared,
-    seen: &mut Seen,
-    requests: &mut Requests,
+    shared: &Shared<K>,
+    seen: &mut Seen<K>,
+    agenda: &mut Agenda<'_>,
     lines: &mut Lines<'_>,
 ) -> Result<Course, Refusal> {
-    ask_due(rt, shared, seen, requests)?;
+    ask_due(rt, shared, seen, agenda)?;
     match shared.issue(rt, seen) {
         Ok(note) => {
-            requests.issued();
+            agenda.requests.issued();
             if let Some(note) = note {
                 lines.send(rt, note);
+                shared.signals().sent(note.unit).raise();
             }
             Ok(Course::GoesOn)
         }
-        Err(Refusal::ExchangeWaiting) => exchange(rt, shared, seen, requests),
-        Err(refusal) if ends_run(&refusal) => finish(rt, shared, seen, requests),
+        Err(Refusal::ExchangeWaiting) => exchange(rt, shared, seen, agenda),
+        Err(refusal) if ends_run(&refusal) => finish(rt, shared, seen, agenda),
         Err(_) => Ok(Course::Waits),
     }
 }
 
-/// Goes on to the run's end. While nothing can be done it yields.
+/// Asks for the first exchange and makes it. The machine is drained then, as it was booted.
+///
+/// # Errors
+/// What was refused.
+pub fn begin<K: Naming, R: Wait>(
+    rt: &R,
+    shared: &Shared<K>,
+    seen: &mut Seen<K>,
+    agenda: &mut Agenda<'_>,
+) -> Result<(), Refusal> {
+    ask_due(rt, shared, seen, agenda)?;
+    exchange(rt, shared, seen, agenda)?;
+    Ok(())
+}
+
+/// Goes on to the run's end. Where nothing can be done it waits until others stored.
 ///
 /// # Errors
 /// What was refused before.
-pub fn conduct<R: Wait>(
+pub fn conduct<K: Naming, R: Wait>(
     rt: &R,
-    shared: &Shared,
-    seen: &mut Seen,
-    mut requests: Requests,
+    shared: &Shared<K>,
+    seen: &mut Seen<K>,
+    mut agenda: Agenda<'_>,
     lines: &mut Lines<'_>,
 ) -> Result<(), Refusal> {
-    let pause = Backoff::new();
+    let changes = &shared.signals().changes;
+    let mut wait = Waiting::new();
     for _ in rt.forever() {
-        match step(rt, shared, seen, &mut requests, lines)? {
-            Course::GoesOn => pause.reset(),
-            Course::Waits => pause.snooze(),
+        let count = changes.count();
+        match step(rt, shared, seen, &mut agenda, lines)? {
+            Course::GoesOn => wait.reset(),
+            Course::Waits => wait.until_raised(rt, changes, count),
             Course::Ends => return Ok(()),
         }
     }

@@ -5,7 +5,7 @@ use crate::lines::{Line, Pair};
 use crate::working::Tally;
 use instruction_table::Unit;
 use machine::{Note, Seat};
-use machine_lock::Shared;
+use machine_lock::{Naming, Shared};
 use std::sync::Wait;
 use std::thread::{Scope, Threads};
 
@@ -97,10 +97,10 @@ pub struct Lines<'a> {
 
 impl<'a> Lines<'a> {
     /// Starts the seven workers.
-    pub fn start<E, G: Gate + Send + 'a, R: Threads + Wait + Sync>(
+    pub fn start<E, K: Naming + Send + Sync + 'a, G: Gate + Send + 'a, R: Threads + Wait + Sync>(
         scope: &Scope<'a, E>,
         rt: &'a R,
-        shared: &'a Shared,
+        shared: &'a Shared<K>,
         pairs: Pairs<'a>,
         places: &'a mut Places,
         gates: Gates<G>,

@@ -3,6 +3,7 @@
 //! this project's choice.
 #![tactic(auto)]
 
+mod asking;
 mod conducting;
 mod crew;
 mod gate;
@@ -11,6 +12,7 @@ mod requests;
 mod running;
 mod serving;
 mod storing;
+mod waiting;
 mod working;
 
 pub use gate::{Gate, Gates, Open};

@@ -4,11 +4,11 @@ ghost use Rattle.std.specs.Option.{ForSome};
 
 use crate::gate::Gate;
 use crate::working::{Tally, worker};
-use crossbeam_utils::Backoff;
 use machine::{Note, Seat};
-use machine_lock::Shared;
+use machine_lock::{Naming, Shared};
 use std::snapshot::Snapshot;
 use std::sync::Wait;
+use std::thread;
 use std::thread::{Promise, PromisedHandle, Scope, Threads};
 use unit_queue::{Lane, SendPass, TakePass};
 
@@ -54,9 +54,9 @@ pub struct Line<'a> {
 
 /// What a worker's thread does. A closure can't hold a seat, which must be spent, so the seat is taken from a place
 /// that the thread is lent. None where no seat is there.
-fn work<G: Gate, R: Wait>(
+fn work<K: Naming, G: Gate, R: Wait>(
     rt: &R,
-    shared: &Shared,
+    shared: &Shared<K>,
     post: Post<'_>,
     place: &mut Option<Seat>,
     mut gate: G,
@@ -69,10 +69,10 @@ fn work<G: Gate, R: Wait>(
 }
 
 /// Starts a worker's thread. None where that couldn't be done.
-fn start_at<'s, E, G: Gate + Send + 's, R: Threads + Wait + Sync>(
+fn start_at<'s, E, K: Naming + Send + Sync + 's, G: Gate + Send + 's, R: Threads + Wait + Sync>(
     scope: &Scope<'s, E>,
     rt: &'s R,
-    shared: &'s Shared,
+    shared: &'s Shared<K>,
     post: Post<'s>,
     place: &'s mut Option<Seat>,
     gate: G,
@@ -104,11 +104,11 @@ impl<'a> Pair<'a> {
     }
 
     /// Starts the lane's worker, which finds its seat in the place.
-    pub fn start<E, G: Gate + Send + 'a, R: Threads + Wait + Sync>(
+    pub fn start<E, K: Naming + Send + Sync + 'a, G: Gate + Send + 'a, R: Threads + Wait + Sync>(
         self,
         scope: &Scope<'a, E>,
         rt: &'a R,
-        shared: &'a Shared,
+        shared: &'a Shared<K>,
         place: &'a mut Option<Seat>,
         gate: G,
     ) -> Line<'a> {
@@ -134,24 +134,22 @@ impl<'a> Line<'a> {
 
     /// Sends a note, and tries again while the lane is full.
     pub fn send<R: Wait>(&mut self, rt: &R, note: Note) {
-        let pause = Backoff::new();
         for _ in rt.forever() {
             if self.lane.send(rt, &mut self.sender, note).is_ok() {
                 return;
             }
-            pause.snooze();
+            thread::yield_now();
         }
         unreachable!()
     }
 
     /// Closes the lane, and tries again while it is full.
     pub fn close<R: Wait>(&mut self, rt: &R) {
-        let pause = Backoff::new();
         for _ in rt.forever() {
             if self.lane.close(rt, &mut self.sender) {
                 return;
             }
-            pause.snooze();
+            thread::yield_now();
         }
         unreachable!()
     }

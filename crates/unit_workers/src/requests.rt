@@ -74,13 +74,6 @@ impl Requests {
         self.left.pop_front()
     }
 
-    /// Whether a request waits for its exchange.
-    pub fn is_waiting(&self) -> bool
-        ensures { result ≡ self.now.is_waiting }
-    {
-        self.is_waiting
-    }
-
     /// The exchange of the request that waits was made.
     pub fn exchanged(&mut self)
         ensures left { self.new.left.items ≡ self.old.left.items }

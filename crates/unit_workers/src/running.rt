@@ -1,16 +1,19 @@
 //! A whole run by threads.
+ghost use Rattle.std.specs.Prelude.{◌≡◌};
 
-use crate::conducting::conduct;
+use crate::asking::{FreeRequests, ask_all};
+use crate::conducting::{Agenda, begin, conduct};
 use crate::crew::{Lines, Pairs, Places};
 use crate::gate::{Gate, Gates};
 use crate::lines::Pair;
-use crate::requests::{Ask, Requests};
+use crate::requests::Requests;
 use crate::storing::storage_worker;
 use crate::working::Tally;
 use instruction_table::{Refusal, Unit};
 use machine::{Machine, Snapshot};
-use machine_lock::{Seen, Shared};
-use std::alloc::{AllocError, Global};
+use machine_lock::{Ground, Naming, Seen, Shared};
+use std::alloc::Global;
+use std::marker::Brand;
 use std::sync::Wait;
 use std::thread;
 use std::thread::{Scope, Threads};
@@ -38,36 +41,52 @@ pub struct Ended {
     pub tallies: [Tally; 7],
 }
 
-/// The requests after the first one: one that may be made at any time is made as soon as may be.
+/// What a run ends with, after all of its threads. The two that asked for exchanges meet, so that the snapshot has
+/// whatever either of them has seen.
 ///
 /// # Errors
-/// No memory was to be had.
-fn asked(alloc: Global, orders: &Orders) -> Result<Vec<Ask>, AllocError> {
-    let mut asked = Vec::from_slice(alloc, orders.after.as_slice())?;
-    for at in &orders.free {
-        asked.push((*at, 0))?;
+/// What was refused to either of them, and `OutOfMemory` where a thread couldn't be started.
+fn closing<K: Naming, R: Wait>(
+    rt: &R,
+    shared: &Shared<K>,
+    conducted: Result<(), Refusal>,
+    asked: Result<Seen<K>, Refusal>,
+    tallies: Option<[Tally; 7]>,
+    mut seen: Seen<K>,
+) -> Result<(Snapshot, [Tally; 7]), Refusal> {
+    if let Err(refusal) = conducted {
+        return Err(refusal);
     }
-    Ok(asked)
+    let mut other = asked?;
+    shared.meet(&mut seen, &mut other);
+    let Some(tallies) = tallies else {
+        return Err(Refusal::OutOfMemory);
+    };
+    let snapshot = shared.snapshot(rt, &mut seen)?;
+    Ok((snapshot, tallies))
 }
 
 /// Starts the threads, issues to the end, and waits for all of them. Where one couldn't be started nothing is issued.
 ///
 /// # Errors
 /// What the machine refuses, and `OutOfMemory`, also where a thread couldn't be started.
-fn run_in<'s, E, G: Gate + Send + 's, R: Threads + Wait + Sync>(
+fn run_in<'s, E, K: Naming + Send + Sync + 's, G: Gate + Send + 's, R: Threads + Wait + Sync>(
     scope: &Scope<'s, E>,
     rt: &'s R,
-    shared: &'s Shared,
+    shared: &'s Shared<K>,
     pairs: Pairs<'s>,
     places: &'s mut Places,
     gates: Gates<G>,
-    requests: Requests,
-    mut seen: Seen,
+    agenda: Agenda<'s>,
+    free: &'s FreeRequests<'s>,
+    mut seen: Seen<K>,
+    other: Seen<K>,
 ) -> Result<(Snapshot, [Tally; 7]), Refusal> {
     let mut lines = Lines::start(scope, rt, shared, pairs, places, gates);
     let storing = scope.spawn(move || storage_worker(rt, shared)).ok();
-    let conducted = if lines.are_served() && storing.is_some() {
-        conduct(rt, shared, &mut seen, requests, &mut lines)
+    let asking = scope.spawn(move || ask_all(rt, shared, other, free)).ok();
+    let conducted = if lines.are_served() && storing.is_some() && asking.is_some() {
+        conduct(rt, shared, &mut seen, agenda, &mut lines)
     } else {
         Err(Refusal::OutOfMemory)
     };
@@ -77,31 +96,32 @@ fn run_in<'s, E, G: Gate + Send + 's, R: Threads + Wait + Sync>(
     if let Some(storing) = storing {
         storing.join(rt);
     }
-    if let Err(refusal) = conducted {
-        return Err(refusal);
-    }
-    let Some(tallies) = tallies else {
-        return Err(Refusal::OutOfMemory);
+    let asked = match asking {
+        Some(asking) => asking.join(rt),
+        None => Err(Refusal::OutOfMemory),
     };
-    let snapshot = shared.snapshot(rt, &mut seen)?;
-    Ok((snapshot, tallies))
+    closing(rt, shared, conducted, asked, tallies, seen)
 }
 
 /// Runs with these lanes.
 ///
 /// # Errors
 /// What the machine refuses, and `OutOfMemory`, also where a thread couldn't be started.
-fn run_scope<G: Gate + Send, R: Threads + Wait + Sync>(
+fn run_scope<K: Naming + Send + Sync, G: Gate + Send, R: Threads + Wait + Sync>(
     rt: &R,
-    shared: &Shared,
+    shared: &Shared<K>,
     pairs: Pairs<'_>,
     places: &mut Places,
     gates: Gates<G>,
-    requests: Requests,
-    seen: Seen,
+    agenda: Agenda<'_>,
+    free: &FreeRequests<'_>,
+    seen: Seen<K>,
+    other: Seen<K>,
 ) -> Result<(Snapshot, [Tally; 7]), Refusal> {
     thread::scope(thread::scope_env(), rt, move |scope| {
-        run_in(scope, rt, shared, pairs, places, gates, requests, seen)
+        run_in(
+            scope, rt, shared, pairs, places, gates, agenda, free, seen, other,
+        )
     })
 }
 
@@ -109,14 +129,16 @@ fn run_scope<G: Gate + Send, R: Threads + Wait + Sync>(
 ///
 /// # Errors
 /// What the machine refuses, and `OutOfMemory`, also where a thread couldn't be started.
-fn run_lanes<G: Gate + Send, R: Threads + Wait + Sync>(
+fn run_lanes<K: Naming + Send + Sync, G: Gate + Send, R: Threads + Wait + Sync>(
     rt: &R,
     alloc: Global,
-    shared: &Shared,
+    shared: &Shared<K>,
     places: &mut Places,
     gates: Gates<G>,
-    requests: Requests,
-    seen: Seen,
+    agenda: Agenda<'_>,
+    free: &FreeRequests<'_>,
+    seen: Seen<K>,
+    other: Seen<K>,
 ) -> Result<Ended, Refusal> {
     let (branch, branch_sender, branch_taker) = lane(alloc, Unit::Branch)?;
     let (boolean, boolean_sender, boolean_taker) = lane(alloc, Unit::Boolean)?;
@@ -134,14 +156,60 @@ fn run_lanes<G: Gate + Send, R: Threads + Wait + Sync>(
         increment1: Pair::of(&increment1, increment1_sender, increment1_taker),
         increment2: Pair::of(&increment2, increment2_sender, increment2_taker),
     };
-    let (snapshot, tallies) = run_scope(rt, shared, pairs, places, gates, requests, seen)?;
+    let (snapshot, tallies) = run_scope(
+        rt, shared, pairs, places, gates, agenda, free, seen, other,
+    )?;
     Ok(Ended { snapshot, tallies })
 }
 
-/// Runs a machine by threads: one for each of the seven units, one for memory, and this one, which issues. The run
-/// starts with the exchange for the package at `orders.start`. It ends where the machine is drained and either it is
-/// halted, faulted or out of budget, no request waits and none is due; or it is out of budget in the middle of a word,
-/// where the exchange that waits can't be made. A request after more instructions than are issued by then isn't made.
+/// Makes the first exchange, and then runs. Each of the two threads that ask for exchanges has what it has seen.
+///
+/// # Errors
+/// What the machine refuses, and `OutOfMemory`, also where a thread couldn't be started.
+fn run_from_start<K: Naming + Send + Sync, G: Gate + Send, R: Threads + Wait + Sync>(
+    rt: &R,
+    alloc: Global,
+    shared: &Shared<K>,
+    places: &mut Places,
+    gates: Gates<G>,
+    requests: Requests,
+    free: &FreeRequests<'_>,
+    mut seen: Seen<K>,
+) -> Result<Ended, Refusal> {
+    let mut agenda = Agenda::new(requests, free);
+    begin(rt, shared, &mut seen, &mut agenda)?;
+    let other = seen.split()?;
+    run_lanes(rt, alloc, shared, places, gates, agenda, free, seen, other)
+}
+
+/// Runs a machine beside a progress word.
+///
+/// # Errors
+/// What the machine refuses; `Nothing` where the machine's seats were given out before; `OutOfMemory`, also where a
+/// thread couldn't be started.
+fn run_beside<K: Naming + Send + Sync, G: Gate + Send, R: Threads + Wait + Sync>(
+    rt: &R,
+    alloc: Global,
+    ground: Ground,
+    machine: Machine,
+    gates: Gates<G>,
+    requests: Requests,
+    free: &FreeRequests<'_>,
+) -> Result<Ended, Refusal>
+    requires { ground ≡ K.table }
+{
+    let (shared, seats, seen) = Shared::<K>::open(alloc, ground, machine)?;
+    let mut places = Places::of(seats);
+    let ended = run_from_start(rt, alloc, &shared, &mut places, gates, requests, free, seen);
+    places.leave();
+    ended
+}
+
+/// Runs a machine by threads: one for each of the seven units, one for memory, one that makes the requests at any
+/// time, and this one, which issues. The run starts with the exchange for the package at `orders.start`. It ends where
+/// the machine is drained and either it is halted, faulted or out of budget, no request waits, none is due and none at
+/// any time is left; or it is out of budget in the middle of a word, where the exchange that waits can't be made. A
+/// request after more instructions than are issued by then isn't made.
 ///
 /// # Errors
 /// What the machine refuses before; `Nothing` where the machine's seats were given out before; `OutOfMemory`, also
@@ -153,15 +221,10 @@ pub fn run_threads<G: Gate + Send, R: Threads + Wait + Sync>(
     orders: &Orders,
     gates: Gates<G>,
 ) -> Result<Ended, Refusal> {
-    let Ok(asked) = asked(alloc, orders) else {
+    let Ok(requests) = Requests::new(alloc, orders.start, orders.after.as_slice()) else {
         return Err(Refusal::OutOfMemory);
     };
-    let Ok(requests) = Requests::new(alloc, orders.start, asked.as_slice()) else {
-        return Err(Refusal::OutOfMemory);
-    };
-    let (shared, seats, seen) = Shared::open(machine)?;
-    let mut places = Places::of(seats);
-    let ended = run_lanes(rt, alloc, &shared, &mut places, gates, requests, seen);
-    places.leave();
-    ended
+    let ground = Ground::new(alloc)?;
+    let free = FreeRequests::new(orders.free.as_slice());
+    run_beside::<Brand, _, _>(rt, alloc, ground, machine, gates, requests, &free)
 }

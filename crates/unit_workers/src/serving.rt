@@ -3,51 +3,63 @@ ghost use Rattle.std.specs.Prelude.{◌≡◌, suc, IfOk, IfErr, MatchBool};
 ghost use Rattle.machine.specs.Tokens.{one_more};
 
 use crate::gate::Gate;
-use crossbeam_utils::Backoff;
+use crate::waiting::Waiting;
 use instruction_table::Refusal;
 use machine::{Finished, Loaded, Note, Reserved, Seat};
-use machine_lock::Shared;
+use machine_lock::{Naming, Shared};
 use std::sync::Wait;
 
-/// Reads as soon as no operand is awaited, and yields between tries.
+/// Reads as soon as no operand is awaited: it tries again where others stored.
 ///
 /// # Errors
 /// The token, where it is a stranger's.
-fn read_when_ready<R: Wait>(rt: &R, shared: &Shared, token: Reserved) -> Result<Loaded, Reserved>
+fn read_when_ready<K: Naming, R: Wait>(
+    rt: &R,
+    shared: &Shared<K>,
+    token: Reserved,
+) -> Result<Loaded, Reserved>
     ensures loaded { IfOk result (λ loaded. (loaded.seat ≡ token.seat) × (loaded.number ≡ token.number)) }
     ensures given_back { IfErr result (λ back. back ≡ token) }
 {
     let mut waiting = token;
-    let pause = Backoff::new();
+    let changes = &shared.signals().changes;
+    let mut wait = Waiting::new();
     for _ in rt.forever() {
+        let count = changes.count();
         match shared.read(rt, waiting) {
             Ok(loaded) => return Ok(loaded),
             Err((Refusal::Stranger, back)) => return Err(back),
             Err((_, back)) => waiting = back,
         }
-        pause.snooze();
+        wait.until_raised(rt, changes, count);
     }
     unreachable!()
 }
 
-/// Stores as soon as the result isn't held, it is the reference's turn and the hopper has room, and yields between
-/// tries.
+/// Stores as soon as the result isn't held, it is the reference's turn and the hopper has room, and lets others run
+/// between tries.
 ///
 /// # Errors
 /// The token, where it is a stranger's.
-fn store_when_ready<R: Wait>(rt: &R, shared: &Shared, token: Finished) -> Result<Seat, Finished>
+fn store_when_ready<K: Naming, R: Wait>(
+    rt: &R,
+    shared: &Shared<K>,
+    token: Finished,
+) -> Result<Seat, Finished>
     ensures seat { IfOk result (λ seat. seat ≡ one_more token) }
     ensures given_back { IfErr result (λ back. back ≡ token) }
 {
     let mut waiting = token;
-    let pause = Backoff::new();
+    let changes = &shared.signals().changes;
+    let mut wait = Waiting::new();
     for _ in rt.forever() {
+        let count = changes.count();
         match shared.store(rt, waiting) {
             Ok(seat) => return Ok(seat),
             Err((Refusal::Stranger, back)) => return Err(back),
             Err((_, back)) => waiting = back,
         }
-        pause.snooze();
+        wait.turn(rt, changes, count);
     }
     unreachable!()
 }
@@ -55,9 +67,9 @@ fn store_when_ready<R: Wait>(rt: &R, shared: &Shared, token: Finished) -> Result
 /// Takes a reservation through its unit, from claim to store, and gives the seat back. It answers whether it was
 /// stored, which it isn't only where the claim or a later step was refused as a stranger's; the reservation is given
 /// up then. The gate is called ahead of computing, which takes no lock, and after the store.
-pub fn serve<G: Gate, R: Wait>(
+pub fn serve<K: Naming, G: Gate, R: Wait>(
     rt: &R,
-    shared: &Shared,
+    shared: &Shared<K>,
     note: Note,
     seat: Seat,
     gate: &mut G,

@@ -1,49 +1,104 @@
 //! The worker for memory: it does what the 6600's storage did by itself (Thornton, stunt box).
 
-use crossbeam_utils::Backoff;
+use crate::waiting::Waiting;
 use instruction_table::Refusal;
-use machine_lock::Shared;
+use machine_lock::{Naming, Shared};
 use std::sync::Wait;
 
+/// Where the worker for memory has to look besides the first free place of the hopper, which a reference enters.
+#[derive(Drop)]
+struct Known {
+    /// A reference was left in a place below this one, 0 where none was.
+    places: u8,
+    /// A load was left in its channel.
+    has_loads: bool,
+}
+
 /// Has memory take the reference in a place, 0 to 3, if it may; the bank that it waits for is freed where it is busy.
-/// It answers whether anything was done.
-fn accept<R: Wait>(rt: &R, shared: &Shared, place: u8) -> bool {
+fn accept<K: Naming, R: Wait>(rt: &R, shared: &Shared<K>, place: u8) -> Result<(), Refusal> {
     match shared.accept(rt, place) {
-        Ok(()) => true,
-        Err(Refusal::BankBusy(bank)) => shared.bank_free(rt, bank).is_ok(),
-        Err(_) => false,
+        Err(Refusal::BankBusy(bank)) => {
+            let _ = shared.bank_free(rt, bank);
+            shared.accept(rt, place)
+        }
+        answer => answer,
     }
 }
 
-/// Goes through the places of the hopper, and through the channels in which loads wait, 1 to 5. It answers whether
-/// anything was done.
-fn sweep<R: Wait>(rt: &R, shared: &Shared) -> bool {
+/// Goes through the places of the hopper, up to the first free one above those that are known to be taken. It answers
+/// whether a reference was accepted.
+fn sweep_places<K: Naming, R: Wait>(rt: &R, shared: &Shared<K>, known: &mut Known) -> bool {
     let mut is_done = false;
+    let mut left = 0;
     for place in 0..4u8 {
-        if accept(rt, shared, place) {
-            is_done = true;
+        match accept(rt, shared, place) {
+            Ok(()) => is_done = true,
+            Err(Refusal::Nothing) => {
+                if place >= known.places {
+                    break;
+                }
+            }
+            Err(_) => left = place + 1,
         }
     }
+    known.places = left;
+    is_done
+}
+
+/// Goes through the channels in which loads wait, 1 to 5. It answers whether one was returned.
+fn sweep_channels<K: Naming, R: Wait>(rt: &R, shared: &Shared<K>, known: &mut Known) -> bool {
+    let mut is_done = false;
+    known.has_loads = false;
     for channel in 1..6u8 {
-        if shared.return_load(rt, channel).is_ok() {
-            is_done = true;
+        match shared.return_load(rt, channel) {
+            Ok(()) => is_done = true,
+            Err(Refusal::Nothing) => {}
+            Err(_) => known.has_loads = true,
         }
     }
     is_done
 }
 
+/// Goes through the places, and through the channels if a load may have come into one. It answers whether anything was
+/// done.
+fn sweep<K: Naming, R: Wait>(rt: &R, shared: &Shared<K>, known: &mut Known) -> bool {
+    let is_accepted = sweep_places(rt, shared, known);
+    if is_accepted || known.has_loads {
+        sweep_channels(rt, shared, known) || is_accepted
+    } else {
+        false
+    }
+}
+
 /// Has references accepted, frees the banks that they wait for, and returns loads, until the machine's users were told
-/// to end and it is drained. While there is nothing to do it yields.
-pub fn storage_worker<R: Wait>(rt: &R, shared: &Shared) {
-    let pause = Backoff::new();
+/// to end and it is drained. While there is nothing to do it waits.
+pub fn storage_worker<K: Naming, R: Wait>(rt: &R, shared: &Shared<K>) {
+    let signals = shared.signals();
+    let mut known = Known {
+        places: 0,
+        has_loads: false,
+    };
+    let mut wait = Waiting::new();
     for _ in rt.forever() {
-        if sweep(rt, shared) {
-            pause.reset();
-        } else {
-            if shared.ended(rt) && shared.drained(rt) {
+        let changes = signals.changes.count();
+        let references = signals.references.count();
+        if sweep(rt, shared, &mut known) {
+            wait.reset();
+        } else if known.places > 0 || known.has_loads {
+            wait.turn(rt, &signals.changes, changes);
+        } else if !wait.is_raised_soon(&signals.references, references) {
+            // Now everywhere: a load that is out of range comes into its channel without a place in the hopper.
+            known = Known {
+                places: 4,
+                has_loads: true,
+            };
+            if sweep(rt, shared, &mut known) {
+                wait.reset();
+            } else if shared.ended(rt) && shared.drained(rt) {
                 return;
+            } else {
+                wait.until_raised(rt, &signals.references, references);
             }
-            pause.snooze();
         }
     }
     unreachable!()

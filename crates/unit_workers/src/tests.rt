@@ -1,12 +1,16 @@
+ghost use Rattle.std.specs.Prelude.{◌≡◌};
+
 use crate::lines::{Line, Pair};
 use crate::requests::Requests;
 use crate::{Ended, Gate, Gates, Open, Orders, Tally, run_threads, serve, worker};
 use instruction_table::{Digit, Halt, Refusal, Reg, Unit};
 use machine::{Machine, Note, Seat};
-use machine_lock::{Seen, Shared};
+use machine_lock::{Ground, Naming, Seen, Shared};
 use relocation::Storage;
 use sequential::Entry;
 use std::alloc::Global;
+use std::marker::Brand;
+use std::process::Abort;
 use std::sync::Wait;
 use std::sync::atomic::{AtomicU64, Ordering};
 use std::test::Fail;
@@ -252,6 +256,49 @@ fn held_boolean(rt: HostRuntime) -> Result<(), Fail> {
     Ok(())
 }
 
+/// A gate that lets the others run so often before each value is computed that all who wait for it sleep.
+#[derive(Drop)]
+struct Slow;
+
+impl Gate for Slow {
+    fn before(&mut self, _unit: Unit, _number: u64) {
+        for _ in 0..5000u32 {
+            thread::yield_now();
+        }
+    }
+
+    fn stored(&mut self, _unit: Unit, _number: u64) {}
+}
+
+/// SX1 B0+5, SX2 B0+3, IX3 X1+X2, IX4 X2-X1, NO, SA1 B0+17: whoever sleeps meanwhile is woken or wakes by itself.
+#[test]
+fn sleepers_get_on(rt: HostRuntime) -> Result<(), Fail> {
+    let words = [
+        (0o100, "71100000057120000003"),
+        (0o101, "36312374215110000017"),
+        (0o117, "123"),
+    ];
+    let gates = Gates {
+        branch: Slow,
+        boolean: Slow,
+        shift: Slow,
+        long_add: Slow,
+        divide: Slow,
+        increment1: Slow,
+        increment2: Slow,
+    };
+    let machine = booted(rt.alloc(), &words)?;
+    let ended = run_threads(&rt, rt.alloc(), machine, &orders(rt.alloc()), gates)?;
+    assert!(rt;
+        shows(
+            &ended,
+            &[(x(3), "10"), (x(4), "77777777777777777775"), (x(1), "123")]
+        )
+    );
+    assert!(rt; stopped(&ended, 6));
+    Ok(())
+}
+
 /// Runs BX1 X2, LX3 1, NO, NO and a stop, with an exchange for the package at 60, which begins at the stop: after so
 /// many instructions, or at any time.
 fn exchanging<R: Threads + Wait + Sync>(
@@ -373,7 +420,11 @@ fn note(unit: Unit, number: u64) -> Note {
 }
 
 /// Makes the exchange with the package at 40, and issues twice.
-fn start<R: Wait>(rt: &R, shared: &Shared, seen: &mut Seen) -> Result<[Option<Note>; 2], Refusal> {
+fn start<K: Naming, R: Wait>(
+    rt: &R,
+    shared: &Shared<K>,
+    seen: &mut Seen<K>,
+) -> Result<[Option<Note>; 2], Refusal> {
     shared.ask(rt, seen, 0o40)?;
     shared.exchange(rt, seen)?;
     let first = shared.issue(rt, seen)?;
@@ -421,17 +472,29 @@ const NOTES: Result<[Option<Note>; 2], Refusal> = Ok([
 #[test]
 fn serves_its_own_note_once(rt: HostRuntime) -> Result<(), Fail> {
     let machine = booted(rt.alloc(), &BOTH)?;
-    let (shared, seats, mut seen) = Shared::open(machine)?;
+    let ground = Ground::new(rt.alloc())?;
+    serves_once::<Brand, _>(&rt, rt.alloc(), ground, machine)
+}
+
+fn serves_once<K: Naming, R: Wait + Abort>(
+    rt: &R,
+    alloc: Global,
+    ground: Ground,
+    machine: Machine,
+) -> Result<(), Fail>
+    requires { ground ≡ K.table }
+{
+    let (shared, seats, mut seen) = Shared::<K>::open(alloc, ground, machine)?;
     let mut gate = Count {
         before: 0,
         stored: 0,
     };
     let boolean = of_boolean(seats);
-    let started = start(&rt, &shared, &mut seen);
-    let (boolean, is_never) = serve(&rt, &shared, note(Unit::Boolean, 3), boolean, &mut gate);
-    let (boolean, is_other) = serve(&rt, &shared, note(Unit::Shift, 2), boolean, &mut gate);
-    let (boolean, is_own) = serve(&rt, &shared, note(Unit::Boolean, 1), boolean, &mut gate);
-    let (boolean, is_again) = serve(&rt, &shared, note(Unit::Boolean, 1), boolean, &mut gate);
+    let started = start(rt, &shared, &mut seen);
+    let (boolean, is_never) = serve(rt, &shared, note(Unit::Boolean, 3), boolean, &mut gate);
+    let (boolean, is_other) = serve(rt, &shared, note(Unit::Shift, 2), boolean, &mut gate);
+    let (boolean, is_own) = serve(rt, &shared, note(Unit::Boolean, 1), boolean, &mut gate);
+    let (boolean, is_again) = serve(rt, &shared, note(Unit::Boolean, 1), boolean, &mut gate);
     let stored = boolean.leave();
     assert!(rt; started == NOTES);
     assert!(rt; !is_never && !is_other && is_own && !is_again);
@@ -442,16 +505,28 @@ fn serves_its_own_note_once(rt: HostRuntime) -> Result<(), Fail> {
 /// A worker serves what its lane has, until it is closed, and its tally settles.
 #[test]
 fn works_until_closed(rt: HostRuntime) -> Result<(), Fail> {
-    let (lane, mut sender, taker) = lane(rt.alloc(), Unit::Boolean)?;
     let machine = booted(rt.alloc(), &BOTH)?;
-    let sent = lane.send(&rt, &mut sender, note(Unit::Boolean, 1));
-    let is_closed = lane.close(&rt, &mut sender);
+    let ground = Ground::new(rt.alloc())?;
+    works_until_closed_beside::<Brand, _>(&rt, rt.alloc(), ground, machine)
+}
+
+fn works_until_closed_beside<K: Naming, R: Wait + Abort>(
+    rt: &R,
+    alloc: Global,
+    ground: Ground,
+    machine: Machine,
+) -> Result<(), Fail>
+    requires { ground ≡ K.table }
+{
+    let (lane, mut sender, taker) = lane(alloc, Unit::Boolean)?;
+    let sent = lane.send(rt, &mut sender, note(Unit::Boolean, 1));
+    let is_closed = lane.close(rt, &mut sender);
     assert!(rt; sent == Ok(()) && is_closed);
-    let (shared, seats, mut seen) = Shared::open(machine)?;
+    let (shared, seats, mut seen) = Shared::<K>::open(alloc, ground, machine)?;
     let boolean = of_boolean(seats);
-    let started = start(&rt, &shared, &mut seen);
-    let mut tally = worker(&rt, &shared, &lane, taker, boolean, &mut Open);
-    tally.settle(&rt, &lane, sender);
+    let started = start(rt, &shared, &mut seen);
+    let mut tally = worker(rt, &shared, &lane, taker, boolean, &mut Open);
+    tally.settle(rt, &lane, sender);
     assert!(rt; started == NOTES);
     assert!(rt; tally.unit() == Unit::Boolean && tally.stored() == 1 && tally.strange() == 0);
     Ok(())
@@ -468,9 +543,9 @@ fn send_strangers<R: Threads + Wait>(rt: &R, line: Line<'_>) -> Option<Tally> {
 }
 
 /// The tally of a worker to which strangers' notes come too.
-fn strange_tally<R: Threads + Wait + Sync>(
+fn strange_tally<K: Naming + Send + Sync, R: Threads + Wait + Sync>(
     rt: &R,
-    shared: &Shared,
+    shared: &Shared<K>,
     pair: Pair<'_>,
     place: &mut Option<Seat>,
 ) -> Option<Tally> {
@@ -493,13 +568,25 @@ fn is_empty(place: Option<Seat>) -> bool {
 /// A note that was stored already, and another unit's note, are counted as strange.
 #[test]
 fn counts_strangers(rt: HostRuntime) -> Result<(), Fail> {
-    let (lane, sender, taker) = lane(rt.alloc(), Unit::Boolean)?;
     let machine = booted(rt.alloc(), &BOTH)?;
-    let (shared, seats, mut seen) = Shared::open(machine)?;
+    let ground = Ground::new(rt.alloc())?;
+    counts_strangers_beside::<Brand, _>(&rt, rt.alloc(), ground, machine)
+}
+
+fn counts_strangers_beside<K: Naming + Send + Sync, R: Threads + Wait + Abort + Sync>(
+    rt: &R,
+    alloc: Global,
+    ground: Ground,
+    machine: Machine,
+) -> Result<(), Fail>
+    requires { ground ≡ K.table }
+{
+    let (lane, sender, taker) = lane(alloc, Unit::Boolean)?;
+    let (shared, seats, mut seen) = Shared::<K>::open(alloc, ground, machine)?;
     let mut place = Some(of_boolean(seats));
-    let started = start(&rt, &shared, &mut seen);
+    let started = start(rt, &shared, &mut seen);
     let pair = Pair::of(&lane, sender, taker);
-    let tally = strange_tally(&rt, &shared, pair, &mut place);
+    let tally = strange_tally(rt, &shared, pair, &mut place);
     let was_taken = is_empty(place);
     assert!(rt; started == NOTES && was_taken);
     let tally = tally.ok_or("a thread")?;
@@ -533,9 +620,7 @@ fn requests_in_turn(rt: HostRuntime) -> Result<(), Fail> {
 fn waiting_request(rt: HostRuntime) -> Result<(), Fail> {
     let asks = [(0o60, 0)];
     let mut requests = Requests::new(rt.alloc(), 0o40, asks.as_slice())?;
-    assert!(rt; !requests.is_waiting());
     assert_eq!(rt; requests.take_due(), Some((0o40, 0)));
-    assert!(rt; requests.is_waiting());
     assert_eq!(rt; requests.take_due(), None);
     requests.exchanged();
     assert_eq!(rt; requests.take_due(), Some((0o60, 0)));

@@ -5,10 +5,10 @@ ghost use Rattle.unit_workers.specs.Tallies.{notes_in, Served};
 
 use crate::gate::Gate;
 use crate::serving::serve;
-use crossbeam_utils::Backoff;
+use crate::waiting::Waiting;
 use instruction_table::Unit;
 use machine::Seat;
-use machine_lock::Shared;
+use machine_lock::{Naming, Shared};
 use std::sync::Wait;
 use unit_queue::{Item, Lane, SendPass, TakePass};
 
@@ -36,9 +36,9 @@ fn one_more<R: Wait>(rt: &R, number: u64) -> u64
 
 /// Serves the notes of a lane until it is closed, and leaves the seat. Each note is stored or strange: a stranger's
 /// reservation is given up. The pass has to be this lane's.
-pub fn worker<G: Gate, R: Wait>(
+pub fn worker<K: Naming, G: Gate, R: Wait>(
     rt: &R,
-    shared: &Shared,
+    shared: &Shared<K>,
     lane: &Lane,
     pass: TakePass,
     seat: Seat,
@@ -54,8 +54,10 @@ pub fn worker<G: Gate, R: Wait>(
     let unit = at.unit();
     let before = at.stored();
     let mut strange = 0;
-    let pause = Backoff::new();
+    let sent = shared.signals().sent(unit);
+    let mut wait = Waiting::new();
     for _ in rt.forever() {
+        let count = sent.count();
         match lane.take(rt, &mut from) {
             Some(Item::Work(note)) => {
                 let (back, stored) = serve(rt, shared, note, at, gate);
@@ -63,7 +65,7 @@ pub fn worker<G: Gate, R: Wait>(
                 if !stored {
                     strange = one_more(rt, strange);
                 }
-                pause.reset();
+                wait.reset();
             }
             Some(Item::Closed) => {
                 let stored = at.leave() - before;
@@ -74,7 +76,7 @@ pub fn worker<G: Gate, R: Wait>(
                     pass: from,
                 };
             }
-            None => pause.snooze(),
+            None => wait.until_raised(rt, sent, count),
         }
     }
     unreachable!()

@@ -1,7 +1,7 @@
 -- What a deck's line says, as the program has taken it apart.
 -- Source: ours.
-use Rattle.deck.specs.Deck.{Said, SaysCore, SaysAt, SaysWord, SaysCode, SaysStart, SaysShow, SaysAsk, SaysEnd}
-use Rattle.deck.specs.Deck.{SaysNothing}
+use Rattle.deck.specs.Deck.{Said, SaysCore, SaysAt, SaysWord, SaysCode, SaysStart, SaysShow, SaysAsk, SaysFree}
+use Rattle.deck.specs.Deck.{SaysEnd, SaysNothing}
 use Rattle.deck.specs.declared.parsing.Line.{Line}
 use Rattle.deck.specs.declared.parsing.Line.TheVariants as lines
 
@@ -14,5 +14,6 @@ said (lines.Code texts) = SaysCode texts.now
 said (lines.Start n) = SaysStart n.now
 said (lines.Show a b) = SaysShow a.now b.now
 said (lines.Ask a k) = SaysAsk a.now k.now
+said (lines.AskFree a) = SaysFree a.now
 said lines.End = SaysEnd
 said lines.Unknown = SaysNothing

@@ -9,7 +9,7 @@ use Rattle.instructions.specs.declared.instr.Reg.{Reg}
 use Rattle.instructions.specs.declared.instr.Reg.TheVariants.{X, B}
 use Rattle.instructions.specs.declared.instr.Unit.TheVariants.{Branch}
 use Rattle.instructions.specs.declared.instr.UnitKind.{UnitKind}
-use Rattle.instructions.specs.Operands.{row}
+use Rattle.instructions.specs.Operands.{uses}
 use Rattle.instructions.specs.declared.instr.Unit.{Unit as FunctionalUnit}
 use Rattle.instructions.specs.declared.refusal.Refusal.{Refusal}
 use Rattle.instructions.specs.declared.refusal.Refusal.TheVariants.{Nothing, HopperFull, UnitBusy, ResultReserved}
@@ -497,7 +497,7 @@ changed_flight g ms ns queue b c xs f ef en ec =
 
 -- ---- a reservation ----
 
-pub no_unit_there : (ms : List Pending) (i : Instr) (place : SomePlace) (o : Option UnitKind) → o ≡ (row i).unit
+pub no_unit_there : (ms : List Pending) (i : Instr) (place : SomePlace) (o : Option UnitKind) → o ≡ (uses i).unit
     → o ≡ None → refusal_of (row_tests ms (Taking i place)) ≡ Some (UnitBusy Branch)
 unfolding row_tests refusal_of conflict.unit_for first_unit
 no_unit_there ms i place (Some kind) e h = cc
@@ -515,7 +515,7 @@ same_unit_for ms None = refl
 same_unit_for ms (Some kind) = same_free kind ms
 
 reserve_refused : (ms : List Pending) (i : Instr) (b : Standing) (o : Option FunctionalUnit) → b.issued ≡ on_board ms
-    → refusal_of (record { fails = is_none o; refusal = UnitBusy (first_unit (row i).unit) }
+    → refusal_of (record { fails = is_none o; refusal = UnitBusy (first_unit (uses i).unit) }
     ∷ record {
       fails = list_any (awaited ms) (results (shape_of i));
       refusal = ResultReserved (conflict.first_such (awaited ms)
@@ -543,13 +543,13 @@ reserve_refused ms i b (Some u) e =
 
 pub reserve_answered : (ms : List Pending) (i : Instr) (place : SomePlace) (b : Standing)
     (r : Result (FunctionalUnit × ℕ) Refusal) → b.issued ≡ on_board ms
-    → r ≡ reserve_answer b i (conflict.unit_for row_of_issued b.issued (row i).unit)
+    → r ≡ reserve_answer b i (conflict.unit_for row_of_issued b.issued (uses i).unit)
     → refusal_of (row_tests ms (Taking i place)) ≡ refusal_in r
 unfolding row_tests
 reserve_answered ms i place b r e k =
-    reserve_refused ms i b (unit_for ms (row i).unit) e
+    reserve_refused ms i b (unit_for ms (uses i).unit) e
     ∙ ap (λ o. refusal_in (reserve_answer b i o))
-    (sym (ap (λ xs. conflict.unit_for row_of_issued xs (row i).unit) e ∙ same_unit_for ms (row i).unit))
+    (sym (ap (λ xs. conflict.unit_for row_of_issued xs (uses i).unit) e ∙ same_unit_for ms (uses i).unit))
     ∙ ap refusal_in (sym k)
 
 pub unreserved : (b c : Standing) (i : Instr) (r : Result (FunctionalUnit × ℕ) Refusal) (k : Refusal)
@@ -580,11 +580,11 @@ reserve_ok b i (Some u) p h = by_test (list_any (conflict.awaited row_of_issued 
 -- the unit and the number that are answered
 pub reserved_as : (ms : List Pending) (i : Instr) (b : Standing) (r : Result (FunctionalUnit × ℕ) Refusal)
     (p : FunctionalUnit × ℕ) → b.issued ≡ on_board ms
-    → r ≡ reserve_answer b i (conflict.unit_for row_of_issued b.issued (row i).unit) → r ≡ Ok p
-    → (unit_for ms (row i).unit ≡ Some p.0) × (p.1 ≡ suc b.last)
+    → r ≡ reserve_answer b i (conflict.unit_for row_of_issued b.issued (uses i).unit) → r ≡ Ok p
+    → (unit_for ms (uses i).unit ≡ Some p.0) × (p.1 ≡ suc b.last)
 reserved_as ms i b r p e k h =
-    let q = reserve_ok b i (conflict.unit_for row_of_issued b.issued (row i).unit) p (sym k ∙ h) in
-    (sym (ap (λ xs. conflict.unit_for row_of_issued xs (row i).unit) e ∙ same_unit_for ms (row i).unit) ∙ q.0, q.1)
+    let q = reserve_ok b i (conflict.unit_for row_of_issued b.issued (uses i).unit) p (sym k ∙ h) in
+    (sym (ap (λ xs. conflict.unit_for row_of_issued xs (uses i).unit) e ∙ same_unit_for ms (uses i).unit) ∙ q.0, q.1)
 
 first_free_is : (held : FunctionalUnit → Bool) (us : List FunctionalUnit) (u : FunctionalUnit)
     → first_free held us ≡ Some u → held u ≡ false
@@ -639,7 +639,7 @@ pub all_below : (ms : List Pending) (last n : ℕ) → Each (λ m. m.number ≤ 
 all_below ms last n h e = each_map (λ m. m.number ≤ last) (λ m. m.number < n) (λ m k. omega (arith, k, e)) ms h
 
 pub reserved_flight : (ms ns : List Pending) (queue : Queue) (b c : Standing) (i : Instr) (at : ℕ)
-    (p : FunctionalUnit × ℕ) → unit_for ms (row i).unit ≡ Some p.0 → p.1 ≡ suc b.last
+    (p : FunctionalUnit × ℕ) → unit_for ms (uses i).unit ≡ Some p.0 → p.1 ≡ suc b.last
     → c ≡ record { issued = b.issued ++ new_issued i p.0 p.1 ∷ []; last = p.1 } → ns ≡ ms
     ++ record { instr = i; at = at; number = p.1; unit = p.0; phase = Before Waiting } ∷ []
     → flight_of ns queue c ≡ reserved_in (flight_of ms queue b) i at

@@ -3,13 +3,11 @@
 -- common.
 -- Source: ours.
 use Rattle.std.specs.Prelude.{◌≡◌, ◌<◌, ◌+◌, ◌==◌, ℕ, Bool, true, false, List, Option, Some, None}
-use Rattle.std.specs.List.{list_any}
 use Rattle.instructions.specs.declared.instr.Unit.{Unit as FunctionalUnit}
 use Rattle.instructions.specs.declared.instr.Unit.TheVariants.{Branch, Boolean, Shift, Add, LongAdd, Multiply1}
 use Rattle.instructions.specs.declared.instr.Unit.TheVariants.{Multiply2, Divide, Increment1, Increment2}
-use Rattle.instructions.specs.declared.instr.UnitKind.{UnitKind}
-use Rattle.instructions.specs.Operands.{row}
-use Rattle.scoreboard.specs.Units.{same_unit, units_of}
+use Rattle.instructions.specs.Operands.{uses}
+use Rattle.scoreboard.specs.Units.{may_take}
 use Rattle.relocation.specs.declared.area.Access.{Access}
 use Rattle.relocation.specs.declared.area.Access.TheVariants.{Load, Store}
 use Rattle.in_flight.specs.declared.pending.Outstanding.TheVariants.{Entered, Accepted}
@@ -60,14 +58,9 @@ IsPlaced size unit (Before t) = unit_slot unit < 7
 IsPlaced size unit (After (Entered place a access)) = (place < 4) × (a < size) × IsLoadable access
 IsPlaced size unit (After (Accepted n word)) = IsChannel n
 
--- the unit is one of the kind
-unfoldable pub is_of_kind : Option UnitKind → FunctionalUnit → Bool
-is_of_kind None unit = false
-is_of_kind (Some kind) unit = list_any (same_unit unit) (units_of kind)
-
--- its unit is of the kind that its row names, and what is left of it has its place in a memory of that size
+-- its unit is of the kind that its instruction uses, and what is left of it has its place in a memory of that size
 pub record IsProper (size : ℕ) (m : Pending) : Type 0 where
-  pub of_kind : is_of_kind (row m.instr).unit m.unit ≡ true
+  pub of_kind : may_take (uses m.instr).unit m.unit ≡ true
   pub placed : IsPlaced size m.unit m.phase
 
 -- no two hold one unit or stand in one place of the hopper, and each is where it may be

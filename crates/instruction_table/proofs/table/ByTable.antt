@@ -11,7 +11,7 @@ use Rattle.instructions.specs.declared.instr.Target.TheVariants.{A as TargetA, B
 use Rattle.instruction_table.specs.declared.decoding.Decoded.TheVariants.{Legal, Straddle}
 use Rattle.instruction_table.specs.declared.decoding.TableEntry.{TableEntry}
 use Rattle.instruction_table.specs.declared.decoding.TableEntry.TheVariants.{Short, Long, Refused}
-use Rattle.instruction_table.specs.Decoding.{x_test_at, entry, rows_01, branches, logicals, shifts, additions, others}
+use Rattle.instruction_table.specs.Decoding.{x_test_at, entry, extended, branches, logicals, shifts, additions, others}
 use Rattle.instruction_table.specs.Decoding.{increments, rows, entry_of, settled, following_at, reading_at}
 use Rattle.instruction_table.specs.Opcode.{op_at}
 use Rattle.instruction_table.specs.Pattern.{parcels_from, IsReadAs, IsByTable}
@@ -99,7 +99,7 @@ module _ (i j k q K : ℕ) (hi : i < 8) (hj : j < 8) (hk : k < 8) (hq : q < 2 ^ 
   both : (p : ℕ) → (p * 8 + k) ∷ q ∷ [] ≡ (p * 8 + K / 2 ^ 15) ∷ (K % 2 ^ 15) ∷ []
   both p = two _ _ _ _ (omega (arith, hk, hq, e)) (omega (arith, hk, hq, e))
 
-  return_jumps : AgreeFrom (λ n. parcel 1 n j k) 0 q (rows_01 K)
+  return_jumps : AgreeFrom (λ n. parcel 1 n j k) 0 q (extended K)
   return_jumps =
       (wide, two _ _ _ _ (omega (arith, hj, hk, hq, e)) (omega (arith, hk, hq, e)))
       also (op_01 1 j k (omega arith) hj hk)
@@ -132,7 +132,7 @@ module _ (i j k q K : ℕ) (hi : i < 8) (hj : j < 8) (hk : k < 8) (hq : q < 2 ^ 
   branch_row : AgreeFrom (λ c. parcel c i j k) 0 q (branches i j K)
   branch_row =
       (tt, one _ _ (omega (arith, hi, hj, hk)))
-      also (agrees_at (λ n. parcel 1 n j k) (rows_01 K) 0 i i q (omega arith) hi return_jumps)
+      also (agrees_at (λ n. parcel 1 n j k) (extended K) 0 i i q (omega arith) hi return_jumps)
       also ((hi, wide), two _ _ _ _ (omega (arith, hi, hj, hk, hq, e)) (omega (arith, hk, hq, e)))
       also tests i hi
       also ((hi, hj, wide), both _)

@@ -8,7 +8,7 @@ use Rattle.instructions.specs.declared.instr.Op.TheVariants.{Plain, Extended}
 use Rattle.instructions.specs.declared.instr.Target.TheVariants.{A as TargetA, B as TargetB, X as TargetX}
 use Rattle.instruction_table.specs.declared.decoding.TableEntry.{TableEntry}
 use Rattle.instruction_table.specs.declared.decoding.TableEntry.TheVariants.{Short, Long, Refused}
-use Rattle.instruction_table.specs.Decoding.{entry, rows_01, branches, logicals, shifts, additions, others, increments}
+use Rattle.instruction_table.specs.Decoding.{entry, extended, branches, logicals, shifts, additions, others, increments}
 use Rattle.instruction_table.specs.Decoding.{rows, entry_of}
 use Rattle.instruction_table.specs.Opcode.{op_at}
 
@@ -45,8 +45,8 @@ same_refusal : (f m i i' j j' k k' K K' : ℕ) → (f ≡ 0 → m ≡ 1 → i �
     → refused_op (entry (rows f i j k K) m) ≡ refused_op (entry (rows f i' j' k' K') m)
 same_refusal zero zero i i' j j' k k' K K' h = refl
 same_refusal zero (suc zero) i i' j j' k k' K K' h =
-    refused_at (rows_01 K) i ∙ ap (λ n. get_or (map refused_op (rows_01 K)) n None) (h refl refl)
-    ∙ sym (refused_at (rows_01 K') i')
+    refused_at (extended K) i ∙ ap (λ n. get_or (map refused_op (extended K)) n None) (h refl refl)
+    ∙ sym (refused_at (extended K') i')
 same_refusal zero (suc (suc m)) i i' j j' k k' K K' h =
     refused_at (drop 2 (branches i j K)) m ∙ sym (refused_at (drop 2 (branches i' j' K')) m)
 same_refusal (suc f) m i i' j j' k k' K K' h =

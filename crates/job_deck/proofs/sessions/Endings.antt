@@ -6,11 +6,12 @@ use Rattle.sequential.specs.Log.{entries_of}
 use Rattle.sequential.specs.Replay.{LogStep, replay, boot}
 use Rattle.sequential.specs.declared.state.State.{State}
 use Rattle.in_flight.specs.Lookup.{is_pending}
-use Rattle.program_order.specs.Reached.{GoesOn, IsReached}
+use Rattle.program_order.specs.Reached.{GoesOn, GoesOnByWork, IsReached}
+use Rattle.program_order.specs.Working.{Works}
 use Rattle.program_order.specs.Processor.{Processor, boot_processor, replayed}
 use Rattle.instructions.specs.declared.refusal.Refusal.{Refusal}
 use Rattle.deck.specs.Deck.{Good, deck}
-use Rattle.deck.specs.inner.Views.{plan, shown}
+use Rattle.deck.specs.Views.{plan, shown}
 use Rattle.deck.specs.declared.deck.Deck.{Deck}
 use Rattle.job_deck.specs.AnswerText.{answer_line}
 use Rattle.device_text.specs.Device.{Moves}
@@ -18,7 +19,7 @@ use Rattle.job_deck.specs.Dump.{dump_text}
 use Rattle.device_text.specs.Line.{lines_of}
 use Rattle.job_deck.specs.Schedule.{heard}
 use Rattle.job_deck.specs.Session.{IsDump, IsLast, IsReply, Session}
-use Rattle.job_deck.specs.inner.Holding.{Closes, Converses, last_said, refusal_of}
+use Rattle.job_deck.specs.inner.Holding.{Closes, Converses, Dumps, last_said, refusal_of}
 use Rattle.job_deck.specs.Told.{Performs, Tells, TellsFromBoot}
 use Rattle.job_deck.specs.declared.schedule.Spoken.{Spoken}
 use Rattle.job_deck.specs.declared.session.SessionError.{SessionError}
@@ -38,6 +39,20 @@ is_dump w s state l log m shows drained same_state same_log same_memory r e f =
       dump = ap (λ x. dump_text x (entries_of log) shows) (e ∙ same_state)
           ∙ ap (λ x. dump_text w.state (entries_of x) shows) (f ∙ same_log);
     }
+
+-- what is dumped of a drained machine closes a session that says `drain`
+pub drain_closes : (r : Result (Unit {0}) SessionError) (drains : Bool) (w v : Processor) (count : ℕ)
+    (shows : List (ℕ × ℕ)) (old new : Option (List ℕ)) → drains ≡ true → Works w v count → GoesOnByWork w count v
+    → Dumps r v shows old new → Closes r (last_said drains) w shows old new
+drain_closes r drains w v count shows old new d a b h =
+    subst (λ x. Closes r (last_said x) w shows old new) (sym d) (closes r h)
+  where
+    closes : (r : Result (Unit {0}) SessionError) → Dumps r v shows old new → Closes r (last_said true) w shows old new
+    closes (Ok x) k = (k.0, (v, count, a, b, k.1), k.2)
+    closes (Err (errors.Line m fault)) k = absurd k
+    closes (Err errors.OutOfMemory) k = k
+    closes (Err errors.Read) k = absurd k
+    closes (Err errors.Write) k = (k.0, (v, count, a, b, k.1), k.2)
 
 is_last : (drains : Bool) → IsLast (last_said drains)
 is_last true = tt

@@ -61,6 +61,8 @@ use Rattle.program_order.specs.Events.{tests_of, allowed, after_found, after}
 use Rattle.program_order.specs.Memory.{after_accept, after_return}
 use Rattle.program_order.proofs.keeping.Slotted.{IsSlottedWhole, event_slotted}
 use Rattle.sequential.proofs.Entries.{issued-append, issued-more}
+use Rattle.program_order.specs.Telling.{IsNumbered}
+use Rattle.program_order.proofs.keeping.Numbering.{numbers_kept, boot_numbered}
 use Rattle.program_order.proofs.theorem.Theorem.{IsRight, event_kept, boot_right, drained_replay, not_pending}
 
 -- ---- what stays right ----
@@ -76,6 +78,7 @@ still_kept w v e old new a h k room numbered limit =
       room = room;
       numbered = numbered;
       limit = limit;
+      numbers = subst IsNumbered (sym h) (numbers_kept w e a k.replay k.numbers);
     }
 
 -- those in flight of a machine, and the machine with others in flight
@@ -582,6 +585,7 @@ boot_kept w memory budget log e r h n l =
       numbered =
           omega (arith, n);
       limit = l;
+      numbers = subst IsNumbered (sym e) (boot_numbered memory budget);
     }
 
 -- giving the seats out changes nothing else
@@ -594,6 +598,7 @@ seats_kept w log k = record {
   room = k.room;
   numbered = k.numbered;
   limit = k.limit;
+  numbers = k.numbers;
 }
 
 -- ---- a snapshot ----

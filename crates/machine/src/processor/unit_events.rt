@@ -1,7 +1,7 @@
 ghost use Rattle.std.specs.Prelude.{◌≡◌, true, IfOk, IsSome, Some, None, MatchResult};
 ghost use Rattle.program_order.specs.declared.event.Event.TheVariants.{Read, Finish, Store};
 ghost use Rattle.program_order.specs.Run.{answer_of, settled};
-ghost use Rattle.instructions.specs.Operands.{row};
+ghost use Rattle.instructions.specs.Operands.{uses};
 ghost use Rattle.in_flight.specs.Tests.{refusal_in};
 ghost use Rattle.machine.specs.Tokens.{Seating, IsValueIn, slot, waits_in, reading_in};
 ghost use Rattle.program_order.specs.Events.{allowed, after};
@@ -21,7 +21,7 @@ impl Machine {
         ensures answer { allowed self.old (Read unit) ≡ refusal_in result }
         ensures after { MatchResult result (λ read. self.new ≡ after self.old (Read unit))
             (λ refusal. self.new ≡ self.old) }
-        ensures unit { IfOk result (λ read. IsSome (row read.0.instr).unit) }
+        ensures unit { IfOk result (λ read. IsSome (uses read.0.instr).unit) }
         ensures number { IfOk result (λ read. waits_in read.0.number (slot self.old unit) ≡ true) }
         ensures read { IfOk result (λ read. (seat : Seating)
             → reading_in seat (slot self.new unit)

@@ -23,11 +23,11 @@ use Rattle.instructions.specs.declared.instr.UnitKind.TheVariants.{Branch as Bra
 use Rattle.instructions.specs.RegisterLists.{is_in, overlap}
 use Rattle.instructions.specs.Shape.{Shape, Puts, Loads, Stores, Jumps, Links, shape_of, puts_of, loads_of, results}
 use Rattle.instructions.specs.Shape.{has_reference}
-use Rattle.instructions.specs.Operands.{row}
+use Rattle.instructions.specs.Operands.{uses}
 use Rattle.relocation.specs.declared.area.Access.TheVariants.{Load as LoadInto, Store as StoreWord}
 use Rattle.scoreboard.specs.Rows as board
 use Rattle.scoreboard.specs.Rows.{is_reserved, returning_to}
-use Rattle.scoreboard.specs.Units.{same_unit, units_of}
+use Rattle.scoreboard.specs.Units.{same_unit, units_of, may_take}
 use Rattle.in_flight.specs.declared.pending.Outstanding.TheVariants.{Entered, Accepted}
 use Rattle.in_flight.specs.declared.pending.Pending.{Pending}
 use Rattle.in_flight.specs.declared.pending.Phase.{Phase}
@@ -36,7 +36,7 @@ use Rattle.in_flight.specs.declared.pending.Stage.{Stage}
 use Rattle.in_flight.specs.declared.pending.Stage.TheVariants.{Waiting, Read as HasRead, Finished}
 use Rattle.instructions.specs.Each.{Each, Pairs}
 use Rattle.in_flight.specs.Pending.{progress_of, returning, row_of, entered_in, is_entered, has_turn}
-use Rattle.in_flight.specs.inner.Slots.{unit_slot, IsChannel, IsPlaced, is_of_kind, IsProper, IsSlotted}
+use Rattle.in_flight.specs.inner.Slots.{unit_slot, IsChannel, IsPlaced, IsProper, IsSlotted}
 use Rattle.in_flight.specs.Apart.{IsApart}
 use Rattle.program_order.specs.Working.{reference_cost, stage_cost, outstanding_cost, phase_cost, cost, work_left}
 use Rattle.in_flight.proofs.asking.Phases.{to_come_in, before_and, slot_in, slot_of}
@@ -194,9 +194,9 @@ units_bound size ms h k =
 
 -- ---- three units that make references ----
 
-reference_slot : (u : FunctionalUnit) → is_of_kind (Some BranchKind) u ≡ true
+reference_slot : (u : FunctionalUnit) → may_take (Some BranchKind) u ≡ true
     → list_any (eqb (unit_slot u)) (0 ∷ 5 ∷ 6 ∷ []) ≡ true
-unfolding is_of_kind units_of same_unit unit_slot
+unfolding may_take units_of same_unit unit_slot
 reference_slot Branch h = refl
 reference_slot Boolean h = cc
 reference_slot Shift h = cc
@@ -208,9 +208,9 @@ reference_slot Divide h = cc
 reference_slot Increment1 h = cc
 reference_slot Increment2 h = cc
 
-increment_slot : (u : FunctionalUnit) → is_of_kind (Some IncrementKind) u ≡ true
+increment_slot : (u : FunctionalUnit) → may_take (Some IncrementKind) u ≡ true
     → list_any (eqb (unit_slot u)) (0 ∷ 5 ∷ 6 ∷ []) ≡ true
-unfolding is_of_kind units_of same_unit unit_slot
+unfolding may_take units_of same_unit unit_slot
 increment_slot Branch h = cc
 increment_slot Boolean h = cc
 increment_slot Shift h = cc
@@ -222,7 +222,7 @@ increment_slot Divide h = cc
 increment_slot Increment1 h = refl
 increment_slot Increment2 h = refl
 
-increment_unit : (i : ℕ) (a : Addends) → (row (Increment TargetA i a)).unit ≡ Some IncrementKind
+increment_unit : (i : ℕ) (a : Addends) → (uses (Increment TargetA i a)).unit ≡ Some IncrementKind
 increment_unit i (Address BaseA j K) = refl
 increment_unit i (Address BaseB j K) = refl
 increment_unit i (Address BaseX j K) = refl
@@ -233,7 +233,7 @@ increment_unit i (Registers BPlusB j k) = refl
 increment_unit i (Registers BMinusB j k) = refl
 
 -- only RJ and the increments make a reference
-instr_slot : (i : Instr) (u : FunctionalUnit) → has_reference (shape_of i) ≡ true → is_of_kind (row i).unit u ≡ true
+instr_slot : (i : Instr) (u : FunctionalUnit) → has_reference (shape_of i) ≡ true → may_take (uses i).unit u ≡ true
     → list_any (eqb (unit_slot u)) (0 ∷ 5 ∷ 6 ∷ []) ≡ true
 unfolding shape_of has_reference
 instr_slot Stop u e h = cc
@@ -252,10 +252,10 @@ instr_slot (Mask i j) u e h = cc
 instr_slot (CountOnes i k) u e h = cc
 instr_slot (Increment TargetB i a) u e h = cc
 instr_slot (Increment TargetX i a) u e h = cc
-instr_slot (Increment TargetA i a) u e h = increment_slot u (sym (ap (λ o. is_of_kind o u) (increment_unit i a)) ∙ h)
+instr_slot (Increment TargetA i a) u e h = increment_slot u (sym (ap (λ o. may_take o u) (increment_unit i a)) ∙ h)
 
 turn_slot : (i : Instr) (u : FunctionalUnit) (p : Phase)
-    → (is_reserved (progress_of p) && has_reference (shape_of i)) ≡ true → is_of_kind (row i).unit u ≡ true
+    → (is_reserved (progress_of p) && has_reference (shape_of i)) ≡ true → may_take (uses i).unit u ≡ true
     → list_any (eqb (slot_in u p)) (0 ∷ 5 ∷ 6 ∷ []) ≡ true
 unfolding progress_of is_reserved slot_in
 turn_slot i u (Before t) e h = instr_slot i u e h

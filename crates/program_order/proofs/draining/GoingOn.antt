@@ -23,7 +23,7 @@ use Rattle.instructions.specs.declared.instr.Instr.TheVariants.{CountOnes, Incre
 use Rattle.instructions.specs.declared.instr.Addends.TheVariants.{Address, Registers}
 use Rattle.instructions.specs.Each.{Each}
 use Rattle.instructions.specs.Shape.{shape_of, results}
-use Rattle.instructions.specs.Operands.{row}
+use Rattle.instructions.specs.Operands.{uses}
 use Rattle.instruction_table.specs.declared.decoding.Decoded.{Decoded}
 use Rattle.instruction_table.specs.declared.decoding.Decoded.TheVariants.{Legal, Refused, Straddle}
 use Rattle.scoreboard.specs.Conflicts as conflict
@@ -57,7 +57,7 @@ none_fails (t ∷ ts) h = ap (λ b. cond b (Some t.refusal) (refusal_of ts)) h.0
 abbrev HasUnit : Fetched → Type 0
 HasUnit (Halting halt place) = Unit {0}
 HasUnit (Passing place) = Unit {0}
-HasUnit (Taking i place) = IsSome (row i).unit
+HasUnit (Taking i place) = IsSome (uses i).unit
 
 met_unit : (place after : Place) (i : Instr) → HasUnit (met place after i)
 unfolding met
@@ -157,7 +157,7 @@ row_passes : (g : Fetched) → HasUnit g → Each (λ t. t.fails ≡ false) (row
 unfolding row_tests
 row_passes (Halting halt place) h = tt
 row_passes (Passing place) h = tt
-row_passes (Taking i place) h = (unit_free (row i).unit h, (none_awaited (results (shape_of i)), tt))
+row_passes (Taking i place) h = (unit_free (uses i).unit h, (none_awaited (results (shape_of i)), tt))
 
 nothing_delays : (o : Option ℕ) → waits_at o [] ≡ false
 unfolding waits_at

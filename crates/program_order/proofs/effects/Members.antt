@@ -19,7 +19,7 @@ use Rattle.program_order.proofs.effects.Effects.{do_work-bounds, do_outstanding-
 use Rattle.instructions.specs.RegisterLists.{is_in}
 use Rattle.instructions.specs.Shape.{Shape, has_reference, has_store, is_branch_shape, loads_of, puts_of, results}
 use Rattle.instructions.specs.Shape.{shape_of}
-use Rattle.instructions.specs.Operands.{reg_eq, sources_of, row, with_source}
+use Rattle.instructions.specs.Operands.{reg_eq, sources_of, uses, with_source}
 use Rattle.instructions.specs.declared.instr.Instr.{Instr}
 use Rattle.instructions.specs.declared.instr.Reg.{Reg}
 use Rattle.instructions.specs.declared.instr.Reg.TheVariants.{A, B, X}
@@ -90,9 +90,9 @@ pub operands-agree : (i : Instr) (at : ℕ) (g k : RegisterFile) → Each (λ r.
     → operands i at g ≡ operands i at k
 unfolding operands
 operands-agree i at g k h =
-    let third = operand-agree g k (with_source (with_source [] (row i).first) (row i).second) (row i).outgoing h in
-    let second = operand-agree g k (with_source [] (row i).first) (row i).second third.0 in
-    let first = operand-agree g k [] (row i).first second.0 in
+    let third = operand-agree g k (with_source (with_source [] (uses i).first) (uses i).second) (uses i).outgoing h in
+    let second = operand-agree g k (with_source [] (uses i).first) (uses i).second third.0 in
+    let first = operand-agree g k [] (uses i).first second.0 in
     rw (first.1, second.1, third.1) refl
 
 put_agrees : (g : RegisterFile) (r : Reg) (v : ℕ) (rs : List Reg) → is_in rs r ≡ false

@@ -12,13 +12,13 @@ use Rattle.instructions.specs.declared.instr.UnitKind.TheVariants.{Branch as Bra
 use Rattle.instructions.specs.declared.instr.UnitKind.TheVariants.{Shift as ShiftKind, LongAdd as LongAddKind}
 use Rattle.instructions.specs.declared.instr.UnitKind.TheVariants.{Divide as DivideKind, Increment as IncrementKind}
 use Rattle.instructions.specs.Shape.{Shape, Puts, Loads, Stores, Jumps, Links, shape_of}
-use Rattle.instructions.specs.Operands.{row}
+use Rattle.instructions.specs.Operands.{uses}
 use Rattle.relocation.specs.declared.area.Access.{Access}
 use Rattle.relocation.specs.declared.area.Access.TheVariants.{Load as LoadInto, Store as StoreWord}
 use Rattle.relocation.specs.Relocation.{relocate}
 use Rattle.scoreboard.specs.Rows as board
 use Rattle.scoreboard.specs.Rows.{is_reserved}
-use Rattle.scoreboard.specs.Units.{same_unit, units_of}
+use Rattle.scoreboard.specs.Units.{same_unit, units_of, may_take}
 use Rattle.scoreboard.specs.Conflicts.{is_held, first_free, free_unit, unit_for as free_unit_for}
 use Rattle.sequential.specs.declared.work.ProgramReference.{ProgramReference}
 use Rattle.sequential.specs.declared.fetching.Fetched.{Fetched}
@@ -41,7 +41,7 @@ use Rattle.in_flight.specs.declared.pending.Stage.TheVariants.{Waiting, Read as 
 use Rattle.instructions.specs.Each.{Each}
 use Rattle.in_flight.specs.Pending.{progress_of, row_of}
 use Rattle.in_flight.proofs.asking.Asked.{holds}
-use Rattle.in_flight.specs.inner.Slots.{unit_slot, clash_in, clash, IsChannel, IsLoadable, IsPlaced, is_of_kind}
+use Rattle.in_flight.specs.inner.Slots.{unit_slot, clash_in, clash, IsChannel, IsLoadable, IsPlaced}
 use Rattle.in_flight.specs.inner.Slots.{IsProper, IsSlotted}
 use Rattle.instructions.specs.Finding.{Found, seek, put_back}
 use Rattle.program_order.specs.Processor.{Processor}
@@ -253,10 +253,10 @@ return_slotted w c (Some f) e h =
 
 -- a unit of the kind has a slot
 abbrev IsInUse : UnitKind → FunctionalUnit → Type 0
-IsInUse kind u = (unit_slot u < 7) × (is_of_kind (Some kind) u ≡ true)
+IsInUse kind u = (unit_slot u < 7) × (may_take (Some kind) u ≡ true)
 
 in_use : (kind : UnitKind) → Each (IsInUse kind) (units_of kind)
-unfolding units_of unit_slot is_of_kind same_unit
+unfolding units_of unit_slot may_take same_unit
 in_use BranchKind = ((omega arith, refl), tt)
 in_use BooleanKind = ((omega arith, refl), tt)
 in_use ShiftKind = ((omega arith, refl), tt)
@@ -276,8 +276,8 @@ first_free_found kind held (v ∷ us) u h e = by_test (held v) refl e (first_fre
     by_test false i k rest = let g : v ≡ u = cc in (ap held (sym g) ∙ i, subst (IsInUse kind) g h.0)
 
 -- the unit that an instruction takes
-record TakesUnit (ms : List Pending) (kind : Option UnitKind) (u : FunctionalUnit) : Type 0 where
-  of_kind : is_of_kind kind u ≡ true
+pub record TakesUnit (ms : List Pending) (kind : Option UnitKind) (u : FunctionalUnit) : Type 0 where
+  pub of_kind : may_take kind u ≡ true
   free : list_any (holds u) ms ≡ false
   in_use : unit_slot u < 7
 
@@ -285,7 +285,7 @@ held_is : (ms : List Pending) (u : FunctionalUnit) → is_held row_of ms u ≡ l
 unfolding is_held holds
 held_is ms u = refl
 
-unit_found : (ms : List Pending) (kind : Option UnitKind) → is_none (unit_for ms kind) ≡ false
+pub unit_found : (ms : List Pending) (kind : Option UnitKind) → is_none (unit_for ms kind) ≡ false
     → TakesUnit ms kind (unwrap_or (unit_for ms kind) Branch)
 unfolding free_unit_for free_unit
 unit_found ms None h = cc
@@ -315,7 +315,7 @@ new_clash size x m e h p k =
     ap (clash_in x.unit x.phase m.unit) e ∙ waiting_clash size m.unit x.unit x.phase h p.placed k
 
 pub slotted_push : (size : ℕ) (ms : List Pending) (m : Pending) → m.phase ≡ Before Waiting
-    → is_of_kind (row m.instr).unit m.unit ≡ true → unit_slot m.unit < 7 → list_any (holds m.unit) ms ≡ false
+    → may_take (uses m.instr).unit m.unit ≡ true → unit_slot m.unit < 7 → list_any (holds m.unit) ms ≡ false
     → IsSlotted size ms → IsSlotted size (ms ++ m ∷ [])
 slotted_push size ms m e u h free s = record {
   apart = pairs_push (λ a b. clash a b ≡ false) ms m s.apart
@@ -332,7 +332,7 @@ unfolding after_issue row_tests move_to halt_by
 issue_slotted w (Halting k place) h s = s
 issue_slotted w (Passing place) h s = s
 issue_slotted w (Taking i place) h s =
-    let t = unit_found w.pending (row i).unit h.0 in
+    let t = unit_found w.pending (uses i).unit h.0 in
     slotted_push (length w.state.memory) w.pending _ refl t.of_kind t.in_use t.free s
 
 exchange_slotted : (w : Processor) (o : Option ℕ) → w.pending ≡ [] → IsSlottedWhole w

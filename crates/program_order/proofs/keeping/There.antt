@@ -1,7 +1,7 @@
 -- What the slots say of the instruction that was found.
 use Rattle.std.proofs.Common.{◌≡◌, ◌<◌, ℕ, true, Option, Some, None, List, length, refl, subst}
 use Rattle.std.specs.Prelude.{IsSome, IfSome}
-use Rattle.instructions.specs.Operands.{row}
+use Rattle.instructions.specs.Operands.{uses}
 use Rattle.instructions.specs.declared.instr.Unit.{Unit as FunctionalUnit}
 use Rattle.instructions.specs.declared.instr.UnitKind.{UnitKind}
 use Rattle.hopper.specs.declared.reference.Reference.{Reference}
@@ -11,7 +11,8 @@ use Rattle.in_flight.specs.declared.pending.Outstanding.TheVariants.{Entered}
 use Rattle.in_flight.specs.declared.pending.Pending.{Pending}
 use Rattle.in_flight.specs.declared.pending.Phase.TheVariants.{After}
 use Rattle.in_flight.specs.Lookup.{sought, entry_at}
-use Rattle.in_flight.specs.inner.Slots.{IsSlotted, is_of_kind, IsProper}
+use Rattle.scoreboard.specs.Units.{may_take}
+use Rattle.in_flight.specs.inner.Slots.{IsSlotted, IsProper}
 use Rattle.instructions.specs.Finding.{Found, seek}
 use Rattle.program_order.specs.Processor.{Processor}
 use Rattle.program_order.specs.Events.{allowed, tests_of}
@@ -26,22 +27,22 @@ found_proper size ms g f p h =
     let q = seek_splits g ms f p in
     proper_there size f.earlier f.member f.later (subst (IsSlotted size) q.0 h)
 
-has_some : (o : Option UnitKind) (u : FunctionalUnit) → is_of_kind o u ≡ true → IsSome o
-unfolding is_of_kind
+has_some : (o : Option UnitKind) (u : FunctionalUnit) → may_take o u ≡ true → IsSome o
+unfolding may_take
 has_some None u h = cc
 has_some (Some kind) u h = refl
 
 -- its instruction has a unit
 pub unit_there : {K : Type 0} (size : ℕ) (ms : List Pending) (g : Pending → Option K) (m : Pending) (k : K)
-    → sought (seek g ms) ≡ Some (record { member = m; answer = k }) → IsSlotted size ms → IsSome (row m.instr).unit
+    → sought (seek g ms) ≡ Some (record { member = m; answer = k }) → IsSlotted size ms → IsSome (uses m.instr).unit
 unit_there {K} size ms g m k h s = found (seek g ms) refl h
   where
     found : (q : Option (Found Pending K)) → seek g ms ≡ q → sought q ≡ Some (record { member = m; answer = k })
-        → IsSome (row m.instr).unit
+        → IsSome (uses m.instr).unit
     found None e i = absurd (no_sought (record { member = m; answer = k }) i)
-    found (Some f) e i = subst (λ (x : Pending). IsSome (row x.instr).unit)
+    found (Some f) e i = subst (λ (x : Pending). IsSome (uses x.instr).unit)
         (sought_member f (record { member = m; answer = k }) i)
-        (has_some (row f.member.instr).unit f.member.unit (found_proper size ms g f e s).of_kind)
+        (has_some (uses f.member.instr).unit f.member.unit (found_proper size ms g f e s).of_kind)
 
 -- its address lies in memory
 pub entry_within : (w : Processor) (place : ℕ) (r : Reference) → allowed w (Accept place) ≡ None

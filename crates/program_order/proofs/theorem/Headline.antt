@@ -92,7 +92,7 @@ unfolding after_exchange exchange_step
 books_exchange w None e = record { log = nil_right w.log; request = e; boot = refl }
 books_exchange w (Some n) e = record { log = refl; request = refl; boot = refl }
 
-books_after : (w : Processor) (e : Event) → Books w (after w e) (made_request w.request e) (made_steps w.request e)
+pub books_after : (w : Processor) (e : Event) → Books w (after w e) (made_request w.request e) (made_steps w.request e)
 unfolding after made_request made_steps after_read after_finish after_return
 books_after w Issue = books_issue w _
 books_after w (Read u) = books_found w _ _ (λ f. books_same w _ refl refl refl)
@@ -104,7 +104,7 @@ books_after w (BankFree k) = books_same w _ refl refl refl
 books_after w (Ask n) = record { log = nil_right w.log; request = refl; boot = refl }
 books_after w Exchange = books_exchange w w.request refl
 
-books_by : (w : Processor) (e : Event) (a : Result Done Refusal)
+pub books_by : (w : Processor) (e : Event) (a : Result Done Refusal)
     → Books w (settled w e a) (request_by a w.request e) (steps_by a w.request e)
 unfolding settled request_by steps_by
 books_by w e (Ok done) = books_after w e

@@ -48,7 +48,7 @@ word_seen-same b s ms p (Some w) nb h = refl
 word_seen-same b s ms p None nb h = word_at-same b s ms (absolute b p) nb h
 
 -- where the fetch need not wait, all pending instructions leave the fetched word as it is
-fetch-same : (b : Bounds) (s : State) (ms : List Pending) (place : Place) → list_any is_branch ms ≡ false
+pub fetch-same : (b : Bounds) (s : State) (ms : List Pending) (place : Place) → list_any is_branch ms ≡ false
     → fetch_waits b place ms ≡ false → fetch b (complete b s ms).memory place ≡ fetch b s.memory place
 unfolding fetch fetch_waits
 fetch-same b s ms place nb h = ap (fetched_from place.p place.parcel) (word_seen-same b s ms place.p place.held nb h)

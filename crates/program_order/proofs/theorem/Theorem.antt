@@ -179,7 +179,7 @@ return_kept w c (Some f) e h r =
 
 -- ---- issue ----
 
-is_some_none : {K : Type 0} (o : Option K) → is_some o ≡ false → o ≡ None
+pub is_some_none : {K : Type 0} (o : Option K) → is_some o ≡ false → o ≡ None
 is_some_none None h = refl
 is_some_none (Some x) h = cc
 

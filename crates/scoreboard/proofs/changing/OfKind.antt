@@ -39,7 +39,7 @@ use Rattle.instructions.specs.Each.{Each}
 use Rattle.instructions.specs.Finding.{seek}
 use Rattle.instructions.specs.Order.{sort_by, somes, IsSeated}
 use Rattle.instructions.specs.Shape.{Puts, Loads, Stores, shape_of, is_branch_shape, has_reference, has_store}
-use Rattle.instructions.specs.Operands.{row}
+use Rattle.instructions.specs.Operands.{uses}
 use Rattle.instructions.proofs.Lists.{each_map, each_both}
 use Rattle.instructions.proofs.Seats.{seated_others, seated_empty, found_there}
 use Rattle.instructions.proofs.Sorted.{any_sort}
@@ -63,7 +63,7 @@ use Rattle.scoreboard.proofs.seating.Writing.{any_same}
 -- ---- the kind of unit that an instruction takes, by its name ----
 
 -- Branch takes the branches, whatever they test
-branch_x_unit : (test : XTest) (j K : ℕ) → (row (BranchX test j K)).unit ≡ Some BranchKind
+branch_x_unit : (test : XTest) (j K : ℕ) → (uses (BranchX test j K)).unit ≡ Some BranchKind
 branch_x_unit Zero j K = refl
 branch_x_unit NonZero j K = refl
 branch_x_unit Positive j K = refl
@@ -73,13 +73,13 @@ branch_x_unit OutOfRange j K = refl
 branch_x_unit Definite j K = refl
 branch_x_unit Indefinite j K = refl
 
-branch_b_unit : (test : BTest) (i j K : ℕ) → (row (BranchB test i j K)).unit ≡ Some BranchKind
+branch_b_unit : (test : BTest) (i j K : ℕ) → (uses (BranchB test i j K)).unit ≡ Some BranchKind
 branch_b_unit Equal i j K = refl
 branch_b_unit NotEqual i j K = refl
 branch_b_unit GreaterOrEqual i j K = refl
 branch_b_unit Less i j K = refl
 
-logical_unit : (op : Logic) (i j k : ℕ) → (row (Logical op i j k)).unit ≡ Some BooleanKind
+logical_unit : (op : Logic) (i j k : ℕ) → (uses (Logical op i j k)).unit ≡ Some BooleanKind
 logical_unit And i j k = refl
 logical_unit Or i j k = refl
 logical_unit Xor i j k = refl
@@ -87,19 +87,19 @@ logical_unit AndNot i j k = refl
 logical_unit OrNot i j k = refl
 logical_unit XorNot i j k = refl
 
-shift_by_unit : (direction : Direction) (i jk : ℕ) → (row (ShiftBy direction i jk)).unit ≡ Some ShiftKind
+shift_by_unit : (direction : Direction) (i jk : ℕ) → (uses (ShiftBy direction i jk)).unit ≡ Some ShiftKind
 shift_by_unit ToLeft i jk = refl
 shift_by_unit ToRight i jk = refl
 
-shift_nominal_unit : (direction : Direction) (i j k : ℕ) → (row (ShiftNominal direction i j k)).unit ≡ Some ShiftKind
+shift_nominal_unit : (direction : Direction) (i j k : ℕ) → (uses (ShiftNominal direction i j k)).unit ≡ Some ShiftKind
 shift_nominal_unit ToLeft i j k = refl
 shift_nominal_unit ToRight i j k = refl
 
-long_unit : (op : Addition) (i j k : ℕ) → (row (LongSum op i j k)).unit ≡ Some LongAddKind
+long_unit : (op : Addition) (i j k : ℕ) → (uses (LongSum op i j k)).unit ≡ Some LongAddKind
 long_unit Sum i j k = refl
 long_unit Difference i j k = refl
 
-increment_unit : (target : Target) (i : ℕ) (a : Addends) → (row (Increment target i a)).unit ≡ Some IncrementKind
+increment_unit : (target : Target) (i : ℕ) (a : Addends) → (uses (Increment target i a)).unit ≡ Some IncrementKind
 increment_unit TargetA i (Address BaseA j K) = refl
 increment_unit TargetA i (Address BaseB j K) = refl
 increment_unit TargetA i (Address BaseX j K) = refl
@@ -191,7 +191,7 @@ increment_no_branch TargetB i a = refl
 increment_no_branch TargetX i a = refl
 
 -- an instruction in Branch is a branch, and no other is
-branch_there : (i : Instr) (u : FunctionalUnit) → may_take (row i).unit u ≡ true
+branch_there : (i : Instr) (u : FunctionalUnit) → may_take (uses i).unit u ≡ true
     → same_unit u Branch ≡ is_branch_shape (shape_of i)
 unfolding may_take units_of same_unit shape_of is_branch_shape
 branch_there Stop u h = cc
@@ -199,27 +199,27 @@ branch_there Pass u h = cc
 branch_there (ReturnJump K) u h = branch_alone u h
 branch_there (Jump i K) u h = branch_alone u h
 branch_there (BranchX t j K) u h =
-    branch_alone u (of_kind (row (BranchX t j K)).unit BranchKind u (branch_x_unit t j K) h)
+    branch_alone u (of_kind (uses (BranchX t j K)).unit BranchKind u (branch_x_unit t j K) h)
 branch_there (BranchB t i j K) u h =
-    branch_alone u (of_kind (row (BranchB t i j K)).unit BranchKind u (branch_b_unit t i j K) h)
+    branch_alone u (of_kind (uses (BranchB t i j K)).unit BranchKind u (branch_b_unit t i j K) h)
 branch_there (Copy i j) u h = not_branch BooleanKind u h refl
 branch_there (Invert i k) u h = not_branch BooleanKind u h refl
 branch_there (Logical o i j k) u h =
-    not_branch BooleanKind u (of_kind (row (Logical o i j k)).unit BooleanKind u (logical_unit o i j k) h) refl
+    not_branch BooleanKind u (of_kind (uses (Logical o i j k)).unit BooleanKind u (logical_unit o i j k) h) refl
 branch_there (ShiftBy d i jk) u h =
-    not_branch ShiftKind u (of_kind (row (ShiftBy d i jk)).unit ShiftKind u (shift_by_unit d i jk) h) refl
+    not_branch ShiftKind u (of_kind (uses (ShiftBy d i jk)).unit ShiftKind u (shift_by_unit d i jk) h) refl
 branch_there (ShiftNominal d i j k) u h =
-    not_branch ShiftKind u (of_kind (row (ShiftNominal d i j k)).unit ShiftKind u (shift_nominal_unit d i j k) h) refl
+    not_branch ShiftKind u (of_kind (uses (ShiftNominal d i j k)).unit ShiftKind u (shift_nominal_unit d i j k) h) refl
 branch_there (LongSum o i j k) u h =
-    not_branch LongAddKind u (of_kind (row (LongSum o i j k)).unit LongAddKind u (long_unit o i j k) h) refl
+    not_branch LongAddKind u (of_kind (uses (LongSum o i j k)).unit LongAddKind u (long_unit o i j k) h) refl
 branch_there (Mask i jk) u h = not_branch ShiftKind u h refl
 branch_there (CountOnes i k) u h = not_branch DivideKind u h refl
 branch_there (Increment t i a) u h =
-    not_branch IncrementKind u (of_kind (row (Increment t i a)).unit IncrementKind u (increment_unit t i a) h) refl
+    not_branch IncrementKind u (of_kind (uses (Increment t i a)).unit IncrementKind u (increment_unit t i a) h) refl
     ∙ sym (increment_no_branch t i a)
 
 -- outside Branch and the Increment units nothing makes a reference
-no_reference : (i : Instr) (u : FunctionalUnit) → may_take (row i).unit u ≡ true → unit_number u ≢ unit_number Branch
+no_reference : (i : Instr) (u : FunctionalUnit) → may_take (uses i).unit u ≡ true → unit_number u ≢ unit_number Branch
     → unit_number u ≢ unit_number Increment1 → unit_number u ≢ unit_number Increment2
     → has_reference (shape_of i) ≡ false
 unfolding shape_of has_reference
@@ -238,13 +238,13 @@ no_reference (LongSum o i j k) u h a b c = refl
 no_reference (Mask i jk) u h a b c = refl
 no_reference (CountOnes i k) u h a b c = refl
 no_reference (Increment TargetA i a) u h z b c =
-    absurd (increment_seat u (of_kind (row (Increment TargetA i a)).unit IncrementKind u (increment_unit TargetA i a)
+    absurd (increment_seat u (of_kind (uses (Increment TargetA i a)).unit IncrementKind u (increment_unit TargetA i a)
     h) b c)
 no_reference (Increment TargetB i a) u h z b c = refl
 no_reference (Increment TargetX i a) u h z b c = refl
 
 -- outside the Increment units nothing but RJ stores
-no_store : (i : Instr) (u : FunctionalUnit) → may_take (row i).unit u ≡ true → unit_number u ≢ unit_number Increment1
+no_store : (i : Instr) (u : FunctionalUnit) → may_take (uses i).unit u ≡ true → unit_number u ≢ unit_number Increment1
     → unit_number u ≢ unit_number Increment2 → (has_store (shape_of i) && not (is_branch_shape (shape_of i))) ≡ false
 unfolding shape_of has_store is_branch_shape
 no_store Stop u h b c = refl
@@ -262,7 +262,7 @@ no_store (LongSum o i j k) u h b c = refl
 no_store (Mask i jk) u h b c = refl
 no_store (CountOnes i k) u h b c = refl
 no_store (Increment TargetA i a) u h b c =
-    absurd (increment_seat u (of_kind (row (Increment TargetA i a)).unit IncrementKind u (increment_unit TargetA i a)
+    absurd (increment_seat u (of_kind (uses (Increment TargetA i a)).unit IncrementKind u (increment_unit TargetA i a)
     h) b c)
 no_store (Increment TargetB i a) u h b c = refl
 no_store (Increment TargetX i a) u h b c = refl

@@ -16,7 +16,7 @@ use Rattle.instructions.specs.declared.refusal.Refusal.{Refusal}
 use Rattle.instructions.specs.declared.refusal.Refusal.TheVariants.{UnitBusy, ResultReserved}
 use Rattle.instructions.specs.RegisterLists.{is_in}
 use Rattle.instructions.specs.Shape.{shape_of, puts_of, results}
-use Rattle.instructions.specs.Operands.{row, sources_of, reg_eq}
+use Rattle.instructions.specs.Operands.{uses, sources_of, reg_eq}
 use Rattle.scoreboard.specs.Conflicts.{awaited, is_held, first_free, free_unit, unit_for, first_such}
 use Rattle.scoreboard.specs.Rows.{comes, to_come, to_come_in, holds}
 use Rattle.scoreboard.specs.Units.{unit_number, same_unit, units_of, may_take, first_unit}
@@ -226,7 +226,7 @@ free_seat units (Some k) u h =
 -- ---- the answers ----
 
 pub busy_answer : (s : Standing) (i : Instr) (o : Option FunctionalUnit) → o ≡ None
-    → Err (UnitBusy (first_unit (row i).unit)) ≡ reserve_answer s i o
+    → Err (UnitBusy (first_unit (uses i).unit)) ≡ reserve_answer s i o
 unfolding reserve_answer
 busy_answer s i o e = ap (reserve_answer s i) (sym e)
 
@@ -305,7 +305,7 @@ new_sources : (i : Instr) (u : FunctionalUnit) (n : ℕ) → sources_of (new_iss
 unfolding new_issued
 new_sources i u n = refl
 
-new_kind : (i : Instr) (u : FunctionalUnit) (n : ℕ) → may_take (row i).unit u ≡ true → IsOfKind (new_issued i u n)
+new_kind : (i : Instr) (u : FunctionalUnit) (n : ℕ) → may_take (uses i).unit u ≡ true → IsOfKind (new_issued i u n)
 unfolding new_issued
 new_kind i u n h = h
 
@@ -315,7 +315,7 @@ pub reserved_right : (units channels : List (Option Issued)) (producers : List (
     → AreProducers (writer_at ws) (sources_of i) ps → Each IsRegister (sources_of i)
     → Each IsRegister (puts_of (shape_of i)) → IfSome (channel_of (shape_of i)) (λ n. n < 8)
     → ((r : Reg) → comes r (new_issued i u (suc last)).row ≡ true
-    → list_any (λ z. comes r z.row) (somes (units ++ channels)) ≡ false) → may_take (row i).unit u ≡ true
+    → list_any (λ z. comes r z.row) (somes (units ++ channels)) ≡ false) → may_take (uses i).unit u ≡ true
     → IsRight (set units k (Some (new_issued i u (suc last)))) channels (set producers k ps)
     (writers_with ws u (puts_of (shape_of i)) (channel_of (shape_of i))) (suc last)
 unfolding seated writer_before or_else
@@ -510,7 +510,7 @@ pub new_right : (units channels : List (Option Issued)) (producers : List (List 
     → rs ≡ sources_of i → AreProducers (writer_at ws) rs ps → Each IsRegister rs
     → Each IsRegister (puts_of (shape_of i)) → IfSome (channel_of (shape_of i)) (λ m. m < 8)
     → find (awaited row_of (sort_by number_of (seated units channels))) (results (shape_of i)) ≡ None
-    → may_take (row i).unit u ≡ true → y ≡ new_issued i u n
+    → may_take (uses i).unit u ≡ true → y ≡ new_issued i u n
     → ws' ≡ writers_with ws u (puts_of (shape_of i)) (channel_of (shape_of i))
     → IsRight (set units k (Some y)) channels (set producers k ps) ws' n
 new_right units channels producers ws ws' last n u k i rs ps y right en e h er made sources puts channel none kind ey

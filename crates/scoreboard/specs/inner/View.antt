@@ -4,7 +4,7 @@ use Rattle.std.specs.Prelude.{◌≡◌, ◌≢◌, ◌≤◌, ◌+◌, ℕ, tru
 use Rattle.std.specs.Prelude.{slice_index_or}
 use Rattle.instructions.specs.declared.instr.Reg.{Reg}
 use Rattle.instructions.specs.declared.instr.Unit.{Unit as FunctionalUnit}
-use Rattle.instructions.specs.Operands.{row, sources_of}
+use Rattle.instructions.specs.Operands.{uses, sources_of}
 use Rattle.scoreboard.specs.declared.row.Progress.{Progress}
 use Rattle.scoreboard.specs.declared.row.Progress.TheVariants.{Reserved, Left}
 use Rattle.scoreboard.specs.Rows.{comes}
@@ -43,7 +43,7 @@ pub record IsOther (x y : Issued) : Type 0 where
 
 -- it was issued to a unit of the kind that its instruction takes
 abbrev pub IsOfKind : Issued → Type 0
-IsOfKind x = may_take (row x.row.instr).unit x.row.unit ≡ true
+IsOfKind x = may_take (uses x.row.instr).unit x.row.unit ≡ true
 
 -- each operand has its producer: who is to write the operand's register, if anybody is
 abbrev pub AreProducers : (Reg → Option Writer) → List Reg → List (Option Writer) → Type 0

@@ -2,7 +2,7 @@ use Rattle.std.proofs.Common.{arith, rules}
 use Rattle.std.proofs.Math.Bool.{or-false}
 use Rattle.std.proofs.lemmas.Result.{err_from_is_err_and}
 use Rattle.deck.specs.Deck.{judged_first, judged_line}
-use Rattle.deck.specs.inner.Views.{sketch}
+use Rattle.deck.specs.Views.{sketch}
 use Rattle.deck.proofs.DeckLines.{first_err, first_goes, first_ends, later_refused, later_err, later_goes, later_ends}
 use Rattle.deck.proofs.DeckLines.{lines_over}
 use Rattle.deck.proofs.Unread.{first_cut, first_taken, later_cut, later_taken}

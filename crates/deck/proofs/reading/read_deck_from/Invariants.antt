@@ -2,7 +2,7 @@ use Rattle.std.proofs.Common.{◌≡◌}
 use Rattle.device_text.specs.Device.{Moves}
 use Rattle.device_text.specs.Line.{lines_of}
 use Rattle.deck.specs.Deck.{deck, read_from}
-use Rattle.deck.specs.inner.Views.{sketch}
+use Rattle.deck.specs.Views.{sketch}
 use Rattle.deck.proofs.reading.read_deck_from.Given as goal
 
 -- reading all is reading on from here

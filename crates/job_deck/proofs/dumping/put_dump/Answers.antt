@@ -6,7 +6,7 @@ use Rattle.std.proofs.lemmas.List.Folds.{flat_map-map}
 use Rattle.device_text.specs.Device.{WritesFront}
 use Rattle.device_text.proofs.Moving.{cut_in, cut_after, writes_after, writes_last}
 use Rattle.job_deck.specs.Dump.{dump_text, state_lines, register_lines, show_lines, log_line}
-use Rattle.deck.specs.inner.Views.{shown_of}
+use Rattle.deck.specs.Views.{shown_of}
 use Rattle.job_deck.proofs.dumping.put_dump.Goals as goal
 
 pub returns-in_err-put_state-clause-written : goal.returns-in_err-put_state-clause-written

@@ -2,7 +2,7 @@ use Rattle.std.proofs.Common.{◌≡◌, ◌+◌, ◌-◌, ◌≤◌}
 use Rattle.std.specs.List.{flat_map}
 use Rattle.device_text.specs.Device.{WritesAllBut}
 use Rattle.job_deck.specs.Dump.{word_line, show_lines, addresses}
-use Rattle.deck.specs.inner.Views.{shown_of}
+use Rattle.deck.specs.Views.{shown_of}
 use Rattle.job_deck.proofs.dumping.put_show.Given as goal
 
 abbrev pub invariant-loop-address : goal.invariant-loop-address

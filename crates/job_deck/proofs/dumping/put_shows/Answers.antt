@@ -2,7 +2,7 @@ use Rattle.std.proofs.Common.{rules}
 use Rattle.std.proofs.lemmas.Result.{err_from_is_err_and}
 use Rattle.device_text.proofs.Moving.{each_written, each_cut}
 use Rattle.job_deck.specs.Dump.{show_lines}
-use Rattle.deck.specs.inner.Views.{shown_of}
+use Rattle.deck.specs.Views.{shown_of}
 use Rattle.job_deck.proofs.dumping.put_shows.Goals as goal
 
 pub returns-in_err-put_show-clause-written : goal.returns-in_err-put_show-clause-written

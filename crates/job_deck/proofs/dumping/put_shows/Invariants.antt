@@ -2,7 +2,7 @@ use Rattle.std.proofs.Common.{◌≡◌, drop}
 use Rattle.std.specs.List.{flat_map}
 use Rattle.device_text.specs.Device.{WritesAllBut}
 use Rattle.job_deck.specs.Dump.{show_lines}
-use Rattle.deck.specs.inner.Views.{shown_of}
+use Rattle.deck.specs.Views.{shown_of}
 use Rattle.job_deck.proofs.dumping.put_shows.Given as goal
 
 abbrev pub invariant-loop-show : goal.invariant-loop-show

@@ -1,5 +1,5 @@
 use Rattle.std.proofs.Common.{◌+◌}
-use Rattle.deck.specs.inner.Views.{shown}
+use Rattle.deck.specs.Views.{shown}
 use Rattle.job_deck.proofs.sessions.Endings.{session_closed, session_stopped}
 use Rattle.job_deck.proofs.session.hold.Goals as goal
 

@@ -1,5 +1,5 @@
 use Rattle.std.proofs.Common.{◌≡◌, map, take}
-use Rattle.deck.specs.inner.Views.{asked_of}
+use Rattle.deck.specs.Views.{asked_of}
 use Rattle.operator_main.proofs.running.orders.Given as goal
 
 -- the requests of the lines before this one

@@ -1,7 +1,7 @@
 use Rattle.std.proofs.Common.{suc, sym, ap, ◌∙◌, subst}
 use Rattle.std.specs.Prelude.{unwrap_or}
 use Rattle.instructions.specs.declared.instr.Unit.TheVariants.{Branch}
-use Rattle.instructions.specs.Operands.{row}
+use Rattle.instructions.specs.Operands.{uses}
 use Rattle.sequential.specs.declared.fetching.Fetched.TheVariants.{Taking}
 use Rattle.in_flight.specs.Tests.{refusal_in, refusal_of, row_tests}
 use Rattle.in_flight.specs.Flight.{Flight, flight_of, unit_taken, reserved_in}
@@ -36,7 +36,7 @@ returns-in-Err-clause-after c =
 
 pub push-requires-clause-free : goal.push-requires-clause-free
 push-requires-clause-free c =
-    unit_free c.self.inside.slots (row c.args.instr.now).unit c.in-Ok.reserved.0
+    unit_free c.self.inside.slots (uses c.args.instr.now).unit c.in-Ok.reserved.0
     (reserved_as c.self.inside.slots c.args.instr.now c.self.inside.board c.try_reserve.result c.in-Ok.reserved
     c.self.invariant.boarded c.try_reserve.ensures.answer c.in-Ok.is).0
 

@@ -2,7 +2,7 @@
 use Rattle.std.proofs.Common.{◌+◌, ap, sym, ◌∙◌, Some, None, arith}
 use Rattle.std.specs.Prelude.{Ok, Err}
 use Rattle.instructions.specs.declared.refusal.Refusal.TheVariants.{UnitBusy}
-use Rattle.instructions.specs.Operands.{row}
+use Rattle.instructions.specs.Operands.{uses}
 use Rattle.scoreboard.specs.Conflicts.{unit_for}
 use Rattle.scoreboard.specs.Issued.{row_of}
 use Rattle.scoreboard.specs.Answers.{Standing, reserve_answer, reserved}
@@ -16,9 +16,9 @@ returns-in_default-clause-answer c =
     ap (λ u. Err (UnitBusy u)) c.first_unit.ensures
     ∙ busy_answer (standing_of c.self.inside.units c.self.inside.channels c.self.inside.last) c.args.instr.now _
     (unit_found c.self.inside.units c.self.inside.channels c.self.inside.producers c.self.inside.writers
-    c.self.inside.last (row c.args.instr.now).unit c.free_unit_for.result None c.self.invariant
+    c.self.inside.last (uses c.args.instr.now).unit c.free_unit_for.result None c.self.invariant
     c.free_unit_for.ensures c.in_default.is)
-    ∙ ap (λ (s : Standing). reserve_answer s c.args.instr.now (unit_for row_of s.issued (row c.args.instr.now).unit))
+    ∙ ap (λ (s : Standing). reserve_answer s c.args.instr.now (unit_for row_of s.issued (uses c.args.instr.now).unit))
     c.self.view_is
 
 pub returns-in_default-clause-after : goal.returns-in_default-clause-after
@@ -29,7 +29,7 @@ returns-in-Some-first_produced-clause-answer c =
     taken_answer (standing_of c.self.inside.units c.self.inside.channels c.self.inside.last) c.args.instr.now _
     c.in-Some.unit c.first_produced.result c.in-Some-first_produced.register
     (unit_found c.self.inside.units c.self.inside.channels c.self.inside.producers c.self.inside.writers
-    c.self.inside.last (row c.args.instr.now).unit c.free_unit_for.result (Some c.in-Some.unit) c.self.invariant
+    c.self.inside.last (uses c.args.instr.now).unit c.free_unit_for.result (Some c.in-Some.unit) c.self.invariant
     c.free_unit_for.ensures c.in-Some.is)
     (first_found c.self.inside.units c.self.inside.channels c.self.inside.producers c.self.inside.writers
     c.self.inside.last c.args.instr.now c.as_slice.result.now c.as_slice-2.result.now c.of-taken.result
@@ -37,7 +37,7 @@ returns-in-Some-first_produced-clause-answer c =
     (c.as_slice.ensures.value ∙ c.results-results.ensures.shape)
     (c.as_slice-2.ensures.value ∙ c.results-results.ensures.shape) c.first_produced.ensures)
     c.in-Some-first_produced.is
-    ∙ ap (λ (s : Standing). reserve_answer s c.args.instr.now (unit_for row_of s.issued (row c.args.instr.now).unit))
+    ∙ ap (λ (s : Standing). reserve_answer s c.args.instr.now (unit_for row_of s.issued (uses c.args.instr.now).unit))
     c.self.view_is
 
 pub returns-in-Some-first_produced-clause-after : goal.returns-in-Some-first_produced-clause-after
@@ -52,7 +52,7 @@ invariant_of-self c =
     c.expect.new.writers c.self.inside.last (c.self.inside.last + 1) c.in-Some.unit c.index_of-index.result
     c.args.instr.now c.as_slice-3.result.now c.of.result c.new.result c.self.invariant (omega arith)
     c.index_of-index.ensures.value
-    (seat_found c.self.inside.units (row c.args.instr.now).unit c.free_unit_for.result c.in-Some.unit
+    (seat_found c.self.inside.units (uses c.args.instr.now).unit c.free_unit_for.result c.in-Some.unit
     c.index_of-index.result c.free_unit_for.ensures c.in-Some.is c.index_of-index.ensures.value)
     (c.as_slice-3.ensures.value ∙ c.sources-sources.ensures) c.of.ensures.writers c.of.ensures.registers
     c.expect.ensures.registers c.expect.ensures.channel
@@ -62,7 +62,7 @@ invariant_of-self c =
     (c.as_slice.ensures.value ∙ c.results-results.ensures.shape)
     (c.as_slice-2.ensures.value ∙ c.results-results.ensures.shape)
     c.first_produced.ensures) ∙ c.in_default-first_produced.is)
-    (kind_found c.self.inside.units (row c.args.instr.now).unit c.free_unit_for.result c.in-Some.unit
+    (kind_found c.self.inside.units (uses c.args.instr.now).unit c.free_unit_for.result c.in-Some.unit
     c.free_unit_for.ensures c.in-Some.is)
     c.new.ensures c.expect.ensures.value
 
@@ -71,7 +71,7 @@ returns-clause-answer c =
     reserved_answer (standing_of c.self.inside.units c.self.inside.channels c.self.inside.last) c.args.instr.now _
     c.in-Some.unit (c.self.inside.last + 1)
     (unit_found c.self.inside.units c.self.inside.channels c.self.inside.producers c.self.inside.writers
-    c.self.inside.last (row c.args.instr.now).unit c.free_unit_for.result (Some c.in-Some.unit) c.self.invariant
+    c.self.inside.last (uses c.args.instr.now).unit c.free_unit_for.result (Some c.in-Some.unit) c.self.invariant
     c.free_unit_for.ensures c.in-Some.is)
     (sym (first_found c.self.inside.units c.self.inside.channels c.self.inside.producers c.self.inside.writers
     c.self.inside.last c.args.instr.now c.as_slice.result.now c.as_slice-2.result.now c.of-taken.result
@@ -80,7 +80,7 @@ returns-clause-answer c =
     (c.as_slice-2.ensures.value ∙ c.results-results.ensures.shape)
     c.first_produced.ensures) ∙ c.in_default-first_produced.is)
     (omega arith)
-    ∙ ap (λ (s : Standing). reserve_answer s c.args.instr.now (unit_for row_of s.issued (row c.args.instr.now).unit))
+    ∙ ap (λ (s : Standing). reserve_answer s c.args.instr.now (unit_for row_of s.issued (uses c.args.instr.now).unit))
     c.self.view_is
 
 pub returns-clause-after : goal.returns-clause-after
@@ -88,6 +88,6 @@ returns-clause-after c =
     new_view c.self.inside.units c.self.inside.channels c.self.inside.producers c.self.inside.writers
     c.self.inside.last (c.self.inside.last + 1) c.in-Some.unit c.index_of-index.result c.args.instr.now
     c.new.result c.self.invariant (omega arith) c.index_of-index.ensures.value
-    (seat_found c.self.inside.units (row c.args.instr.now).unit c.free_unit_for.result c.in-Some.unit
+    (seat_found c.self.inside.units (uses c.args.instr.now).unit c.free_unit_for.result c.in-Some.unit
     c.index_of-index.result c.free_unit_for.ensures c.in-Some.is c.index_of-index.ensures.value) c.new.ensures
     ∙ ap (λ (s : Standing). reserved s c.args.instr.now (Ok (c.in-Some.unit, c.self.inside.last + 1))) c.self.view_is

@@ -6,7 +6,8 @@ use Rattle.unit_workers.proofs.requests.Requests.new.Goals as goal
 pub invariant_of-result : goal.invariant_of-result
 invariant_of-result c = record {
   in_order = rw c.from_vec.ensures.items
-      (IsNonDecreasingBy-from_sort_by_key (λ ask. ask.1) _ c.in_ok-sort_by_key.ensures.sorted (λ a r q k. search rules));
+      (IsNonDecreasingBy-from_sort_by_key (λ ask. ask.1) _ c.in_ok-sort_by_key.ensures.sorted
+      (λ a r q k. search rules));
 }
 
 pub returns-clause-left : goal.returns-clause-left

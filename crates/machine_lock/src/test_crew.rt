@@ -1,13 +1,14 @@
 //! For the tests: a machine under its lock with all its seats, whose events are made by the calls of `Shared`.
 
-ghost use Rattle.std.specs.Prelude.{◌<◌, IfSome};
+ghost use Rattle.std.specs.Prelude.{◌≡◌, ◌<◌, IfSome};
 
-use crate::fixtures::{Words, booted, is_same, leave, memory_left, memory_of, word};
-use crate::{Seen, Shared};
+use crate::test_fixtures::{Words, booted, is_same, leave, memory_left, memory_of, word};
+use crate::{Ground, Naming, Seen, Shared};
 use instruction_table::{Halt, Refusal, Reg, Unit};
 use machine::{Answer, Computed, Done, Event, Finished, Machine, Note, Reserved, Seat, Snapshot};
 use sequential::Entry;
 use std::alloc::Global;
+use std::marker::Brand;
 use std::mem;
 use std::sync::Wait;
 
@@ -38,7 +39,7 @@ impl Held {
         }
     }
 
-    fn claim<R: Wait>(self, rt: &R, shared: &Shared, note: Note) -> Step {
+    fn claim<K: Naming, R: Wait>(self, rt: &R, shared: &Shared<K>, note: Note) -> Step {
         match self {
             Held::Idle(seat) => match shared.claim(rt, seat, note) {
                 Ok(token) => (Held::Reserved(token), Ok(Done::Issued(Some(note)))),
@@ -49,7 +50,7 @@ impl Held {
     }
 
     /// Reads, and computes at once.
-    fn read<R: Wait>(self, rt: &R, shared: &Shared) -> Step {
+    fn read<K: Naming, R: Wait>(self, rt: &R, shared: &Shared<K>) -> Step {
         match self {
             Held::Reserved(token) => match shared.read(rt, token) {
                 Ok(token) => (Held::Computed(token.compute()), MADE),
@@ -59,7 +60,7 @@ impl Held {
         }
     }
 
-    fn finish<R: Wait>(self, rt: &R, shared: &Shared) -> Step {
+    fn finish<K: Naming, R: Wait>(self, rt: &R, shared: &Shared<K>) -> Step {
         match self {
             Held::Computed(token) => match shared.finish(rt, token) {
                 Ok(token) => (Held::Finished(token), MADE),
@@ -69,7 +70,7 @@ impl Held {
         }
     }
 
-    fn store<R: Wait>(self, rt: &R, shared: &Shared) -> Step {
+    fn store<K: Naming, R: Wait>(self, rt: &R, shared: &Shared<K>) -> Step {
         match self {
             Held::Finished(token) => match shared.store(rt, token) {
                 Ok(seat) => (Held::Idle(seat), MADE),
@@ -86,9 +87,9 @@ fn abandoned(seat: Seat) -> Option<(Unit, u64)> {
 }
 
 /// A machine under its lock, what its user has seen, and what is held for each of its units in use.
-struct Crew {
-    shared: Shared,
-    seen: Seen,
+struct Crew<K: Naming> {
+    shared: Shared<K>,
+    seen: Seen<K>,
     held: [Held; 7],
 }
 
@@ -116,9 +117,11 @@ fn made(called: Result<(), Refusal>) -> Answer {
     }
 }
 
-impl Crew {
-    fn open(machine: Machine) -> Result<Crew, Refusal> {
-        let (shared, seats, seen) = Shared::open(machine)?;
+impl<K: Naming> Crew<K> {
+    fn open(alloc: Global, ground: Ground, machine: Machine) -> Result<Crew<K>, Refusal>
+        requires { ground ≡ K.table }
+    {
+        let (shared, seats, seen) = Shared::<K>::open(alloc, ground, machine)?;
         let [
             branch,
             boolean,
@@ -199,11 +202,9 @@ impl Crew {
 
     /// Leaves the seats: how many reservations were stored with each, in the order of the units' numbers.
     fn leave(self) -> [Option<(Unit, u64)>; 7] {
-        let Crew {
-            shared: _,
-            seen: _,
-            held,
-        } = self;
+        let Crew { shared, seen, held } = self;
+        drop(seen);
+        drop(shared);
         let [
             branch,
             boolean,
@@ -247,7 +248,11 @@ pub(crate) struct Schedule<'a> {
 
 /// Makes the events one after another. It answers how many got their answer, and after how many the
 /// machine was drained.
-fn make_all<R: Wait>(rt: &R, crew: &mut Crew, steps: &[(Event, Answer)]) -> (usize, usize) {
+fn make_all<K: Naming, R: Wait>(
+    rt: &R,
+    crew: &mut Crew<K>,
+    steps: &[(Event, Answer)],
+) -> (usize, usize) {
     let mut met = 0usize;
     let mut drained = 0usize;
     for (event, answer) in steps {
@@ -297,7 +302,21 @@ impl Schedule<'_> {
     /// Whether the events get their answers by the calls of `Shared`, and leave what is wanted.
     pub(crate) fn holds<R: Wait>(&self, rt: &R, alloc: Global) -> Result<bool, Refusal> {
         let machine = booted(alloc, self.words)?;
-        let mut crew = Crew::open(machine)?;
+        let ground = Ground::new(alloc)?;
+        self.holds_beside::<Brand, _>(rt, alloc, ground, machine)
+    }
+
+    /// The same of a machine that was booted, beside its progress word.
+    fn holds_beside<K: Naming, R: Wait>(
+        &self,
+        rt: &R,
+        alloc: Global,
+        ground: Ground,
+        machine: Machine,
+    ) -> Result<bool, Refusal>
+        requires { ground ≡ K.table }
+    {
+        let mut crew = Crew::<K>::open(alloc, ground, machine)?;
         let (met, drained) = make_all(rt, &mut crew, self.steps);
         let taken = crew.shared.snapshot(rt, &mut crew.seen);
         let stored = crew.leave();

@@ -19,22 +19,36 @@ shown_of s = (s.first, s.last)
 abbrev pub shown : List Show → List (ℕ × ℕ)
 shown shows = map shown_of shows
 
--- the N and the K of an `ask` line
+-- the N and the K of an `ask N after K`
 abbrev pub asked_of : Ask → ℕ × ℕ
 asked_of a = (a.at, a.after)
 
--- those of all `ask` lines, in the order of the lines
+-- those of all such lines, in their order
 abbrev pub asked : List Ask → List (ℕ × ℕ)
 asked asks = map asked_of asks
 
 -- a deck whose end hasn't come, as the program has it
 abbrev pub sketch : Draft → Sketch
 sketch d =
-    record { image = d.image; place = d.place; start = d.start; asks = asked d.asks.items; shows = shown d.shows.items }
+    record {
+      image = d.image;
+      place = d.place;
+      start = d.start;
+      asks = asked d.asks.items;
+      free = d.free.items;
+      shows = shown d.shows.items;
+    }
 
 -- a deck, as the program has it
 abbrev pub plan : Deck → Plan
-plan d = record { image = d.image; start = d.start; asks = asked d.asks.items; shows = shown d.shows.items }
+plan d =
+    record {
+      image = d.image;
+      start = d.start;
+      asks = asked d.asks.items;
+      free = d.free.items;
+      shows = shown d.shows.items;
+    }
 
 -- a fault is the one that the line has; nothing is claimed where memory ran out
 abbrev pub AnswersErr : LineError → Judged → Type 0

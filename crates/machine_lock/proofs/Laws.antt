@@ -1,0 +1,264 @@
+-- What an event under the lock leaves of the log, what its answer tells, and what its caller's pass has then.
+use Rattle.std.proofs.Common.{◌≡◌, ℕ, length, Bool, true, false, List, [], ◌∷◌, ◌++◌, Option, Some, None, refl}
+use Rattle.std.proofs.Common.{sym, ap}
+use Rattle.std.proofs.Common.{◌∙◌, subst, inl, inr}
+use Rattle.std.proofs.lemmas.List.{append-nil}
+use Rattle.std.specs.Prelude.{Result, Ok, Err, MatchResult}
+use Rattle.instructions.specs.declared.refusal.Refusal.{Refusal}
+use Rattle.sequential.specs.Replay.{LogStep, Issued, Exchanged, boot, replay}
+use Rattle.sequential.specs.Taken.{taken}
+use Rattle.program_order.specs.declared.event.Done.{Done}
+use Rattle.program_order.specs.declared.event.Done.TheVariants.{Issued as DoneIssue, Made as DoneMade}
+use Rattle.program_order.specs.declared.event.Event.{Event}
+use Rattle.program_order.specs.declared.event.Event.TheVariants.{Issue, Read, Finish, Store, Accept, Return, BankFree}
+use Rattle.program_order.specs.declared.event.Event.TheVariants.{Ask, Exchange}
+use Rattle.program_order.specs.declared.event.Note.{Note}
+use Rattle.program_order.specs.Events.{after, allowed}
+use Rattle.program_order.specs.Headline.{exchange_step, made_steps}
+use Rattle.program_order.specs.Processor.{Processor, completed, replayed}
+use Rattle.program_order.specs.Run.{IsAnswer, answer_by, answer_of, done_by, settled}
+use Rattle.program_order.specs.Telling.{IsNoted, IsWhy}
+use Rattle.program_order.proofs.keeping.Telling.{exchange_asked}
+use Rattle.program_order.proofs.theorem.Headline.{books_after}
+use Rattle.program_order.proofs.theorem.Theorem.{made_allowed}
+use Rattle.atomic_table.specs.Table.{Me}
+use Rattle.machine_lock.specs.Known.{Known, known, StartsWith, IsMade, Learnt, note_in, IsNoteOf, IsWhyOf}
+use Rattle.machine_lock.specs.inner.Kept.{is_of_memory}
+use Rattle.machine_lock.specs.inner.Rules.{History, Knowing, history, past, keeper, caller, Continues}
+use Rattle.machine_lock.proofs.Lists.{last_step, last_step-push}
+
+-- ---- what an event leaves ----
+
+made_after : (w v : Processor) (e : Event) (a : Result Done Refusal) (d : Done) → v ≡ settled w e a → a ≡ Ok d
+    → v ≡ after w e
+unfolding settled
+made_after w v e a d s o = s ∙ ap (settled w e) o
+
+pub refused_same : (w v : Processor) (e : Event) (a : Result Done Refusal) (k : Refusal) → v ≡ settled w e a → a ≡ Err k
+    → v ≡ w
+unfolding settled
+refused_same w v e a k s o = s ∙ ap (settled w e) o
+
+-- a refused event leaves the log
+pub refused_past : (w v : Processor) (e : Event) (a : Result Done Refusal) (k : Refusal) → v ≡ settled w e a
+    → a ≡ Err k → past v ≡ past w
+refused_past w v e a k s o = ap past (refused_same w v e a k s o)
+
+-- an event that is not logged
+abbrev pub is_quiet : Event → Bool
+is_quiet Issue = false
+is_quiet (Read u) = true
+is_quiet (Finish u) = true
+is_quiet (Store u) = true
+is_quiet (Accept p) = true
+is_quiet (Return c) = true
+is_quiet (BankFree b) = true
+is_quiet (Ask n) = true
+is_quiet Exchange = false
+
+quiet_steps : (r : Option ℕ) (e : Event) → is_quiet e ≡ true → made_steps r e ≡ []
+unfolding made_steps
+quiet_steps r Issue h = absurd (cc)
+quiet_steps r (Read u) h = refl
+quiet_steps r (Finish u) h = refl
+quiet_steps r (Store u) h = refl
+quiet_steps r (Accept p) h = refl
+quiet_steps r (Return c) h = refl
+quiet_steps r (BankFree b) h = refl
+quiet_steps r (Ask n) h = refl
+quiet_steps r Exchange h = absurd (cc)
+
+-- ... leaves the log
+quiet : (w v : Processor) (e : Event) → is_quiet e ≡ true → v ≡ after w e → past v ≡ past w
+quiet w v e q h =
+    let b = books_after w e in
+    ap past h
+    ∙ ap (λ m. history m (after w e).log) b.boot
+    ∙ ap (history w.boot_memory) (b.log ∙ ap (λ l. w.log ++ l) (quiet_steps w.request e q) ∙ append-nil w.log)
+
+pub of_memory : (e : Event) → is_of_memory e ≡ true → is_quiet e ≡ true
+of_memory Issue h = absurd (cc)
+of_memory (Read u) h = refl
+of_memory (Finish u) h = refl
+of_memory (Store u) h = refl
+of_memory (Accept p) h = refl
+of_memory (Return c) h = refl
+of_memory (BankFree b) h = refl
+of_memory (Ask n) h = refl
+of_memory Exchange h = absurd (cc)
+
+-- ... whatever it is answered
+pub quiet_settled : (w v : Processor) (e : Event) (a : Result Done Refusal) → is_quiet e ≡ true → v ≡ settled w e a
+    → past v ≡ past w
+unfolding settled
+quiet_settled w v e (Ok d) q s = quiet w v e q s
+quiet_settled w v e (Err k) q s = ap past s
+
+-- ---- an issue ----
+
+pub issued_past : (w v : Processor) (a : Result Done Refusal) (d : Done) → v ≡ settled w Issue a → a ≡ Ok d
+    → past v ≡ history w.boot_memory (w.log ++ Issued ∷ [])
+unfolding made_steps
+issued_past w v a d s o =
+    let h = made_after w v Issue a d s o in
+    let b = books_after w Issue in
+    ap past h
+    ∙ ap (λ m. history m (after w Issue).log) b.boot
+    ∙ ap (history w.boot_memory) b.log
+
+-- an issue is never answered as any other event is
+issue_done : (w : Processor) (a : Result Done Refusal) → IsAnswer w Issue a → a ≡ Ok DoneMade → ⊥
+unfolding answer_of answer_by done_by
+issue_done w a (inl h) o = by_refusal (allowed w Issue) (sym o ∙ h)
+  where
+    by_refusal : (r : Option Refusal) → Ok DoneMade ≡ answer_by (done_by w Issue) r → ⊥
+    by_refusal None k = cc
+    by_refusal (Some x) k = cc
+issue_done w a (inr h) o = let k = sym o ∙ h.want in cc
+
+done_issue : (w : Processor) (a : Result Done Refusal) (d : Done) → IsAnswer w Issue a → a ≡ Ok d
+    → d ≡ DoneIssue (note_in d)
+done_issue w a (DoneIssue n) i o = refl
+done_issue w a DoneMade i o = absurd (issue_done w a i o)
+
+-- what was answered is what an issue from the state to which the log led answers
+pub note_of : (w v : Processor) (a : Result Done Refusal) (d : Done) (k : Known) → replayed w ≡ Some (completed w)
+    → IsAnswer w Issue a → v ≡ settled w Issue a → a ≡ Ok d
+    → ((n : Option Note) → a ≡ Ok (DoneIssue n) → IsNoted (completed w) (taken (boot v.boot_memory) v.log) n)
+    → history k.boot_memory k.log ≡ history w.boot_memory (w.log ++ Issued ∷ []) → IsNoteOf k (note_in d)
+unfolding replayed
+note_of w v a d k r i s o n h =
+    let p = issued_past w v a d s o in
+    let is = o ∙ ap Ok (done_issue w a d i o) in
+    let m : k.boot_memory ≡ w.boot_memory = ap (λ (x : History). x.boot_memory) h in (
+      w.log,
+      ap (λ (x : History). x.log) h,
+      completed w,
+      ap (λ x. replay (boot x) w.log) m ∙ r,
+      subst (λ (x : History). IsNoted (completed w) (taken (boot x.boot_memory) x.log) (note_in d)) (p ∙ sym h)
+          (n (note_in d) is),
+    )
+
+pub why_of : (w : Processor) (k : Known) (refusal : Refusal) → replayed w ≡ Some (completed w)
+    → history k.boot_memory k.log ≡ past w → IsWhy (completed w) refusal → IsWhyOf k refusal
+unfolding replayed
+why_of w k refusal r h y =
+    (completed w, ap (λ (x : History). replay (boot x.boot_memory) x.log) h ∙ r, y)
+
+-- ---- an exchange ----
+
+exchanged_past : (w v : Processor) (a : Result Done Refusal) (d : Done) (n : ℕ) → w.request ≡ Some n
+    → v ≡ settled w Exchange a → a ≡ Ok d → past v ≡ history w.boot_memory (w.log ++ Exchanged n ∷ [])
+unfolding made_steps exchange_step
+exchanged_past w v a d n q s o =
+    let h = made_after w v Exchange a d s o in
+    let b = books_after w Exchange in
+    ap past h
+    ∙ ap (λ m. history m (after w Exchange).log) b.boot
+    ∙ ap (history w.boot_memory) (b.log ∙ ap (λ r. w.log ++ exchange_step r) q)
+
+-- the last step of the log is the exchange that was asked for
+pub record LastExchange (w v : Processor) : Type 0 where
+  pub n : ℕ
+  pub request : w.request ≡ Some n
+  pub last : last_step v.log ≡ Exchanged n
+  pub longer : past v ≡ history w.boot_memory (w.log ++ last_step v.log ∷ [])
+
+pub last_exchange : (w v : Processor) (a : Result Done Refusal) (d : Done) → IsAnswer w Exchange a
+    → v ≡ settled w Exchange a → a ≡ Ok d → LastExchange w v
+last_exchange w v a d i s o =
+    let r = exchange_asked w (made_allowed w Exchange d (subst (IsAnswer w Exchange) o i)) in
+    let p = exchanged_past w v a d r.0 r.1 s o in
+    let l : last_step v.log ≡ Exchanged r.0 =
+    ap (λ (h : History). last_step h.log) p ∙ last_step-push w.log (Exchanged r.0) in
+    record {
+      n = r.0;
+      request = r.1;
+      last = l;
+      longer = p ∙ ap (λ x. history w.boot_memory (w.log ++ x ∷ [])) (sym l);
+    }
+
+-- ---- what the caller's pass has then ----
+
+abbrev pub known_by : Me ℕ Knowing → Known
+known_by m = known m.0.seen.boot_memory m.0.seen.log m.0.mine
+
+abbrev pub past_by : Me ℕ Knowing → History
+past_by m = history m.0.seen.boot_memory m.0.seen.log
+
+-- a step was recorded
+pub record Recorded (w v : Processor) (x : LogStep) (old : Known) (n : Me ℕ Knowing) : Type 0 where
+  pub present : past_by n ≡ past v
+  pub longer : past_by n ≡ history w.boot_memory (w.log ++ x ∷ [])
+  pub made : IsMade x old (known_by n)
+
+seen_of : (w : Processor) (p : Me ℕ Knowing) → p ≡ (keeper (past w), []) → p.0.seen ≡ past w
+seen_of w p e = ap (λ (y : Me ℕ Knowing). y.0.seen) e
+
+pub recorded : (w v : Processor) (x : LogStep) (p m n : Me ℕ Knowing) (old : Known) → p ≡ (keeper (past w), [])
+    → known_by m ≡ old → past v ≡ history w.boot_memory (w.log ++ x ∷ [])
+    → n ≡ (caller (history p.0.seen.boot_memory (p.0.seen.log ++ x ∷ [])) (m.0.mine ++ length p.0.seen.log ∷ []), [])
+    → Continues p.0.seen m.0.seen → Recorded w v x old n
+recorded w v x p m n old ep em ev en begins =
+    let s = seen_of w p ep in
+    let g : Continues (past w) m.0.seen = subst (λ h. Continues h m.0.seen) s begins in
+    let longer : past_by n ≡ history w.boot_memory (w.log ++ x ∷ []) =
+    ap past_by en ∙ ap (λ (h : History). history h.boot_memory (h.log ++ x ∷ [])) s in
+    record {
+      present = longer ∙ sym ev;
+      longer = longer;
+      made = (
+        w.log,
+        subst (λ (k : Known). StartsWith w.log k.log) em g.1,
+        ap known_by en
+            ∙ ap (λ (h : History). known h.boot_memory (h.log ++ x ∷ []) (m.0.mine ++ length h.log ∷ [])) s
+            ∙ ap (λ b. known b (w.log ++ x ∷ []) (m.0.mine ++ length w.log ∷ [])) (sym g.0)
+            ∙ ap (λ (k : Known). known k.boot_memory (w.log ++ x ∷ []) (k.mine ++ length w.log ∷ [])) em,
+      );
+    }
+
+-- the machine's pass has it too
+pub kept_longer : (w v : Processor) (x : LogStep) (p q : Me ℕ Knowing) → p ≡ (keeper (past w), [])
+    → past v ≡ history w.boot_memory (w.log ++ x ∷ [])
+    → q ≡ (keeper (history p.0.seen.boot_memory (p.0.seen.log ++ x ∷ [])), []) → q ≡ (keeper (past v), [])
+kept_longer w v x p q ep ev eq =
+    eq
+    ∙ ap (λ (h : History). (keeper (history h.boot_memory (h.log ++ x ∷ [])), [])) (seen_of w p ep)
+    ∙ ap (λ h. (keeper h, [])) (sym ev)
+
+-- the log was compared
+pub record Compared (w v : Processor) (old : Known) (n : Me ℕ Knowing) : Type 0 where
+  pub present : past_by n ≡ past v
+  pub before : past_by n ≡ past w
+  pub learnt : Learnt old (known_by n)
+
+pub compared : (w v : Processor) (p m n : Me ℕ Knowing) (old : Known) → p ≡ (keeper (past w), []) → known_by m ≡ old
+    → past v ≡ past w → n ≡ (caller p.0.seen m.0.mine, []) → Continues p.0.seen m.0.seen → Compared w v old n
+compared w v p m n old ep em ev en begins =
+    let s = seen_of w p ep in
+    let g : Continues (past w) m.0.seen = subst (λ h. Continues h m.0.seen) s begins in
+    let same : past_by n ≡ past w = ap past_by en ∙ s in
+    record {
+      present = same ∙ sym ev;
+      before = same;
+      learnt = (
+        subst (λ (l : List LogStep). StartsWith l old.log) (sym (ap (λ (h : History). h.log) same))
+            (subst (λ (k : Known). StartsWith w.log k.log) em g.1),
+        ap (λ b. known b n.0.seen.log n.0.mine)
+            (ap (λ (h : History). h.boot_memory) same ∙ sym g.0 ∙ ap (λ (k : Known). k.boot_memory) em)
+            ∙ ap (λ l. known old.boot_memory n.0.seen.log l)
+            (ap (λ (y : Me ℕ Knowing). y.0.mine) en ∙ ap (λ (k : Known). k.mine) em),
+      );
+    }
+
+pub kept_same : (w v : Processor) (p q : Me ℕ Knowing) → p ≡ (keeper (past w), []) → past v ≡ past w → q ≡ p
+    → q ≡ (keeper (past v), [])
+kept_same w v p q ep ev eq = eq ∙ ep ∙ ap (λ h. (keeper h, [])) (sym ev)
+
+-- ---- the events of tokens ----
+
+pub token_kept : {A B : Type 0} (w v : Processor) (e : Event) (p : Me ℕ Knowing) (r : Result A B)
+    → is_quiet e ≡ true → p ≡ (keeper (past w), []) → MatchResult r (λ x. v ≡ after w e) (λ y. v ≡ w)
+    → p ≡ (keeper (past v), [])
+token_kept w v e p (Ok x) q ep h = kept_same w v p p ep (quiet w v e q h) refl
+token_kept w v e p (Err y) q ep h = kept_same w v p p ep (ap past h) refl

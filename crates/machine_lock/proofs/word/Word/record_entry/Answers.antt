@@ -1,0 +1,24 @@
+use Rattle.std.proofs.Common.{[], ◌++◌, sym, ap, ◌∙◌}
+use Rattle.machine_lock.specs.inner.Rules.{history, keeper}
+use Rattle.machine_lock.proofs.Lists.{steps_of-exchange, steps_of-count}
+use Rattle.machine_lock.proofs.word.Word.record_entry.Goals as goal
+
+pub returns-in-Exchange-clause-pass : goal.returns-in-Exchange-clause-pass
+returns-in-Exchange-clause-pass g c =
+    let p = c.record_exchange.ensures.pass in (
+      p.0,
+      p.1 ∙ ap (λ l. (
+        keeper (history c.args.pass.now.me.0.seen.boot_memory (c.args.pass.now.me.0.seen.log ++ l)),
+        [],
+      )) (sym (steps_of-exchange c.args.entry.now c.in-Exchange.at c.in-Exchange.is)),
+    )
+
+pub returns-in-Issued-clause-pass : goal.returns-in-Issued-clause-pass
+returns-in-Issued-clause-pass g c =
+    let p = c.record_issues.ensures.pass in (
+      p.0,
+      p.1 ∙ ap (λ l. (
+        keeper (history c.args.pass.now.me.0.seen.boot_memory (c.args.pass.now.me.0.seen.log ++ l)),
+        [],
+      )) (sym (steps_of-count c.args.entry.now c.in-Issued.count c.in-Issued.is)),
+    )

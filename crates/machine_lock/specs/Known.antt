@@ -1,0 +1,77 @@
+-- What a caller has seen of a machine under its lock, and which steps of the log are the caller's. Source: ours.
+use Rattle.std.specs.Prelude.{◌≡◌, ◌≢◌, ◌==◌, ◌||◌, ℕ, suc, Bool, true, false, List, [], ◌∷◌, ◌++◌, Option, Some, None}
+use Rattle.std.specs.Prelude.{length, take}
+use Rattle.instructions.specs.declared.refusal.Refusal.{Refusal}
+use Rattle.sequential.specs.declared.state.State.{State}
+use Rattle.sequential.specs.Replay.{LogStep, Issued, boot, replay}
+use Rattle.sequential.specs.Taken.{taken}
+use Rattle.program_order.specs.declared.event.Done.{Done}
+use Rattle.program_order.specs.declared.event.Done.TheVariants.{Issued as DoneIssue, Made}
+use Rattle.program_order.specs.declared.event.Note.{Note}
+use Rattle.program_order.specs.Telling.{IsNoted, IsWhy}
+
+-- the machine's boot memory, the steps of its log that the caller has seen, from boot on, and the places among them of
+-- the caller's own
+pub record Known : Type 0 where
+  pub boot_memory : List ℕ
+  pub log : List LogStep
+  pub mine : List ℕ
+
+abbrev pub known : List ℕ → List LogStep → List ℕ → Known
+known boot_memory log mine = record { boot_memory = boot_memory; log = log; mine = mine }
+
+-- the steps begin with those
+abbrev pub StartsWith : List LogStep → List LogStep → Type 0
+StartsWith steps front = (rest : List LogStep) × (steps ≡ front ++ rest)
+
+-- the place is one of them
+abbrev pub is_in : ℕ → List ℕ → Bool
+is_in p [] = false
+is_in p (x ∷ xs) = (p == x) || is_in p xs
+
+-- no place is in both
+abbrev pub AreApart : List ℕ → List ℕ → Type 0
+AreApart xs ys = (p : ℕ) → is_in p xs ≡ true → is_in p ys ≡ true → ⊥
+
+-- the caller made the step: it is the last of the steps seen, which begin with those seen before, and its place joins
+-- the caller's own
+abbrev pub IsMade : LogStep → Known → Known → Type 0
+IsMade x old new =
+    (before : List LogStep) × StartsWith before old.log
+    × (new ≡ known old.boot_memory (before ++ x ∷ []) (old.mine ++ length before ∷ []))
+
+-- the caller has seen the log, which begins with what was seen before, and made no step
+abbrev pub Learnt : Known → Known → Type 0
+Learnt old new = StartsWith new.log old.log × (new ≡ known old.boot_memory new.log old.mine)
+
+-- the reservation that an issue answered, if it did
+abbrev pub note_in : Done → Option Note
+note_in (DoneIssue note) = note
+note_in Made = None
+
+-- the last step is an issue, and this is its answer: a reservation exactly where the instruction to which the steps
+-- before lead goes to a unit, of a unit of its kind, and numbered along the log
+abbrev pub IsNoteOf : Known → Option Note → Type 0
+IsNoteOf k note =
+    (before : List LogStep) × (k.log ≡ before ++ Issued ∷ []) × (s : State)
+    × (replay (boot k.boot_memory) before ≡ Some s) × IsNoted s (taken (boot k.boot_memory) k.log) note
+
+-- what the refusal tells of the state to which the log leads
+abbrev pub IsWhyOf : Known → Refusal → Type 0
+IsWhyOf k refusal = (s : State) × (replay (boot k.boot_memory) k.log ≡ Some s) × IsWhy s refusal
+
+-- how many instructions up to this place go to a unit: where the one there does, its reservation's number
+abbrev pub number_at : List ℕ → List LogStep → ℕ → ℕ
+number_at boot_memory log place = taken (boot boot_memory) (take (suc place) log)
+
+-- the step at this place carries out an instruction that goes to a unit
+abbrev pub IsTaken : List ℕ → List LogStep → ℕ → Type 0
+IsTaken boot_memory log place =
+    number_at boot_memory log place ≡ suc (taken (boot boot_memory) (take place log))
+
+-- no reservation of a step of the one has the number of one of the other's
+abbrev pub NumbersApart : Known → Known → Type 0
+NumbersApart one other =
+    (p : ℕ) → (q : ℕ) → is_in p one.mine ≡ true → is_in q other.mine ≡ true
+    → IsTaken one.boot_memory one.log p → IsTaken one.boot_memory one.log q
+    → number_at one.boot_memory one.log p ≢ number_at one.boot_memory one.log q

@@ -1,0 +1,115 @@
+//! Counts by which a thread sees, without the lock, that something was done since it last tried. They are hints:
+//! nothing is claimed of them, and a run is right whatever they say.
+
+use crossbeam_utils::CachePadded;
+use instruction_table::Unit;
+use std::sync::Wait;
+use std::sync::atomic::{AtomicU64, Ordering};
+use std::time::Duration;
+
+/// A count that is raised where something was done. It has a cache line of its own, since many threads look at it.
+#[derive(Drop)]
+pub struct Signal {
+    count: CachePadded<AtomicU64>,
+    sleepers: AtomicU64,
+}
+
+impl Signal {
+    fn new() -> Signal {
+        Signal {
+            count: CachePadded::new(AtomicU64::new(0)),
+            sleepers: AtomicU64::new(0),
+        }
+    }
+
+    /// How often it was raised.
+    pub fn count(&self) -> u64 {
+        self.count.load(Ordering::SeqCst)
+    }
+
+    /// Counts one more, and wakes those that sleep until then.
+    pub fn raise(&self) {
+        self.count.fetch_add(1, Ordering::SeqCst);
+        if self.sleepers.load(Ordering::SeqCst) != 0 {
+            self.count.wake_all();
+        }
+    }
+
+    /// Sleeps while the count is the one that was seen, for a millisecond at most.
+    pub fn sleep<R: Wait>(&self, rt: &R, seen: u64) {
+        // Who raises the count after a sleeper entered itself here wakes it, and who did before changed what is seen.
+        self.sleepers.fetch_add(1, Ordering::SeqCst);
+        let low = seen % (1 << 32);
+        self.count
+            .park_timeout(rt, low as u32, Duration::from_millis(1));
+        self.sleepers.fetch_sub(1, Ordering::SeqCst);
+    }
+}
+
+/// What the threads that drive a machine tell one another.
+#[derive(Drop)]
+pub struct Signals {
+    /// A unit has stored, memory has accepted a reference or returned a load, or an exchange was asked for or made: what
+    /// issues, operands and requests wait for.
+    pub changes: Signal,
+    /// A unit has stored that makes references, though not with each instruction: what the worker for memory waits
+    /// for.
+    pub references: Signal,
+    branch: Signal,
+    boolean: Signal,
+    shift: Signal,
+    long_add: Signal,
+    divide: Signal,
+    increment1: Signal,
+    increment2: Signal,
+}
+
+impl Signals {
+    pub(crate) fn new() -> Signals {
+        Signals {
+            changes: Signal::new(),
+            references: Signal::new(),
+            branch: Signal::new(),
+            boolean: Signal::new(),
+            shift: Signal::new(),
+            long_add: Signal::new(),
+            divide: Signal::new(),
+            increment1: Signal::new(),
+            increment2: Signal::new(),
+        }
+    }
+
+    /// A reservation was sent to the worker of this unit. Units that are never reserved share that of Branch.
+    pub fn sent(&self, unit: Unit) -> &Signal {
+        match unit {
+            Unit::Boolean => &self.boolean,
+            Unit::Shift => &self.shift,
+            Unit::LongAdd => &self.long_add,
+            Unit::Divide => &self.divide,
+            Unit::Increment1 => &self.increment1,
+            Unit::Increment2 => &self.increment2,
+            Unit::Branch | Unit::Add | Unit::Multiply1 | Unit::Multiply2 => &self.branch,
+        }
+    }
+
+    /// A unit has stored.
+    pub(crate) fn stored(&self, unit: Unit) {
+        self.changes.raise();
+        if matches!(unit, Unit::Branch | Unit::Increment1 | Unit::Increment2) {
+            self.references.raise();
+        }
+    }
+
+    /// Whoever waits is to look again.
+    pub(crate) fn raise_all(&self) {
+        self.changes.raise();
+        self.references.raise();
+        self.branch.raise();
+        self.boolean.raise();
+        self.shift.raise();
+        self.long_add.raise();
+        self.divide.raise();
+        self.increment1.raise();
+        self.increment2.raise();
+    }
+}

@@ -1,0 +1,227 @@
+-- What a refusal tells of the state to which the log leads.
+use Rattle.std.proofs.Common.{◌≡◌, ◌⊎◌, ◌||◌, ℕ, Bool, true, false, List, [], ◌∷◌, Option, Some, None, cond, refl}
+use Rattle.std.proofs.Common.{sym, ap, ◌∙◌, inl, inr, ⊎_elim}
+use Rattle.std.specs.Prelude.{◌&&◌, not, is_some, is_none, unwrap_or, Result, Ok, Err, IfErr}
+use Rattle.instructions.specs.declared.refusal.Halt.{Halt}
+use Rattle.instructions.specs.declared.refusal.Halt.TheVariants.{Stop}
+use Rattle.instructions.specs.declared.refusal.Refusal.{Refusal}
+use Rattle.instructions.specs.declared.refusal.Refusal.TheVariants.{Halted, Faulted, OutOfMemory, MidWord}
+use Rattle.instructions.specs.Each.{Each}
+use Rattle.sequential.specs.declared.fetching.Fetched.{Fetched}
+use Rattle.sequential.specs.declared.fetching.Fetched.TheVariants.{Halting, Passing, Taking}
+use Rattle.sequential.specs.declared.state.State.{State}
+use Rattle.sequential.specs.State.{Bounds, bounds_of, mark}
+use Rattle.in_flight.specs.declared.pending.Pending.{Pending}
+use Rattle.in_flight.specs.Lookup.{is_pending}
+use Rattle.in_flight.specs.Tests.{Test, refusal_of, row_tests}
+use Rattle.in_flight.proofs.asking.Finding.{refusal_none}
+use Rattle.program_order.specs.declared.event.Done.{Done}
+use Rattle.program_order.specs.declared.event.Event.{Event}
+use Rattle.program_order.specs.declared.event.Event.TheVariants.{Issue, Read, Finish, Store as StoreResult, Accept}
+use Rattle.program_order.specs.declared.event.Event.TheVariants.{Return, BankFree, Ask, Exchange}
+use Rattle.program_order.specs.Complete.{complete}
+use Rattle.program_order.specs.Events.{allowed, tests_of}
+use Rattle.program_order.specs.Exchange.{exchange_tests}
+use Rattle.program_order.specs.Issue.{issue_tests}
+use Rattle.program_order.specs.Processor.{Processor, completed}
+use Rattle.program_order.specs.Refusals.{is_accept_refusal, is_ask_refusal, is_exchange_refusal, is_issue_refusal}
+use Rattle.program_order.specs.Refusals.{is_nothing, is_read_refusal, is_return_refusal, is_store_refusal, may_refuse}
+use Rattle.program_order.specs.Run.{IsAnswer, answer_of}
+use Rattle.program_order.specs.Telling.{IsWhy}
+use Rattle.program_order.proofs.effects.Completing.{complete-change, complete-halted, each_all}
+use Rattle.program_order.proofs.effects.Members.{run-mark}
+use Rattle.program_order.proofs.keeping.Naming.{answered_err, one_of, refusal_named}
+use Rattle.program_order.proofs.theorem.Theorem.{drained_completed, not_pending}
+
+-- ---- a fault stays to the completed state ----
+
+complete-fault : (b : Bounds) (s : State) (ms : List Pending) → s.fault ≡ true → (complete b s ms).fault ≡ true
+unfolding mark
+complete-fault b s ms h =
+    let m = complete-change b (λ x. mark x true) ms (each_all _ (λ m x. run-mark b x m true) ms) s in
+    marked (complete b s ms) (complete b (mark s true) ms) (sym m) (ap (λ x. complete b x ms) (is_marked s h))
+  where
+    is_marked : (x : State) → x.fault ≡ true → mark x true ≡ x
+    is_marked x e = ap (λ f. record x { fault = f || true }) e ∙ ap (λ f. record x { fault = f }) (sym e)
+
+    or_true : (f : Bool) → (f || true) ≡ true
+    or_true true = refl
+    or_true false = refl
+
+    marked : (x y : State) → mark x true ≡ y → y ≡ x → x.fault ≡ true
+    marked x y e i = ap (λ (z : State). z.fault) (sym i ∙ sym e) ∙ or_true x.fault
+
+-- ---- the first refusal ----
+
+-- the first test refuses, or one behind it
+first_or_rest : (t : Test) (ts : List Test) (k : Refusal) → refusal_of (t ∷ ts) ≡ Some k
+    → ((t.fails ≡ true) × (t.refusal ≡ k)) ⊎ ((t.fails ≡ false) × (refusal_of ts ≡ Some k))
+unfolding refusal_of
+first_or_rest t ts k h = by_test t.fails refl h
+  where
+    by_test : (f : Bool) → t.fails ≡ f → cond f (Some t.refusal) (refusal_of ts) ≡ Some k
+        → ((t.fails ≡ true) × (t.refusal ≡ k)) ⊎ ((t.fails ≡ false) × (refusal_of ts ≡ Some k))
+    by_test true e i = inl (e, cc)
+    by_test false e i = inr (e, i)
+
+-- ---- an issue ----
+
+unfoldable is_other : Refusal → Bool
+is_other (Halted halt) = false
+is_other Faulted = false
+is_other _ = true
+
+rows_other : (ms : List Pending) (g : Fetched) → Each (λ t. is_other t.refusal ≡ true) (row_tests ms g)
+unfolding row_tests is_other
+rows_other ms (Halting h place) = tt
+rows_other ms (Passing place) = tt
+rows_other ms (Taking i place) = (refl, (refl, tt))
+
+halt_is : (o : Option Halt) (h : Halt) → is_some o ≡ true → Halted (unwrap_or o Stop) ≡ Halted h → o ≡ Some h
+halt_is None h e i = absurd (cc)
+halt_is (Some x) h e i = cc
+
+issue_halted : (w : Processor) (h : Halt) → allowed w Issue ≡ Some (Halted h) → w.state.halt ≡ Some h
+unfolding allowed tests_of issue_tests is_other
+issue_halted w h e =
+    ⊎_elim (λ x. halt_is w.state.halt h x.0 x.1)
+    (λ x. ⊎_elim (λ y. let k = y.1 in absurd (cc))
+    (λ y.
+    let k = one_of is_other _ (Halted h) (refl, (refl, (refl, (refl, rows_other w.pending _)))) y.1 in absurd (cc))
+    (first_or_rest _ _ (Halted h) x.1))
+    (first_or_rest _ _ (Halted h) e)
+
+issue_faulted : (w : Processor) → allowed w Issue ≡ Some Faulted → w.state.fault ≡ true
+unfolding allowed tests_of issue_tests is_other
+issue_faulted w e =
+    ⊎_elim (λ x. let k = x.1 in absurd (cc))
+    (λ x. ⊎_elim (λ y. y.0)
+    (λ y. let k = one_of is_other _ Faulted (refl, (refl, (refl, (refl, rows_other w.pending _)))) y.1 in absurd (cc))
+    (first_or_rest _ _ Faulted x.1))
+    (first_or_rest _ _ Faulted e)
+
+-- ---- an exchange ----
+
+both : (a b : Bool) → (a && b) ≡ true → (a ≡ true) × (b ≡ true)
+both true b e = (refl, e)
+both false b e = absurd (cc)
+
+is_none_none : (o : Option Halt) → is_none o ≡ true → o ≡ None
+is_none_none None e = refl
+is_none_none (Some x) e = absurd (cc)
+
+not_true : (b : Bool) → not b ≡ true → b ≡ false
+not_true true e = absurd (cc)
+not_true false e = refl
+
+none_left : refusal_of [] ≡ Some MidWord → ⊥
+unfolding refusal_of
+none_left k = cc
+
+record IsMidWord (w : Processor) : Type 0 where
+  pub drained : w.pending ≡ []
+  pub halt : w.state.halt ≡ None
+  pub fault : w.state.fault ≡ false
+  pub held : is_some w.state.place.held ≡ true
+
+in_mid_word : (w : Processor) → is_pending w.pending ≡ false
+    → (is_none w.state.halt && (not w.state.fault && is_some w.state.place.held)) ≡ true → IsMidWord w
+in_mid_word w p h =
+    let a = both _ _ h in
+    let b = both _ _ a.1 in
+    record {
+      drained = not_pending w.pending p;
+      halt = is_none_none _ a.0;
+      fault = not_true _ b.0;
+      held = b.1;
+    }
+
+exchange_mid_word : (w : Processor) → allowed w Exchange ≡ Some MidWord → IsMidWord w
+unfolding allowed tests_of exchange_tests
+exchange_mid_word w e =
+    ⊎_elim (λ x. let k = x.1 in absurd (cc))
+    (λ x. ⊎_elim (λ y. let k = y.1 in absurd (cc))
+    (λ y. ⊎_elim (λ z. in_mid_word w y.0 z.0) (λ z. absurd (none_left z.1)) (first_or_rest _ _ MidWord y.1))
+    (first_or_rest _ _ MidWord x.1))
+    (first_or_rest _ _ MidWord e)
+
+-- ---- any event ----
+
+halted_issue : (e : Event) (h : Halt) → may_refuse e (Halted h) ≡ true → e ≡ Issue
+unfolding may_refuse is_accept_refusal is_ask_refusal is_exchange_refusal is_issue_refusal is_nothing is_read_refusal is_return_refusal is_store_refusal
+halted_issue Issue h i = refl
+halted_issue (Read u) h i = absurd (cc)
+halted_issue (Finish u) h i = absurd (cc)
+halted_issue (StoreResult u) h i = absurd (cc)
+halted_issue (Accept p) h i = absurd (cc)
+halted_issue (Return c) h i = absurd (cc)
+halted_issue (BankFree k) h i = absurd (cc)
+halted_issue (Ask n) h i = absurd (cc)
+halted_issue Exchange h i = absurd (cc)
+
+faulted_issue : (e : Event) → may_refuse e Faulted ≡ true → e ≡ Issue
+unfolding may_refuse is_accept_refusal is_ask_refusal is_exchange_refusal is_issue_refusal is_nothing is_read_refusal is_return_refusal is_store_refusal
+faulted_issue Issue i = refl
+faulted_issue (Read u) i = absurd (cc)
+faulted_issue (Finish u) i = absurd (cc)
+faulted_issue (StoreResult u) i = absurd (cc)
+faulted_issue (Accept p) i = absurd (cc)
+faulted_issue (Return c) i = absurd (cc)
+faulted_issue (BankFree k) i = absurd (cc)
+faulted_issue (Ask n) i = absurd (cc)
+faulted_issue Exchange i = absurd (cc)
+
+mid_word_exchange : (e : Event) → may_refuse e MidWord ≡ true → e ≡ Exchange
+unfolding may_refuse is_accept_refusal is_ask_refusal is_exchange_refusal is_issue_refusal is_nothing is_read_refusal is_return_refusal is_store_refusal
+mid_word_exchange Issue i = absurd (cc)
+mid_word_exchange (Read u) i = absurd (cc)
+mid_word_exchange (Finish u) i = absurd (cc)
+mid_word_exchange (StoreResult u) i = absurd (cc)
+mid_word_exchange (Accept p) i = absurd (cc)
+mid_word_exchange (Return c) i = absurd (cc)
+mid_word_exchange (BankFree k) i = absurd (cc)
+mid_word_exchange (Ask n) i = absurd (cc)
+mid_word_exchange Exchange i = refl
+
+why : (w : Processor) (e : Event) (k : Refusal) → allowed w e ≡ Some k → IsWhy (completed w) k
+unfolding completed
+why w e k a = record {
+  halted = λ h i.
+      let b : allowed w e ≡ Some (Halted h) = a ∙ ap Some i in
+      let is = halted_issue e h (refusal_named w e (Halted h) b) in
+      complete-halted (bounds_of w.state) w.state w.pending ∙ issue_halted w h (ap (allowed w) (sym is) ∙ b);
+  faulted = λ i.
+      let b : allowed w e ≡ Some Faulted = a ∙ ap Some i in
+      let is = faulted_issue e (refusal_named w e Faulted b) in
+      complete-fault (bounds_of w.state) w.state w.pending (issue_faulted w (ap (allowed w) (sym is) ∙ b));
+  mid_word = λ i.
+      let b : allowed w e ≡ Some MidWord = a ∙ ap Some i in
+      let is = mid_word_exchange e (refusal_named w e MidWord b) in
+      let m = exchange_mid_word w (ap (allowed w) (sym is) ∙ b) in
+      let d = drained_completed w m.drained in (
+        ap (λ (s : State). s.halt) d ∙ m.halt,
+        ap (λ (s : State). s.fault) d ∙ m.fault,
+        ap (λ (s : State). is_some s.place.held) d ∙ m.held,
+      );
+}
+
+wanting : (s : State) (k : Refusal) → ◌≡◌ {A = Result Done Refusal} (Err k) (Err OutOfMemory) → IsWhy s k
+wanting s k e = record { halted = λ h i. absurd (cc); faulted = λ i. absurd (cc); mid_word = λ i. absurd (cc) }
+
+pub answer_why : (w : Processor) (e : Event) (a : Result Done Refusal) → IsAnswer w e a
+    → IfErr a (λ k. IsWhy (completed w) k)
+unfolding answer_of
+answer_why w e (Ok d) h = tt
+answer_why w e (Err k) (inl h) = why w e k (answered_err _ (allowed w e) k h)
+answer_why w e (Err k) (inr r) = wanting (completed w) k r.want
+
+-- ---- what a made event tells ----
+
+-- an exchange is made only where one was asked for
+pub exchange_asked : (w : Processor) → allowed w Exchange ≡ None → (n : ℕ) × (w.request ≡ Some n)
+unfolding allowed tests_of exchange_tests
+exchange_asked w h = by_request w.request refl (refusal_none _ h).0
+  where
+    by_request : (o : Option ℕ) → w.request ≡ o → is_none o ≡ false → (n : ℕ) × (w.request ≡ Some n)
+    by_request None e k = absurd (cc)
+    by_request (Some n) e k = (n, e)

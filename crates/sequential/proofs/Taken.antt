@@ -1,0 +1,32 @@
+-- The instructions of a log that go to a unit are counted step by step.
+use Rattle.std.proofs.Common.{◌≡◌, ◌+◌, ℕ, List, [], ◌∷◌, ◌++◌, Option, Some, None, refl, ap, arith}
+use Rattle.sequential.specs.declared.state.State.{State}
+use Rattle.sequential.specs.Replay.{LogStep, do_log_step, replay, then_replay}
+use Rattle.sequential.specs.Taken.{taken_at, then_taken, taken}
+
+some_inj : (s t : State) → Some s ≡ Some t → s ≡ t
+some_inj s t e = cc
+
+then_none : (o : Option State) → then_taken o (λ t. 0) ≡ 0
+unfolding then_taken
+then_none None = refl
+then_none (Some s) = refl
+
+-- one more step of a log whose replay came to a state
+pub taken-push : (s t : State) (xs : List LogStep) (x : LogStep) → replay s xs ≡ Some t
+    → taken s (xs ++ x ∷ []) ≡ taken s xs + taken_at t x
+unfolding taken replay then_taken then_replay
+taken-push s t [] x h =
+    let e : s ≡ t = some_inj s t h in
+    let n = then_none (do_log_step s x) in
+    let c = ap (λ z. taken_at z x) e in
+    omega (arith, n, c)
+taken-push s t (y ∷ ys) x h = behind (do_log_step s y) (λ u. taken-push u t ys x) h
+  where
+    behind : (o : Option State)
+        → ((u : State) → replay u ys ≡ Some t → taken u (ys ++ x ∷ []) ≡ taken u ys + taken_at t x)
+        → then_replay o (λ u. replay u ys) ≡ Some t
+        → taken_at s y + then_taken o (λ u. taken u (ys ++ x ∷ []))
+        ≡ taken_at s y + then_taken o (λ u. taken u ys) + taken_at t x
+    behind None ih k = cc
+    behind (Some u) ih k = let e = ih u k in omega (arith, e)

@@ -1,0 +1,46 @@
+-- How many instructions of a log go to a unit: the machine that does one instruction at a time comes to each of them.
+-- Source: ours.
+use Rattle.std.specs.Prelude.{ℕ, ◌+◌, List, [], ◌∷◌, Option, Some, None}
+use Rattle.instructions.specs.declared.instr.Instr.{Instr}
+use Rattle.instructions.specs.declared.refusal.Halt.{Halt}
+use Rattle.sequential.specs.declared.fetching.Fetched.{Fetched}
+use Rattle.sequential.specs.declared.fetching.Fetched.TheVariants.{Halting, Passing, Taking}
+use Rattle.sequential.specs.declared.state.State.{State}
+use Rattle.sequential.specs.State.{bounds_of}
+use Rattle.sequential.specs.Step.{fetch}
+use Rattle.sequential.specs.Replay.{LogStep, Issued, Exchanged, do_log_step}
+
+-- the instruction that goes to a unit, if one was fetched
+unfoldable pub taken_by : Fetched → Option Instr
+taken_by (Halting halt place) = None
+taken_by (Passing place) = None
+taken_by (Taking instr place) = Some instr
+
+-- the instruction that goes to a unit, unless the machine is halted
+unfoldable pub taken_unless : State → Option Halt → Option Instr
+taken_unless s (Some halt) = None
+taken_unless s None = taken_by (fetch (bounds_of s) s.memory s.place)
+
+-- the instruction that goes to a unit in the next step from a state, if one does
+unfoldable pub taken_in : State → Option Instr
+taken_in s = taken_unless s s.halt
+
+-- one for an instruction, none for none
+unfoldable pub one_for : Option Instr → ℕ
+one_for None = 0
+one_for (Some instr) = 1
+
+-- how many instructions go to a unit in one step of a log
+unfoldable pub taken_at : State → LogStep → ℕ
+taken_at s Issued = one_for (taken_in s)
+taken_at s (Exchanged n) = 0
+
+-- the steps that remain are counted where a state was reached
+unfoldable pub then_taken : Option State → (State → ℕ) → ℕ
+then_taken None f = 0
+then_taken (Some s) f = f s
+
+-- how many of the instructions of a log go to a unit
+unfoldable pub taken : State → List LogStep → ℕ
+taken s [] = 0
+taken s (x ∷ xs) = taken_at s x + then_taken (do_log_step s x) (λ t. taken t xs)

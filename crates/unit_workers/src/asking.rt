@@ -1,0 +1,98 @@
+//! The thread that makes the requests for exchanges which may be made at any time.
+
+use crate::waiting::Waiting;
+use instruction_table::Refusal;
+use machine_lock::{Naming, Seen, Shared};
+use std::sync::Wait;
+use std::sync::atomic::{AtomicU64, Ordering};
+
+/// Requests that may be made at any time, and how many of them are still to be made.
+#[derive(Drop)]
+pub struct FreeRequests<'a> {
+    /// The absolute addresses of their packages, in the order in which they are made.
+    packages: &'a [u32],
+    /// A run waits until none is left. Nothing is proved of it.
+    left: AtomicU64,
+}
+
+impl<'a> FreeRequests<'a> {
+    /// For these packages, none of which is asked for yet.
+    pub fn new(packages: &'a [u32]) -> FreeRequests<'a> {
+        FreeRequests {
+            packages,
+            left: AtomicU64::new(packages.len() as u64),
+        }
+    }
+
+    /// Whether some are still to be made.
+    pub fn are_left(&self) -> bool {
+        self.left.load(Ordering::SeqCst) != 0
+    }
+}
+
+/// Asks for an exchange as soon as no other request waits. It answers whether it asked, which it doesn't where the
+/// machine's users were told to end.
+///
+/// # Errors
+/// What else was refused.
+fn ask_in_turn<K: Naming, R: Wait>(
+    rt: &R,
+    shared: &Shared<K>,
+    seen: &mut Seen<K>,
+    at: u32,
+) -> Result<bool, Refusal> {
+    let changes = &shared.signals().changes;
+    let mut wait = Waiting::new();
+    for _ in rt.forever() {
+        let count = changes.count();
+        match shared.ask(rt, seen, at) {
+            Ok(()) => return Ok(true),
+            Err(Refusal::ExchangeBusy) => {}
+            Err(refusal) => return Err(refusal),
+        }
+        if shared.ended(rt) {
+            return Ok(false);
+        }
+        wait.until_raised(rt, changes, count);
+    }
+    unreachable!()
+}
+
+/// Makes the requests one after another, until the machine's users are told to end.
+///
+/// # Errors
+/// What was refused, but for what others' events help against.
+fn ask_each<K: Naming, R: Wait>(
+    rt: &R,
+    shared: &Shared<K>,
+    seen: &mut Seen<K>,
+    free: &FreeRequests<'_>,
+) -> Result<(), Refusal> {
+    for at in free.packages {
+        if !ask_in_turn(rt, shared, seen, *at)? {
+            break;
+        }
+        free.left.fetch_sub(1, Ordering::SeqCst);
+    }
+    Ok(())
+}
+
+/// Makes the requests one after another, and gives back what has been seen. None is left then, whether all were made
+/// or not.
+///
+/// # Errors
+/// What was refused, but for what others' events help against.
+pub fn ask_all<K: Naming, R: Wait>(
+    rt: &R,
+    shared: &Shared<K>,
+    mut seen: Seen<K>,
+    free: &FreeRequests<'_>,
+) -> Result<Seen<K>, Refusal> {
+    let asked = ask_each(rt, shared, &mut seen, free);
+    free.left.store(0, Ordering::SeqCst);
+    shared.signals().changes.raise();
+    match asked {
+        Ok(()) => Ok(seen),
+        Err(refusal) => Err(refusal),
+    }
+}
