@@ -1,3 +1,4 @@
+pub mod Opened
 pub mod Lists
 pub mod Sorted
 pub mod Finding

@@ -41,7 +41,7 @@ pub fn unit_kind(instr: &Instr) -> Option<UnitKind>
 }
 
 /// The registers that an instruction sets: at most two, A before X, and never B0.
-#[tactic(auto, unfolding(crate::specs::Shape::shape_of, crate::specs::Shape::puts_of, crate::specs::Shape::loads_of, crate::specs::Shape::results))]
+#[tactic(auto, unfolding(crate::proofs::Opened::results_by_shape))]
 pub fn results(instr: &Instr) -> ArrayVec<Reg, 2>
     ensures uses { result.items ≡ (uses instr.now).results }
     ensures shape { result.items ≡ results_of_shape (shape_of instr.now) }
