@@ -253,7 +253,7 @@ fn instr_of(text: &[u8]) -> Option<Instr>
 
 /// The instruction whose one text these bytes are, and None where they are the text of none: other spacing, small
 /// letters, leading zeros and numbers out of range are refused.
-#[tactic(auto, using(crate::proofs::texts::TextLaws::spelling_of_instr, crate::proofs::texts::TextLaws::fields_of_instr))]
+#[tactic(auto, using(crate::proofs::texts::TextLaws::texts_of_instr))]
 pub fn read_bytes(text: &[u8]) -> Option<Instr>
     ensures value { result ≡ instr_of text.now }
     ensures fields { IfSome result IsInstr }
