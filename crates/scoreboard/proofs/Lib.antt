@@ -1,3 +1,4 @@
 -- The lemmas, lowest first.
+pub mod Opened
 pub mod seating
 pub mod changing

@@ -183,7 +183,7 @@ fn free_unit(units: &[Option<Issued>], kind: UnitKind) -> Option<Unit>
 }
 
 /// The lower-numbered unit of an instruction's kind, Branch where it takes no unit.
-#[tactic(auto, unfolding(crate::specs::Units::first_unit, crate::specs::Units::head_unit, crate::specs::Units::units_of))]
+#[tactic(auto, unfolding(crate::proofs::Opened::first_of_kind))]
 pub(crate) fn first_unit(instr: &Instr) -> Unit
     ensures { result ≡ first_unit (uses instr.now).unit }
 {

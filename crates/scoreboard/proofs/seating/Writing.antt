@@ -116,9 +116,14 @@ some_if : {W : Type 0} (b : Bool) (w : W) → is_some (cond b (Some w) None) ≡
 some_if true w = refl
 some_if false w = refl
 
+-- who writes a register for one row, and what the row has still to put
+unfoldable writing : Unit {0}
+unfolding written_in written_by_channel channel_of to_come_in results puts_of loads_of is_in returning_to
+writing = tt
+
 some_in : (r : Reg) (u : FunctionalUnit) (s : Shape) (p : Progress)
     → is_some (written_in r u s p) ≡ is_in (to_come_in s p) r
-unfolding written_in written_by_channel channel_of to_come_in results puts_of loads_of is_in returning_to
+unfolding writing
 some_in r u (Puts rs) (Reserved b) = some_if (is_in rs r) (OfUnit u) ∙ sym (in_nothing_more rs r)
 some_in r u (Loads n) (Reserved b) = by_tests (reg_eq r (A n)) (reg_eq r (X n))
   where
@@ -184,7 +189,7 @@ other_channel n m r h = by_test (reg_eq r (X m))
 
 channel_kept_in : (n : ℕ) (r : Reg) (v : FunctionalUnit) (s : Shape) (p : Progress)
     → is_in (to_come_in s p) (X n) ≡ false → forget (OfChannel n) (written_in r v s p) ≡ written_in r v s p
-unfolding forget written_in same_writer to_come_in results puts_of loads_of is_in returning_to channel_of written_by_channel
+unfolding writing forget same_writer
 channel_kept_in n r v (Puts rs) (Reserved has_read) h = by_test (is_in rs r)
   where
     by_test : (b : Bool) → forget (OfChannel n) (cond b (Some (OfUnit v)) None) ≡ cond b (Some (OfUnit v)) None
