@@ -1,3 +1,4 @@
+pub mod Opened
 pub mod Entries
 pub mod Performing
 pub mod Runs

@@ -50,7 +50,7 @@ pub fn fetched_by(place: Place, word: Word60, reading: Decoded) -> Fetched
 
 impl State {
     /// The word that instructions are taken from: the one held, or else the one at P, if that is in range.
-    #[tactic(auto, unfolding(crate::specs::Step::word_seen, crate::specs::Step::word_at, crate::specs::State::absolute, crate::specs::State::bounds_of))]
+    #[tactic(auto, unfolding(crate::proofs::Opened::word_to_take))]
     #[inline(always)]
     pub(crate) fn word_here(&self) -> Option<Word60>
         ensures { result ≡ word_seen (bounds_of self.now) self.now.memory self.now.place.p self.now.place.held }

@@ -82,7 +82,7 @@ macro_rules! take_by_digits {
 
 impl State {
     /// Makes a reference that was relocated: out of range a load gives +0, and a store writes nothing.
-    #[tactic(auto, unfolding(crate::specs::Work::refer_at, crate::specs::State::access_at, crate::specs::State::write, crate::specs::State::poke))]
+    #[tactic(auto, unfolding(crate::proofs::Opened::reference_cases))]
     #[inline(always)]
     fn refer_at(&mut self, address: Option<u32>, access: &Access)
         requires { IfSome address (λ a. a < length self.old.memory) }
@@ -125,7 +125,7 @@ impl State {
     }
 
     /// Does what was fetched.
-    #[tactic(auto, unfolding(crate::specs::Step::do_fetched, crate::specs::State::halt_by, crate::specs::State::move_to, crate::specs::State::bounds_of))]
+    #[tactic(auto, unfolding(crate::proofs::Opened::fetched_cases))]
     #[inline(always)]
     fn make(&mut self, fetched: Fetched)
         ensures { self.new ≡ do_fetched (bounds_of self.old) self.old self.old.place.p fetched }
@@ -178,7 +178,7 @@ impl State {
 
 /// One instruction: a halted machine stays as it is; else the next instruction is fetched and done, or
 /// halts the machine. A machine with the fault flag goes on.
-#[tactic(auto, unfolding(crate::specs::Step::step, crate::specs::Step::step_unless, crate::specs::Step::fetch, crate::specs::Step::fetched_from, crate::specs::Step::do_fetched, crate::specs::State::halt_by, crate::specs::State::move_to))]
+#[tactic(auto, unfolding(crate::proofs::Opened::step_cases))]
 #[inline(always)]
 pub fn step(state: &mut State)
     ensures { state.new ≡ step state.old }

@@ -1,0 +1,24 @@
+-- A name for each list of definitions that a proof opens at once.
+use Rattle.sequential.specs.State.{absolute, access_at, bounds_of, halt_by, move_to, poke, write}
+use Rattle.sequential.specs.Step.{do_fetched, fetch, fetched_from, step, step_unless, word_at, word_seen}
+use Rattle.sequential.specs.Work.{refer_at}
+
+-- the word that the next instruction is taken from
+unfoldable pub word_to_take : Unit {0}
+unfolding word_seen word_at absolute bounds_of
+word_to_take = tt
+
+-- a load and a store, in range and out of it
+unfoldable pub reference_cases : Unit {0}
+unfolding refer_at access_at write poke
+reference_cases = tt
+
+-- what each thing that was fetched does
+unfoldable pub fetched_cases : Unit {0}
+unfolding do_fetched halt_by move_to bounds_of
+fetched_cases = tt
+
+-- a step of a machine that is halted, and of one that fetches
+unfoldable pub step_cases : Unit {0}
+unfolding step step_unless fetch fetched_from do_fetched halt_by move_to
+step_cases = tt
