@@ -1,3 +1,4 @@
+pub mod Opened
 pub mod effects
 pub mod theorem
 pub mod keeping

@@ -26,7 +26,7 @@ use Rattle.instructions.specs.Shape.{has_reference}
 use Rattle.instructions.specs.Operands.{uses}
 use Rattle.relocation.specs.declared.area.Access.TheVariants.{Load as LoadInto, Store as StoreWord}
 use Rattle.scoreboard.specs.Rows as board
-use Rattle.scoreboard.specs.Rows.{is_reserved, returning_to}
+use Rattle.scoreboard.specs.Rows.{is_reserved}
 use Rattle.scoreboard.specs.Units.{same_unit, units_of, may_take}
 use Rattle.in_flight.specs.declared.pending.Outstanding.TheVariants.{Entered, Accepted}
 use Rattle.in_flight.specs.declared.pending.Pending.{Pending}
@@ -35,11 +35,12 @@ use Rattle.in_flight.specs.declared.pending.Phase.TheVariants.{Before, After}
 use Rattle.in_flight.specs.declared.pending.Stage.{Stage}
 use Rattle.in_flight.specs.declared.pending.Stage.TheVariants.{Waiting, Read as HasRead, Finished}
 use Rattle.instructions.specs.Each.{Each, Pairs}
-use Rattle.in_flight.specs.Pending.{progress_of, returning, row_of, entered_in, is_entered, has_turn}
+use Rattle.in_flight.specs.Pending.{progress_of, row_of, entered_in, is_entered, has_turn}
 use Rattle.in_flight.specs.inner.Slots.{unit_slot, IsChannel, IsPlaced, IsProper, IsSlotted}
 use Rattle.in_flight.specs.Apart.{IsApart}
 use Rattle.program_order.specs.Working.{reference_cost, stage_cost, outstanding_cost, phase_cost, cost, work_left}
 use Rattle.in_flight.proofs.asking.Phases.{to_come_in, before_and, slot_in, slot_of}
+use Rattle.program_order.proofs.Opened.{results_to_come}
 use Rattle.program_order.proofs.draining.Pigeons.{listed_bound}
 use Rattle.in_flight.proofs.asking.Slotting.{all_slots, coming, loads_channel}
 
@@ -142,10 +143,15 @@ stage_bound Waiting = omega arith
 stage_bound (HasRead os) = omega arith
 stage_bound (Finished v) = omega arith
 
+-- the cost of a phase, and the counts that bound it
+unfoldable costs : Unit {0}
+unfolding phase_cost reference_cost outstanding_cost one_if
+costs = tt
+
 phase_bound : (h : Shape) (p : Phase)
     → phase_cost h p ≤ 3 * one_if (before_in p) + 2 * (one_if (before_and (has_reference h) p) + one_if (entered_in p))
     + one_if (load_in h p)
-unfolding phase_cost reference_cost outstanding_cost one_if before_in before_and progress_of is_reserved has_reference entered_in load_in
+unfolding costs before_in before_and progress_of is_reserved has_reference entered_in load_in
 phase_bound (Puts rs) (Before t) = let k = stage_bound t in omega (arith, k)
 phase_bound (Loads n) (Before t) = let k = stage_bound t in omega (arith, k)
 phase_bound (Stores n) (Before t) = let k = stage_bound t in omega (arith, k)
@@ -316,7 +322,7 @@ load_channel size u h (After (Accepted n word)) f e k = k
 
 -- the register of a load is a result still to come
 load_comes : (h : Shape) (p : Phase) → load_in h p ≡ true → is_in (to_come_in h p) (X (channel_in h p)) ≡ true
-unfolding load_in channel_in to_come_in board.to_come_in progress_of returning returning_to is_in results puts_of loads_of
+unfolding load_in channel_in results_to_come is_in results puts_of loads_of
 load_comes (Loads n) (Before t) e = ap (λ b. b || false) (eq-eqb n n refl)
 load_comes (Puts rs) (Before t) e = cc
 load_comes (Stores n) (Before t) e = cc

@@ -134,9 +134,14 @@ hopper_has_room b m ms ls v false k e p h = and_left _ _ (enters_nothing b (shap
 hopper_has_room b m ms ls v true k e p h =
     and_right _ _ (place_is_free m ms ls (Finished v) e p (turn_of m (Finished v) p k) h)
 
+-- the tests of the events that a drain is made of
+unfoldable working_tests : Unit {0}
+unfolding read_tests finish_tests store_tests accept_tests return_tests free_tests
+working_tests = tt
+
 oldest_allowed : (w : Processor) (m : Pending) (ls : List Pending) (p : Phase) → w.pending ≡ m ∷ ls → m.phase ≡ p
     → Each (IsApart m) ls → allowed w (next_in m.unit p w.busy) ≡ None
-unfolding next_in allowed tests_of read_tests finish_tests store_tests accept_tests return_tests free_tests conflict.awaited conflict.to_be_read
+unfolding next_in allowed tests_of working_tests conflict.awaited conflict.to_be_read
 oldest_allowed w m ls (Before Waiting) e p h =
     first_allowed (stage_at m.unit) _ w.pending ls m Waiting e (stage_first m Waiting p)
     (any_none _ (λ r. refl) (sources_of m.instr), tt)
@@ -336,9 +341,14 @@ entered_eases w m ls place a access false k e p =
     (let j = less_accept w m ls place a access in let n = work_first w m ls (After (Entered place a access)) e p
     in omega (arith, j, n))
 
+-- what the events of a unit make of its instruction
+unfoldable unit_changes : Unit {0}
+unfolding after_read after_finish after_store after_work stage_after_read stage_after_finish
+unit_changes = tt
+
 oldest_eases : (w : Processor) (m : Pending) (ls : List Pending) (p : Phase) → w.pending ≡ m ∷ ls → m.phase ≡ p
     → Eases w (after w (next_in m.unit p w.busy))
-unfolding next_in after after_read after_finish after_store after_work after_return put_back stage_after_read stage_after_finish saved_in
+unfolding next_in after unit_changes after_return put_back saved_in
 oldest_eases w m ls (Before Waiting) e p =
     eases w (after w (Read m.unit)) _ 0
     (ap (λ (x : Processor). x.pending)

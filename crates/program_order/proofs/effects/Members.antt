@@ -10,6 +10,7 @@ use Rattle.std.proofs.Common.{refl, ap, ◌∙◌, get_or}
 use Rattle.std.specs.List.{list_any}
 use Rattle.instructions.proofs.Lists.{any_left, any_right, each_left, each_right}
 use Rattle.registers.proofs.RegisterLaws.{get-put_other, same_reg_flip}
+use Rattle.program_order.proofs.Opened.{operands_to_read, results_to_come}
 use Rattle.program_order.proofs.effects.Effects.{later_touches, later_stores, do_outstanding-write, do_work-write}
 use Rattle.program_order.proofs.effects.Effects.{do_outstanding-move, do_work-move, do_outstanding-halt, do_work-halt}
 use Rattle.program_order.proofs.effects.Effects.{do_outstanding-mark, do_work-mark, do_outstanding-poke, do_work-poke}
@@ -198,7 +199,7 @@ phase-place b s i at (After l) e = do_outstanding-place s l
 
 pub run-write : (b : Bounds) (s : State) (m : Pending) (r : Reg) (v : ℕ) → is_in (to_come m) r ≡ false
     → is_in (reads m) r ≡ false → run b (write s r v) m ≡ write (run b s m) r v
-unfolding run to_come reads board.to_come row_of to_come_in board.reads reads_in board.to_come_in progress_of returning_to returning board.reads_in has_read
+unfolding run results_to_come operands_to_read
 run-write b s m r v c d = phase-write b s m.instr m.at m.phase r v c d
 
 pub run-move : (b : Bounds) (s : State) (m : Pending) (k : Place) → is_branch m ≡ false
@@ -225,7 +226,7 @@ run-poke b s m a w e = phase-poke b s m.instr m.at m.phase a w e
 
 pub run-get : (b : Bounds) (s : State) (m : Pending) (r : Reg) → is_in (to_come m) r ≡ false
     → get (run b s m).registers r ≡ get s.registers r
-unfolding run to_come board.to_come row_of to_come_in board.to_come_in progress_of returning_to returning
+unfolding run results_to_come
 run-get b s m r c = phase-get b s m.instr m.at m.phase r c
 
 pub run-word : (b : Bounds) (s : State) (m : Pending) (a : ℕ) → may_store a m ≡ false

@@ -27,6 +27,7 @@ use Rattle.program_order.specs.Units.{finish_tests, store_tests}
 use Rattle.program_order.specs.Issue.{issue_tests}
 use Rattle.in_flight.specs.Lookup.{stage_at}
 use Rattle.sequential.specs.State.{Bounds, bounds_of}
+use Rattle.program_order.proofs.Opened.{refusals_by_event}
 
 some_inj : (x y : Refusal) → Some x ≡ Some y → x ≡ y
 some_inj x y i = cc
@@ -83,7 +84,7 @@ or_false true h = refl
 or_false false h = cc
 
 pub refusal_named : (w : Processor) (e : Event) (k : Refusal) → allowed w e ≡ Some k → may_refuse e k ≡ true
-unfolding allowed tests_of may_refuse issue_tests accept_tests return_tests free_tests ask_tests exchange_tests is_issue_refusal is_nothing is_accept_refusal is_return_refusal is_ask_refusal is_exchange_refusal
+unfolding refusals_by_event allowed tests_of issue_tests accept_tests return_tests free_tests ask_tests exchange_tests
 refusal_named w Issue k h = one_of is_issue_refusal (issue_tests w.state w.pending w.request w.budget _) k
     (refl, (refl, (refl, (refl, (refl, (refl, row_named w.pending _)))))) h
 refusal_named w (Read u) k h =

@@ -24,10 +24,10 @@ use Rattle.program_order.specs.Events.{allowed, tests_of}
 use Rattle.program_order.specs.Exchange.{exchange_tests}
 use Rattle.program_order.specs.Issue.{issue_tests}
 use Rattle.program_order.specs.Processor.{Processor, completed}
-use Rattle.program_order.specs.Refusals.{is_accept_refusal, is_ask_refusal, is_exchange_refusal, is_issue_refusal}
-use Rattle.program_order.specs.Refusals.{is_nothing, is_read_refusal, is_return_refusal, is_store_refusal, may_refuse}
+use Rattle.program_order.specs.Refusals.{may_refuse}
 use Rattle.program_order.specs.Run.{IsAnswer, answer_of}
 use Rattle.program_order.specs.Telling.{IsWhy}
+use Rattle.program_order.proofs.Opened.{refusals_by_event}
 use Rattle.program_order.proofs.effects.Completing.{complete-change, complete-halted, each_all}
 use Rattle.program_order.proofs.effects.Members.{run-mark}
 use Rattle.program_order.proofs.keeping.Naming.{answered_err, one_of, refusal_named}
@@ -148,7 +148,7 @@ exchange_mid_word w e =
 -- ---- any event ----
 
 halted_issue : (e : Event) (h : Halt) → may_refuse e (Halted h) ≡ true → e ≡ Issue
-unfolding may_refuse is_accept_refusal is_ask_refusal is_exchange_refusal is_issue_refusal is_nothing is_read_refusal is_return_refusal is_store_refusal
+unfolding refusals_by_event
 halted_issue Issue h i = refl
 halted_issue (Read u) h i = absurd (cc)
 halted_issue (Finish u) h i = absurd (cc)
@@ -160,7 +160,7 @@ halted_issue (Ask n) h i = absurd (cc)
 halted_issue Exchange h i = absurd (cc)
 
 faulted_issue : (e : Event) → may_refuse e Faulted ≡ true → e ≡ Issue
-unfolding may_refuse is_accept_refusal is_ask_refusal is_exchange_refusal is_issue_refusal is_nothing is_read_refusal is_return_refusal is_store_refusal
+unfolding refusals_by_event
 faulted_issue Issue i = refl
 faulted_issue (Read u) i = absurd (cc)
 faulted_issue (Finish u) i = absurd (cc)
@@ -172,7 +172,7 @@ faulted_issue (Ask n) i = absurd (cc)
 faulted_issue Exchange i = absurd (cc)
 
 mid_word_exchange : (e : Event) → may_refuse e MidWord ≡ true → e ≡ Exchange
-unfolding may_refuse is_accept_refusal is_ask_refusal is_exchange_refusal is_issue_refusal is_nothing is_read_refusal is_return_refusal is_store_refusal
+unfolding refusals_by_event
 mid_word_exchange Issue i = absurd (cc)
 mid_word_exchange (Read u) i = absurd (cc)
 mid_word_exchange (Finish u) i = absurd (cc)

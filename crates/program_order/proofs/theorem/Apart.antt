@@ -1,11 +1,11 @@
 -- What the tests of an event, and that pending instructions are apart, give for the earlier ones.
 use Rattle.scoreboard.specs.Conflicts as conflict
 use Rattle.scoreboard.specs.Rows as board
-use Rattle.in_flight.specs.Pending.{has_read, progress_of, returning, row_of, awaited, entered_in, has_turn, in_bank}
+use Rattle.in_flight.specs.Pending.{progress_of, row_of, awaited, entered_in, has_turn, in_bank}
 use Rattle.in_flight.specs.Pending.{in_bank_in, is_branch, is_entered, to_be_read, to_come}
-use Rattle.in_flight.proofs.asking.Asked.{reads, comes, reads_it}
-use Rattle.in_flight.proofs.asking.Phases.{reads_in, before_and, may_store, may_store_in, target_of, to_come_in}
-use Rattle.scoreboard.specs.Rows.{is_reserved, returning_to}
+use Rattle.in_flight.proofs.asking.Asked.{comes, reads_it}
+use Rattle.in_flight.proofs.asking.Phases.{before_and, may_store, may_store_in, target_of, to_come_in}
+use Rattle.scoreboard.specs.Rows.{is_reserved}
 use Rattle.std.proofs.Common.{◌≡◌, ℕ, Bool, true, false, List, [], ◌∷◌, ◌++◌, Option, Some, None, refl, sym, ap, ◌∙◌}
 use Rattle.std.proofs.Common.{eqb}
 use Rattle.std.specs.Prelude.{◌&&◌}
@@ -13,6 +13,7 @@ use Rattle.std.proofs.lemmas.Bool.{eqb-false, ne_eqb}
 use Rattle.std.specs.List.{list_any}
 use Rattle.instructions.proofs.Lists.{any_left, any_right, each_of_any, any_of_each, each_map, each_both, pairs_before}
 use Rattle.instructions.proofs.Lists.{pairs_with}
+use Rattle.program_order.proofs.Opened.{operands_to_read, results_to_come, turns_and_branches}
 use Rattle.program_order.proofs.effects.Effects.{later_touches, no_reference}
 use Rattle.program_order.proofs.effects.Members.{touches_in, touches}
 use Rattle.program_order.proofs.effects.Completing.{IsFree, IsNoBranch}
@@ -54,13 +55,13 @@ each_swap R ps (q ∷ qs) h = (
 
 pub not_awaited : (es : List Pending) (rs : List Reg) → list_any (awaited es) rs ≡ false
     → Each (λ r. Each (λ e. comes r e ≡ false) es) rs
-unfolding conflict.awaited comes board.comes row_of to_come board.to_come to_come_in board.to_come_in progress_of returning_to returning
+unfolding conflict.awaited comes board.comes results_to_come
 not_awaited es rs h =
     each_of_any (awaited es) _ (λ r k. each_of_any (comes r) (λ e. comes r e ≡ false) (λ e i. i) es k) rs h
 
 pub none_reads : (es : List Pending) (rs : List Reg) → list_any (to_be_read es) rs ≡ false
     → Each (λ r. Each (λ e. reads_it r e ≡ false) es) rs
-unfolding conflict.to_be_read reads_it board.reads_it row_of reads board.reads reads_in board.reads_in progress_of has_read
+unfolding conflict.to_be_read reads_it board.reads_it operands_to_read
 none_reads es rs h =
     each_of_any (to_be_read es) _ (λ r k. each_of_any (reads_it r) (λ e. reads_it r e ≡ false) (λ e i. i) es k) rs h
 
@@ -75,7 +76,7 @@ unfolding overlap
 each_disjoint rs ts h = any_of_each (is_in ts) (λ r. is_in ts r ≡ false) (λ r k. k) rs h
 
 to_come_is : (m : Pending) (p : Phase) → m.phase ≡ p → to_come m ≡ to_come_in (shape_of m.instr) p
-unfolding to_come board.to_come row_of to_come_in board.to_come_in progress_of returning_to returning
+unfolding results_to_come
 to_come_is m p e = ap (to_come_in (shape_of m.instr)) e
 
 results_free : (h : Shape) (ts : List Reg) → overlap (results h) ts ≡ false → Each (λ r. is_in ts r ≡ false) (puts_of h)
@@ -91,7 +92,7 @@ results_still h ts k = any_right (is_in ts) (puts_of h) (loads_of h) k
 pub free_to_put : (es : List Pending) (m : Pending) (t : Stage) → m.phase ≡ Before t → Each (λ e. IsApart e m) es
     → list_any (to_be_read es) (puts_of (shape_of m.instr)) ≡ false
     → Each (λ r. Each (IsFree r) es) (puts_of (shape_of m.instr))
-unfolding to_come_in reads_it board.to_come_in progress_of returning_to returning board.reads_it row_of reads board.reads reads_in board.reads_in has_read
+unfolding results_to_come operands_to_read reads_it board.reads_it
 free_to_put es m t e apart h =
     let rs = puts_of (shape_of m.instr) in
     let cols : Each (λ r. Each (λ e. is_in (to_come e) r ≡ false) es) rs =
@@ -108,7 +109,7 @@ free_to_put es m t e apart h =
 -- the register of a load that waits in its channel
 pub free_to_return : (es : List Pending) (m : Pending) (c w : ℕ) → m.phase ≡ After (Accepted c w)
     → Each (λ e. IsApart e m) es → to_be_read es (X c) ≡ false → Each (IsFree (X c)) es
-unfolding to_come_in target_of reads_it board.to_come_in progress_of returning_to returning conflict.to_be_read board.reads_it row_of reads board.reads reads_in board.reads_in has_read
+unfolding results_to_come operands_to_read target_of conflict.to_be_read reads_it board.reads_it
 free_to_return es m c w e apart h =
     each_both (λ y. IsApart y m) (λ y. reads_it (X c) y ≡ false) (IsFree (X c))
     (λ y a j. record {
@@ -215,7 +216,7 @@ pairs_less es m' m ls k t h =
     (λ l a. apart_of_less m' m l k a)
 
 pub less_before : (m : Pending) (t u : Stage) → m.phase ≡ Before t → IsLess (in_phase m (Before u)) m
-unfolding in_phase to_come to_come_in has_turn is_branch before_and board.to_come row_of board.to_come_in progress_of returning_to returning board.has_turn board.is_branch is_reserved
+unfolding results_to_come turns_and_branches
 less_before m t u e = record {
   comes_less = λ ts h. ap (λ p. overlap (to_come_in (shape_of m.instr) p) ts) (sym e) ∙ h;
   in_less = λ r h. ap (λ p. is_in (to_come_in (shape_of m.instr) p) r) (sym e) ∙ h;
@@ -225,7 +226,7 @@ less_before m t u e = record {
 
 pub less_after : (m : Pending) (t : Stage) (l : Outstanding) → m.phase ≡ Before t
     → target_of l ≡ loads_of (shape_of m.instr) → IsLess (in_phase m (After l)) m
-unfolding in_phase to_come to_come_in has_turn is_branch before_and overlap is_in results board.to_come row_of board.to_come_in progress_of returning_to returning board.has_turn board.is_branch is_reserved target_of
+unfolding results_to_come turns_and_branches target_of overlap is_in results
 less_after m t l e f = record {
   comes_less = λ ts h. ap (λ rs. overlap rs ts) f
       ∙ results_still (shape_of m.instr) ts (ap (λ p. overlap (to_come_in (shape_of m.instr) p) ts) (sym e) ∙ h);
@@ -238,7 +239,7 @@ less_after m t l e f = record {
 
 pub less_accepted : (m : Pending) (slot a n w : ℕ) → m.phase ≡ After (Entered slot a (LoadInto n))
     → IsLess (in_phase m (After (Accepted n w))) m
-unfolding in_phase to_come to_come_in has_turn is_branch before_and target_of board.to_come row_of board.to_come_in progress_of returning_to returning board.has_turn board.is_branch is_reserved
+unfolding results_to_come turns_and_branches target_of
 less_accepted m slot a n w e = record {
   comes_less = λ ts h. ap (λ p. overlap (to_come_in (shape_of m.instr) p) ts) (sym e) ∙ h;
   in_less = λ r h. ap (λ p. is_in (to_come_in (shape_of m.instr) p) r) (sym e) ∙ h;

@@ -1,13 +1,13 @@
 -- An issue is a step of the completed state.
 use Rattle.scoreboard.specs.Rows as board
-use Rattle.in_flight.specs.Pending.{progress_of, returning, row_of, delays_fetch, awaited, entered_in, has_turn}
+use Rattle.in_flight.specs.Pending.{delays_fetch, awaited, entered_in, has_turn}
 use Rattle.in_flight.specs.Pending.{is_branch, is_entered, to_come}
 use Rattle.in_flight.proofs.asking.Asked.{comes}
-use Rattle.scoreboard.specs.Rows.{returning_to}
 use Rattle.std.proofs.Common.{◌≡◌, ℕ, false, List, [], ◌∷◌, ◌++◌, Option, Some, None, refl, ap, ◌∙◌}
 use Rattle.std.specs.Prelude.{◌&&◌, is_none}
 use Rattle.std.specs.List.{list_any}
 use Rattle.instructions.proofs.Lists.{each_of_any, any_of_each, each_both, pairs_push}
+use Rattle.program_order.proofs.Opened.{results_to_come}
 use Rattle.program_order.proofs.effects.Completing.{IsNoBranch, each_no_branch, complete-append, complete-bounds}
 use Rattle.program_order.proofs.effects.Completing.{complete-halted, complete-place, complete-move, complete-halt}
 use Rattle.program_order.proofs.effects.Completing.{complete-word}
@@ -90,7 +90,7 @@ issue_taking b s ms place m e nb =
 -- a new instruction is apart from those before it
 pub new_apart : (ms : List Pending) (m : Pending) → m.phase ≡ Before Waiting → list_any is_branch ms ≡ false
     → list_any (awaited ms) (results (shape_of m.instr)) ≡ false → Pairs IsApart ms → Pairs IsApart (ms ++ m ∷ [])
-unfolding comes to_come to_come_in overlap is_entered entered_in board.comes row_of board.to_come board.to_come_in progress_of returning_to returning
+unfolding comes board.comes results_to_come overlap is_entered entered_in
 new_apart ms m e nb h apart =
     pairs_push IsApart ms m apart
     (each_both (λ y. Each (λ r. is_in (to_come y) r ≡ false) (results (shape_of m.instr))) IsNoBranch (λ y. IsApart y m)
