@@ -1,3 +1,4 @@
+pub mod Opened
 pub mod Alone
 pub mod asking
 pub mod seating

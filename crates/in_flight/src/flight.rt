@@ -63,7 +63,7 @@ impl Model for InFlight {
 }
 
 /// The reference in the lowest-numbered free place of the hopper.
-#[tactic(auto, unfolding(crate::specs::Flight::entered_at, crate::specs::Flight::queue_with, hopper::specs::Queue::enter_answer))]
+#[tactic(auto, unfolding(crate::proofs::Opened::entering))]
 fn entered(hopper: &mut Hopper, reference: &Reference) -> Option<Outstanding>
     ensures answer { result ≡ entered_at (free_in hopper.old.entered) reference.now }
     ensures after { hopper.new ≡ queue_with hopper.old (free_in hopper.old.entered) reference.now }

@@ -111,7 +111,7 @@ pub(crate) fn return_at_boot(channel: u8) -> Result<Arrival, Refusal> {
 }
 
 /// Whether nothing is in flight after a unit that is free was left.
-#[tactic(auto, unfolding(crate::specs::Lookup::sought, crate::specs::Lookup::enters, crate::specs::Flight::outstanding_of, instructions::specs::Finding::seek))]
+#[tactic(auto, unfolding(crate::proofs::Opened::leaving))]
 pub(crate) fn is_empty_after_leave(unit: Unit) -> bool {
     let mut flight = InFlight::new();
     flight.leave(unit, &None);
