@@ -51,14 +51,14 @@ pub struct SendPass {
 }
 
 impl Model for SendPass {
-    ghost use Rattle.std.specs.Prelude.{◌≡◌, true, []};
+    ghost use Rattle.std.specs.Prelude.{◌≡◌, IsTrue, []};
     ghost use Rattle.unit_queue.specs.Lanes.{SendEnd, send_end, is_closed, IsOrderly};
 
     ghost Value = { SendEnd };
 
     ghost view = { λ s. send_end s.pass.table_id s.pass.me.0.client.sent };
 
-    ghost invariant = { λ s. (s.pass.me.1 ≡ []) × (s.pass.me.0.client.sends ≡ true)
+    ghost invariant = { λ s. (s.pass.me.1 ≡ []) × IsTrue s.pass.me.0.client.sends
         × (s.closed ≡ is_closed s.pass.me.0.client.sent) × IsOrderly s.pass.me.0.client.sent };
 }
 
@@ -80,14 +80,14 @@ pub struct TakePass {
 }
 
 impl Model for TakePass {
-    ghost use Rattle.std.specs.Prelude.{◌≡◌, true, []};
+    ghost use Rattle.std.specs.Prelude.{◌≡◌, IsTrue, []};
     ghost use Rattle.unit_queue.specs.Lanes.{TakeEnd, take_end, IsOrderly};
 
     ghost Value = { TakeEnd };
 
     ghost view = { λ s. take_end s.pass.table_id s.pass.me.0.client.got };
 
-    ghost invariant = { λ s. (s.pass.me.1 ≡ []) × (s.pass.me.0.client.takes ≡ true) × IsOrderly s.pass.me.0.client.got };
+    ghost invariant = { λ s. (s.pass.me.1 ≡ []) × IsTrue s.pass.me.0.client.takes × IsOrderly s.pass.me.0.client.got };
 }
 
 impl Lane {
@@ -179,8 +179,8 @@ impl Lane {
         pass.is_closed() || self.push(rt, pass, Item::Closed)
     }
 
-    /// Takes the oldest item that waits. None where none waited at one moment of the call, and always after `Closed` was
-    /// taken. The pass has to be this lane's.
+    /// Takes the oldest item that waits. None where none waited at one moment of the call, and always after `Closed`
+    /// was taken. The pass has to be this lane's.
     pub fn take<R: Wait>(&self, rt: &R, pass: &mut TakePass) -> Option<Item>
         requires lane { pass.old.id ≡ self.now.id }
         ensures lane { pass.new.id ≡ pass.old.id }
