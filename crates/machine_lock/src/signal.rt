@@ -49,8 +49,8 @@ impl Signal {
 /// What the threads that drive a machine tell one another.
 #[derive(Drop)]
 pub struct Signals {
-    /// A unit has stored, memory has accepted a reference or returned a load, or an exchange was asked for or made: what
-    /// issues, operands and requests wait for.
+    /// A unit has stored, memory has accepted a reference or returned a load, or an exchange was asked for or made:
+    /// what issues, operands and requests wait for.
     pub changes: Signal,
     /// A unit has stored that makes references, though not with each instruction: what the worker for memory waits
     /// for.
