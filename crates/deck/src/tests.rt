@@ -171,8 +171,15 @@ fn many_asks(rt: HostRuntime) -> Result<(), Fail> {
 /// Requests stand in the deck's order, with the largest address, count and number of digits too.
 #[test]
 fn asks(rt: HostRuntime) -> Result<(), Fail> {
-    let mut input =
-        b"core 256\nask 000360 after 10000000\nask 60 free\nstart 0\nask 40 after 00000003\nask 20 after 3\nask 000000 free\nend\n".as_slice();
+    let text = joined(
+        rt.alloc(),
+        [
+            "core 256\nask 000360 after 10000000\nask 60 free\nstart 0\n",
+            "ask 40 after 00000003\nask 20 after 3\nask 000000 free\nend\n",
+        ]
+        .as_slice(),
+    )?;
+    let mut input = text.as_slice();
     let Ok(deck) = read_deck(rt.alloc(), &mut input) else {
         return Err(Fail::from(AllocError));
     };
