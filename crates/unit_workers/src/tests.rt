@@ -178,56 +178,94 @@ fn stores_to_code(rt: HostRuntime) -> Result<(), Fail> {
     Ok(())
 }
 
-/// A gate that holds Boolean's reservation 1 until Shift's reservation 2 is stored.
+/// One reservation that isn't computed until another is stored.
 #[derive(Drop)]
-struct Hold<'a> {
-    /// 1 once that is stored.
-    stored: &'a AtomicU64,
-    /// 1 where it wasn't stored in a million tries.
-    late: &'a AtomicU64,
+struct Hold {
+    held: Note,
+    until: Note,
+    /// 1 once the other is stored.
+    stored: AtomicU64,
+    /// 1 once the one goes on because of that, and not because it has waited for a million turns.
+    released: AtomicU64,
 }
 
-impl Gate for Hold<'_> {
-    fn before(&mut self, unit: Unit, number: u64) {
-        if unit != Unit::Boolean || number != 1 {
-            return;
+impl Hold {
+    fn new(held: Note, until: Note) -> Hold {
+        Hold {
+            held,
+            until,
+            stored: AtomicU64::new(0),
+            released: AtomicU64::new(0),
         }
+    }
+
+    fn wait(&self) {
         for _ in 0..1_000_000u32 {
             if self.stored.load(Ordering::SeqCst) > 0 {
+                self.released.store(1, Ordering::SeqCst);
                 return;
             }
             thread::yield_now();
         }
-        self.late.store(1, Ordering::SeqCst);
+    }
+}
+
+/// Whether all that were held went on when the others were stored.
+fn are_released(holds: &[Hold]) -> bool {
+    for hold in holds {
+        if hold.released.load(Ordering::SeqCst) == 0 {
+            return false;
+        }
+    }
+    true
+}
+
+/// A gate that holds these.
+#[derive(Drop)]
+struct Holding<'a>(&'a [Hold]);
+
+impl Gate for Holding<'_> {
+    fn before(&mut self, unit: Unit, number: u64) {
+        for hold in self.0 {
+            if hold.held == note(unit, number) {
+                hold.wait();
+            }
+        }
     }
 
     fn stored(&mut self, unit: Unit, number: u64) {
-        if unit == Unit::Shift && number == 2 {
-            self.stored.store(1, Ordering::SeqCst);
+        for hold in self.0 {
+            if hold.until == note(unit, number) {
+                hold.stored.store(1, Ordering::SeqCst);
+            }
         }
     }
 }
 
+/// A run of this word, with a stop in the next one, in which these are held. The package has X1, X2, X3 and X7.
 fn held_run<R: Threads + Wait + Sync>(
     rt: &R,
     alloc: Global,
-    late: &AtomicU64,
+    code: &str,
+    holds: &[Hold],
 ) -> Result<Ended, Refusal> {
-    let stored = AtomicU64::new(0);
-    let hold = || Hold {
-        stored: &stored,
-        late,
-    };
-    let words = [(0o52, "6"), (0o53, "4"), (0o100, "10120203014600000000")];
+    let words = [
+        (0o51, "7"),
+        (0o52, "6"),
+        (0o53, "4"),
+        (0o57, "3"),
+        (0o100, code),
+        (0o110, "5"),
+    ];
     let machine = booted(alloc, &words)?;
     let gates = Gates {
-        branch: hold(),
-        boolean: hold(),
-        shift: hold(),
-        long_add: hold(),
-        divide: hold(),
-        increment1: hold(),
-        increment2: hold(),
+        branch: Holding(holds),
+        boolean: Holding(holds),
+        shift: Holding(holds),
+        long_add: Holding(holds),
+        divide: Holding(holds),
+        increment1: Holding(holds),
+        increment2: Holding(holds),
     };
     run_threads(rt, alloc, machine, &orders(alloc), gates)
 }
@@ -236,9 +274,9 @@ fn held_run<R: Threads + Wait + Sync>(
 /// time, in two threads, and no lock is held while a unit computes.
 #[test]
 fn held_boolean(rt: HostRuntime) -> Result<(), Fail> {
-    let late = AtomicU64::new(0);
-    let ended = held_run(&rt, rt.alloc(), &late)?;
-    assert!(rt; late.load(Ordering::SeqCst) == 0);
+    let holds = [Hold::new(note(Unit::Boolean, 1), note(Unit::Shift, 2))];
+    let ended = held_run(&rt, rt.alloc(), "10120203014600000000", &holds)?;
+    assert!(rt; are_released(&holds));
     assert!(rt; shows(&ended, &[(x(1), "6"), (x(3), "10")]));
     assert!(rt; stopped(&ended, 4));
     assert!(rt;
@@ -253,6 +291,81 @@ fn held_boolean(rt: HostRuntime) -> Result<(), Fail> {
                 Some(0)
             ]
     );
+    Ok(())
+}
+
+/// How many notes all workers stored, where none was strange.
+fn stored_by_all(ended: &Ended) -> Option<u64> {
+    let mut total = 0u64;
+    for count in stored(ended) {
+        total = total.saturating_add(count?);
+    }
+    Some(total)
+}
+
+/// Whether the word's run of four instructions, with so many reservations, ends with all released and these registers.
+fn goes_on<R: Threads + Wait + Sync>(
+    rt: &R,
+    alloc: Global,
+    code: &str,
+    holds: &[Hold],
+    reservations: u64,
+    registers: &[(Reg, &str)],
+) -> bool {
+    match held_run(rt, alloc, code, holds) {
+        Ok(ended) => {
+            stored_by_all(&ended) == Some(reservations)
+                && stopped(&ended, 4)
+                && shows(&ended, registers)
+                && are_released(holds)
+        }
+        Err(_) => false,
+    }
+}
+
+/// BX1 X2, LX3 1, IX4 X2+X3, CX5 X2 and SX1 B0+B0, each with NO and JP 1 after it: the unit and its result.
+fn beside_a_jump() -> [(&'static str, Unit, Reg, &'static str); 5] {
+    [
+        ("10120460000200000001", Unit::Boolean, x(1), "6"),
+        ("20301460000200000001", Unit::Shift, x(3), "10"),
+        ("36423460000200000001", Unit::LongAdd, x(4), "12"),
+        ("47502460000200000001", Unit::Divide, x(5), "2"),
+        ("76100460000200000001", Unit::Increment1, x(1), "0"),
+    ]
+}
+
+/// Each unit is held until Branch has stored the jump, which is issued later.
+#[test]
+fn held_beside_branch(rt: HostRuntime) -> Result<(), Fail> {
+    for (code, unit, register, octal) in beside_a_jump() {
+        let holds = [Hold::new(note(unit, 1), note(Unit::Branch, 2))];
+        let went_on = goes_on(&rt, rt.alloc(), code, &holds, 2, &[(register, octal)]);
+        assert!(rt; went_on, "{code}");
+    }
+    Ok(())
+}
+
+/// SX1 B0+B0, SX7 B0+B0 and JP 1: Increment1 is held until Increment2 has stored, and that until Branch has.
+#[test]
+fn held_one_by_another(rt: HostRuntime) -> Result<(), Fail> {
+    let second = note(Unit::Increment2, 2);
+    let holds = [
+        Hold::new(note(Unit::Increment1, 1), second),
+        Hold::new(second, note(Unit::Branch, 3)),
+    ];
+    let registers = [(x(1), "0"), (x(7), "0")];
+    let code = "76100767000200000001";
+    assert!(rt; goes_on(&rt, rt.alloc(), code, &holds, 3, &registers));
+    Ok(())
+}
+
+/// BX1 X2, SA3 B0+10 and LX3 1: while Boolean is held the load is returned, which the shift needs.
+#[test]
+fn held_beside_a_load(rt: HostRuntime) -> Result<(), Fail> {
+    let holds = [Hold::new(note(Unit::Boolean, 1), note(Unit::Shift, 3))];
+    let registers = [(x(1), "6"), (Reg::A(Digit::low(3)), "10"), (x(3), "12")];
+    let code = "10120513000001020301";
+    assert!(rt; goes_on(&rt, rt.alloc(), code, &holds, 3, &registers));
     Ok(())
 }
 
