@@ -231,6 +231,67 @@ fn refused_claim<K: Naming, R: Wait>(
     }
 }
 
+/// How many of the seat's claims of these are a stranger's.
+fn strange_claims<K: Naming, R: Wait>(
+    rt: &R,
+    shared: &Shared<K>,
+    seat: Seat,
+    notes: &[Note],
+) -> (Seat, u64) {
+    let mut at = seat;
+    let mut strange = 0u64;
+    for note in notes {
+        let (back, refusal) = refused_claim(rt, shared, at, *note);
+        at = back;
+        if refusal == Some(Refusal::Stranger) {
+            strange = strange.saturating_add(1);
+        }
+    }
+    (at, strange)
+}
+
+/// A claim with a note that was stored already, with number 0, with the greatest one or with another unit's note is a
+/// stranger's, and the other unit's seat serves that note then.
+#[test]
+fn claims_of_strangers(rt: HostRuntime) -> Result<(), Fail> {
+    let machine = booted(rt.alloc(), &[(0o100, FIRST), (0o101, SECOND)])?;
+    let ground = Ground::new(rt.alloc())?;
+    claims_of_strangers_in::<Brand, _>(&rt, rt.alloc(), ground, machine)
+}
+
+fn claims_of_strangers_in<K: Naming, R: Wait + Abort>(
+    rt: &R,
+    alloc: Global,
+    ground: Ground,
+    machine: Machine,
+) -> Result<(), Fail>
+    requires { ground ≡ K.table }
+{
+    let (shared, seats, mut seen) = Shared::<K>::open(alloc, ground, machine)?;
+    let (increment1, increment2) = of_increments(seats);
+    let started = start(rt, &shared, &mut seen);
+    let first = shared.issue(rt, &mut seen);
+    let second = shared.issue(rt, &mut seen);
+    let own = note(Unit::Increment1, 1);
+    let other = note(Unit::Increment2, 2);
+    let never = [
+        note(Unit::Increment1, 0),
+        note(Unit::Increment1, u64::MAX),
+        other,
+    ];
+    let (increment1, never) = strange_claims(rt, &shared, increment1, &never);
+    let (increment1, is_first_stored) = serve(rt, &shared, increment1, own);
+    let (increment1, stored) = strange_claims(rt, &shared, increment1, &[own, other]);
+    let (increment2, is_second_stored) = serve(rt, &shared, increment2, other);
+    let counts = [leave(increment1), leave(increment2)];
+    assert!(rt; started == Ok(()));
+    assert!(rt; first == issued(Unit::Increment1, 1) && second == issued(Unit::Increment2, 2));
+    assert!(rt; never == 3 && is_first_stored && stored == 2 && is_second_stored);
+    assert!(rt; counts == [(Unit::Increment1, 1), (Unit::Increment2, 1)]);
+    assert!(rt; shows(rt, &shared, &mut seen, "5", "3", 2));
+    Ok(())
+}
+
 /// The token, given back by a read that is a stranger's; the seat where that isn't so.
 fn strange_read<K: Naming, R: Wait>(
     rt: &R,
