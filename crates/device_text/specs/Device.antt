@@ -1,6 +1,6 @@
 -- What calls do to the bytes that an input has left and that an output holds, where those are known.
 -- Source: ours.
-use Rattle.std.specs.Prelude.{◌≡◌, ℕ, Bool, true, List, [], ◌∷◌, ◌++◌, Option, Some, None, Result, Ok, Err, ⊤}
+use Rattle.std.specs.Prelude.{◌≡◌, ℕ, Bool, true, false, List, [], ◌∷◌, ◌++◌, Option, Some, None, Result, Ok, Err, ⊤}
 use Rattle.std.specs.Io.KnownBytes.{Appends}
 
 -- P relates the bytes before with the bytes after; nothing is claimed of bytes that are not known
@@ -18,6 +18,15 @@ Takes None xs ys = (xs ≡ []) × (ys ≡ [])
 abbrev pub failed_after : {T E : Type 0} → Bool → Result T E → Bool
 failed_after before (Ok x) = before
 failed_after before (Err e) = true
+
+-- after a flush nothing waits; at an error what waited before still does
+abbrev pub waits_after : {T E : Type 0} → Bool → Result T E → Bool
+waits_after before (Ok x) = false
+waits_after before (Err e) = before
+
+-- unless a write failed, nothing waits where nothing waited before
+abbrev pub NothingWaits : Bool → Bool → Bool → Type 0
+NothingWaits failed before now = failed ≡ false → before ≡ false → now ≡ false
 
 -- of the text all but the rest was written
 abbrev pub WritesAllBut : List ℕ → Option (List ℕ) → Option (List ℕ) → List ℕ → Type 0

@@ -1,6 +1,6 @@
 ghost use Rattle.std.specs.Prelude.{◌≡◌, ℕ, Bool, List, Option, true, false, OnOk, OnErr, ◌++◌};
 ghost use Rattle.std.specs.Io.KnownBytes.{Keeps, Appends};
-ghost use Rattle.device_text.specs.Device.{Writes, failed_after};
+ghost use Rattle.device_text.specs.Device.{Writes, failed_after, waits_after};
 
 use std::io::Write;
 
@@ -8,13 +8,17 @@ use std::io::Write;
 #[derive(Clone, Copy, Debug, PartialEq, Eq)]
 pub struct WriteFailed;
 
-/// Bytes are written at the end, and it tells whether a write failed so far.
+/// Bytes are written at the end, and it tells whether a write failed so far and whether bytes still wait to be
+/// handed on.
 pub trait Output {
     /// The bytes that it holds, where they are known.
     ghost contents: { Self → Option (List ℕ) };
 
     /// Whether a write has failed.
     ghost has_failed: { Self → Bool };
+
+    /// Whether bytes that were put may not be handed on yet.
+    ghost waits: { Self → Bool };
 
     /// Which writer it borrows; 0 where it borrows none.
     ghost lender: { Self → ℕ };
@@ -23,12 +27,14 @@ pub trait Output {
     fn put(&mut self, bytes: &[u8]) -> Result<(), WriteFailed>
         ensures written { Writes result (contents self.old) (contents self.new) bytes.now }
         ensures failure { has_failed self.new ≡ failed_after (has_failed self.old) result }
+        ensures waiting { waits self.new ≡ true }
         ensures same { lender self.new ≡ lender self.old };
 
-    /// Hands on what was written.
+    /// Hands on what was written. Where it fails, what waited before still waits.
     fn flush(&mut self) -> Result<(), WriteFailed>
         ensures bytes { Keeps (contents self.old) (contents self.new) }
         ensures failure { has_failed self.new ≡ failed_after (has_failed self.old) result }
+        ensures handed_on { waits self.new ≡ waits_after (waits self.old) result }
         ensures same { lender self.new ≡ lender self.old };
 }
 
@@ -37,16 +43,19 @@ pub trait Output {
 pub struct Tracked<'a, W> {
     writer: &'a mut W,
     failed: bool,
+    waits: bool,
 }
 
 impl<'a, W: Write> Tracked<'a, W> {
     pub fn new(writer: &'a mut W) -> Tracked<'a, W>
         ensures writer { result.writer ≡ writer.entry }
         ensures fresh { result.failed ≡ false }
+        ensures nothing_put { result.waits ≡ false }
     {
         Tracked {
             writer,
             failed: false,
+            waits: false,
         }
     }
 
@@ -54,7 +63,11 @@ impl<'a, W: Write> Tracked<'a, W> {
     pub fn into_inner(self) -> &'a mut W
         ensures { result ≡ self.entry.writer }
     {
-        let Tracked { writer, failed: _ } = self;
+        let Tracked {
+            writer,
+            failed: _,
+            waits: _,
+        } = self;
         writer
     }
 }
@@ -64,9 +77,12 @@ impl<'a, W: Write> Output for Tracked<'a, W> {
 
     ghost has_failed = { λ w. w.failed };
 
+    ghost waits = { λ w. w.waits };
+
     ghost lender = { λ w. w.writer.ghost_name };
 
     fn put(&mut self, bytes: &[u8]) -> Result<(), WriteFailed> {
+        self.waits = true;
         let mut written = 0;
         while written < bytes.len() {
             match self.writer.write(&bytes[written..]) {
@@ -86,7 +102,10 @@ impl<'a, W: Write> Output for Tracked<'a, W> {
 
     fn flush(&mut self) -> Result<(), WriteFailed> {
         match self.writer.flush() {
-            Ok(()) => Ok(()),
+            Ok(()) => {
+                self.waits = false;
+                Ok(())
+            }
             Err(_) => {
                 self.failed = true;
                 Err(WriteFailed)

@@ -11,11 +11,12 @@ use std::io::{ErrorKind, Write};
 use std::process::Abort;
 use std::test::Fail;
 
-/// Takes one byte a call, and fails once it holds so many.
+/// Takes one byte a call, fails once it holds so many, and counts those that a flush handed on.
 #[derive(Drop)]
 struct Dripping {
     bytes: Vec<u8>,
     most: usize,
+    handed_on: usize,
 }
 
 impl Write for Dripping {
@@ -35,6 +36,7 @@ impl Write for Dripping {
     }
 
     fn flush(&mut self) -> io::Result<()> {
+        self.handed_on = self.bytes.len();
         Ok(())
     }
 }
@@ -113,7 +115,7 @@ fn long_lines(rt: HostRuntime) -> Result<(), Fail> {
     Ok(())
 }
 
-/// What a writer takes before it fails is a beginning of the pieces.
+/// What a writer takes before it fails is a beginning of the pieces, and a flush hands it on.
 #[test]
 fn pieces(rt: HostRuntime) -> Result<(), Fail> {
     let line = b"longadd 100 18446744073709551615".as_slice();
@@ -121,6 +123,7 @@ fn pieces(rt: HostRuntime) -> Result<(), Fail> {
         let mut dripping = Dripping {
             bytes: Vec::new(rt.alloc()),
             most,
+            handed_on: 0,
         };
         let mut output = Tracked::new(&mut dripping);
         let pieces = [
@@ -134,6 +137,7 @@ fn pieces(rt: HostRuntime) -> Result<(), Fail> {
         assert!(rt; put == if most < 32 { Err(WriteFailed) } else { Ok(()) });
         assert!(rt; output.flush().is_ok());
         assert_eq!(rt; dripping.bytes.as_slice(), &line[..most]);
+        assert_eq!(rt; dripping.handed_on, most);
     }
     Ok(())
 }

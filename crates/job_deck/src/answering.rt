@@ -1,4 +1,4 @@
-ghost use Rattle.std.specs.Prelude.{◌≡◌, Err};
+ghost use Rattle.std.specs.Prelude.{◌≡◌, Err, OnOk, false};
 ghost use Rattle.job_deck.specs.AnswerText.{answer_line, refusal_text};
 ghost use Rattle.device_text.specs.Device.{Writes, failed_after};
 ghost use Rattle.device_text.specs.Pieces.{text_of_all};
@@ -74,6 +74,7 @@ fn put_line<O: Output>(output: &mut O, answer: &Answer) -> Result<(), WriteFaile
 pub fn put_answer<O: Output>(output: &mut O, answer: &Answer) -> Result<(), WriteFailed>
     ensures written { Writes result (O.contents output.old) (O.contents output.new) (answer_line answer.now) }
     ensures failure { O.has_failed output.new ≡ failed_after (O.has_failed output.old) result }
+    ensures handed_on { OnOk result (O.waits output.new ≡ false) }
     ensures same { O.lender output.new ≡ O.lender output.old }
 {
     put_line(output, answer)?;

@@ -1,4 +1,4 @@
-ghost use Rattle.std.specs.Prelude.{◌≡◌, ◌<◌, ◌≤◌, ◌∷◌, List, map, length, slice_index_or, OnErr, Err};
+ghost use Rattle.std.specs.Prelude.{◌≡◌, ◌<◌, ◌≤◌, ◌∷◌, List, map, length, slice_index_or, OnOk, OnErr, Err, false};
 ghost use Rattle.std.specs.List.{flat_map};
 ghost use Rattle.device_text.specs.Device.{Writes, failed_after};
 ghost use Rattle.job_deck.specs.Dump.{held_text, place_line, halt_text, fault_text, area_line, spaced_index};
@@ -313,6 +313,7 @@ pub fn dump_to<O: Output>(
     ensures written { Writes result (O.contents output.old) (O.contents output.new)
         (dump_text state.now (entries_of log.now.steps) (shown deck.now.shows.items)) }
     ensures failure { O.has_failed output.new ≡ failed_after (O.has_failed output.old) result }
+    ensures handed_on { OnOk result (O.waits output.new ≡ false) }
     ensures same { O.lender output.new ≡ O.lender output.old }
 {
     put_dump(output, state, log.entries(), deck.shows.as_slice())?;

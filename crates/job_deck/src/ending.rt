@@ -1,7 +1,7 @@
-ghost use Rattle.std.specs.Prelude.{◌≡◌, ◌||◌, true, false};
+ghost use Rattle.std.specs.Prelude.{◌≡◌, ◌||◌, OnOk, true, false};
 ghost use Rattle.in_flight.specs.Lookup.{is_pending};
 ghost use Rattle.sequential.specs.Log.{entries_of};
-ghost use Rattle.device_text.specs.Device.{Writes, failed_after};
+ghost use Rattle.device_text.specs.Device.{NothingWaits, Writes, failed_after};
 ghost use Rattle.job_deck.specs.Dump.{log_line};
 ghost use Rattle.job_deck.specs.Session.{IsReply, not_drained_text};
 ghost use Rattle.job_deck.specs.inner.Holding.{Closes, Dumps, is_write_error, last_said};
@@ -26,6 +26,8 @@ fn put_drained<O: Output>(
     ensures closed { Dumps result machine.now (shown deck.now.shows.items) (O.contents output.old)
         (O.contents output.new) }
     ensures write { O.has_failed output.new ≡ (O.has_failed output.old || is_write_error result) }
+    ensures handed_on { OnOk result (O.waits output.new ≡ false) }
+    ensures kept { NothingWaits (is_write_error result) (O.waits output.old) (O.waits output.new) }
     ensures same { O.lender output.new ≡ O.lender output.old }
 {
     match machine.snapshot() {
@@ -51,6 +53,7 @@ fn put_not_drained<O: Output>(output: &mut O, machine: &Machine) -> Result<(), W
 fn print_not_drained<O: Output>(output: &mut O, machine: &Machine) -> Result<(), WriteFailed>
     ensures written { Writes result (O.contents output.old) (O.contents output.new) (not_drained_text machine.now) }
     ensures failure { O.has_failed output.new ≡ failed_after (O.has_failed output.old) result }
+    ensures handed_on { OnOk result (O.waits output.new ≡ false) }
     ensures same { O.lender output.new ≡ O.lender output.old }
 {
     put_not_drained(output, machine)?;
@@ -65,6 +68,8 @@ fn put_end<O: Output>(output: &mut O, machine: &Machine, deck: &Deck) -> Result<
     ensures closed { Closes result (last_said false) machine.now (shown deck.now.shows.items) (O.contents output.old)
         (O.contents output.new) }
     ensures write { O.has_failed output.new ≡ (O.has_failed output.old || is_write_error result) }
+    ensures handed_on { OnOk result (O.waits output.new ≡ false) }
+    ensures kept { NothingWaits (is_write_error result) (O.waits output.old) (O.waits output.new) }
     ensures same { O.lender output.new ≡ O.lender output.old }
 {
     if machine.drained() {
@@ -89,6 +94,8 @@ pub fn finish<O: Output>(
     ensures closed { Closes result (last_said drains) machine.old (shown deck.now.shows.items) (O.contents output.old)
         (O.contents output.new) }
     ensures write { O.has_failed output.new ≡ (O.has_failed output.old || is_write_error result) }
+    ensures handed_on { OnOk result (O.waits output.new ≡ false) }
+    ensures kept { NothingWaits (is_write_error result) (O.waits output.old) (O.waits output.new) }
     ensures same { O.lender output.new ≡ O.lender output.old }
 {
     if drains {

@@ -1,20 +1,27 @@
-ghost use Rattle.std.specs.Prelude.{◌≡◌, ◌≤◌, IfOk, OnErr};
+ghost use Rattle.std.specs.Prelude.{◌≡◌, ◌<◌, ◌≤◌, ◌+◌, IfOk, OnErr, false};
 ghost use Rattle.device_text.specs.Device.{Moves, failed_after};
 ghost use Rattle.device_text.specs.Line.{ReadsPart};
 ghost use Rattle.job_deck.specs.inner.Holding.{Hears};
 
 use crate::schedule::{Spoken, spoken_in};
 use arrayvec::ArrayVec;
-use device_text::{Input, ReadFailed, Took, read_line};
+use device_text::{Input, Output, ReadFailed, Took, read_line};
 use instruction_table::DeckFault;
 
-/// Reads line `number` of a schedule, and nothing past it, and answers what it says or what is wrong
-/// with it.
+/// Reads line `number` of a schedule that comes after line `before`, and nothing past it, and answers what
+/// it says or what is wrong with it. Past the first line the answers that were printed must be handed on:
+/// the output is there for that alone.
 ///
 /// # Errors
 /// Where a read fails.
-pub fn hear<I: Input>(input: &mut I, number: u32) -> Result<Spoken, ReadFailed>
-    requires { number ≤ 10000000 }
+pub fn hear<I: Input, O: Output>(
+    input: &mut I,
+    output: &O,
+    before: u32,
+    number: u32,
+) -> Result<Spoken, ReadFailed>
+    requires count { number ≤ 10000000 }
+    requires handed_on { before + 1 < number → O.waits output.now ≡ false }
     ensures heard { IfOk result (λ spoken. Moves (I.remaining input.old) (I.remaining input.new)
         (Hears number spoken)) }
     ensures part { OnErr result (Moves (I.remaining input.old) (I.remaining input.new) ReadsPart) }

@@ -1,5 +1,5 @@
-ghost use Rattle.std.specs.Prelude.{◌≡◌, ◌<◌, ◌≤◌, ◌^◌, ◌||◌, length};
-ghost use Rattle.device_text.specs.Device.{Moves, Writes, failed_after};
+ghost use Rattle.std.specs.Prelude.{◌≡◌, ◌<◌, ◌≤◌, ◌^◌, ◌||◌, OnOk, false, length};
+ghost use Rattle.device_text.specs.Device.{Moves, NothingWaits, Writes, failed_after};
 ghost use Rattle.deck.specs.Deck.{deck};
 ghost use Rattle.job_deck.specs.Listing.{item_text, after, separator, items_text, listed_word, listed, listing, Lists};
 ghost use Rattle.job_deck.specs.Listing.{is_read_refusal, is_write_refusal};
@@ -119,6 +119,7 @@ fn put_listing<O: Output>(output: &mut O, image: &Image) -> Result<(), WriteFail
 fn print_listing<O: Output>(output: &mut O, image: &Image) -> Result<(), WriteFailed>
     ensures written { Writes result (O.contents output.old) (O.contents output.new) (listing image.now) }
     ensures failure { O.has_failed output.new ≡ failed_after (O.has_failed output.old) result }
+    ensures handed_on { OnOk result (O.waits output.new ≡ false) }
     ensures same { O.lender output.new ≡ O.lender output.old }
 {
     put_listing(output, image)?;
@@ -139,6 +140,8 @@ pub fn list_to<I: Input, O: Output>(
         (λ xs ys. Lists result (deck xs) ys (O.contents output.old) (O.contents output.new)) }
     ensures read { I.has_failed input.new ≡ (I.has_failed input.old || is_read_refusal result) }
     ensures write { O.has_failed output.new ≡ (O.has_failed output.old || is_write_refusal result) }
+    ensures handed_on { OnOk result (O.waits output.new ≡ false) }
+    ensures kept { NothingWaits (is_write_refusal result) (O.waits output.old) (O.waits output.new) }
     ensures input { I.lender input.new ≡ I.lender input.old }
     ensures output { O.lender output.new ≡ O.lender output.old }
 {

@@ -1,6 +1,6 @@
-ghost use Rattle.std.specs.Prelude.{◌≡◌, ◌||◌};
+ghost use Rattle.std.specs.Prelude.{◌≡◌, ◌||◌, IfOk, IsSome, false};
 ghost use Rattle.deck.specs.Deck.{deck};
-ghost use Rattle.device_text.specs.Device.{Moves, failed_after};
+ghost use Rattle.device_text.specs.Device.{Moves, NothingWaits, failed_after};
 ghost use Rattle.job_deck.specs.Listing.{is_read_refusal, is_write_refusal};
 ghost use Rattle.job_deck.specs.Replaying.{replayed, Prints, Replays};
 ghost use Rattle.deck.specs.Views.{plan, shown};
@@ -29,6 +29,8 @@ fn print_replay<O: Output>(
     ensures printed { Prints result (replayed (plan deck.now) text.now) (shown deck.now.shows.items)
         (O.contents output.old) (O.contents output.new) }
     ensures failure { O.has_failed output.new ≡ (O.has_failed output.old || is_write_refusal result) }
+    ensures handed_on { IfOk result (λ state. IsSome state → O.waits output.new ≡ false) }
+    ensures kept { NothingWaits (is_write_refusal result) (O.waits output.old) (O.waits output.new) }
     ensures same { O.lender output.new ≡ O.lender output.old }
 {
     let Some(log) = read_log(alloc, text)? else {
@@ -61,6 +63,8 @@ pub fn replay_to<I: Input, O: Output>(
         (λ xs ys. Replays result (deck xs) ys text.now (O.contents output.old) (O.contents output.new)) }
     ensures read { I.has_failed input.new ≡ (I.has_failed input.old || is_read_refusal result) }
     ensures write { O.has_failed output.new ≡ (O.has_failed output.old || is_write_refusal result) }
+    ensures handed_on { IfOk result (λ state. IsSome state → O.waits output.new ≡ false) }
+    ensures kept { NothingWaits (is_write_refusal result) (O.waits output.old) (O.waits output.new) }
     ensures input { I.lender input.new ≡ I.lender input.old }
     ensures output { O.lender output.new ≡ O.lender output.old }
 {

@@ -1,9 +1,9 @@
-ghost use Rattle.std.specs.Prelude.{◌≡◌, ◌||◌, ◌≤◌, ◌+◌, [], IfOk, MatchResult};
+ghost use Rattle.std.specs.Prelude.{◌≡◌, ◌||◌, ◌≤◌, ◌+◌, [], IfOk, OnOk, MatchResult, false};
 ghost use Rattle.instructions.specs.declared.refusal.Refusal.TheVariants.{OutOfMemory};
 ghost use Rattle.program_order.specs.Reached.{GoesOn, IsReached};
 ghost use Rattle.program_order.specs.Processor.{boot_processor};
 ghost use Rattle.deck.specs.Deck.{deck};
-ghost use Rattle.device_text.specs.Device.{Moves, failed_after};
+ghost use Rattle.device_text.specs.Device.{Moves, NothingWaits, failed_after};
 ghost use Rattle.job_deck.specs.Listing.{is_read_refusal, is_write_refusal};
 ghost use Rattle.job_deck.specs.inner.Holding.{Converses, IsMade, is_read_error, is_write_error, refusal_of};
 ghost use Rattle.job_deck.specs.Told.{Performs, Tells};
@@ -37,6 +37,7 @@ pub enum SessionError {
 fn make<O: Output>(output: &mut O, machine: &mut Machine, event: Event) -> Result<(), WriteFailed>
     ensures made { IsMade result machine.old machine.new event (O.contents output.old) (O.contents output.new) }
     ensures failure { O.has_failed output.new ≡ failed_after (O.has_failed output.old) result }
+    ensures handed_on { OnOk result (O.waits output.new ≡ false) }
     ensures same { O.lender output.new ≡ O.lender output.old }
 {
     let answer = machine.apply(event);
@@ -60,11 +61,12 @@ fn converse<I: Input, O: Output>(
         (O.contents output.new)) }
     ensures read { I.has_failed input.new ≡ (I.has_failed input.old || is_read_error result) }
     ensures write { O.has_failed output.new ≡ (O.has_failed output.old || is_write_error result) }
+    ensures kept { NothingWaits (is_write_error result) (O.waits output.old) (O.waits output.new) }
     ensures input { I.lender input.new ≡ I.lender input.old }
     ensures output { O.lender output.new ≡ O.lender output.old }
 {
     for number in before + 1..10_000_001u32 {
-        match hear(input, number) {
+        match hear(input, output, before, number) {
             Err(_) => return Err(SessionError::Read),
             Ok(Spoken::Ends) => return Ok(false),
             Ok(Spoken::Drains) => return Ok(true),
@@ -104,6 +106,8 @@ fn hold<I: Input, O: Output>(
         (O.contents output.old) (O.contents output.new)) }
     ensures read { I.has_failed input.new ≡ (I.has_failed input.old || is_read_error result) }
     ensures write { O.has_failed output.new ≡ (O.has_failed output.old || is_write_error result) }
+    ensures handed_on { OnOk result (O.waits output.new ≡ false) }
+    ensures kept { NothingWaits (is_write_error result) (O.waits output.old) (O.waits output.new) }
     ensures input { I.lender input.new ≡ I.lender input.old }
     ensures output { O.lender output.new ≡ O.lender output.old }
 {
@@ -157,6 +161,8 @@ pub fn events_to<I: Input, O: Output>(
         (λ xs ys. Performs result budget (deck xs) ys (O.contents output.old) (O.contents output.new)) }
     ensures read { I.has_failed input.new ≡ (I.has_failed input.old || is_read_refusal result) }
     ensures write { O.has_failed output.new ≡ (O.has_failed output.old || is_write_refusal result) }
+    ensures handed_on { OnOk result (O.waits output.new ≡ false) }
+    ensures kept { NothingWaits (is_write_refusal result) (O.waits output.old) (O.waits output.new) }
     ensures input { I.lender input.new ≡ I.lender input.old }
     ensures output { O.lender output.new ≡ O.lender output.old }
 {

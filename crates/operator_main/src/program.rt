@@ -1,4 +1,4 @@
-ghost use Rattle.std.specs.Prelude.{◌≤◌};
+ghost use Rattle.std.specs.Prelude.{◌≡◌, ◌≤◌, OnOk, false};
 
 use super::arguments::{LARGEST_BUDGET, Request, read_arguments};
 use super::fault::ProgramFault;
@@ -46,7 +46,7 @@ fn unparsed<W: Write, F: Write>(output: &mut W, faults: &mut F, error: Error) ->
     }
 }
 
-/// Reads a deck, runs it and prints the machine's dump.
+/// Reads a deck, runs it, prints the machine's dump and hands it on.
 ///
 /// # Errors
 /// Why the dump wasn't printed; a beginning of it may have been.
@@ -58,6 +58,7 @@ fn run_deck<T: Threads + Wait + Sync, I: Input, O: Output>(
     budget: u64,
 ) -> Result<Status, ProgramFault>
     requires { budget ≤ 10000000 }
+    ensures handed_on { OnOk result (O.waits output.new ≡ false) }
 {
     let (deck, _) = read_deck_from(alloc, input)?;
     let snapshot = run(rt, alloc, &deck, budget)?;
@@ -65,7 +66,7 @@ fn run_deck<T: Threads + Wait + Sync, I: Input, O: Output>(
     Ok(end_status(snapshot.state()))
 }
 
-/// Goes through a log on a deck and prints the dump.
+/// Goes through a log on a deck, prints the dump and hands it on.
 ///
 /// # Errors
 /// Why the dump wasn't printed; a beginning of it may have been.
@@ -74,7 +75,9 @@ fn replay_log<I: Input, O: Output>(
     input: &mut I,
     output: &mut O,
     log: &str,
-) -> Result<Status, ProgramFault> {
+) -> Result<Status, ProgramFault>
+    ensures handed_on { OnOk result (O.waits output.new ≡ false) }
+{
     match replay_to(alloc, input, output, log)? {
         Some(state) => Ok(end_status(&state)),
         None => Err(ProgramFault::BadLog),

@@ -6,10 +6,11 @@ returns-in-Ok-Whole-clause-heard g c =
     let text = rw c.in-Ok-Whole.field-0-is at c.in-Ok-Whole.ensures.text in
     let taken = rw c.in-Ok-Whole.field-0-is at c.in-Ok-Whole.ensures.ok in
     let said = rw c.as_slice.ensures.value at c.spoken_in.ensures in
-    hears_whole _ _ c.args.number c.read_line.new.line.items c.spoken_in.result c.requires text.0 text.1 said taken
+    hears_whole _ _ c.args.number c.read_line.new.line.items c.spoken_in.result c.requires.count text.0 text.1 said
+    taken
 
 pub returns-in-Ok-Long-clause-heard : goal.returns-in-Ok-Long-clause-heard
 returns-in-Ok-Long-clause-heard g c =
     let text = rw c.in-Ok-Long.field-0-is at c.in-Ok-Long.ensures.text in
     let taken = rw c.in-Ok-Long.field-0-is at c.in-Ok-Long.ensures.ok in
-    hears_long _ _ c.args.number c.read_line.new.line.items c.requires text.0 text.1 taken
+    hears_long _ _ c.args.number c.read_line.new.line.items c.requires.count text.0 text.1 taken

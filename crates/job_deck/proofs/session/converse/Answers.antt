@@ -13,6 +13,8 @@ loop-number-init g c =
       same_output = search rules;
       reads = search rules;
       writes = search rules;
+      handed_on = search rules;
+      kept = search rules;
     }
 
 pub returns-in-Err-clause-told : goal.returns-in-Err-clause-told
@@ -62,6 +64,8 @@ loop-number-preserved g c =
       same_output = search rules;
       reads = search rules;
       writes = search rules;
+      handed_on = search rules;
+      kept = search rules;
     }
 
 pub returns-clause-told : goal.returns-clause-told

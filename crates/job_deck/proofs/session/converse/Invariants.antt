@@ -1,9 +1,9 @@
-use Rattle.std.proofs.Common.{◌≡◌, ◌+◌, ◌≤◌}
+use Rattle.std.proofs.Common.{◌≡◌, ◌+◌, ◌<◌, ◌≤◌, false}
 use Rattle.device_text.specs.Device.{Moves}
 use Rattle.job_deck.proofs.sessions.Sessions.{Has}
 use Rattle.job_deck.proofs.session.converse.Given as goal
 
--- the session has come to this line and this machine
+-- the session has come to this line and this machine, and its answers are handed on
 abbrev pub invariant-loop-number : goal.invariant-loop-number
 invariant-loop-number g l =
     record {
@@ -15,4 +15,6 @@ invariant-loop-number g l =
       same_output : g.O.Output.lender l.output ≡ g.O.Output.lender l.fn.output;
       reads : g.I.Input.has_failed l.input ≡ g.I.Input.has_failed l.fn.input;
       writes : g.O.Output.has_failed l.output ≡ g.O.Output.has_failed l.fn.output;
+      handed_on : l.fn.before + 1 < l.number → g.O.Output.waits l.output ≡ false;
+      kept : g.O.Output.waits l.fn.output ≡ false → g.O.Output.waits l.output ≡ false;
     }

@@ -11,6 +11,7 @@ loop-written-preserved g c =
           c.loop-written.invariant.told c.in-Ok.ensures.bytes;
       lender = search rules;
       same = search rules;
+      waiting = search rules;
     }
 
 pub returns-in-Ok-eq0-clause-written : goal.returns-in-Ok-eq0-clause-written

@@ -1,4 +1,4 @@
-use Rattle.std.proofs.Common.{length, take, ◌-◌, ◌≡◌, ◌≤◌}
+use Rattle.std.proofs.Common.{length, take, ◌-◌, ◌≡◌, ◌≤◌, true}
 use Rattle.std.specs.Io.KnownBytes.{Appends}
 use Rattle.device_text.proofs.output.TrackedOutput.put.Given as goal
 
@@ -11,6 +11,7 @@ invariant-loop-written g l =
           (take l.written l.bytes);
       lender : l.self.writer.ghost_name ≡ l.fn.self.writer.ghost_name;
       same : l.self.failed ≡ l.fn.self.failed;
+      waiting : l.self.waits ≡ true;
     }
 
 abbrev pub decreases-loop-written : goal.decreases-loop-written
