@@ -1,12 +1,13 @@
 -- How many bytes are after a deck of which not all was read.
-use Rattle.std.proofs.Common.{◌≡◌, ◌≢◌, ℕ, suc, ◌+◌, ◌≤◌, true, false, cond, eqb, ltb, List, [], ◌∷◌, ◌++◌, length}
-use Rattle.std.proofs.Common.{Option, Err, refl, sym, subst, arith}
+use Rattle.std.proofs.Common.{◌≡◌, ◌≢◌, ℕ, suc, ◌+◌, ◌≤◌, true, false, cond, eqb, Bool, not, ltb, List, [], ◌∷◌}
+use Rattle.std.proofs.Common.{◌++◌, length, drop, codes, Option, Err, refl, sym, subst, arith}
 use Rattle.std.proofs.lemmas.Bool.{ne_eqb}
 use Rattle.std.proofs.lemmas.List.Elements.{All-head, All-tail}
 use Rattle.deck.specs.Deck.{Reading, Bad, Judged, Goes, Ends, Faulty, Sketch, deck, read_all, read_from, read_on}
-use Rattle.deck.specs.Deck.{judged_first, judged_line}
+use Rattle.deck.specs.Deck.{begins_with, judged, judged_core, judged_line, refuse_if, said_in}
 use Rattle.device_text.specs.Device.{Moves}
-use Rattle.device_text.specs.Line.{IsText, ReadsPart, lines_of, onto}
+use Rattle.device_text.specs.Line.{IsText, ReadsPart, left_after, lines_of, onto}
+use Rattle.device_text.specs.Text.{fields_of}
 use Rattle.deck.specs.Reading.{EndsWithin, Refuses, is_cut, is_read}
 use Rattle.deck.specs.Views.{sketch}
 use Rattle.deck.specs.declared.deck.Deck.{Deck}
@@ -51,21 +52,32 @@ on_within k n (Goes s) rest next l h = h s
 on_within k n (Ends plan) rest next l h = l
 on_within k n (Faulty fault) rest next l h = tt
 
-from_within : (k n : ℕ) (s : Sketch) (lines : List (List ℕ × List ℕ)) → Behind k lines
-    → EndsWithin k (read_from n s lines)
-from_within k n s [] h = tt
-from_within k n s (line ∷ lines) h =
+-- the same of a line that may be too long
+line_within : (k n : ℕ) (long : Bool) (j : Judged) (bytes rest : List ℕ) (next : Sketch → Reading) → length rest ≤ k
+    → ((s : Sketch) → EndsWithin k (next s))
+    → EndsWithin k (read_on n (refuse_if long faults.Long j) (cond long (drop 201 bytes) rest) next)
+line_within k n true j bytes rest next l h = tt
+line_within k n false j bytes rest next l h = on_within k n j rest next l h
+
+from_within : (k n : ℕ) (s : Sketch) (bytes : List ℕ) (lines : List (List ℕ × List ℕ)) → Behind k lines
+    → EndsWithin k (read_from n s bytes lines)
+from_within k n s bytes [] h = tt
+from_within k n s bytes (line ∷ lines) h =
     elim (ltb 10000000 n) as (λ v. EndsWithin k
-    (cond v (Bad n faults.Lines) (read_on n (judged_line s line.0) line.1 (λ t. read_from (n + 1) t lines)))) [
+    (cond v (Bad n faults.Lines bytes)
+    (read_on n (judged_line s line.0) (left_after bytes line) (λ t. read_from (n + 1) t line.1 lines)))) [
       | true ↦ tt
-      | false ↦ on_within k n (judged_line s line.0) line.1 (λ t. read_from (n + 1) t lines) h.0
-          (λ t. from_within k (n + 1) t lines h.1)
+      | false ↦ line_within k n (ltb 200 (length line.0)) (judged s (said_in line.0)) bytes line.1
+          (λ t. read_from (n + 1) t line.1 lines) h.0 (λ t. from_within k (n + 1) t line.1 lines h.1)
     ]
 
-all_within : (k : ℕ) (lines : List (List ℕ × List ℕ)) → Behind k lines → EndsWithin k (read_all lines)
-all_within k [] h = tt
-all_within k (line ∷ lines) h =
-    on_within k 1 (judged_first line.0) line.1 (λ s. read_from 2 s lines) h.0 (λ s. from_within k 2 s lines h.1)
+all_within : (k : ℕ) (bytes : List ℕ) (lines : List (List ℕ × List ℕ)) → Behind k lines
+    → EndsWithin k (read_all bytes lines)
+all_within k bytes [] h = tt
+all_within k bytes (line ∷ lines) h =
+    line_within k 1 (ltb 200 (length line.0))
+    (refuse_if (not (begins_with (codes "core") (fields_of line.0))) faults.First (judged_core (said_in line.0))) bytes
+    line.1 (λ s. read_from 2 s line.1 lines) h.0 (λ s. from_within k 2 s line.1 lines h.1)
 
 -- what is left is at most what is after the deck
 abbrev pub Unread : List ℕ → List ℕ → Type 0
@@ -74,23 +86,25 @@ Unread xs ys = EndsWithin (length ys) (deck xs)
 none_there : (a b : Option (List ℕ)) (P : List ℕ → List ℕ → Type 0) → Moves a b (λ xs ys. ⊥) → Moves a b P
 none_there a b P m = Moves-weaker a b (λ xs ys. ⊥) P (λ xs ys h. absurd h) m
 
-pub first_cut : (a b : Option (List ℕ)) (e : DeckError) → Moves a b (λ xs ys. Refuses 1 e (lines_of xs))
+pub first_cut : (a b : Option (List ℕ)) (e : DeckError) → Moves a b (λ xs ys. Refuses 1 e xs ys (lines_of xs))
     → (is_read {T = Unit {0}} (Err e) ≡ true → Moves a b ReadsPart) → is_cut {T = Deck × ℕ} (Err e) ≡ true
     → Moves a b Unread
 first_cut a b (errors.Deck n fault) m part c = cc
 first_cut a b errors.OutOfMemory m part c = none_there a b Unread m
 first_cut a b errors.Read m part c =
     Moves-weaker a b ReadsPart Unread
-    (λ xs ys h. rw h.2 (all_within (length ys) (lines_of (h.0 ++ ys)) (after_part h.0 ys h.1))) (part refl)
+    (λ xs ys h.
+    rw h.2 (all_within (length ys) (h.0 ++ ys) (lines_of (h.0 ++ ys)) (after_part h.0 ys h.1))) (part refl)
 
 pub first_taken : (a b : Option (List ℕ)) (text : List ℕ) → Moves a b (Taken text) → Moves a b Unread
 first_taken a b text m =
     Moves-weaker a b (Taken text) Unread
-    (λ xs ys h. subst (λ l. EndsWithin (length ys) (read_all l)) (sym h)
-    (all_within (length ys) ((text, ys) ∷ lines_of ys) (omega arith, after_lines ys))) m
+    (λ xs ys h. subst (λ l. EndsWithin (length ys) (read_all xs l)) (sym h)
+    (all_within (length ys) xs ((text, ys) ∷ lines_of ys) (omega arith, after_lines ys))) m
 
 pub later_cut : (a b c : Option (List ℕ)) (n : ℕ) (d : Draft) (e : DeckError) → Moves a b (ReadsOn n d)
-    → Moves b c (λ xs ys. Refuses n e (lines_of xs)) → (is_read {T = Unit {0}} (Err e) ≡ true → Moves b c ReadsPart)
+    → Moves b c (λ xs ys. Refuses n e xs ys (lines_of xs))
+    → (is_read {T = Unit {0}} (Err e) ≡ true → Moves b c ReadsPart)
     → is_cut {T = Deck × ℕ} (Err e) ≡ true → Moves a c Unread
 later_cut a b c n d (errors.Deck m fault) told refused part h = cc
 later_cut a b c n d errors.OutOfMemory told refused part h =
@@ -98,12 +112,12 @@ later_cut a b c n d errors.OutOfMemory told refused part h =
 later_cut a b c n d errors.Read told refused part h =
     Moves-trans a b c (ReadsOn n d) ReadsPart Unread (λ xs ys zs p q.
     subst (EndsWithin (length zs)) (sym p)
-    (from_within (length zs) n (sketch d) (lines_of ys) (rw q.2 (after_part q.0 zs q.1)))) told (part refl)
+    (from_within (length zs) n (sketch d) ys (lines_of ys) (rw q.2 (after_part q.0 zs q.1)))) told (part refl)
 
 pub later_taken : (a b c : Option (List ℕ)) (n : ℕ) (d : Draft) (text : List ℕ) → Moves a b (ReadsOn n d)
     → Moves b c (Taken text) → Moves a c Unread
 later_taken a b c n d text told taken =
     Moves-trans a b c (ReadsOn n d) (Taken text) Unread (λ xs ys zs p q.
     subst (EndsWithin (length zs)) (sym p)
-    (from_within (length zs) n (sketch d) (lines_of ys)
+    (from_within (length zs) n (sketch d) ys (lines_of ys)
     (subst (Behind (length zs)) (sym q) (omega arith, after_lines zs)))) told taken

@@ -4,7 +4,7 @@ use Rattle.std.specs.Prelude.{ℕ, ◌+◌, Bool, false, not, List, [], ◌∷�
 use Rattle.std.specs.Prelude.{nat_lt, nat_le, ◌&&◌, ◌||◌, if◌then◌else◌, codes}
 use Rattle.std.specs.Str.{bytes_eq}
 use Rattle.deck.specs.Image.{Placed, blank, placed_at}
-use Rattle.device_text.specs.Line.{lines_of}
+use Rattle.device_text.specs.Line.{left_after, lines_of}
 use Rattle.relocation.specs.Relocation.{package_fits}
 use Rattle.word60.specs.Words.{from_octal}
 use Rattle.device_text.specs.Text.{fields_of, from_space, number_of}
@@ -184,30 +184,31 @@ judged_first text =
 abbrev pub judged_line : Sketch → List ℕ → Judged
 judged_line s text = refuse_if (nat_lt 200 (length text)) faults.Long (judged s (said_in text))
 
--- what reading a deck gives: the deck, the number of its `end` line and the bytes after it; or the number of a line
--- and its fault
+-- what reading a deck gives: the deck, the number of its `end` line and the bytes after it; or the number of a line,
+-- its fault and the bytes that are left unread
 pub data Reading : Type 0 where
   Good : Plan → ℕ → List ℕ → Reading
-  Bad : ℕ → DeckFault → Reading
+  Bad : ℕ → DeckFault → List ℕ → Reading
 
--- how reading goes on after line n, before these bytes
+-- how reading goes on after line n, which leaves these bytes
 abbrev pub read_on : ℕ → Judged → List ℕ → (Sketch → Reading) → Reading
 read_on n (Goes s) rest next = next s
 read_on n (Ends plan) rest next = Good plan n rest
-read_on n (Faulty fault) rest next = Bad n fault
+read_on n (Faulty fault) rest next = Bad n fault rest
 
--- reading from line n on, where each line comes with the bytes after it: past line 10,000,000 the fault is `lines`,
--- and where no line is left before that it is `no end`
-abbrev pub read_from : ℕ → Sketch → List (List ℕ × List ℕ) → Reading
-read_from n s [] = Bad n (if nat_lt 10000000 n then faults.Lines else faults.NoEnd)
-read_from n s (line ∷ lines) = if nat_lt 10000000 n then Bad n faults.Lines
-    else read_on n (judged_line s line.0) line.1 (λ t. read_from (n + 1) t lines)
+-- reading these bytes from line n on, as lines that come with the bytes after each: past line 10,000,000 the fault is
+-- `lines`, and no more is read; where no line is left before that it is `no end`, and no byte is left
+abbrev pub read_from : ℕ → Sketch → List ℕ → List (List ℕ × List ℕ) → Reading
+read_from n s bytes [] = Bad n (if nat_lt 10000000 n then faults.Lines else faults.NoEnd) bytes
+read_from n s bytes (line ∷ lines) = if nat_lt 10000000 n then Bad n faults.Lines bytes
+    else read_on n (judged_line s line.0) (left_after bytes line) (λ t. read_from (n + 1) t line.1 lines)
 
 -- reading a deck from its first line on; where there is no line the fault is `no end` in line 1
-abbrev pub read_all : List (List ℕ × List ℕ) → Reading
-read_all [] = Bad 1 faults.NoEnd
-read_all (line ∷ lines) = read_on 1 (judged_first line.0) line.1 (λ s. read_from 2 s lines)
+abbrev pub read_all : List ℕ → List (List ℕ × List ℕ) → Reading
+read_all bytes [] = Bad 1 faults.NoEnd bytes
+read_all bytes (line ∷ lines) =
+    read_on 1 (judged_first line.0) (left_after bytes line) (λ s. read_from 2 s line.1 lines)
 
 -- the deck that the bytes begin with
 abbrev pub deck : List ℕ → Reading
-deck bytes = read_all (lines_of bytes)
+deck bytes = read_all bytes (lines_of bytes)

@@ -1,6 +1,6 @@
 -- What reading a deck answers.
 -- Source: ours.
-use Rattle.std.specs.Prelude.{◌≡◌, ℕ, ◌<◌, ◌≤◌, List, [], ◌∷◌, length, Bool, true, false, Result, Ok, Err, ⊤}
+use Rattle.std.specs.Prelude.{◌≡◌, ℕ, ◌<◌, ◌≤◌, List, [], ◌∷◌, length, drop, Bool, true, false, Result, Ok, Err, ⊤}
 use Rattle.deck.specs.Deck.{Reading, Good, Bad, Judged, Goes, Ends, Faulty}
 use Rattle.deck.specs.Views.{plan, sketch}
 use Rattle.deck.specs.declared.deck.Deck.{Deck}
@@ -12,32 +12,33 @@ use Rattle.instructions.specs.declared.refusal.Refusal.TheVariants as refusals
 use Rattle.deck.specs.declared.deck.DeckError.{DeckError}
 use Rattle.deck.specs.declared.deck.DeckError.TheVariants as errors
 
--- the answer is what the definition gives, unless memory ran out or a read failed
-abbrev pub GivesErr : DeckError → Reading → Type 0
-GivesErr (errors.Deck n fault) reading = reading ≡ Bad n fault
-GivesErr errors.OutOfMemory reading = ⊤
-GivesErr errors.Read reading = ⊤
+-- the answer is what the definition gives, and leaves the same bytes, unless memory ran out or a read failed
+abbrev pub GivesErr : DeckError → Reading → List ℕ → Type 0
+GivesErr (errors.Deck n fault) reading rest = reading ≡ Bad n fault rest
+GivesErr errors.OutOfMemory reading rest = ⊤
+GivesErr errors.Read reading rest = ⊤
 
 -- an `Ok` is the deck, with the number of its `end` line, and leaves the bytes after it
 abbrev pub Gives : Result (Deck × ℕ) DeckError → Reading → List ℕ → Type 0
 Gives (Ok found) reading rest = reading ≡ Good (plan found.0) found.1 rest
-Gives (Err e) reading rest = GivesErr e reading
+Gives (Err e) reading rest = GivesErr e reading rest
 
 -- the same with a refusal in place of the error; of the refusals only these three come
 abbrev pub GivesDeck : Result Deck Refusal → Reading → List ℕ → Type 0
 GivesDeck (Ok deck) reading rest = (n : ℕ) × (reading ≡ Good (plan deck) n rest)
-GivesDeck (Err (refusals.Deck n fault)) reading rest = reading ≡ Bad n fault
+GivesDeck (Err (refusals.Deck n fault)) reading rest = reading ≡ Bad n fault rest
 GivesDeck (Err refusals.OutOfMemory) reading rest = ⊤
 GivesDeck (Err refusals.Read) reading rest = ⊤
 GivesDeck (Err other) reading rest = ⊥
 
--- the line that comes next, line n, is refused with this error: there is none (`no end`), or it is too long (`long`);
--- of a failed read nothing is claimed
-abbrev pub Refuses : ℕ → DeckError → List (List ℕ × List ℕ) → Type 0
-Refuses n (errors.Deck m fault) [] = (m ≡ n) × (fault ≡ faults.NoEnd)
-Refuses n (errors.Deck m fault) (line ∷ more) = (m ≡ n) × (fault ≡ faults.Long) × (200 < length line.0)
-Refuses n errors.OutOfMemory lines = ⊥
-Refuses n errors.Read lines = ⊤
+-- the line of the bytes xs that comes next, line n, is refused with this error, which leaves ys: there is none
+-- (`no end`), or it is too long (`long`); of a failed read nothing is claimed
+abbrev pub Refuses : ℕ → DeckError → List ℕ → List ℕ → List (List ℕ × List ℕ) → Type 0
+Refuses n (errors.Deck m fault) xs ys [] = (m ≡ n) × (fault ≡ faults.NoEnd) × (ys ≡ xs)
+Refuses n (errors.Deck m fault) xs ys (line ∷ more) =
+    (m ≡ n) × (fault ≡ faults.Long) × (200 < length line.0) × (ys ≡ drop 201 xs)
+Refuses n errors.OutOfMemory xs ys lines = ⊥
+Refuses n errors.Read xs ys lines = ⊤
 
 -- what line n does to a deck, unless memory ran out
 abbrev pub FollowsErr : ℕ → DeckError → Judged → Type 0
@@ -60,7 +61,7 @@ GivesRefusal errors.Read refusal = refusal ≡ refusals.Read
 -- the bytes after the deck, where it has an end, are at most so many
 abbrev pub EndsWithin : ℕ → Reading → Type 0
 EndsWithin k (Good plan n after) = length after ≤ k
-EndsWithin k (Bad n fault) = ⊤
+EndsWithin k (Bad n fault rest) = ⊤
 
 -- whether neither the deck nor a fault of it was found
 abbrev pub is_cut : {T : Type 0} → Result T DeckError → Bool

@@ -23,7 +23,7 @@ fn next_line<I: Input>(
     ensures ok { OnOk result (Moves (I.remaining input.old) (I.remaining input.new)
         (λ xs ys. lines_of xs ≡ (line.new.items, ys) ∷ lines_of ys)) }
     ensures err { IfErr result (λ e. Moves (I.remaining input.old) (I.remaining input.new)
-        (λ xs ys. Refuses number e (lines_of xs))) }
+        (λ xs ys. Refuses number e xs ys (lines_of xs))) }
     ensures part { is_read result ≡ true → Moves (I.remaining input.old) (I.remaining input.new) ReadsPart }
     ensures failure { I.has_failed input.new ≡ (I.has_failed input.old || is_read result) }
     ensures same { I.lender input.new ≡ I.lender input.old }
@@ -61,7 +61,8 @@ fn located(number: u32, step: Result<Step, LineError>) -> Result<Step, DeckError
 /// since a schedule may follow.
 ///
 /// # Errors
-/// A line and its fault, want of memory, and a failed read.
+/// A line and its fault, want of memory, and a failed read. Nothing is read past a line at fault, and of a line that
+/// is too long only its first 201 bytes.
 pub fn read_deck_from<I: Input>(alloc: Global, input: &mut I) -> Result<(Deck, u32), DeckError>
     ensures deck { Moves (I.remaining input.old) (I.remaining input.new) (λ xs ys. Gives result (deck xs) ys) }
     ensures number { IfOk result (λ found. found.1 ≤ 10000000) }
@@ -103,7 +104,7 @@ pub fn refusal(error: DeckError) -> Refusal
 /// Reads a deck to the end of its `end` line, and nothing past it.
 ///
 /// # Errors
-/// `Deck` with the line and its fault, `OutOfMemory`, and `Read` where a read fails.
+/// `Deck` with the line and its fault, and nothing is read past that; `OutOfMemory`, and `Read` where a read fails.
 pub fn read_deck<R: Read>(alloc: Global, reader: &mut R) -> Result<Deck, Refusal>
     ensures { Moves (R.remaining reader.old) (R.remaining reader.new) (λ xs ys. GivesDeck result (deck xs) ys) }
 {

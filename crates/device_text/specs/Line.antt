@@ -1,6 +1,7 @@
 -- The lines of some bytes.
 -- Source: ours.
-use Rattle.std.specs.Prelude.{◌≡◌, ◌≢◌, ℕ, ◌≤◌, ◌<◌, List, [], ◌∷◌, ◌++◌, length, All, ◌⊎◌, ◌==◌, if◌then◌else◌}
+use Rattle.std.specs.Prelude.{◌≡◌, ◌≢◌, ℕ, ◌≤◌, ◌<◌, List, [], ◌∷◌, ◌++◌, length, drop, All, ◌⊎◌, ◌==◌}
+use Rattle.std.specs.Prelude.{nat_lt, if◌then◌else◌}
 use Rattle.device_text.specs.declared.line.Took.{Took}
 use Rattle.device_text.specs.declared.line.Took.TheVariants.{Whole, Long, Nothing}
 
@@ -14,6 +15,11 @@ onto b (line ∷ lines) = (b ∷ line.0, line.1) ∷ lines
 abbrev pub lines_of : List ℕ → List (List ℕ × List ℕ)
 lines_of [] = []
 lines_of (b ∷ bytes) = if b == 10 then ([], bytes) ∷ lines_of bytes else onto b (lines_of bytes)
+
+-- what is left once the first line of the bytes was read, which comes with the bytes after it: of a line of more than
+-- 200 bytes only 201 are read
+abbrev pub left_after : List ℕ → List ℕ × List ℕ → List ℕ
+left_after bytes line = if nat_lt 200 (length line.0) then drop 201 bytes else line.1
 
 -- no line end is among the bytes
 abbrev pub IsText : List ℕ → Type 0

@@ -49,9 +49,9 @@ Prints other replayed shows old new = ⊥
 -- the same from a deck's bytes on, of which these are left; a fault of the deck comes before one of the log
 abbrev pub Replays : Result (Option State) Refusal → Reading → List ℕ → List ℕ → Option (List ℕ) → Option (List ℕ)
     → Type 0
-Replays (Err (refusals.Deck m fault)) reading rest text old new = (reading ≡ Bad m fault) × Keeps old new
+Replays (Err (refusals.Deck m fault)) reading rest text old new = (reading ≡ Bad m fault rest) × Keeps old new
 Replays (Err refusals.Read) reading rest text old new = Keeps old new
 Replays (Err refusals.OutOfMemory) reading rest text old new = Keeps old new
 Replays result (Good plan n after) rest text old new =
     (rest ≡ after) × Prints result (replayed plan text) plan.shows old new
-Replays result (Bad n fault) rest text old new = ⊥
+Replays result (Bad n fault after) rest text old new = ⊥

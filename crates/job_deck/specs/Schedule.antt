@@ -6,6 +6,7 @@ use Rattle.instructions.specs.declared.instr.Unit.{Unit as FunctionalUnit}
 use Rattle.instructions.specs.declared.refusal.DeckFault.TheVariants as faults
 use Rattle.program_order.specs.declared.event.Event.{Event}
 use Rattle.program_order.specs.declared.event.Event.TheVariants as events
+use Rattle.device_text.specs.Line.{left_after}
 use Rattle.device_text.specs.Text.{fields_of, number_of}
 use Rattle.device_text.specs.Names.{unit_named}
 use Rattle.job_deck.specs.declared.schedule.Spoken.{Spoken}
@@ -67,3 +68,8 @@ heard n (line ∷ more) =
     if nat_lt 10000000 n then Faulty faults.Lines
     else if nat_lt 200 (length line.0) then Faulty faults.Long
     else spoken line.0
+
+-- what is left of these bytes once line n was heard, the first of their lines: past line 10,000,000 all of them
+abbrev pub left_heard : ℕ → List ℕ → List (List ℕ × List ℕ) → List ℕ
+left_heard n bytes [] = bytes
+left_heard n bytes (line ∷ more) = if nat_lt 10000000 n then bytes else left_after bytes line

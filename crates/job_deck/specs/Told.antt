@@ -10,7 +10,7 @@ use Rattle.program_order.specs.Reached.{IsReached}
 use Rattle.program_order.specs.Processor.{Processor, boot_processor}
 use Rattle.deck.specs.Deck.{Plan, Reading, Good, Bad}
 use Rattle.device_text.specs.Line.{IsText, lines_of}
-use Rattle.job_deck.specs.Schedule.{heard}
+use Rattle.job_deck.specs.Schedule.{heard, left_heard}
 use Rattle.job_deck.specs.Session.{IsLast, IsReply, Session}
 use Rattle.job_deck.specs.declared.schedule.Spoken.TheVariants.{Faulty}
 use Rattle.job_deck.specs.declared.session.SessionError.{SessionError}
@@ -20,14 +20,22 @@ use Rattle.job_deck.specs.declared.session.SessionError.TheVariants as errors
 abbrev pub IsTaken : List (List ℕ × List ℕ) → List ℕ → Type 0
 IsTaken lines rest = (line : List ℕ) × (lines ≡ (line, rest) ∷ lines_of rest)
 
+-- of the bytes xs those before line n were read, from which on the lines are these; that line is at fault, and no
+-- more was read
+abbrev pub IsRefused : ℕ → List (List ℕ × List ℕ) → List ℕ → List ℕ → Type 0
+IsRefused n lines xs rest =
+    (read : List ℕ) × (bytes : List ℕ) × (xs ≡ read ++ bytes) × (lines ≡ lines_of bytes)
+    × (rest ≡ left_heard n bytes lines)
+
 -- the first text was written, and a beginning of the second
 abbrev pub WritesCut : Option (List ℕ) → Option (List ℕ) → List ℕ → List ℕ → Type 0
 WritesCut old new text last =
     (front : List ℕ) × (rest : List ℕ) × (last ≡ front ++ rest) × Appends old new (text ++ front)
 
 -- a session with machine w from line n on: an `Ok` has written it all, and leaves what follows its last line; at a
--- fault, a failed read and want of memory for the dump each line before has its whole answer; a failed write has cut
--- the reply to the line that was read last. IsLed is what holds of the events, the answers and the machine so far
+-- fault, past which nothing is read, a failed read and want of memory for the dump each line before has its whole
+-- answer; a failed write has cut the reply to the line that was read last. IsLed is what holds of the events, the
+-- answers and the machine so far
 abbrev pub Tells : Result (Unit {0}) SessionError → (List Event → List (Result Done Refusal) → Processor → Type 0)
     → Processor
     → ℕ → List (ℕ × ℕ) → List ℕ → List ℕ → Option (List ℕ) → Option (List ℕ) → Type 0
@@ -36,7 +44,7 @@ Tells (Ok x) IsLed w n shows xs rest old new =
     × IsReply (heard s.number s.left) s.machine shows text × IsTaken s.left rest × Appends old new (s.text ++ text)
 Tells (Err (errors.Line m fault)) IsLed w n shows xs rest old new =
     (s : Session IsLed w n (lines_of xs)) × (m ≡ s.number) × (heard s.number s.left ≡ Faulty fault)
-    × Appends old new s.text
+    × IsRefused s.number s.left xs rest × Appends old new s.text
 Tells (Err errors.OutOfMemory) IsLed w n shows xs rest old new =
     (s : Session IsLed w n (lines_of xs)) × IsLast (heard s.number s.left) × IsTaken s.left rest
     × Appends old new s.text
@@ -63,17 +71,18 @@ TellsFromBoot result budget plan n after rest old new =
 -- the same of a deck with its schedule; memory may run out and a read may fail before the session begins
 abbrev pub Performs : Result (Unit {0}) Refusal → ℕ → Reading → List ℕ → Option (List ℕ) → Option (List ℕ) → Type 0
 Performs (Ok x) budget (Good plan n after) rest old new = TellsFromBoot (Ok x) budget plan n after rest old new
-Performs (Ok x) budget (Bad n fault) rest old new = ⊥
+Performs (Ok x) budget (Bad n fault after) rest old new = ⊥
 Performs (Err (refusals.Deck m fault)) budget (Good plan n after) rest old new =
     TellsFromBoot (Err (errors.Line m fault)) budget plan n after rest old new
-Performs (Err (refusals.Deck m fault)) budget (Bad n other) rest old new = (m ≡ n) × (fault ≡ other) × Keeps old new
+Performs (Err (refusals.Deck m fault)) budget (Bad n other after) rest old new =
+    (m ≡ n) × (fault ≡ other) × (rest ≡ after) × Keeps old new
 Performs (Err refusals.OutOfMemory) budget (Good plan n after) rest old new =
     HasNotBegun after rest old new ⊎ TellsFromBoot (Err errors.OutOfMemory) budget plan n after rest old new
-Performs (Err refusals.OutOfMemory) budget (Bad n fault) rest old new = Keeps old new
+Performs (Err refusals.OutOfMemory) budget (Bad n fault after) rest old new = Keeps old new
 Performs (Err refusals.Read) budget (Good plan n after) rest old new =
     HasNotBegun after rest old new ⊎ TellsFromBoot (Err errors.Read) budget plan n after rest old new
-Performs (Err refusals.Read) budget (Bad n fault) rest old new = Keeps old new
+Performs (Err refusals.Read) budget (Bad n fault after) rest old new = Keeps old new
 Performs (Err refusals.Write) budget (Good plan n after) rest old new =
     TellsFromBoot (Err errors.Write) budget plan n after rest old new
-Performs (Err refusals.Write) budget (Bad n fault) rest old new = ⊥
+Performs (Err refusals.Write) budget (Bad n fault after) rest old new = ⊥
 Performs (Err other) budget reading rest old new = ⊥

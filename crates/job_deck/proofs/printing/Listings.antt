@@ -8,7 +8,7 @@ use Rattle.instruction_table.specs.declared.decoding.Decoded.TheVariants.{Legal,
 use Rattle.instruction_table.specs.Decoding.{reading_at, GoesOn}
 use Rattle.device_text.specs.Device.{WritesAllBut, WritesFront}
 use Rattle.job_deck.specs.Listing.{item_text, after, separator, items_from}
-use Rattle.device_text.proofs.Moving.{piece_written, piece_cut, all_written}
+use Rattle.device_text.proofs.Moving.{piece_written, piece_cut}
 
 -- an item takes a parcel at least
 pub goes_on : (parcel : ℕ) (item : Decoded) → GoesOn parcel item → parcel < after parcel item

@@ -152,7 +152,7 @@ unfolding session_from_boot
 told_from_boot (Ok x) memory budget n w shows xs ys old new booted h =
     (session_from_boot memory budget n w (lines_of xs) booted h.0, h.1, h.2, h.3, h.4, h.5)
 told_from_boot (Err (errors.Line m fault)) memory budget n w shows xs ys old new booted h =
-    (session_from_boot memory budget n w (lines_of xs) booted h.0, h.1, h.2, h.3)
+    (session_from_boot memory budget n w (lines_of xs) booted h.0, h.1, h.2, h.3, h.4)
 told_from_boot (Err errors.OutOfMemory) memory budget n w shows xs ys old new booted h =
     (session_from_boot memory budget n w (lines_of xs) booted h.0, h.1, h.2, h.3)
 told_from_boot (Err errors.Read) memory budget n w shows xs ys old new booted h =

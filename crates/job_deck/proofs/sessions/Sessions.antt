@@ -1,5 +1,5 @@
 -- How far a session has come.
-use Rattle.std.proofs.Common.{◌≡◌, ℕ, ◌+◌, ◌<◌, true, false, ltb, List, [], ◌∷◌, ◌++◌, append-nil, length}
+use Rattle.std.proofs.Common.{◌≡◌, ℕ, ◌+◌, ◌<◌, true, false, ltb, List, [], ◌∷◌, ◌++◌, append-nil, length, append_assoc}
 use Rattle.std.proofs.Common.{length-append, Option, Result, Ok, Err, refl, sym, ap, ◌∙◌, subst, subst₂, arith}
 use Rattle.std.proofs.lemmas.Bool.{lt-ltb}
 use Rattle.std.proofs.lemmas.List.{flat_map_more}
@@ -18,8 +18,9 @@ use Rattle.program_order.proofs.reaching.Reached.{goes_on_then}
 use Rattle.job_deck.specs.AnswerText.{answer_line}
 use Rattle.device_text.specs.Device.{Moves, WritesFront}
 use Rattle.device_text.specs.Line.{ReadsPart, lines_of}
-use Rattle.job_deck.specs.Schedule.{heard}
+use Rattle.job_deck.specs.Schedule.{heard, left_heard}
 use Rattle.job_deck.specs.Session.{Says, Session}
+use Rattle.job_deck.specs.Told.{IsRefused}
 use Rattle.job_deck.specs.inner.Holding.{Converses, Hears}
 use Rattle.job_deck.specs.declared.schedule.Spoken.{Spoken}
 use Rattle.job_deck.specs.declared.schedule.Spoken.TheVariants.{Makes, Ends, Drains, Faulty}
@@ -71,7 +72,7 @@ module _ (w : Processor) (n : ℕ) (old : Option (List ℕ)) where
   -- it has come to line m, with the machine v, and the bytes ys are left
   abbrev pub Has : ℕ → Processor → Option (List ℕ) → List ℕ → List ℕ → Type 0
   Has m v new xs ys = (s : Session (GoesOn w) w n (lines_of xs)) × (s.left ≡ lines_of ys) × (s.number ≡ m)
-      × (s.machine ≡ v) × Appends old new s.text
+      × (s.machine ≡ v) × Appends old new s.text × ((read : List ℕ) × (xs ≡ read ++ ys))
 
   begun : (xs : List ℕ) → Has n w old xs xs
   unfolding settled_all
@@ -94,6 +95,7 @@ module _ (w : Processor) (n : ℕ) (old : Option (List ℕ)) where
     refl,
     refl,
     Appends-nil old,
+    ([], refl),
   )
 
   pub session_begun : (a : Option (List ℕ)) → Moves a a (Has n w old)
@@ -133,6 +135,7 @@ module _ (w : Processor) (n : ℕ) (old : Option (List ℕ)) where
         refl,
         refl,
         Appends-trans old mid new s.text (answer_line a) h.4 wrote,
+        (h.5.0 ++ k.2.0, h.5.1 ∙ ap (λ l. h.5.0 ++ l) k.2.1 ∙ sym (append_assoc h.5.0 k.2.0 zs)),
       )
 
   pub session_on : (a b c mid new : Option (List ℕ)) (m : ℕ) (v x : Processor) (e : Event) → Moves a b (Has m v mid)
@@ -181,13 +184,25 @@ module _ (w : Processor) (n : ℕ) (old : Option (List ℕ)) where
       (λ xs ys zs h k.
       (h.0, h.3, says_next m v new xs ys Drains h k.0, (k.1.0, h.1 ∙ k.1.1), h.4)) told taken
 
+  -- the line that comes next was refused, and these bytes are left
+  refused_there : (m : ℕ) (v : Processor) (new : Option (List ℕ)) (xs ys zs : List ℕ) (h : Has m v new xs ys)
+      → zs ≡ left_heard m ys (lines_of ys) → IsRefused h.0.number h.0.left xs zs
+  refused_there m v new xs ys zs h k = (
+    h.5.0,
+    ys,
+    h.5.1,
+    h.1,
+    k ∙ ap (left_heard m ys) (sym h.1) ∙ ap (λ i. left_heard i ys h.0.left) (sym h.2),
+  )
+
   pub session_refused : (a b c new : Option (List ℕ)) (m : ℕ) (v : Processor) (fault : DeckFault)
       → Moves a b (Has m v new) → Moves b c (Hears m (Faulty fault))
       → Moves a c (λ xs zs. Converses (Err (errors.Line m fault)) w v n xs zs old new)
   session_refused a b c new m v fault told taken =
       Moves-trans a b c (Has m v new) (Hears m (Faulty fault))
       (λ xs zs. Converses (Err (errors.Line m fault)) w v n xs zs old new) (λ xs ys zs h k.
-      (h.0, sym h.2, says_next m v new xs ys (Faulty fault) h k, h.4)) told taken
+      (h.0, sym h.2, says_next m v new xs ys (Faulty fault) h k.0, refused_there m v new xs ys zs h k.1, h.4)) told
+      taken
 
   pub session_unread : (a b c new : Option (List ℕ)) (m : ℕ) (v : Processor) → Moves a b (Has m v new)
       → Moves b c ReadsPart → Moves a c (λ xs zs. Converses (Err errors.Read) w v n xs zs old new)
@@ -200,6 +215,11 @@ module _ (w : Processor) (n : ℕ) (old : Option (List ℕ)) where
   past_all m [] h = let past : ltb 10000000 m ≡ true = lt-ltb _ _ h in rw past refl
   past_all m (line ∷ lines) h = let past : ltb 10000000 m ≡ true = lt-ltb _ _ h in rw past refl
 
+  past_left : (m : ℕ) (bytes : List ℕ) (lines : List (List ℕ × List ℕ)) → 10000000 < m
+      → bytes ≡ left_heard m bytes lines
+  past_left m bytes [] h = refl
+  past_left m bytes (line ∷ lines) h = let past : ltb 10000000 m ≡ true = lt-ltb _ _ h in rw past refl
+
   pub session_over : (a b new : Option (List ℕ)) (m : ℕ) (v : Processor) → m ≡ 10000001 → Moves a b (Has m v new)
       → Moves a b (λ xs zs. Converses (Err (errors.Line 10000001 faults.Lines)) w v n xs zs old new)
   session_over a b new m v e told =
@@ -209,5 +229,6 @@ module _ (w : Processor) (n : ℕ) (old : Option (List ℕ)) where
         sym (h.2 ∙ e),
         says_next m v new xs ys (Faulty faults.Lines) h
             (past_all m (lines_of ys) (omega (arith, e))),
+        refused_there m v new xs ys ys h (past_left m ys (lines_of ys) (omega (arith, e))),
         h.4,
       )) told

@@ -12,13 +12,13 @@ use Rattle.program_order.specs.Processor.{Processor}
 use Rattle.job_deck.specs.AnswerText.{answer_line}
 use Rattle.device_text.specs.Device.{Writes, WritesFront}
 use Rattle.device_text.specs.Line.{IsText, lines_of}
-use Rattle.job_deck.specs.Schedule.{heard}
+use Rattle.job_deck.specs.Schedule.{heard, left_heard}
 use Rattle.job_deck.specs.Session.{IsDump, IsReply, Session}
 use Rattle.job_deck.specs.declared.schedule.Spoken.{Spoken}
 use Rattle.job_deck.specs.declared.schedule.Spoken.TheVariants.{Makes, Ends, Drains, Faulty}
 use Rattle.job_deck.specs.declared.session.SessionError.{SessionError}
 use Rattle.job_deck.specs.declared.session.SessionError.TheVariants as errors
-use Rattle.job_deck.specs.Told.{IsTaken, WritesCut}
+use Rattle.job_deck.specs.Told.{IsRefused, IsTaken, WritesCut}
 
 -- why a session ended, as the refusal that is printed: `E20` for a line and its fault, `E21`, `E22` or `E23`
 abbrev pub refusal_of : SessionError → Refusal
@@ -43,12 +43,13 @@ is_write_error (Err errors.OutOfMemory) = false
 is_write_error (Err errors.Read) = false
 is_write_error (Err errors.Write) = true
 
--- what line n says was heard; a line that isn't at fault was taken
+-- what line n says was heard; a line that isn't at fault was taken, and past one at fault nothing
 abbrev pub Hears : ℕ → Spoken → List ℕ → List ℕ → Type 0
 Hears n (Makes e) xs ys = (heard n (lines_of xs) ≡ Makes e) × IsTaken (lines_of xs) ys
+    × ((part : List ℕ) × (xs ≡ part ++ ys))
 Hears n Ends xs ys = (heard n (lines_of xs) ≡ Ends) × IsTaken (lines_of xs) ys
 Hears n Drains xs ys = (heard n (lines_of xs) ≡ Drains) × IsTaken (lines_of xs) ys
-Hears n (Faulty fault) xs ys = heard n (lines_of xs) ≡ Faulty fault
+Hears n (Faulty fault) xs ys = (heard n (lines_of xs) ≡ Faulty fault) × (ys ≡ left_heard n xs (lines_of xs))
 
 -- the event was made or refused, which led on from wherever the machine was reached, and its answer's line written
 abbrev pub IsMade : {E : Type 0} → Result (Unit {0}) E → Processor → Processor → Event → Option (List ℕ)
@@ -69,7 +70,8 @@ Converses (Ok drains) w v n xs rest old new =
     (s : Session (GoesOn w) w n (lines_of xs)) × (s.machine ≡ v) × (heard s.number s.left ≡ last_said drains)
     × IsTaken s.left rest × Appends old new s.text
 Converses (Err (errors.Line m fault)) w v n xs rest old new = (s : Session (GoesOn w) w n (lines_of xs))
-    × (m ≡ s.number) × (heard s.number s.left ≡ Faulty fault) × Appends old new s.text
+    × (m ≡ s.number) × (heard s.number s.left ≡ Faulty fault) × IsRefused s.number s.left xs rest
+    × Appends old new s.text
 Converses (Err errors.OutOfMemory) w v n xs rest old new = ⊥
 Converses (Err errors.Read) w v n xs rest old new = (s : Session (GoesOn w) w n (lines_of xs)) × (part : List ℕ)
     × IsText part × (s.left ≡ lines_of (part ++ rest)) × Appends old new s.text

@@ -1,4 +1,4 @@
-use Rattle.deck.proofs.DeckLines.{taken_whole, taken_long}
+use Rattle.deck.proofs.DeckLines.{taken_whole, taken_long, taken_nothing}
 use Rattle.deck.proofs.reading.next_line.Goals as goal
 
 pub returns-in-Ok-Whole-clause-ok : goal.returns-in-Ok-Whole-clause-ok
@@ -12,3 +12,8 @@ returns-in-Ok-Long-clause-err g c =
     let text = rw c.in-Ok-Long.field-0-is at c.in-Ok-Long.ensures.text in
     let taken = rw c.in-Ok-Long.field-0-is at c.in-Ok-Long.ensures.ok in
     taken_long _ _ c.args.number c.read_line.new.line.items text.0 text.1 taken
+
+pub returns-in-Ok-Nothing-clause-err : goal.returns-in-Ok-Nothing-clause-err
+returns-in-Ok-Nothing-clause-err g c =
+    let taken = rw c.in-Ok-Nothing.field-0-is at c.in-Ok-Nothing.ensures.ok in
+    taken_nothing _ _ c.args.number c.read_line.new.line.items taken

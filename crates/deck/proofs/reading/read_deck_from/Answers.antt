@@ -3,10 +3,16 @@ use Rattle.std.proofs.Math.Bool.{or-false}
 use Rattle.std.proofs.lemmas.Result.{err_from_is_err_and}
 use Rattle.deck.specs.Deck.{judged_first, judged_line}
 use Rattle.deck.specs.Views.{sketch}
-use Rattle.deck.proofs.DeckLines.{first_err, first_goes, first_ends, later_refused, later_err, later_goes, later_ends}
-use Rattle.deck.proofs.DeckLines.{lines_over}
+use Rattle.deck.proofs.DeckLines.{first_refused, first_err, first_goes, first_ends, later_refused, later_err}
+use Rattle.deck.proofs.DeckLines.{later_goes, later_ends, lines_over}
 use Rattle.deck.proofs.Unread.{first_cut, first_taken, later_cut, later_taken}
 use Rattle.deck.proofs.reading.read_deck_from.Goals as goal
+
+pub returns-in_err-next_line-clause-deck : goal.returns-in_err-next_line-clause-deck
+returns-in_err-next_line-clause-deck g c =
+    let p = err_from_is_err_and c.from_residual.result c.from_residual.ensures.1 in
+    rw (p.1, p.2) (first_refused (g.I.Input.remaining c.args.input.now) (g.I.Input.remaining c.next_line.new.input) _
+    c.in_err-next_line.ensures.err)
 
 pub returns-in_err-draft-clause-deck : goal.returns-in_err-draft-clause-deck
 returns-in_err-draft-clause-deck g c =
@@ -14,7 +20,7 @@ returns-in_err-draft-clause-deck g c =
     let judged = rw c.as_slice.ensures.value at c.judge_first.ensures in
     let follows = c.in_err-draft.ensures.follows (judged_first text) judged in
     let rest = first_err (g.I.Input.remaining c.args.input.now) (g.I.Input.remaining c.next_line.new.input) text _
-    c.in_ok-next_line.ensures.ok follows in
+    c.in_ok-next_line.ensures.text c.in_ok-next_line.ensures.ok follows in
     let p = err_from_is_err_and c.from_residual-in_err-draft.result c.from_residual-in_err-draft.ensures.1 in
     rw (p.1, p.2) rest
 
@@ -24,7 +30,7 @@ returns-in-Ends-clause-deck g c =
     let judged = rw c.as_slice.ensures.value at c.judge_first.ensures in
     let follows = rw c.in-Ends.is at c.in_ok-draft.ensures.follows (judged_first text) judged in
     first_ends (g.I.Input.remaining c.args.input.now) (g.I.Input.remaining c.next_line.new.input) text c.in-Ends.deck
-    c.in_ok-next_line.ensures.ok follows
+    c.in_ok-next_line.ensures.text c.in_ok-next_line.ensures.ok follows
 
 pub loop-number-init : goal.loop-number-init
 loop-number-init g c =
@@ -33,7 +39,7 @@ loop-number-init g c =
     let follows = rw c.in-Goes.is at c.in_ok-draft.ensures.follows (judged_first text) judged in
     record {
       told = first_goes (g.I.Input.remaining c.args.input.now) (g.I.Input.remaining c.next_line.new.input) text
-          c.in-Goes.draft c.in_ok-next_line.ensures.ok follows;
+          c.in-Goes.draft c.in_ok-next_line.ensures.text c.in_ok-next_line.ensures.ok follows;
       same = search rules;
       failures = rw or-false at c.in_ok-next_line.ensures.failure;
     }
@@ -53,7 +59,8 @@ returns-in_err-next-clause-deck g c =
     let judged = rw c.as_slice-in-loop-number.ensures.value at c.judge.ensures in
     let follows = c.in_err-next.ensures.follows (judged_line (sketch draft) text) judged in
     let rest = later_err _ _ (g.I.Input.remaining c.next_line-in-loop-number.new.input) c.loop-number.number draft text
-    _ (omega arith) c.loop-number.invariant.told c.in_ok-next_line-2.ensures.ok follows in
+    _ (omega arith) c.in_ok-next_line-2.ensures.text c.loop-number.invariant.told c.in_ok-next_line-2.ensures.ok
+    follows in
     let p = err_from_is_err_and c.from_residual-in_err-next.result c.from_residual-in_err-next.ensures.1 in
     rw (p.1, p.2) rest
 
@@ -64,7 +71,8 @@ returns-in-Ends-2-clause-deck g c =
     let judged = rw c.as_slice-in-loop-number.ensures.value at c.judge.ensures in
     let follows = rw c.in-Ends-2.is at c.in_ok-next.ensures.follows (judged_line (sketch draft) text) judged in
     later_ends _ _ (g.I.Input.remaining c.next_line-in-loop-number.new.input) c.loop-number.number draft text
-    c.in-Ends-2.deck (omega arith) c.loop-number.invariant.told c.in_ok-next_line-2.ensures.ok follows
+    c.in-Ends-2.deck (omega arith) c.in_ok-next_line-2.ensures.text c.loop-number.invariant.told
+    c.in_ok-next_line-2.ensures.ok follows
 
 pub returns-clause-deck : goal.returns-clause-deck
 returns-clause-deck g c =
@@ -78,7 +86,8 @@ loop-number-preserved g c =
     let follows = rw c.in-Goes-2.is at c.in_ok-next.ensures.follows (judged_line (sketch draft) text) judged in
     record {
       told = later_goes _ _ (g.I.Input.remaining c.next_line-in-loop-number.new.input) c.loop-number.number draft text
-          c.in-Goes-2.next (omega arith) c.loop-number.invariant.told c.in_ok-next_line-2.ensures.ok follows;
+          c.in-Goes-2.next (omega arith) c.in_ok-next_line-2.ensures.text c.loop-number.invariant.told
+          c.in_ok-next_line-2.ensures.ok follows;
       same = search rules;
       failures = search rules;
     }

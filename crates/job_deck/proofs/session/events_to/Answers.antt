@@ -1,5 +1,6 @@
 use Rattle.std.proofs.Common.{Ok, Err}
 use Rattle.job_deck.proofs.sessions.Endings.{performed}
+use Rattle.job_deck.proofs.sessions.Unbegun.{performs_refused, performs_unbooted}
 use Rattle.job_deck.proofs.session.events_to.Goals as goal
 
 pub returns-in-Ok-hold-clause-performed : goal.returns-in-Ok-hold-clause-performed
@@ -14,3 +15,13 @@ returns-clause-performed g c =
     c.in-Ok.found.0 c.in-Ok-booted.machine (g.O.Output.contents c.args.output.now)
     (g.O.Output.contents c.hold.new.output) c.in-Ok-booted.ensures.machine c.in-Ok-booted.ensures.reached
     c.in-Ok.ensures.deck c.in-Err-hold.ensures.told)
+
+pub returns-in-Err-clause-performed : goal.returns-in-Err-clause-performed
+returns-in-Err-clause-performed g c =
+    performs_refused _ _ c.in-Err.error c.refusal.result c.args.budget (g.O.Output.contents c.args.output.now)
+    c.refusal.ensures c.in-Err.ensures.deck c.in-Err.ensures.unread
+
+pub returns-in-Err-booted-clause-performed : goal.returns-in-Err-booted-clause-performed
+returns-in-Err-booted-clause-performed g c =
+    performs_unbooted _ _ c.args.budget c.in-Ok.found.1 c.in-Ok.found.0 (g.O.Output.contents c.args.output.now)
+    c.in-Ok.ensures.deck
