@@ -20,7 +20,7 @@ pub use decoding::{Decoded, decode, decode_as, first_digits};
 pub use encoding::encode;
 pub use instructions::{
     Addends, Addition, BTest, Base, DeckFault, Digit, Direction, Halt, Instr, Logic, Op,
-    OperandRegisters, Pair, Refusal, Reg, SixBits, Target, Unit, UnitKind, XTest,
+    OperandRegisters, Pair, ParcelNumber, Refusal, Reg, SixBits, Target, Unit, UnitKind, XTest,
     operand_registers, results, sources, unit_kind,
 };
 pub use reading::{read_bytes, read_text};

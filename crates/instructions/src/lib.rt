@@ -5,7 +5,7 @@
 //! floating-point instructions; where something is this project's choice the item says so.
 #![tactic(auto)]
 
-mod digit;
+mod below;
 mod instr;
 mod operations;
 mod refusal;
@@ -14,7 +14,7 @@ mod shape;
 #[cfg(test)]
 mod tests;
 
-pub use digit::{Digit, SixBits};
+pub use below::{Below, Digit, ParcelNumber, SixBits};
 pub use instr::{
     Addends, Addition, BTest, Base, Direction, Instr, Logic, Op, Pair, Reg, Target, Unit, UnitKind,
     XTest,

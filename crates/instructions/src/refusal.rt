@@ -1,4 +1,5 @@
 use crate::{Op, Reg, Unit};
+use thiserror::Error;
 
 /// Why the machine stands.
 #[derive(Clone, Copy, Debug, Drop, PartialEq, Eq)]
@@ -13,36 +14,50 @@ pub enum Halt {
     FetchRange,
 }
 
-/// What is wrong with a line of a deck or a schedule.
-#[derive(Clone, Copy, Debug, Drop, PartialEq, Eq)]
+/// What is wrong with a line of a deck or a schedule. It is shown in the word that the program prints.
+#[derive(Clone, Copy, Debug, Drop, Error, PartialEq, Eq)]
 pub enum DeckFault {
     /// More than 10,000,000 lines.
+    #[error("lines")]
     Lines,
     /// A line of more than 200 bytes.
+    #[error("long")]
     Long,
     /// The first line isn't a `core` line.
+    #[error("first")]
     First,
     /// No such line, or a wrong number of fields.
+    #[error("unknown")]
     Unknown,
     /// A field that isn't a number of its base, or is too large.
+    #[error("number")]
     Number,
     /// A memory size that isn't 32 to 131,072 words.
+    #[error("size")]
     Size,
     /// A second `core` or `start`.
+    #[error("repeated")]
     Repeated,
     /// A 65th `show` or `ask`.
+    #[error("many")]
     Many,
     /// An address that isn't in memory.
+    #[error("range")]
     Range,
     /// Sixteen words of a package that don't fit into memory.
+    #[error("package")]
     Package,
     /// A text that is no instruction.
+    #[error("instruction")]
     Instruction,
     /// Instructions that don't fit into one word.
+    #[error("full")]
     Full,
     /// No `start` line before the end.
+    #[error("no start")]
     NoStart,
     /// The input ended before the `end` line.
+    #[error("no end")]
     NoEnd,
 }
 

@@ -12,8 +12,9 @@ mod tests;
 mod work;
 
 pub use fetching::Fetched;
+pub use instructions::ParcelNumber;
 pub use log::{Entry, Log};
-pub use place::{ParcelNumber, Place};
+pub use place::Place;
 pub use replaying::replay;
 pub use state::State;
 pub use stepping::step;

@@ -1,49 +1,8 @@
-ghost use Rattle.std.specs.Prelude.{◌≡◌, ◌<◌, SomeIff, None};
+ghost use Rattle.std.specs.Prelude.{◌≡◌, None};
 ghost use Rattle.sequential.specs.Place.{moved_on, gone};
 
-use std::marker::Model;
+use instructions::ParcelNumber;
 use word60::{Word18, Word60};
-
-/// The number of a parcel in its word: 0, the uppermost, to 3.
-#[derive(Clone, Copy, Debug, Default, Drop, PartialEq, Eq)]
-pub struct ParcelNumber {
-    number: u8,
-}
-
-impl Model for ParcelNumber {
-    ghost use Rattle.std.specs.Prelude.{ℕ, ◌<◌};
-
-    ghost Value = { ℕ };
-
-    ghost view = { λ p. p.number };
-
-    ghost invariant = { λ p. p.number < 4 };
-
-    ghost inverse = { λ n. record { number = n } };
-}
-
-impl ParcelNumber {
-    /// The parcel of this number, None from 4 on.
-    #[inline(always)]
-    pub fn new(number: u8) -> Option<ParcelNumber>
-        ensures { SomeIff result (number < 4) number }
-    {
-        if number < 4 {
-            Some(ParcelNumber { number })
-        } else {
-            None
-        }
-    }
-
-    /// The number, 0 to 3.
-    #[inline(always)]
-    pub fn get(self) -> u8
-        ensures value { result ≡ self }
-        ensures range { result < 4 }
-    {
-        self.number
-    }
-}
 
 /// Where the next instruction is.
 #[derive(Clone, Copy, Debug, Default, Drop, PartialEq, Eq)]

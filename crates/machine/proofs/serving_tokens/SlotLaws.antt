@@ -1,6 +1,6 @@
 -- Which reservation the slot of a unit holds, before and after what its unit does.
 use Rattle.std.proofs.Common.{◌≡◌, ℕ, Bool, true, false, cond, ◌&&◌, List, [], ◌∷◌, ◌++◌, Option, Some, None, refl, sym}
-use Rattle.std.proofs.Common.{ap, ◌∙◌, subst, eqb}
+use Rattle.std.proofs.Common.{ap, ◌∙◌, subst, eqb, rules}
 use Rattle.std.proofs.lemmas.Bool.{eq-eqb, eqb-true}
 use Rattle.instructions.specs.declared.instr.Unit.{Unit as FunctionalUnit}
 use Rattle.scoreboard.specs.Units.{same_unit}
@@ -226,14 +226,14 @@ store_allowed w t n members b given en em eb et h =
 -- ---- what a token was computed from ----
 
 pub is_same : (c : Computation) (number : ℕ) (instr : Instr) (operands : Operands) (b : Bool) → c.number ≡ number
-    → c.operands ≡ operands → MatchBool b (c.instr ≡ instr) (c.instr ≢ instr)
+    → c.operands ≡ operands → (b ≡ true → c.instr ≡ instr) → (c.instr ≡ instr → b ≡ true)
     → MatchBool b (read_of c ≡ record { seat = c.seat; number = number; instr = instr; operands = operands })
     (read_of c ≢ record { seat = c.seat; number = number; instr = instr; operands = operands })
-is_same c number instr operands true en eo h =
+is_same c number instr operands true en eo h k =
     ap (λ n. record { seat = c.seat; number = n; instr = c.instr; operands = c.operands }) en
-    ∙ ap (λ (i : Instr). record { seat = c.seat; number = number; instr = i; operands = c.operands }) h
+    ∙ ap (λ (i : Instr). record { seat = c.seat; number = number; instr = i; operands = c.operands }) (h refl)
     ∙ ap (λ (x : Operands). record { seat = c.seat; number = number; instr = instr; operands = x }) eo
-is_same c number instr operands false en eo h = λ e. h (ap (λ (r : Reading). r.instr) e)
+is_same c number instr operands false en eo h k = λ e. search (rules, k (ap (λ (r : Reading). r.instr) e))
 
 -- ---- what the instruction that was sought says of its slot ----
 
