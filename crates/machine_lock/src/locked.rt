@@ -8,7 +8,7 @@ ghost use Rattle.program_order.specs.Run.{IsAnswer, settled};
 ghost use Rattle.machine.specs.Tokens.{one_more};
 ghost use Rattle.program_order.specs.Events.{after};
 ghost use Rattle.machine_lock.specs.Known.{IsMade, Learnt, IsNoteOf, IsWhyOf, note_in};
-ghost use Rattle.machine_lock.specs.inner.Kept.{IsCurrent, is_of_memory, with_whole};
+ghost use Rattle.machine_lock.specs.inner.Kept.{IsCurrent, is_of_memory, with_processor};
 ghost use Rattle.machine_lock.specs.inner.Rules.{IsKeeper, past};
 
 use crate::Seen;
@@ -35,7 +35,7 @@ impl<K: Naming> Model for Locked<K> {
 
     ghost Value = { Kept };
 
-    ghost view = { λ l. record { whole = l.machine; is_ended = l.is_ended } };
+    ghost view = { λ l. record { processor = l.machine; is_ended = l.is_ended } };
 
     ghost invariant = { λ l. IsLocked K.table l.machine l.pass };
 }
@@ -44,7 +44,7 @@ impl<K: Naming> Locked<K> {
     /// A machine whose users weren't told to end, with the pass that knows its log.
     pub(crate) fn new(machine: Machine, pass: Pass) -> Locked<K>
         requires { IsKeeper K.table (past machine) pass }
-        ensures { result ≡ record { whole = machine; is_ended = false } }
+        ensures { result ≡ record { processor = machine; is_ended = false } }
     {
         machine.keeps_replay();
         Locked {
@@ -60,10 +60,10 @@ impl<K: Naming> Locked<K> {
     /// # Errors
     /// What an issue may refuse.
     pub(crate) fn issue(&mut self, word: &Word<K>, seen: &mut Seen<K>) -> Answer
-        ensures answer { IsAnswer self.old.whole Issue result }
-        ensures after { self.new ≡ with_whole self.old (settled self.old.whole Issue result) }
+        ensures answer { IsAnswer self.old.processor Issue result }
+        ensures after { self.new ≡ with_processor self.old (settled self.old.processor Issue result) }
         ensures named { IfErr result (λ refusal. may_refuse Issue refusal ≡ true) }
-        ensures current { IsCurrent self.new.whole seen.new }
+        ensures current { IsCurrent self.new.processor seen.new }
         ensures seen { MatchResult result
             (λ done. IsMade Issued seen.old seen.new × IsNoteOf seen.new (note_in done))
             (λ refusal. Learnt seen.old seen.new × IsWhyOf seen.new refusal) }
@@ -86,10 +86,10 @@ impl<K: Naming> Locked<K> {
     /// # Errors
     /// What a request may refuse.
     pub(crate) fn ask(&mut self, word: &Word<K>, seen: &mut Seen<K>, at: u32) -> Answer
-        ensures answer { IsAnswer self.old.whole (Ask at) result }
-        ensures after { self.new ≡ with_whole self.old (settled self.old.whole (Ask at) result) }
+        ensures answer { IsAnswer self.old.processor (Ask at) result }
+        ensures after { self.new ≡ with_processor self.old (settled self.old.processor (Ask at) result) }
         ensures named { IfErr result (λ refusal. may_refuse (Ask at) refusal ≡ true) }
-        ensures current { IsCurrent self.new.whole seen.new }
+        ensures current { IsCurrent self.new.processor seen.new }
         ensures seen { Learnt seen.old seen.new }
     {
         let answer = self.machine.apply(Event::Ask(at));
@@ -103,12 +103,12 @@ impl<K: Naming> Locked<K> {
     /// # Errors
     /// What an exchange may refuse.
     pub(crate) fn exchange(&mut self, word: &Word<K>, seen: &mut Seen<K>) -> Answer
-        ensures answer { IsAnswer self.old.whole Exchange result }
-        ensures after { self.new ≡ with_whole self.old (settled self.old.whole Exchange result) }
+        ensures answer { IsAnswer self.old.processor Exchange result }
+        ensures after { self.new ≡ with_processor self.old (settled self.old.processor Exchange result) }
         ensures named { IfErr result (λ refusal. may_refuse Exchange refusal ≡ true) }
-        ensures current { IsCurrent self.new.whole seen.new }
+        ensures current { IsCurrent self.new.processor seen.new }
         ensures seen { MatchResult result
-            (λ done. (n : ℕ) × (self.old.whole.request ≡ Some n) × IsMade (Exchanged n) seen.old seen.new)
+            (λ done. (n : ℕ) × (self.old.processor.request ≡ Some n) × IsMade (Exchanged n) seen.old seen.new)
             (λ refusal. Learnt seen.old seen.new × IsWhyOf seen.new refusal) }
     {
         match self.machine.apply(Event::Exchange) {
@@ -130,8 +130,8 @@ impl<K: Naming> Locked<K> {
     /// What the event may refuse.
     pub(crate) fn apply(&mut self, event: Event) -> Answer
         requires { is_of_memory event ≡ true }
-        ensures answer { IsAnswer self.old.whole event result }
-        ensures after { self.new ≡ with_whole self.old (settled self.old.whole event result) }
+        ensures answer { IsAnswer self.old.processor event result }
+        ensures after { self.new ≡ with_processor self.old (settled self.old.processor event result) }
         ensures named { IfErr result (λ refusal. may_refuse event refusal ≡ true) }
     {
         let answer = self.machine.apply(event);
@@ -159,7 +159,7 @@ impl<K: Naming> Locked<K> {
     /// `OperandAwaited` or `Stranger`, with the token.
     pub(crate) fn read(&mut self, token: Reserved) -> Result<Loaded, (Refusal, Reserved)>
         ensures after { MatchResult result
-            (λ loaded. self.new ≡ with_whole self.old (after self.old.whole (Read token.seat.unit)))
+            (λ loaded. self.new ≡ with_processor self.old (after self.old.processor (Read token.seat.unit)))
             (λ back. self.new ≡ self.old) }
         ensures loaded { IfOk result (λ loaded. (loaded.seat ≡ token.seat) × (loaded.number ≡ token.number)) }
         ensures given_back { IfErr result
@@ -176,7 +176,7 @@ impl<K: Naming> Locked<K> {
     /// `Stranger` with the token.
     pub(crate) fn finish(&mut self, token: Computed) -> Result<Finished, (Refusal, Computed)>
         ensures after { MatchResult result
-            (λ finished. self.new ≡ with_whole self.old (after self.old.whole (Finish token.seat.unit)))
+            (λ finished. self.new ≡ with_processor self.old (after self.old.processor (Finish token.seat.unit)))
             (λ back. self.new ≡ self.old) }
         ensures finished { IfOk result (λ finished. finished ≡ record { seat = token.seat; number = token.number }) }
         ensures given_back { IfErr result (λ back. (back.1 ≡ token) × (back.0 ≡ Stranger)) }
@@ -192,7 +192,7 @@ impl<K: Naming> Locked<K> {
     /// `ResultHeld`, `HopperFull`, `OutOfTurn` or `Stranger`, with the token.
     pub(crate) fn store(&mut self, token: Finished) -> Result<Seat, (Refusal, Finished)>
         ensures after { MatchResult result
-            (λ seat. self.new ≡ with_whole self.old (after self.old.whole (Store token.seat.unit)))
+            (λ seat. self.new ≡ with_processor self.old (after self.old.processor (Store token.seat.unit)))
             (λ back. self.new ≡ self.old) }
         ensures seat { IfOk result (λ seat. seat ≡ one_more token) }
         ensures given_back { IfErr result
@@ -213,7 +213,7 @@ impl<K: Naming> Locked<K> {
         seen: &mut Seen<K>,
     ) -> Result<Snapshot, Refusal>
         ensures after { self.new ≡ self.old }
-        ensures current { IsCurrent self.new.whole seen.new }
+        ensures current { IsCurrent self.new.processor seen.new }
         ensures seen { Learnt seen.old seen.new }
         ensures fresh { IfOk result
             (λ snapshot. (snapshot.boot_memory ≡ seen.new.boot_memory) × (snapshot.log ≡ seen.new.log)) }

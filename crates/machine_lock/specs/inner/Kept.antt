@@ -11,7 +11,7 @@ use Rattle.machine_lock.specs.inner.Rules.{Knowing, IsKeeper, past}
 
 -- the machine under the lock, and whether its users were told to end
 pub record Kept : Type 0 where
-  pub whole : Processor
+  pub processor : Processor
   pub is_ended : Bool
 
 -- the effects made so far, with those still to come, are the replay of the log on the boot memory
@@ -24,8 +24,8 @@ pub record IsLocked (table : TableId) (w : Processor) (pass : Seat ℕ Knowing) 
   pub seen : IsKeeper table (past w) pass
 
 -- the machine is this one, and its users were told what they were told before
-abbrev pub with_whole : Kept → Processor → Kept
-with_whole k w = record k { whole = w }
+abbrev pub with_processor : Kept → Processor → Kept
+with_processor k w = record k { processor = w }
 
 -- the caller has seen all of the machine's log
 abbrev pub IsCurrent : Processor → Known → Type 0

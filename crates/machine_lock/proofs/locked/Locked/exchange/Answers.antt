@@ -47,7 +47,7 @@ pub returns-in-Ok-clause-seen : goal.returns-in-Ok-clause-seen
 returns-in-Ok-clause-seen g c =
     let l = last g c in (
       l.n,
-      ap (λ (k : Kept). k.whole.request) (sym c.self.view_is) ∙ l.request,
+      ap (λ (k : Kept). k.processor.request) (sym c.self.view_is) ∙ l.request,
       subst (λ x. IsMade x c.args.seen.now (known_by c.record.new.me.me)) l.last (made g c).made,
     )
 
