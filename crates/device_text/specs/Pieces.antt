@@ -7,10 +7,11 @@ use Rattle.instructions.specs.declared.instr.Op.{Op}
 use Rattle.instructions.specs.declared.instr.Op.TheVariants.{Plain, Extended}
 use Rattle.instructions.specs.declared.refusal.Halt.{Halt}
 use Rattle.instructions.specs.declared.refusal.Halt.TheVariants.{Stop, Illegal, Straddle, FetchRange}
+use Rattle.instruction_table.specs.Spelling.{spelling}
 use Rattle.device_text.specs.Names.{unit_text, register_text}
 use Rattle.device_text.specs.declared.piece.Piece.{Piece}
-use Rattle.device_text.specs.declared.piece.Piece.TheVariants.{Text, Opcode, Reason, UnitName, Register, Parcel, Index}
-use Rattle.device_text.specs.declared.piece.Piece.TheVariants.{Word, Address, Count}
+use Rattle.device_text.specs.declared.piece.Piece.TheVariants.{Text, Instruction, Opcode, Reason, UnitName, Register}
+use Rattle.device_text.specs.declared.piece.Piece.TheVariants.{Parcel, Index, Word, Address, Count}
 
 -- digits without noughts in front, but with one digit at least
 abbrev pub trimmed : List ℕ → List ℕ
@@ -33,6 +34,7 @@ reason_text FetchRange = codes "fetch"
 -- the text of a piece
 abbrev pub text_of : Piece → List ℕ
 text_of (Text bytes) = bytes.now
+text_of (Instruction instr) = spelling instr
 text_of (Opcode op) = code_text op
 text_of (Reason halt) = reason_text halt
 text_of (UnitName unit) = unit_text unit

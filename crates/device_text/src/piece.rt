@@ -6,16 +6,18 @@ ghost use Rattle.device_text.specs.Pieces.{code_text, reason_text, text_of, text
 use crate::digits::trim;
 use crate::output::{Output, WriteFailed};
 use crate::spelling::unit_name;
-use instruction_table::{Halt, Op, Reg, Unit};
+use instruction_table::{Halt, Instr, Op, Reg, Unit, spell};
 use itoa::Buffer;
 use sequential::ParcelNumber;
 use word60::{Word18, Word60};
 
 /// A piece of a line.
-#[derive(Drop)]
+#[derive(Clone, Copy, Drop)]
 pub enum Piece<'a> {
     /// These bytes.
     Text(&'a [u8]),
+    /// The text of an instruction.
+    Instruction(Instr),
     /// The code of an opcode that is refused, two octal digits or three.
     Opcode(Op),
     /// Why a machine stands.
@@ -86,6 +88,7 @@ fn put_piece<O: Output>(output: &mut O, piece: &Piece<'_>) -> Result<(), WriteFa
 {
     match *piece {
         Piece::Text(bytes) => output.put(bytes),
+        Piece::Instruction(instr) => output.put(spell(&instr).as_str().as_bytes()),
         Piece::Opcode(op) => put_opcode(output, op),
         Piece::Reason(halt) => put_reason(output, halt),
         Piece::UnitName(unit) => output.put(unit_name(unit)),

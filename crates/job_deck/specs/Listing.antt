@@ -33,12 +33,15 @@ after parcel Straddle = parcel + 1
 abbrev pub separator : ℕ → List ℕ
 separator parcel = if parcel == 0 then [] else codes "; "
 
+-- an item with what stands before it
+abbrev pub separated : ℕ → Decoded → List ℕ
+separated parcel item = separator parcel ++ item_text item
+
 -- the items of a word from a parcel on, at most so many
 abbrev pub items_from : ℕ → ℕ → ℕ → List ℕ
 items_from zero word parcel = []
-items_from (suc more) word parcel =
-    if nat_lt parcel 4 then separator parcel
-    ++ (item_text (reading_at word parcel) ++ items_from more word (after parcel (reading_at word parcel))) else []
+items_from (suc more) word parcel = if nat_lt parcel 4
+    then separated parcel (reading_at word parcel) ++ items_from more word (after parcel (reading_at word parcel)) else []
 
 -- the items of a word, which has at most four
 unfoldable pub items_text : ℕ → List ℕ

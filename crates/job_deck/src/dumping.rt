@@ -4,7 +4,7 @@ ghost use Rattle.device_text.specs.Device.{Writes, failed_after};
 ghost use Rattle.job_deck.specs.Dump.{held_text, place_line, halt_text, fault_text, area_line, spaced_index};
 ghost use Rattle.job_deck.specs.Dump.{index_line, x_line, x_lines, state_lines, register_lines, word_line, show_lines};
 ghost use Rattle.job_deck.specs.Dump.{log_text, log_line, spaced_entry, dump_text};
-ghost use Rattle.device_text.specs.Pieces.{text_of};
+ghost use Rattle.device_text.specs.Pieces.{text_of, text_of_all};
 ghost use Rattle.deck.specs.Views.{shown_of, shown};
 ghost use Rattle.instructions.specs.declared.refusal.Refusal.TheVariants.{Write as WriteRefusal};
 ghost use Rattle.sequential.specs.Log.{entries_of};
@@ -28,69 +28,62 @@ fn held_piece(held: &Option<Word60>) -> Piece<'static>
     }
 }
 
-/// Writes where the machine stands.
-fn put_place<O: Output>(output: &mut O, place: &Place) -> Result<(), WriteFailed>
-    ensures written { Writes result (O.contents output.old) (O.contents output.new) (place_line place.now) }
-    ensures failure { O.has_failed output.new ≡ failed_after (O.has_failed output.old) result }
-    ensures same { O.lender output.new ≡ O.lender output.old }
+/// Where the machine stands.
+fn place_line(place: &Place) -> [Piece<'static>; 7]
+    ensures { text_of_all result ≡ place_line place.now }
 {
-    put_pieces(
-        output,
-        &[
-            Piece::Text(b"P "),
-            Piece::Index(place.p),
-            Piece::Text(b" PARCEL "),
-            Piece::Parcel(place.parcel),
-            Piece::Text(b" HELD "),
-            held_piece(&place.held),
-            Piece::Text(b"\n"),
-        ],
-    )
+    [
+        Piece::Text(b"P "),
+        Piece::Index(place.p),
+        Piece::Text(b" PARCEL "),
+        Piece::Parcel(place.parcel),
+        Piece::Text(b" HELD "),
+        held_piece(&place.held),
+        Piece::Text(b"\n"),
+    ]
 }
 
-/// Writes why the machine stands.
-fn put_halt<O: Output>(output: &mut O, halt: &Option<Halt>) -> Result<(), WriteFailed>
-    ensures written { Writes result (O.contents output.old) (O.contents output.new) (halt_text halt.now) }
-    ensures failure { O.has_failed output.new ≡ failed_after (O.has_failed output.old) result }
-    ensures same { O.lender output.new ≡ O.lender output.old }
+/// Why the machine stands: the first half of its line.
+fn halt_text(halt: &Option<Halt>) -> [Piece<'static>; 2]
+    ensures { text_of_all result ≡ halt_text halt.now }
 {
     match halt {
-        None => output.put(b"HALT running"),
-        Some(halt) => put_pieces(output, &[Piece::Text(b"HALT "), Piece::Reason(*halt)]),
+        None => [Piece::Text(b"HALT running"), Piece::Text(b"")],
+        Some(halt) => [Piece::Text(b"HALT "), Piece::Reason(*halt)],
     }
 }
 
-/// Writes the rest of that line, whether the fault flag is set.
-fn put_fault<O: Output>(output: &mut O, fault: bool) -> Result<(), WriteFailed>
-    ensures written { Writes result (O.contents output.old) (O.contents output.new) (fault_text fault) }
-    ensures failure { O.has_failed output.new ≡ failed_after (O.has_failed output.old) result }
-    ensures same { O.lender output.new ≡ O.lender output.old }
+/// Whether the fault flag is set: the rest of that line.
+fn fault_text(fault: bool) -> [Piece<'static>; 1]
+    ensures { text_of_all result ≡ fault_text fault }
 {
-    output.put(if fault {
+    [Piece::Text(if fault {
         b" FAULT address\n"
     } else {
         b" FAULT none\n"
-    })
+    })]
 }
 
-/// Writes the part of memory that the program has.
-fn put_area<O: Output>(output: &mut O, area: &Area) -> Result<(), WriteFailed>
-    ensures written { Writes result (O.contents output.old) (O.contents output.new) (area_line area.now) }
-    ensures failure { O.has_failed output.new ≡ failed_after (O.has_failed output.old) result }
-    ensures same { O.lender output.new ≡ O.lender output.old }
+/// The part of memory that the program has.
+fn area_line(area: &Area) -> [Piece<'static>; 7]
+    ensures { text_of_all result ≡ area_line area.now }
 {
-    put_pieces(
-        output,
-        &[
-            Piece::Text(b"RA "),
-            Piece::Index(area.ra),
-            Piece::Text(b" FL "),
-            Piece::Index(area.fl),
-            Piece::Text(b" EM "),
-            Piece::Index(area.mode),
-            Piece::Text(b"\n"),
-        ],
-    )
+    [
+        Piece::Text(b"RA "),
+        Piece::Index(area.ra),
+        Piece::Text(b" FL "),
+        Piece::Index(area.fl),
+        Piece::Text(b" EM "),
+        Piece::Index(area.mode),
+        Piece::Text(b"\n"),
+    ]
+}
+
+/// A number of six digits with a space before it.
+fn spaced_index(index: Word18) -> [Piece<'static>; 2]
+    ensures { text_of_all result ≡ spaced_index index }
+{
+    [Piece::Text(b" "), Piece::Index(index)]
 }
 
 /// Writes numbers of six digits, with a space before each.
@@ -101,7 +94,7 @@ fn put_indexes<O: Output>(output: &mut O, indexes: &[Word18]) -> Result<(), Writ
     ensures same { O.lender output.new ≡ O.lender output.old }
 {
     for index in indexes {
-        put_pieces(output, &[Piece::Text(b" "), Piece::Index(*index)])?;
+        put_pieces(output, &spaced_index(*index))?;
     }
     Ok(())
 }
@@ -121,23 +114,18 @@ fn put_index_line<O: Output>(
     output.put(b"\n")
 }
 
-/// Writes the line of an X register.
-fn put_x<O: Output>(output: &mut O, x: &[Word60; 8], number: u8) -> Result<(), WriteFailed>
+/// The line of an X register.
+fn x_line(x: &[Word60; 8], number: u8) -> [Piece<'static>; 5]
     requires { number < 8 }
-    ensures written { Writes result (O.contents output.old) (O.contents output.new) (x_line x.now number) }
-    ensures failure { O.has_failed output.new ≡ failed_after (O.has_failed output.old) result }
-    ensures same { O.lender output.new ≡ O.lender output.old }
+    ensures { text_of_all result ≡ x_line x.now number }
 {
-    put_pieces(
-        output,
-        &[
-            Piece::Text(b"X"),
-            Piece::Count(u64::from(number)),
-            Piece::Text(b" "),
-            Piece::Word(x[number as usize]),
-            Piece::Text(b"\n"),
-        ],
-    )
+    [
+        Piece::Text(b"X"),
+        Piece::Count(u64::from(number)),
+        Piece::Text(b" "),
+        Piece::Word(x[number as usize]),
+        Piece::Text(b"\n"),
+    ]
 }
 
 /// Writes X0 to X7, one a line.
@@ -147,7 +135,7 @@ fn put_x_lines<O: Output>(output: &mut O, x: &[Word60; 8]) -> Result<(), WriteFa
     ensures same { O.lender output.new ≡ O.lender output.old }
 {
     for number in 0..8u8 {
-        put_x(output, x, number)?;
+        put_pieces(output, &x_line(x, number))?;
     }
     Ok(())
 }
@@ -158,10 +146,10 @@ fn put_state<O: Output>(output: &mut O, state: &State) -> Result<(), WriteFailed
     ensures failure { O.has_failed output.new ≡ failed_after (O.has_failed output.old) result }
     ensures same { O.lender output.new ≡ O.lender output.old }
 {
-    put_place(output, &state.place)?;
-    put_halt(output, &state.halt)?;
-    put_fault(output, state.fault)?;
-    put_area(output, &state.area)
+    put_pieces(output, &place_line(&state.place))?;
+    put_pieces(output, &halt_text(&state.halt))?;
+    put_pieces(output, &fault_text(state.fault))?;
+    put_pieces(output, &area_line(&state.area))
 }
 
 /// Writes the lines of the registers.
@@ -187,22 +175,17 @@ fn word_at(memory: &Storage, address: Word18) -> Word60
     }
 }
 
-/// Writes a word with its address.
-fn put_word<O: Output>(output: &mut O, memory: &Storage, address: Word18) -> Result<(), WriteFailed>
-    ensures written { Writes result (O.contents output.old) (O.contents output.new) (word_line memory.now address) }
-    ensures failure { O.has_failed output.new ≡ failed_after (O.has_failed output.old) result }
-    ensures same { O.lender output.new ≡ O.lender output.old }
+/// The line of a word in memory.
+fn word_line(memory: &Storage, address: Word18) -> [Piece<'static>; 5]
+    ensures { text_of_all result ≡ word_line memory.now address }
 {
-    put_pieces(
-        output,
-        &[
-            Piece::Text(b"M "),
-            Piece::Index(address),
-            Piece::Text(b" "),
-            Piece::Word(word_at(memory, address)),
-            Piece::Text(b"\n"),
-        ],
-    )
+    [
+        Piece::Text(b"M "),
+        Piece::Index(address),
+        Piece::Text(b" "),
+        Piece::Word(word_at(memory, address)),
+        Piece::Text(b"\n"),
+    ]
 }
 
 /// Writes the words of a `show` line.
@@ -213,7 +196,7 @@ fn put_show<O: Output>(output: &mut O, memory: &Storage, show: Show) -> Result<(
     ensures same { O.lender output.new ≡ O.lender output.old }
 {
     for address in show.first.get()..show.last.get() + 1 {
-        put_word(output, memory, Word18::from_bits(address))?;
+        put_pieces(output, &word_line(memory, Word18::from_bits(address)))?;
     }
     Ok(())
 }
@@ -231,18 +214,13 @@ fn put_shows<O: Output>(output: &mut O, memory: &Storage, shows: &[Show]) -> Res
     Ok(())
 }
 
-/// Writes an entry of a log with a space before it.
-fn put_entry<O: Output>(output: &mut O, entry: Entry) -> Result<(), WriteFailed>
-    ensures written { Writes result (O.contents output.old) (O.contents output.new) (spaced_entry entry) }
-    ensures failure { O.has_failed output.new ≡ failed_after (O.has_failed output.old) result }
-    ensures same { O.lender output.new ≡ O.lender output.old }
+/// An entry of a log with a space before it.
+fn spaced_entry(entry: Entry) -> [Piece<'static>; 2]
+    ensures { text_of_all result ≡ spaced_entry entry }
 {
     match entry {
-        Entry::Exchange(address) => put_pieces(
-            output,
-            &[Piece::Text(b" E"), Piece::Address(address)],
-        ),
-        Entry::Issued(count) => put_pieces(output, &[Piece::Text(b" I"), Piece::Count(count)]),
+        Entry::Exchange(address) => [Piece::Text(b" E"), Piece::Address(address)],
+        Entry::Issued(count) => [Piece::Text(b" I"), Piece::Count(count)],
     }
 }
 
@@ -254,7 +232,7 @@ fn put_entries<O: Output>(output: &mut O, entries: &[Entry]) -> Result<(), Write
     ensures same { O.lender output.new ≡ O.lender output.old }
 {
     for entry in entries {
-        put_entry(output, *entry)?;
+        put_pieces(output, &spaced_entry(*entry))?;
     }
     Ok(())
 }

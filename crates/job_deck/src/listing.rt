@@ -1,28 +1,17 @@
 ghost use Rattle.std.specs.Prelude.{◌≡◌, ◌<◌, ◌≤◌, ◌^◌, ◌||◌, OnOk, false, length};
 ghost use Rattle.device_text.specs.Device.{Moves, NothingWaits, Writes, failed_after};
 ghost use Rattle.deck.specs.Deck.{deck};
-ghost use Rattle.job_deck.specs.Listing.{item_text, after, separator, items_text, listed_word, listed, listing, Lists};
+ghost use Rattle.device_text.specs.Pieces.{text_of_all};
+ghost use Rattle.job_deck.specs.Listing.{after, separated, items_text, placed_word, listed_word, listed};
+ghost use Rattle.job_deck.specs.Listing.{listing, Lists};
 ghost use Rattle.job_deck.specs.Listing.{is_read_refusal, is_write_refusal};
 
 use deck::{Image, read_deck_from, refusal};
 use device_text::{Input, Output, Piece, Tracked, Watched, WriteFailed, put_pieces};
-use instruction_table::{Decoded, Refusal, decode, spell};
+use instruction_table::{Decoded, Refusal, decode};
 use std::alloc::Global;
 use std::io::{Read, Write};
 use word60::{Word18, Word60};
-
-/// Writes an item: a legal instruction's text, or a question mark and why there is none.
-fn put_item<O: Output>(output: &mut O, item: &Decoded) -> Result<(), WriteFailed>
-    ensures written { Writes result (O.contents output.old) (O.contents output.new) (item_text item.now) }
-    ensures failure { O.has_failed output.new ≡ failed_after (O.has_failed output.old) result }
-    ensures same { O.lender output.new ≡ O.lender output.old }
-{
-    match item {
-        Decoded::Legal(instr, _) => output.put(spell(instr).as_str().as_bytes()),
-        Decoded::Refused(op) => put_pieces(output, &[Piece::Text(b"?"), Piece::Opcode(*op)]),
-        Decoded::Straddle => output.put(b"?straddle"),
-    }
-}
 
 /// The parcel after an item; an opcode that is refused counts as one parcel.
 fn after(parcel: u8, item: &Decoded) -> u8
@@ -36,13 +25,18 @@ fn after(parcel: u8, item: &Decoded) -> u8
     }
 }
 
-/// Writes what stands before an item: nothing before the first.
-fn put_separator<O: Output>(output: &mut O, parcel: u8) -> Result<(), WriteFailed>
-    ensures written { Writes result (O.contents output.old) (O.contents output.new) (separator parcel) }
-    ensures failure { O.has_failed output.new ≡ failed_after (O.has_failed output.old) result }
-    ensures same { O.lender output.new ≡ O.lender output.old }
+/// An item with what stands before it, which is nothing before the first: a legal instruction's text, or a question
+/// mark and why there is none.
+fn separated(parcel: u8, item: &Decoded) -> [Piece<'static>; 3]
+    ensures { text_of_all result ≡ separated parcel item.now }
 {
-    output.put(if parcel == 0 { b"" } else { b"; " })
+    let before = Piece::Text(if parcel == 0 { b"" } else { b"; " });
+    let none = Piece::Text(b"");
+    match *item {
+        Decoded::Legal(instr, _) => [before, Piece::Instruction(instr), none],
+        Decoded::Refused(op) => [before, Piece::Text(b"?"), Piece::Opcode(op)],
+        Decoded::Straddle => [before, Piece::Text(b"?straddle"), none],
+    }
 }
 
 /// Writes the items of a word.
@@ -54,11 +48,22 @@ fn put_items<O: Output>(output: &mut O, word: Word60) -> Result<(), WriteFailed>
     let mut parcel = 0u8;
     while parcel < 4 {
         let item = decode(word, parcel);
-        put_separator(output, parcel)?;
-        put_item(output, &item)?;
+        put_pieces(output, &separated(parcel, &item))?;
         parcel = after(parcel, &item);
     }
     Ok(())
+}
+
+/// The address of a word and the word itself.
+fn placed_word(address: Word18, word: Word60) -> [Piece<'static>; 4]
+    ensures { text_of_all result ≡ placed_word address word }
+{
+    [
+        Piece::Index(address),
+        Piece::Text(b" "),
+        Piece::Word(word),
+        Piece::Text(b" "),
+    ]
 }
 
 /// Writes the line of a word.
@@ -71,15 +76,7 @@ fn put_listed_word<O: Output>(
     ensures failure { O.has_failed output.new ≡ failed_after (O.has_failed output.old) result }
     ensures same { O.lender output.new ≡ O.lender output.old }
 {
-    put_pieces(
-        output,
-        &[
-            Piece::Index(address),
-            Piece::Text(b" "),
-            Piece::Word(word),
-            Piece::Text(b" "),
-        ],
-    )?;
+    put_pieces(output, &placed_word(address, word))?;
     put_items(output, word)?;
     output.put(b"\n")
 }

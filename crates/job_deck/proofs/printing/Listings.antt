@@ -7,7 +7,7 @@ use Rattle.instruction_table.specs.declared.decoding.Decoded.{Decoded}
 use Rattle.instruction_table.specs.declared.decoding.Decoded.TheVariants.{Legal, Refused, Straddle}
 use Rattle.instruction_table.specs.Decoding.{reading_at, GoesOn}
 use Rattle.device_text.specs.Device.{WritesAllBut, WritesFront}
-use Rattle.job_deck.specs.Listing.{item_text, after, separator, items_from}
+use Rattle.job_deck.specs.Listing.{after, separated, items_from}
 use Rattle.device_text.proofs.Moving.{piece_written, piece_cut}
 
 -- an item takes a parcel at least
@@ -25,8 +25,8 @@ AllButItems word parcel old new all =
 abbrev FirstItem : ℕ → ℕ → ℕ → Type 0
 FirstItem most word parcel =
     (fewer : ℕ) × (4 ≤ fewer + after parcel (reading_at word parcel))
-    × (items_from most word parcel ≡ separator parcel
-    ++ (item_text (reading_at word parcel) ++ items_from fewer word (after parcel (reading_at word parcel))))
+    × (items_from most word parcel ≡ separated parcel (reading_at word parcel)
+    ++ items_from fewer word (after parcel (reading_at word parcel)))
 
 first_item : (most word parcel : ℕ) → GoesOn parcel (reading_at word parcel) → parcel < 4 → 4 ≤ most + parcel
     → FirstItem most word parcel
@@ -36,33 +36,21 @@ first_item (suc fewer) word parcel range low enough =
     let within : ltb parcel 4 ≡ true = lt-ltb _ _ low in
     (fewer, omega (arith, on), rw within refl)
 
-pub item_done : (word parcel : ℕ) (a b c d : Option (List ℕ)) (all : List ℕ) → GoesOn parcel (reading_at word parcel)
-    → parcel < 4 → AllButItems word parcel a b all → Appends b c (separator parcel)
-    → Appends c d (item_text (reading_at word parcel))
-    → AllButItems word (after parcel (reading_at word parcel)) a d all
-item_done word parcel a b c d all range low left before item =
-    let first = first_item left.0 word parcel range low left.1 in
-    let parts = subst (λ l. WritesAllBut l a b all) first.2 left.2 in (
-      first.0,
-      first.1,
-      piece_written a c d (item_text (reading_at word parcel)) _ all
-          (piece_written a b c (separator parcel) _ all parts before) item,
-    )
-
-pub separator_cut : (word parcel : ℕ) (a b c : Option (List ℕ)) (all : List ℕ) → GoesOn parcel (reading_at word parcel)
-    → parcel < 4 → AllButItems word parcel a b all → WritesFront b c (separator parcel) → WritesFront a c all
-separator_cut word parcel a b c all range low left cut =
-    let first = first_item left.0 word parcel range low left.1 in
-    piece_cut a b c (separator parcel) _ all (subst (λ l. WritesAllBut l a b all) first.2 left.2) cut
-
-pub item_cut : (word parcel : ℕ) (a b c d : Option (List ℕ)) (all : List ℕ) → GoesOn parcel (reading_at word parcel)
-    → parcel < 4 → AllButItems word parcel a b all → Appends b c (separator parcel)
-    → WritesFront c d (item_text (reading_at word parcel)) → WritesFront a d all
-item_cut word parcel a b c d all range low left before cut =
+pub item_done : (word parcel : ℕ) (a b c : Option (List ℕ)) (all : List ℕ) → GoesOn parcel (reading_at word parcel)
+    → parcel < 4 → AllButItems word parcel a b all → Appends b c (separated parcel (reading_at word parcel))
+    → AllButItems word (after parcel (reading_at word parcel)) a c all
+item_done word parcel a b c all range low left item =
     let first = first_item left.0 word parcel range low left.1 in
     let parts = subst (λ l. WritesAllBut l a b all) first.2 left.2 in
-    piece_cut a c d (item_text (reading_at word parcel)) _ all
-    (piece_written a b c (separator parcel) _ all parts before) cut
+    (first.0, first.1, piece_written a b c (separated parcel (reading_at word parcel)) _ all parts item)
+
+pub item_cut : (word parcel : ℕ) (a b c : Option (List ℕ)) (all : List ℕ) → GoesOn parcel (reading_at word parcel)
+    → parcel < 4 → AllButItems word parcel a b all → WritesFront b c (separated parcel (reading_at word parcel))
+    → WritesFront a c all
+item_cut word parcel a b c all range low left cut =
+    let first = first_item left.0 word parcel range low left.1 in
+    piece_cut a b c (separated parcel (reading_at word parcel)) _ all
+    (subst (λ l. WritesAllBut l a b all) first.2 left.2) cut
 
 none_past : (most word parcel : ℕ) → 4 ≤ parcel → items_from most word parcel ≡ []
 none_past zero word parcel high = refl

@@ -9,14 +9,14 @@ returns-in_err-put_pieces-clause-written g c =
     let p = err_from_is_err_and c.from_residual.result c.from_residual.ensures.1 in
     rw p.1 (each_cut spaced_index c.args.indexes.now c.loop-index.index-index _ _ _
     (g.O.Output.contents c.put_pieces.new.output) _ c.loop-index-test.true c.loop-index.invariant.written
-    (rw c.index-item.is at c.in_err-put_pieces.ensures.written))
+    (rw (c.spaced_index.ensures, c.index-item.is) at c.in_err-put_pieces.ensures.written))
 
 pub loop-index-preserved : goal.loop-index-preserved
 loop-index-preserved g c =
     record {
       written = each_written spaced_index c.args.indexes.now c.loop-index.index-index _ _ _
           (g.O.Output.contents c.put_pieces.new.output) _ c.loop-index-test.true c.loop-index.invariant.written
-          (rw c.index-item.is at c.in_ok-put_pieces.ensures.written);
+          (rw (c.spaced_index.ensures, c.index-item.is) at c.in_ok-put_pieces.ensures.written);
       same = search rules;
       failures = search rules;
     }

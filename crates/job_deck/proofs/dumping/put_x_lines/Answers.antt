@@ -14,18 +14,18 @@ loop-number-init g c =
       failures = refl;
     }
 
-pub returns-in_err-put_x-clause-written : goal.returns-in_err-put_x-clause-written
-returns-in_err-put_x-clause-written g c =
+pub returns-in_err-put_pieces-clause-written : goal.returns-in_err-put_pieces-clause-written
+returns-in_err-put_pieces-clause-written g c =
     let p = err_from_is_err_and c.from_residual.result c.from_residual.ensures.1 in
-    rw p.1 (address_cut (x_line c.args.x.now) _ c.loop-number.number _ _ (g.O.Output.contents c.put_x.new.output) _
-    c.loop-number-test.true c.loop-number.invariant.written c.in_err-put_x.ensures.written)
+    rw p.1 (address_cut (x_line c.args.x.now) _ c.loop-number.number _ _ (g.O.Output.contents c.put_pieces.new.output) _
+    c.loop-number-test.true c.loop-number.invariant.written (rw c.x_line.ensures at c.in_err-put_pieces.ensures.written))
 
 pub loop-number-preserved : goal.loop-number-preserved
 loop-number-preserved g c =
     record {
       written = address_written (x_line c.args.x.now) _ c.loop-number.number _ _
-          (g.O.Output.contents c.put_x.new.output) _ c.loop-number-test.true c.loop-number.invariant.written
-          c.in_ok-put_x.ensures.written;
+          (g.O.Output.contents c.put_pieces.new.output) _ c.loop-number-test.true c.loop-number.invariant.written
+          (rw c.x_line.ensures at c.in_ok-put_pieces.ensures.written);
       same = search rules;
       failures = search rules;
     }
