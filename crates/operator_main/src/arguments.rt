@@ -1,14 +1,8 @@
-ghost use Rattle.std.specs.Prelude.{◌≤◌};
-
+use super::budget::{Budget, LARGEST_BUDGET};
 use clap::builder::ValueParser;
+use clap::error::ErrorKind;
 use clap::{Arg, ArgMatches, Command, Error};
 use std::alloc::{AllocError, Global};
-
-/// How many instructions are issued at most, if the command line doesn't say.
-const BUDGET: u64 = 1_000_000;
-
-/// The largest budget.
-pub const LARGEST_BUDGET: u64 = 10_000_000;
 
 /// What `--version` prints after the program's name.
 const VERSION: &str = "0.1.0";
@@ -33,12 +27,12 @@ Decks, schedules, logs and dumps are described in docs/formats.md.";
 /// What the command line asks for.
 #[derive(Clone, Copy, Debug, Drop, PartialEq, Eq)]
 pub enum Request<'a> {
-    /// To run a deck, and to issue at most so many instructions, 1 to 10,000,000.
-    Run(u64),
+    /// To run a deck, and to issue at most so many instructions.
+    Run(Budget),
     /// To go through this log on a deck.
     Replay(&'a str),
-    /// To answer the events of a schedule, and to issue at most so many instructions, 1 to 10,000,000.
-    Events(u64),
+    /// To answer the events of a schedule, and to issue at most so many instructions.
+    Events(Budget),
     /// To list a deck's words.
     List,
 }
@@ -91,9 +85,20 @@ fn accepted<'a>(alloc: Global) -> Result<Command<'a>, AllocError> {
         .subcommand(list)
 }
 
-/// The budget that a command is given.
-fn budget(matches: &ArgMatches<'_>) -> u64 {
-    matches.get_one::<u64>("budget").unwrap_or(BUDGET)
+/// The budget that a command is given, which `clap` holds to be one.
+fn budget(matches: &ArgMatches<'_>) -> Option<Budget> {
+    Budget::new(matches.get_one::<u64>("budget")?)
+}
+
+/// What the words ask for that `clap` accepted; None where they ask for nothing, which they never do.
+fn asked_for<'a>(matches: &ArgMatches<'a>) -> Option<Request<'a>> {
+    match matches.subcommand()? {
+        ("run", run) => Some(Request::Run(budget(run)?)),
+        ("replay", replay) => Some(Request::Replay(replay.get_str("LOG")?)),
+        ("events", events) => Some(Request::Events(budget(events)?)),
+        ("list", _) => Some(Request::List),
+        _ => None,
+    }
 }
 
 /// Reads a command line, without the program's name.
@@ -101,13 +106,10 @@ fn budget(matches: &ArgMatches<'_>) -> u64 {
 /// # Errors
 /// `clap`'s own: a refused command line, a request for help, or `OutOfMemory`.
 pub fn read_arguments<'a>(alloc: Global, words: &'a [String]) -> Result<Request<'a>, Error> {
-    let matches = accepted(alloc)?.try_get_matches_from(words)?;
-    // A command is required, so there is one.
-    match matches.subcommand() {
-        Some(("list", _)) => Ok(Request::List),
-        Some(("events", events)) => Ok(Request::Events(budget(events))),
-        Some(("replay", replay)) => Ok(Request::Replay(replay.get_str("LOG").unwrap_or(""))),
-        Some((_, run)) => Ok(Request::Run(budget(run))),
-        None => Ok(Request::Run(BUDGET)),
+    let mut command = accepted(alloc)?;
+    let matches = command.try_get_matches_from_mut(words)?;
+    match asked_for(&matches) {
+        Some(request) => Ok(request),
+        None => Err(command.error(ErrorKind::InvalidSubcommand, "no such command")?),
     }
 }

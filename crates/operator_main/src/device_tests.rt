@@ -158,3 +158,47 @@ fn failing_faults(rt: HostRuntime) -> Result<(), Fail> {
     }
     Ok(())
 }
+
+/// Takes whole lines and counts the calls that brought them.
+#[derive(Drop)]
+struct Counting {
+    bytes: Vec<u8>,
+    calls: u64,
+}
+
+impl Write for Counting {
+    ghost contents = { λ c. Some c.bytes.items };
+
+    fn write(&mut self, buf: &[u8]) -> io::Result<usize> {
+        self.calls = self.calls.wrapping_add(1);
+        self.bytes.extend_from_slice(buf)?;
+        Ok(buf.len())
+    }
+
+    fn flush(&mut self) -> io::Result<()> {
+        Ok(())
+    }
+}
+
+/// A fault line is written in one call, so that those of programs that run side by side don't mix.
+#[test]
+fn tells_a_fault_at_once(rt: HostRuntime) -> Result<(), Fail> {
+    let words = words(rt.alloc(), ["list"].as_slice())?;
+    let mut faults = Counting {
+        bytes: Vec::new(rt.alloc()),
+        calls: 0,
+    };
+    let mut output = Vec::new(rt.alloc());
+    let answer = program(
+        &rt,
+        rt.alloc(),
+        words.as_slice(),
+        &mut b"core 256\nplace 7\n".as_slice(),
+        &mut output,
+        &mut faults,
+    );
+    assert_eq!(rt; faults.bytes.as_slice(), b"cdc6600: E20 line 2: unknown\n".as_slice());
+    assert_eq!(rt; faults.calls, 1);
+    assert_eq!(rt; answer, 1);
+    Ok(())
+}

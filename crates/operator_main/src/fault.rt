@@ -8,7 +8,7 @@ use thiserror::Error;
 /// Why the program ends without its output.
 #[derive(Debug, Drop, Error)]
 pub enum ProgramFault {
-    #[error("E20 line {line}: {}", fault_text(.fault))]
+    #[error("E20 line {line}: {fault}")]
     Deck { line: u32, fault: DeckFault },
     #[error("E19 package range")]
     PackageRange,
@@ -55,26 +55,6 @@ impl ProgramFault {
             ProgramFault::Write => Status::Device,
             ProgramFault::Stuck => Status::Running,
         }
-    }
-}
-
-/// The fault of a deck's line as it is printed.
-fn fault_text(fault: &DeckFault) -> &'static str {
-    match fault {
-        DeckFault::Lines => "lines",
-        DeckFault::Long => "long",
-        DeckFault::First => "first",
-        DeckFault::Unknown => "unknown",
-        DeckFault::Number => "number",
-        DeckFault::Size => "size",
-        DeckFault::Repeated => "repeated",
-        DeckFault::Many => "many",
-        DeckFault::Range => "range",
-        DeckFault::Package => "package",
-        DeckFault::Instruction => "instruction",
-        DeckFault::Full => "full",
-        DeckFault::NoStart => "no start",
-        DeckFault::NoEnd => "no end",
     }
 }
 

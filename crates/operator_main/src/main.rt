@@ -3,6 +3,7 @@
 #![tactic(auto)]
 
 mod arguments;
+mod budget;
 mod fault;
 mod program;
 mod running;

@@ -1,9 +1,11 @@
-ghost use Rattle.std.specs.Prelude.{◌≡◌, ◌≤◌, OnOk, false};
+ghost use Rattle.std.specs.Prelude.{◌≡◌, OnOk, false};
 
-use super::arguments::{LARGEST_BUDGET, Request, read_arguments};
+use super::arguments::{Request, read_arguments};
+use super::budget::Budget;
 use super::fault::ProgramFault;
 use super::running::run;
 use super::status::{Status, end_status};
+use arrayvec::ArrayVec;
 use clap::Error;
 use clap::error::ErrorKind;
 use job_deck::{
@@ -15,9 +17,15 @@ use std::io::{BufReader, BufWriter, Read, Write};
 use std::sync::Wait;
 use std::thread::Threads;
 
-/// Says on the fault stream why the program ends, and answers its exit status.
+/// More bytes than a fault line has; the longest is that of a step that the machine refused.
+const FAULT_LINE: usize = 64;
+
+/// Says on the fault stream why the program ends, in one write, so that the lines of programs that run side by
+/// side don't mix. Answers the exit status.
 pub fn refused<F: Write>(faults: &mut F, fault: ProgramFault) -> u8 {
-    let _ = writeln!(faults, "cdc6600: {fault}");
+    let mut line = ArrayVec::<u8, FAULT_LINE>::new();
+    let _ = writeln!(line, "cdc6600: {fault}");
+    let _ = faults.write_all(line.as_slice());
     fault.status().code()
 }
 
@@ -26,7 +34,7 @@ pub fn unreadable<F: Write>(faults: &mut F, error: io::Error) -> u8 {
     if error.kind() == io::ErrorKind::OutOfMemory {
         return refused(faults, ProgramFault::OutOfMemory);
     }
-    let _ = writeln!(faults, "error: an argument is no text");
+    let _ = faults.write_all(b"error: an argument is no text\n");
     Status::Usage.code()
 }
 
@@ -55,9 +63,8 @@ fn run_deck<T: Threads + Wait + Sync, I: Input, O: Output>(
     alloc: Global,
     input: &mut I,
     output: &mut O,
-    budget: u64,
+    budget: Budget,
 ) -> Result<Status, ProgramFault>
-    requires { budget ≤ 10000000 }
     ensures handed_on { OnOk result (O.waits output.new ≡ false) }
 {
     let (deck, _) = read_deck_from(alloc, input)?;
@@ -102,14 +109,10 @@ fn perform<T: Threads + Wait + Sync, R: Read, W: Write>(
     let mut input = WatchedBuffer::new(&mut reader);
     let mut output = Tracked::new(&mut writer);
     match request {
-        Request::Run(budget) => {
-            let budget = budget.min(LARGEST_BUDGET);
-            run_deck(rt, alloc, &mut input, &mut output, budget)
-        }
+        Request::Run(budget) => run_deck(rt, alloc, &mut input, &mut output, budget),
         Request::Replay(log) => replay_log(alloc, &mut input, &mut output, log),
         Request::Events(budget) => {
-            let budget = budget.min(LARGEST_BUDGET);
-            events_to(alloc, &mut input, &mut output, budget)?;
+            events_to(alloc, &mut input, &mut output, budget.get())?;
             Ok(Status::Stopped)
         }
         Request::List => {

@@ -1,11 +1,12 @@
 //! A run of a deck by threads: a worker for each unit, one for memory, and this thread, which issues.
-ghost use Rattle.std.specs.Prelude.{◌≡◌, ◌≤◌, true, Some, IfOk, MatchResult};
+ghost use Rattle.std.specs.Prelude.{◌≡◌, true, Some, IfOk, MatchResult};
 ghost use Rattle.instructions.specs.declared.refusal.Refusal.TheVariants.{OutOfMemory};
 ghost use Rattle.sequential.specs.Replay.{boot, replay};
 ghost use Rattle.program_order.specs.Headline.{IsFaultedRun};
 ghost use Rattle.program_order.specs.Processor.{boot_processor};
 ghost use Rattle.deck.specs.Views.{asked};
 
+use super::budget::Budget;
 use instruction_table::Refusal;
 use job_deck::Deck;
 use machine::{Machine, Snapshot};
@@ -40,13 +41,12 @@ fn orders(alloc: Global, deck: &Deck) -> Result<Orders, AllocError>
 ///
 /// # Errors
 /// `OutOfMemory`.
-fn booted(alloc: Global, deck: &Deck, budget: u64) -> Result<Machine, Refusal>
-    requires { budget ≤ 10000000 }
+fn booted(alloc: Global, deck: &Deck, budget: Budget) -> Result<Machine, Refusal>
     ensures machine { MatchResult result (λ machine. machine ≡ boot_processor deck.now.image.memory budget)
         (λ refusal. refusal ≡ OutOfMemory) }
 {
     let memory = deck.image.memory().copy()?;
-    Machine::boot(alloc, memory, budget)
+    Machine::boot(alloc, memory, budget.get())
 }
 
 /// A gate for each unit that holds nobody.
@@ -72,9 +72,8 @@ pub fn run<T: Threads + Wait + Sync>(
     rt: &T,
     alloc: Global,
     deck: &Deck,
-    budget: u64,
+    budget: Budget,
 ) -> Result<Snapshot, Refusal>
-    requires { budget ≤ 10000000 }
     ensures replay { IfOk result (λ snapshot. replay (boot snapshot.boot_memory) snapshot.log ≡ Some snapshot.state) }
     ensures fault { IfOk result (λ snapshot. snapshot.state.fault ≡ true
         → IsFaultedRun snapshot.log snapshot.boot_memory snapshot.state) }

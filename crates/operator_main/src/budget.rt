@@ -1,0 +1,44 @@
+ghost use Rattle.std.specs.Prelude.{◌≡◌, ◌≤◌, SomeIff};
+
+use std::marker::Model;
+
+/// The largest budget.
+pub const LARGEST_BUDGET: u64 = 10_000_000;
+
+/// How many instructions a machine issues at most, 1 to 10,000,000.
+#[derive(Clone, Copy, Debug, Drop, PartialEq, Eq)]
+pub struct Budget {
+    instructions: u64,
+}
+
+impl Model for Budget {
+    ghost use Rattle.std.specs.Prelude.{ℕ, ◌≤◌};
+
+    ghost Value = { ℕ };
+
+    ghost view = { λ b. b.instructions };
+
+    ghost invariant = { λ b. b.instructions ≤ 10000000 };
+
+    ghost inverse = { λ n. record { instructions = n } };
+}
+
+impl Budget {
+    /// The budget of so many instructions; None for none and above 10,000,000.
+    pub fn new(instructions: u64) -> Option<Budget>
+        ensures { SomeIff result ((1 ≤ instructions) × (instructions ≤ 10000000)) instructions }
+    {
+        if instructions == 0 || instructions > LARGEST_BUDGET {
+            return None;
+        }
+        Some(Budget { instructions })
+    }
+
+    /// The number of instructions.
+    pub fn get(self) -> u64
+        ensures value { result ≡ self }
+        ensures range { result ≤ 10000000 }
+    {
+        self.instructions
+    }
+}
