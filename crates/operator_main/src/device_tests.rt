@@ -197,7 +197,10 @@ fn tells_a_fault_at_once(rt: HostRuntime) -> Result<(), Fail> {
         &mut output,
         &mut faults,
     );
-    assert_eq!(rt; faults.bytes.as_slice(), b"cdc6600: E20 line 2: unknown\n".as_slice());
+    assert_eq!(rt;
+        faults.bytes.as_slice(),
+        b"cdc6600: E20 line 2: unknown\n".as_slice()
+    );
     assert_eq!(rt; faults.calls, 1);
     assert_eq!(rt; answer, 1);
     Ok(())
