@@ -8,8 +8,6 @@ mod image;
 mod judging;
 mod parsing;
 mod reading;
-#[cfg(test)]
-mod tests;
 
 pub use deck::{Ask, Deck, DeckError, Show};
 pub use image::Image;

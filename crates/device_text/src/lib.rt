@@ -10,8 +10,6 @@ mod line;
 mod output;
 mod piece;
 mod spelling;
-#[cfg(test)]
-mod tests;
 
 pub use buffered::WatchedBuffer;
 pub use digits::number;

@@ -6,8 +6,6 @@ mod entered;
 mod hopper;
 mod places;
 mod reference;
-#[cfg(test)]
-mod tests;
 mod waiting;
 
 pub use entered::Entered;

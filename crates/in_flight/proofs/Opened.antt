@@ -1,8 +1,12 @@
 -- A name for each list of definitions that a proof opens at once.
 use Rattle.instructions.specs.Finding.{seek}
 use Rattle.hopper.specs.Queue.{enter_answer}
+use Rattle.scoreboard.specs.Reservations as board
+use Rattle.scoreboard.specs.Reservations.{returning_to}
 use Rattle.in_flight.specs.Flight.{entered_at, outstanding_of, queue_with}
 use Rattle.in_flight.specs.Lookup.{enters, sought}
+use Rattle.in_flight.specs.Pending.{progress_of, reservation_of, returning, to_come}
+use Rattle.in_flight.proofs.asking.Asked.{comes}
 
 -- a reference that enters the hopper, and the hopper after it
 unfoldable pub entering : Unit {0}
@@ -13,3 +17,8 @@ entering = tt
 unfoldable pub leaving : Unit {0}
 unfolding sought enters outstanding_of seek
 leaving = tt
+
+-- a register that is a result still to come, by the member's phase
+unfoldable pub coming : Unit {0}
+unfolding comes board.comes to_come board.to_come reservation_of board.to_come_in progress_of returning returning_to
+coming = tt

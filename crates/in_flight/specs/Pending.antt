@@ -3,10 +3,10 @@ use Rattle.std.specs.Prelude.{ℕ, Bool, true, false, ◌||◌, ◌==◌, List, 
 use Rattle.instructions.specs.declared.instr.Reg.{Reg}
 use Rattle.relocation.specs.declared.area.Access.TheVariants.{Load, Store}
 use Rattle.hopper.specs.Hopper.{bank_of, stores_to}
-use Rattle.scoreboard.specs.declared.row.Progress.{Progress}
-use Rattle.scoreboard.specs.declared.row.Progress.TheVariants.{Reserved, Left}
-use Rattle.scoreboard.specs.declared.row.Row.{Row}
-use Rattle.scoreboard.specs.Rows as row
+use Rattle.scoreboard.specs.declared.reservation.Progress.{Progress}
+use Rattle.scoreboard.specs.declared.reservation.Progress.TheVariants.{Reserved, Left}
+use Rattle.scoreboard.specs.declared.reservation.Reservation.{Reservation}
+use Rattle.scoreboard.specs.Reservations as reservation
 use Rattle.scoreboard.specs.Conflicts as conflict
 use Rattle.in_flight.specs.declared.pending.Stage.{Stage}
 use Rattle.in_flight.specs.declared.pending.Stage.TheVariants.{Waiting, Read, Finished}
@@ -54,28 +54,28 @@ progress_of (Before t) = Reserved (has_read t)
 progress_of (After l) = Left (returning l)
 
 -- what the board knows of an instruction
-unfoldable pub row_of : Pending → Row
-row_of m = record { instr = m.instr; unit = m.unit; progress = progress_of m.phase }
+unfoldable pub reservation_of : Pending → Reservation
+reservation_of m = record { instr = m.instr; unit = m.unit; progress = progress_of m.phase }
 
 -- its results still to come
 unfoldable pub to_come : Pending → List Reg
-to_come m = row.to_come (row_of m)
+to_come m = reservation.to_come (reservation_of m)
 
 -- it is a branch that holds its unit, Branch
 unfoldable pub is_branch : Pending → Bool
-is_branch m = row.is_branch (row_of m)
+is_branch m = reservation.is_branch (reservation_of m)
 
 -- it has a reference that has not come to its store event
 unfoldable pub has_turn : Pending → Bool
-has_turn m = row.has_turn (row_of m)
+has_turn m = reservation.has_turn (reservation_of m)
 
 -- the register is a result still to come of one of them
 abbrev pub awaited : List Pending → Reg → Bool
-awaited ms register = conflict.awaited row_of ms register
+awaited ms register = conflict.awaited reservation_of ms register
 
 -- one of them has still to read the register
 abbrev pub to_be_read : List Pending → Reg → Bool
-to_be_read ms register = conflict.to_be_read row_of ms register
+to_be_read ms register = conflict.to_be_read reservation_of ms register
 
 -- ---- what the hopper sees ----
 
@@ -108,4 +108,4 @@ stores_in address (After (Accepted n word)) = false
 -- a fetch of the word at that absolute address waits for it: it is an SA6 or SA7 that has not come to its
 -- store event, or a store to that address that waits in the hopper
 unfoldable pub delays_fetch : ℕ → Pending → Bool
-delays_fetch address m = row.has_store_turn (row_of m) || stores_in address m.phase
+delays_fetch address m = reservation.has_store_turn (reservation_of m) || stores_in address m.phase

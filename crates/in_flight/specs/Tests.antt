@@ -27,7 +27,7 @@ use Rattle.in_flight.specs.declared.pending.Pending.{Pending}
 use Rattle.in_flight.specs.declared.pending.Stage.{Stage}
 use Rattle.in_flight.specs.declared.pending.Stage.TheVariants.{Waiting, Read as HasRead, Finished}
 use Rattle.in_flight.specs.Lookup.{place_for}
-use Rattle.in_flight.specs.Pending.{row_of, awaited, to_be_read, in_bank}
+use Rattle.in_flight.specs.Pending.{reservation_of, awaited, to_be_read, in_bank}
 
 -- a refusal, and whether it applies
 pub record Test : Type 0 where
@@ -57,17 +57,17 @@ refusal_in (Err k) = Some k
 
 -- the unit that an instruction takes: the lower-numbered free one of its kind, if there is one
 abbrev pub unit_for : List Pending → Option UnitKind → Option FunctionalUnit
-unit_for ms kind = conflict.unit_for row_of ms kind
+unit_for ms kind = conflict.unit_for reservation_of ms kind
 
 -- first order: E7, unit busy, where no unit of the kind is free; E8, result reserved, where a result register is a
 -- result still to come (a pass and a halt take no unit)
-unfoldable pub row_tests : List Pending → Fetched → List Test
-row_tests ms (Halting h place) = []
-row_tests ms (Passing place) = []
-row_tests ms (Taking i place) =
+unfoldable pub reservation_tests : List Pending → Fetched → List Test
+reservation_tests ms (Halting h place) = []
+reservation_tests ms (Passing place) = []
+reservation_tests ms (Taking i place) =
     record { fails = is_none (unit_for ms (uses i).unit); refusal = UnitBusy (first_unit (uses i).unit) }
     ∷ record {
-      fails = result_reserved row_of ms (results (shape_of i));
+      fails = result_reserved reservation_of ms (results (shape_of i));
       refusal = ResultReserved (first_such (awaited ms) (results (shape_of i)));
     }
     ∷ []
@@ -79,7 +79,7 @@ row_tests ms (Taking i place) =
 unfoldable pub read_tests : Stage → List Pending → Instr → List Test
 read_tests Waiting earlier i =
     record {
-      fails = operand_awaited row_of earlier (sources_of i);
+      fails = operand_awaited reservation_of earlier (sources_of i);
       refusal = OperandAwaited (first_such (awaited earlier) (sources_of i));
     } ∷ []
 read_tests (HasRead os) earlier i = nothing
@@ -90,11 +90,11 @@ read_tests (Finished v) earlier i = nothing
 abbrev pub store_conflicts : List Pending → List Pending → Instr → Bool → List Test
 store_conflicts ms earlier i entering =
     record {
-      fails = result_held row_of earlier (puts_of (shape_of i));
+      fails = result_held reservation_of earlier (puts_of (shape_of i));
       refusal = ResultHeld (first_such (to_be_read earlier) (puts_of (shape_of i)));
     }
     ∷ record { fails = entering && is_none (place_for ms); refusal = HopperFull }
-    ∷ record { fails = has_reference (shape_of i) && out_of_turn row_of earlier; refusal = OutOfTurn }
+    ∷ record { fails = has_reference (shape_of i) && out_of_turn reservation_of earlier; refusal = OutOfTurn }
     ∷ []
 
 -- ---- the events of memory ----

@@ -11,7 +11,8 @@ ghost use Rattle.sequential.specs.Work.{operands};
 ghost use Rattle.in_flight.specs.declared.pending.Phase.TheVariants.{Before};
 ghost use Rattle.in_flight.specs.declared.pending.Stage.{Stage as SomeStage};
 ghost use Rattle.in_flight.specs.declared.pending.Stage.TheVariants.{Waiting, Read, Finished};
-ghost use Rattle.in_flight.specs.Tests.{refusal_in, store_conflicts, refusal_of, tests_found, row_tests, read_tests};
+ghost use Rattle.in_flight.specs.Tests.{refusal_in, store_conflicts, refusal_of, tests_found};
+ghost use Rattle.in_flight.specs.Tests.{reservation_tests, read_tests};
 ghost use Rattle.in_flight.specs.Tests.{accept_tests, return_tests, free_tests};
 ghost use Rattle.in_flight.specs.Flight.{left_by, outstanding_of, IsRestOf, unit_taken, reserved_in, with_pending};
 ghost use Rattle.in_flight.specs.Flight.{entered_at, rest_at, queue_with, queue_after};
@@ -170,7 +171,7 @@ impl InFlight {
     pub fn reserve(&mut self, instr: &Instr, at: Word18) -> Result<(Unit, u64), Refusal>
         requires number { self.old.last + 1 < 2 ^ 64 }
         ensures answer { (place : SomePlace)
-            → refusal_of (row_tests self.old.pending (Taking instr.now place)) ≡ refusal_in result }
+            → refusal_of (reservation_tests self.old.pending (Taking instr.now place)) ≡ refusal_in result }
         ensures reservation { IfOk result
             (λ reserved. (reserved.0 ≡ unit_taken self.old instr.now) × (reserved.1 ≡ suc self.old.last)) }
         ensures after { MatchResult result (λ reserved. self.new ≡ reserved_in self.old instr.now at)

@@ -12,8 +12,6 @@ mod decoding;
 mod encoding;
 mod reading;
 mod spelling;
-#[cfg(test)]
-mod tests;
 
 pub use codes::opcode;
 pub use decoding::{Decoded, decode, decode_as, first_digits};

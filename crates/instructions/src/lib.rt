@@ -11,8 +11,6 @@ mod operations;
 mod refusal;
 mod registers;
 mod shape;
-#[cfg(test)]
-mod tests;
 
 pub use below::{Below, Digit, ParcelNumber, SixBits};
 pub use instr::{

@@ -41,7 +41,8 @@ separated parcel item = separator parcel ++ item_text item
 abbrev pub items_from : ℕ → ℕ → ℕ → List ℕ
 items_from zero word parcel = []
 items_from (suc more) word parcel = if nat_lt parcel 4
-    then separated parcel (reading_at word parcel) ++ items_from more word (after parcel (reading_at word parcel)) else []
+    then separated parcel (reading_at word parcel) ++ items_from more word (after parcel (reading_at word parcel))
+    else []
 
 -- the items of a word, which has at most four
 unfoldable pub items_text : ℕ → List ℕ

@@ -9,22 +9,18 @@ mod answering;
 mod dumping;
 mod ending;
 mod hearing;
-#[cfg(test)]
-mod led_tests;
 mod listing;
 mod logs;
 mod replaying;
 mod schedule;
 mod session;
-#[cfg(test)]
-mod session_tests;
-#[cfg(test)]
-mod tests;
 
+pub use answering::put_answer;
 pub use deck::{Ask, Deck, DeckError, Image, Show, read_deck, read_deck_from};
 pub use device_text::{Input, Output, ReadFailed, Tracked, Watched, WatchedBuffer, WriteFailed};
 pub use dumping::{dump, dump_to};
 pub use listing::{list, list_to};
 pub use logs::read_log;
 pub use replaying::{replay, replay_to};
+pub use schedule::{Spoken, spoken_in};
 pub use session::{events, events_to};

@@ -13,16 +13,3 @@ pub use rule::Naming;
 pub use seen::Seen;
 pub use shared::{Ground, Shared};
 pub use signal::{Signal, Signals};
-
-#[cfg(test)]
-mod example_tests;
-#[cfg(test)]
-mod schedule_tests;
-#[cfg(test)]
-mod signal_tests;
-#[cfg(test)]
-mod test_crew;
-#[cfg(test)]
-mod test_fixtures;
-#[cfg(test)]
-mod tests;

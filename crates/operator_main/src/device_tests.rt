@@ -1,7 +1,7 @@
 ghost use Rattle.std.specs.Prelude.{Some, vec_items};
 
 use super::program::program;
-use super::tests::{TWO_ADDS, TWO_ADDS_DUMP, words};
+use super::test_program::{TWO_ADDS, TWO_ADDS_DUMP, words};
 use std::io;
 use std::io::{ErrorKind, Read, Write};
 use std::test::Fail;

@@ -33,14 +33,32 @@ fn main(rt: HostRuntime) -> ExitCode {
 }
 
 #[cfg(test)]
-mod branch_tests;
+mod command_tests;
 #[cfg(test)]
 mod device_tests;
-#[cfg(test)]
-mod reference_tests;
 #[cfg(test)]
 mod refusal_tests;
 #[cfg(test)]
 mod request_tests;
 #[cfg(test)]
-mod tests;
+mod run_tests;
+#[cfg(test)]
+mod schedule_tests;
+#[cfg(test)]
+mod session_tests;
+#[cfg(test)]
+mod status_tests;
+#[cfg(test)]
+mod test_branches;
+#[cfg(test)]
+mod test_crew;
+#[cfg(test)]
+mod test_exchanges;
+#[cfg(test)]
+mod test_program;
+#[cfg(test)]
+mod test_references;
+#[cfg(test)]
+mod test_registers;
+#[cfg(test)]
+mod test_schedule;

@@ -1,5 +1,6 @@
 use super::program::program;
-use super::tests::{LEFT_SHIFT, TWO_ADDS, expect_run, joined, words};
+use super::test_program::{Case, expect, joined, words};
+use std::alloc::{AllocError, Global};
 use std::io;
 use std::io::{Read, Write};
 use std::process::Abort;
@@ -51,179 +52,128 @@ impl Write for Counting {
     }
 }
 
+/// Decks that are refused, and what is told: the line and its fault.
+const REFUSED: [(&str, &str); 45] = [
+    ("", "1: no end"),
+    ("core 256\nat 40\n", "3: no end"),
+    ("core 256\nat 40", "3: no end"),
+    ("\n", "1: first"),
+    ("at 40\n", "1: first"),
+    ("cores 256\n", "1: first"),
+    (" core 256\n", "1: first"),
+    ("core\n", "1: unknown"),
+    ("core 256 \n", "1: unknown"),
+    ("core  256\n", "1: unknown"),
+    ("core \n", "1: number"),
+    ("core 256\r\n", "1: number"),
+    ("core 0x20\n", "1: number"),
+    ("core 0000256\n", "1: number"),
+    ("core 31\n", "1: size"),
+    ("core 131073\n", "1: size"),
+    ("core 256\n\n", "2: unknown"),
+    ("core 256\nword  5\n", "2: unknown"),
+    ("core 256\nshow 1\n", "2: unknown"),
+    ("core 256\nshow 1 2 3\n", "2: unknown"),
+    ("core 256\ncode\n", "2: unknown"),
+    ("core 256\ncode \n", "2: unknown"),
+    ("core 256\ncodes NO\n", "2: unknown"),
+    ("core 256\ncode SX1 B0+05\n", "2: instruction"),
+    ("core 256\ncode NO;NO\n", "2: instruction"),
+    ("core 256\ncode NO; NO; NO; SX1 B0+5\n", "2: full"),
+    ("core 256\nat 377\ncode NO\ncode sx1\n", "4: range"),
+    ("core 256\nask 40 freely\n", "2: unknown"),
+    ("core 256\nEND\n", "2: unknown"),
+    ("core 256\nend \n", "2: unknown"),
+    ("core 256\nat 8\n", "2: number"),
+    ("core 256\nat 1234567\n", "2: number"),
+    ("core 256\nword 123456701234567012345\n", "2: number"),
+    ("core 256\nstart 9\n", "2: number"),
+    ("core 256\nshow 0 9\n", "2: number"),
+    ("core 256\nshow 9 400\n", "2: number"),
+    ("core 256\ncore 31\n", "2: size"),
+    ("core 256\ncore 256\n", "2: repeated"),
+    ("core 256\nstart 40\nstart 361\n", "3: repeated"),
+    ("core 256\nat 400\n", "2: range"),
+    ("core 256\nat 377\nword 1\nword 1\n", "4: range"),
+    ("core 256\nshow 0 400\n", "2: range"),
+    ("core 256\nshow 2 1\n", "2: range"),
+    ("core 256\nstart 361\n", "2: package"),
+    ("core 256\nend\n", "2: no start"),
+];
+
+/// A deck of a first text, a second one so many times, and a last one, and what is told of it.
+type Long<'a> = (&'a str, (&'a str, u32), &'a str, &'a str);
+
+const LONG: [Long<'static>; 8] = [
+    ("core 256\n", ("w", 200), "\n", "2: unknown"),
+    ("core 256\n", ("w", 200), "w\n", "2: long"),
+    ("core 256\n", ("w", 200), "w", "2: long"),
+    ("", ("w", 200), "w\n", "1: long"),
+    ("core 256\n", ("show 0 0\n", 64), "", "66: no end"),
+    ("core 256\n", ("show 0 0\n", 64), "show 0 0\n", "66: many"),
+    ("core 256\n", ("show 0 0\n", 64), "show 0 400\n", "66: many"),
+    ("core 256\n", ("show 0 0\n", 64), "show 0 9\n", "66: number"),
+];
+
+/// A run of the deck prints nothing and tells the line and its fault.
 fn expect_refused(
     rt: &(impl Abort + AllocGlobal + Threads + Wait + Sync),
     deck: &[u8],
-    told: &[u8],
+    told: &str,
 ) -> Result<(), Fail> {
-    let told = joined(
-        rt.alloc(),
-        [b"cdc6600: E20 line ".as_slice(), told, b"\n"].as_slice(),
-    )?;
-    expect_run(rt, ["run"].as_slice(), deck, 1, b"", told.as_slice())
+    let line = joined(rt.alloc(), &[b"cdc6600: E20 line ", told.as_bytes(), b"\n"])?;
+    let case = Case {
+        name: told,
+        arguments: &["run"],
+        input: deck,
+        status: 1,
+        printed: b"",
+        told: line.as_slice(),
+    };
+    expect(rt, &case)
 }
 
-/// A deck of a first text, a second one so many times, and a last one.
-fn expect_refused_long(
-    rt: &(impl Abort + AllocGlobal + Threads + Wait + Sync),
-    first: &[u8],
-    repeated: (&[u8], u32),
-    last: &[u8],
-    told: &[u8],
-) -> Result<(), Fail> {
-    let mut deck = Vec::from_slice(rt.alloc(), first)?;
-    let (text, count) = repeated;
+fn long_deck(alloc: Global, long: &Long<'_>) -> Result<Vec<u8>, AllocError> {
+    let (first, (text, count), last, _) = *long;
+    let mut deck = Vec::from_slice(alloc, first.as_bytes())?;
     for _ in 0..count {
-        deck.extend_from_slice(text)?;
+        deck.extend_from_slice(text.as_bytes())?;
     }
-    deck.extend_from_slice(last)?;
-    expect_refused(rt, deck.as_slice(), told)
+    deck.extend_from_slice(last.as_bytes())?;
+    Ok(deck)
 }
 
 #[test]
 fn refused_decks(rt: HostRuntime) -> Result<(), Fail> {
-    for (lines, told) in [
-        ("", "1: no end"),
-        ("core 256\nat 40\n", "3: no end"),
-        ("core 256\nat 40", "3: no end"),
-        ("\n", "1: first"),
-        ("at 40\n", "1: first"),
-        ("cores 256\n", "1: first"),
-        (" core 256\n", "1: first"),
-        ("core\n", "1: unknown"),
-        ("core 256 \n", "1: unknown"),
-        ("core  256\n", "1: unknown"),
-        ("core \n", "1: number"),
-        ("core 256\r\n", "1: number"),
-        ("core 0x20\n", "1: number"),
-        ("core 0000256\n", "1: number"),
-        ("core 31\n", "1: size"),
-        ("core 131073\n", "1: size"),
-        ("core 256\n\n", "2: unknown"),
-        ("core 256\nword  5\n", "2: unknown"),
-        ("core 256\nshow 1\n", "2: unknown"),
-        ("core 256\nshow 1 2 3\n", "2: unknown"),
-        ("core 256\ncode\n", "2: unknown"),
-        ("core 256\ncode \n", "2: unknown"),
-        ("core 256\ncodes NO\n", "2: unknown"),
-        ("core 256\ncode SX1 B0+05\n", "2: instruction"),
-        ("core 256\ncode NO;NO\n", "2: instruction"),
-        ("core 256\ncode NO; NO; NO; SX1 B0+5\n", "2: full"),
-        ("core 256\nat 377\ncode NO\ncode sx1\n", "4: range"),
-        ("core 256\nask 40 freely\n", "2: unknown"),
-        ("core 256\nEND\n", "2: unknown"),
-        ("core 256\nend \n", "2: unknown"),
-        ("core 256\nat 8\n", "2: number"),
-        ("core 256\nat 1234567\n", "2: number"),
-        ("core 256\nword 123456701234567012345\n", "2: number"),
-        ("core 256\nstart 9\n", "2: number"),
-        ("core 256\nshow 0 9\n", "2: number"),
-        ("core 256\nshow 9 400\n", "2: number"),
-        ("core 256\ncore 31\n", "2: size"),
-        ("core 256\ncore 256\n", "2: repeated"),
-        ("core 256\nstart 40\nstart 361\n", "3: repeated"),
-        ("core 256\nat 400\n", "2: range"),
-        ("core 256\nat 377\nword 1\nword 1\n", "4: range"),
-        ("core 256\nshow 0 400\n", "2: range"),
-        ("core 256\nshow 2 1\n", "2: range"),
-        ("core 256\nstart 361\n", "2: package"),
-        ("core 256\nend\n", "2: no start"),
-    ] {
-        expect_refused(&rt, lines.as_bytes(), told.as_bytes())?;
+    for (lines, told) in &REFUSED {
+        expect_refused(&rt, lines.as_bytes(), told)?;
     }
     Ok(())
 }
 
+/// A line may have 200 bytes, and a deck 64 lines that show words.
 #[test]
 fn long_decks(rt: HostRuntime) -> Result<(), Fail> {
-    let core = b"core 256\n".as_slice();
-    let bytes = (b"w".as_slice(), 200);
-    expect_refused_long(&rt, core, bytes, b"\n", b"2: unknown")?;
-    expect_refused_long(&rt, core, bytes, b"w\n", b"2: long")?;
-    expect_refused_long(&rt, core, bytes, b"w", b"2: long")?;
-    expect_refused_long(&rt, b"", bytes, b"w\n", b"1: long")?;
-    let shows = (b"show 0 0\n".as_slice(), 64);
-    expect_refused_long(&rt, core, shows, b"", b"66: no end")?;
-    expect_refused_long(&rt, core, shows, b"show 0 0\n", b"66: many")?;
-    expect_refused_long(&rt, core, shows, b"show 0 400\n", b"66: many")?;
-    expect_refused_long(&rt, core, shows, b"show 0 9\n", b"66: number")
-}
-
-#[test]
-fn long_schedules(rt: HostRuntime) -> Result<(), Fail> {
-    let mut input = Vec::from_slice(rt.alloc(), LEFT_SHIFT)?;
-    input.extend_from_slice(b"ask 40\n")?;
-    for _ in 0..201 {
-        input.extend_from_slice(b"i")?;
-    }
-    expect_run(
-        &rt,
-        ["events"].as_slice(),
-        input.as_slice(),
-        1,
-        b"ok\n",
-        b"cdc6600: E20 line 10: long\n",
-    )
-}
-
-#[test]
-fn refused_schedules(rt: HostRuntime) -> Result<(), Fail> {
-    for (schedule, answers, told) in [
-        ("", "", "12: no end"),
-        ("ask 40\n", "ok\n", "13: no end"),
-        ("ask 40\n\n", "ok\n", "13: unknown"),
-        ("ask 8\n", "", "12: number"),
-        ("read core\n", "", "12: unknown"),
-        ("return 123\n", "", "12: number"),
-        ("issue now\n", "", "12: unknown"),
-    ] {
-        let schedule = schedule.as_bytes();
-        let input = joined(rt.alloc(), [TWO_ADDS, schedule].as_slice())?;
-        let told = joined(
-            rt.alloc(),
-            [b"cdc6600: E20 line ".as_slice(), told.as_bytes(), b"\n"].as_slice(),
-        )?;
-        expect_run(
-            &rt,
-            ["events"].as_slice(),
-            input.as_slice(),
-            1,
-            answers.as_bytes(),
-            told.as_slice(),
-        )?;
+    for long in &LONG {
+        let deck = long_deck(rt.alloc(), long)?;
+        expect_refused(&rt, deck.as_slice(), long.3)?;
     }
     Ok(())
 }
 
-/// How the program ends on a text that is made up, how often it writes and how the last write ends.
-fn expect_made_up(
-    rt: &(impl Abort + AllocGlobal + Threads + Wait + Sync),
-    text: &str,
-    input: MadeUp<'_>,
+/// How the program is called on a text that is made up, and how it ends.
+#[derive(Clone, Copy, Drop)]
+struct MadeUpCase {
+    command: &'static str,
+    first: &'static [u8],
+    repeated: &'static [u8],
+    times: u64,
+    last: &'static [u8],
+    /// How often it writes.
     writes: u64,
-    ends: &str,
-    told: &str,
-) -> Result<(), Fail> {
-    let words = words(rt.alloc(), [text].as_slice())?;
-    let mut input = input;
-    let mut output = Counting {
-        writes: 0,
-        last: Vec::new(rt.alloc()),
-    };
-    let mut faults = Vec::new(rt.alloc());
-    let answer = program(
-        rt,
-        rt.alloc(),
-        words.as_slice(),
-        &mut input,
-        &mut output,
-        &mut faults,
-    );
-    assert_eq!(rt; faults.as_slice(), told.as_bytes());
-    assert_eq!(rt; output.writes, writes);
-    assert!(rt; output.last.as_slice().ends_with(ends.as_bytes()));
-    assert_eq!(rt; answer, if told.is_empty() { 0 } else { 1 });
-    Ok(())
+    /// How the last write ends.
+    ends: &'static str,
+    told: &'static str,
 }
 
 /// What is told where none of 10,000,000 lines is the last, and where the input has one line less.
@@ -231,45 +181,133 @@ const TOO_MANY_LINES: &str = "cdc6600: E20 line 10000001: lines\n";
 
 const ONE_LINE_LESS: &str = "cdc6600: E20 line 10000000: no end\n";
 
+/// The deck of so many `at` lines after two others.
+const DECK: MadeUpCase = MadeUpCase {
+    command: "list",
+    first: b"core 32\nstart 0\n",
+    repeated: b"at 0\n",
+    times: 9_999_997,
+    last: b"end\n",
+    writes: 0,
+    ends: "",
+    told: "",
+};
+
+/// The schedule of so many issues after a deck of three lines.
+const SCHEDULE: MadeUpCase = MadeUpCase {
+    command: "events",
+    first: b"core 32\nstart 0\nend\n",
+    repeated: b"issue\n",
+    times: 9_999_997,
+    last: b"",
+    writes: 9_999_997,
+    ends: "E1 halted stop\n",
+    told: TOO_MANY_LINES,
+};
+
 /// A deck whose `end` is line 10,000,000 is taken, but no line of a schedule after it.
+const LONG_DECKS: [MadeUpCase; 6] = [
+    DECK,
+    MadeUpCase {
+        last: b"",
+        told: ONE_LINE_LESS,
+        ..DECK
+    },
+    MadeUpCase {
+        times: 9_999_998,
+        last: b"",
+        told: TOO_MANY_LINES,
+        ..DECK
+    },
+    MadeUpCase {
+        times: 9_999_998,
+        told: TOO_MANY_LINES,
+        ..DECK
+    },
+    MadeUpCase {
+        command: "events",
+        told: TOO_MANY_LINES,
+        ..DECK
+    },
+    MadeUpCase {
+        command: "events",
+        last: b"end\nend\n",
+        told: TOO_MANY_LINES,
+        ..DECK
+    },
+];
+
+/// The lines of a schedule count with those of its deck. Each has an answer that is written at once.
+const LONG_SCHEDULES: [MadeUpCase; 4] = [
+    MadeUpCase {
+        times: 9_999_996,
+        last: b"end\n",
+        ends: "\nLOG none\n",
+        told: "",
+        ..SCHEDULE
+    },
+    MadeUpCase {
+        times: 9_999_996,
+        writes: 9_999_996,
+        told: ONE_LINE_LESS,
+        ..SCHEDULE
+    },
+    SCHEDULE,
+    MadeUpCase {
+        last: b"end\n",
+        ..SCHEDULE
+    },
+];
+
+fn expect_made_up(
+    rt: &(impl Abort + AllocGlobal + Threads + Wait + Sync),
+    case: &MadeUpCase,
+) -> Result<(), Fail> {
+    let words = words(rt.alloc(), &[case.command])?;
+    let mut input = MadeUp {
+        first: case.first,
+        repeated: case.repeated,
+        times: case.times,
+        last: case.last,
+    };
+    let mut output = Counting {
+        writes: 0,
+        last: Vec::new(rt.alloc()),
+    };
+    let mut faults = Vec::new(rt.alloc());
+    let status = program(
+        rt,
+        rt.alloc(),
+        words.as_slice(),
+        &mut input,
+        &mut output,
+        &mut faults,
+    );
+    let is_ended = output.last.as_slice().ends_with(case.ends.as_bytes());
+    assert_eq!(rt;
+        (status, faults.as_slice(), output.writes, is_ended),
+        (
+            u8::from(!case.told.is_empty()),
+            case.told.as_bytes(),
+            case.writes,
+            true
+        )
+    );
+    Ok(())
+}
+
 #[test]
 fn decks_of_most_lines(rt: HostRuntime) -> Result<(), Fail> {
-    for (text, times, last, told) in [
-        ("list", 9_999_997, "end\n", ""),
-        ("list", 9_999_997, "", ONE_LINE_LESS),
-        ("list", 9_999_998, "", TOO_MANY_LINES),
-        ("list", 9_999_998, "end\n", TOO_MANY_LINES),
-        ("events", 9_999_997, "end\n", TOO_MANY_LINES),
-        ("events", 9_999_997, "end\nend\n", TOO_MANY_LINES),
-    ] {
-        let input = MadeUp {
-            first: b"core 32\nstart 0\n",
-            repeated: b"at 0\n",
-            times,
-            last: last.as_bytes(),
-        };
-        expect_made_up(&rt, text, input, 0, "", told)?;
+    for case in &LONG_DECKS {
+        expect_made_up(&rt, case)?;
     }
     Ok(())
 }
 
-/// The lines of a schedule count with those of its deck, here three. Each has an answer that is written at once.
 #[test]
 fn schedules_of_most_lines(rt: HostRuntime) -> Result<(), Fail> {
-    let halted = "E1 halted stop\n";
-    for (times, last, writes, ends, told) in [
-        (9_999_996, "end\n", 9_999_997, "\nLOG none\n", ""),
-        (9_999_996, "", 9_999_996, halted, ONE_LINE_LESS),
-        (9_999_997, "", 9_999_997, halted, TOO_MANY_LINES),
-        (9_999_997, "end\n", 9_999_997, halted, TOO_MANY_LINES),
-    ] {
-        let input = MadeUp {
-            first: b"core 32\nstart 0\nend\n",
-            repeated: b"issue\n",
-            times,
-            last: last.as_bytes(),
-        };
-        expect_made_up(&rt, "events", input, writes, ends, told)?;
+    for case in &LONG_SCHEDULES {
+        expect_made_up(&rt, case)?;
     }
     Ok(())
 }

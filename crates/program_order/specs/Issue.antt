@@ -20,7 +20,7 @@ use Rattle.in_flight.specs.declared.pending.Stage.TheVariants.{Waiting}
 use Rattle.in_flight.specs.declared.pending.Phase.TheVariants.{Before}
 use Rattle.in_flight.specs.declared.pending.Pending.{Pending}
 use Rattle.in_flight.specs.Pending.{is_branch, delays_fetch}
-use Rattle.in_flight.specs.Tests.{Test, unit_for, row_tests}
+use Rattle.in_flight.specs.Tests.{Test, unit_for, reservation_tests}
 use Rattle.program_order.specs.Processor.{Processor}
 
 -- ---- what an issue is refused for ----
@@ -44,7 +44,7 @@ issue_tests state pending request budget count =
     ∷ record { fails = list_any is_branch pending; refusal = BranchPending }
     ∷ record { fails = is_some request && is_none state.place.held; refusal = ExchangeWaiting }
     ∷ record { fails = fetch_waits (bounds_of state) state.place pending; refusal = FetchWait }
-    ∷ row_tests pending (fetch (bounds_of state) state.memory state.place)
+    ∷ reservation_tests pending (fetch (bounds_of state) state.memory state.place)
 
 -- ---- what it leaves ----
 

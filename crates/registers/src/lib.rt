@@ -2,7 +2,5 @@
 #![tactic(auto)]
 
 mod file;
-#[cfg(test)]
-mod tests;
 
 pub use file::RegisterFile;

@@ -11,14 +11,14 @@ use Rattle.instructions.specs.declared.refusal.Refusal.TheVariants.{ResultHeld, 
 use Rattle.instructions.specs.Finding.{Found}
 use Rattle.instructions.specs.Shape.{shape_of, puts_of, results, has_reference}
 use Rattle.instructions.specs.Operands.{uses, sources_of}
-use Rattle.scoreboard.specs.declared.row.Progress.{Progress}
-use Rattle.scoreboard.specs.declared.row.Progress.TheVariants.{Reserved, Left}
-use Rattle.scoreboard.specs.Rows.{holds}
+use Rattle.scoreboard.specs.declared.reservation.Progress.{Progress}
+use Rattle.scoreboard.specs.declared.reservation.Progress.TheVariants.{Reserved, Left}
+use Rattle.scoreboard.specs.Reservations.{holds}
 use Rattle.scoreboard.specs.Units.{first_unit}
 use Rattle.scoreboard.specs.Conflicts.{awaited, to_be_read, first_such, result_reserved, operand_awaited, result_held}
 use Rattle.scoreboard.specs.Conflicts.{out_of_turn}
 use Rattle.scoreboard.specs.declared.issued.Issued.{Issued}
-use Rattle.scoreboard.specs.Issued.{row_of, channel_of}
+use Rattle.scoreboard.specs.Issued.{reservation_of, channel_of}
 
 -- what a board stands for
 pub record Standing : Type 0 where
@@ -31,7 +31,7 @@ pub record Standing : Type 0 where
 
 -- the instruction of the one that holds the unit
 unfoldable pub held_in : FunctionalUnit → Issued → Option Instr
-held_in unit x = if holds unit x.row then Some x.row.instr else None
+held_in unit x = if holds unit x.reservation then Some x.reservation.instr else None
 
 -- in that progress a load has still to return through the channel
 unfoldable pub returns_in : ℕ → Progress → Bool
@@ -41,7 +41,7 @@ returns_in n (Left (Some m)) = m == n
 
 -- the instruction of the load that has still to return through the channel
 unfoldable pub returning_by : ℕ → Issued → Option Instr
-returning_by n x = if returns_in n x.row.progress then Some x.row.instr else None
+returning_by n x = if returns_in n x.reservation.progress then Some x.reservation.instr else None
 
 -- ---- the conflicts ----
 
@@ -53,34 +53,34 @@ unless refused refusal = if refused then Err refusal else Ok tt
 unfoldable pub read_answer : Option (Found Issued Instr) → Result (Unit {0}) Refusal
 read_answer None = Ok tt
 read_answer (Some f) =
-    unless (operand_awaited row_of f.earlier (sources_of f.answer))
-    (OperandAwaited (first_such (awaited row_of f.earlier) (sources_of f.answer)))
+    unless (operand_awaited reservation_of f.earlier (sources_of f.answer))
+    (OperandAwaited (first_such (awaited reservation_of f.earlier) (sources_of f.answer)))
 
 -- E10, result held (third order): an earlier instruction has still to read what the store event writes
 unfoldable pub store_answer : Option (Found Issued Instr) → Result (Unit {0}) Refusal
 store_answer None = Ok tt
 store_answer (Some f) =
-    unless (result_held row_of f.earlier (puts_of (shape_of f.answer)))
-    (ResultHeld (first_such (to_be_read row_of f.earlier) (puts_of (shape_of f.answer))))
+    unless (result_held reservation_of f.earlier (puts_of (shape_of f.answer)))
+    (ResultHeld (first_such (to_be_read reservation_of f.earlier) (puts_of (shape_of f.answer))))
 
 -- E10, result held (third order): an earlier instruction has still to read the X register that the load's return
 -- writes
 unfoldable pub return_answer : ℕ → Option (Found Issued Instr) → Result (Unit {0}) Refusal
 return_answer n None = Ok tt
-return_answer n (Some f) = unless (to_be_read row_of f.earlier (X n)) (ResultHeld (X n))
+return_answer n (Some f) = unless (to_be_read reservation_of f.earlier (X n)) (ResultHeld (X n))
 
 -- E12, out of turn: it makes a reference, and an earlier reference has not come to its store event
 unfoldable pub turn_answer : Option (Found Issued Instr) → Result (Unit {0}) Refusal
 turn_answer None = Ok tt
-turn_answer (Some f) = unless (has_reference (shape_of f.answer) && out_of_turn row_of f.earlier) OutOfTurn
+turn_answer (Some f) = unless (has_reference (shape_of f.answer) && out_of_turn reservation_of f.earlier) OutOfTurn
 
 -- first order: E7, unit busy, where no unit of the kind is free; E8, result reserved, where a result register is a
 -- result still to come; else the unit and the next number
 unfoldable pub reserve_answer : Standing → Instr → Option FunctionalUnit → Result (FunctionalUnit × ℕ) Refusal
 reserve_answer s i None = Err (UnitBusy (first_unit (uses i).unit))
 reserve_answer s i (Some unit) =
-    if result_reserved row_of s.issued (results (shape_of i))
-    then Err (ResultReserved (first_such (awaited row_of s.issued) (results (shape_of i))))
+    if result_reserved reservation_of s.issued (results (shape_of i))
+    then Err (ResultReserved (first_such (awaited reservation_of s.issued) (results (shape_of i))))
     else Ok (unit, suc s.last)
 
 -- ---- the changes ----
@@ -88,7 +88,7 @@ reserve_answer s i (Some unit) =
 -- a new reservation: it holds its unit and has still to read its operands
 unfoldable pub new_issued : Instr → FunctionalUnit → ℕ → Issued
 new_issued i unit number =
-    record { number = number; row = record { instr = i; unit = unit; progress = Reserved false } }
+    record { number = number; reservation = record { instr = i; unit = unit; progress = Reserved false } }
 
 -- the board after an issue: it has one reservation more, or is as it was where the issue was refused
 unfoldable pub reserved : Standing → Instr → Result (FunctionalUnit × ℕ) Refusal → Standing
@@ -97,7 +97,7 @@ reserved s i (Ok (unit, number)) = record { issued = s.issued ++ new_issued i un
 
 -- the same instruction, which has come so far
 unfoldable pub in_progress : Issued → Progress → Issued
-in_progress x progress = record x { row = record x.row { progress = progress } }
+in_progress x progress = record x { reservation = record x.reservation { progress = progress } }
 
 -- its operands are read
 unfoldable pub read : Issued → List Issued
@@ -110,7 +110,7 @@ left_with x (Some n) = in_progress x (Left (Some n)) ∷ []
 
 -- it has left its unit: a load is still to return
 unfoldable pub left : Issued → List Issued
-left x = left_with x (channel_of (shape_of x.row.instr))
+left x = left_with x (channel_of (shape_of x.reservation.instr))
 
 -- its load has returned, and the board has nothing more of it
 unfoldable pub gone : Issued → List Issued

@@ -7,16 +7,16 @@ use Rattle.instructions.specs.declared.instr.Unit.{Unit as FunctionalUnit}
 use Rattle.instructions.specs.RegisterLists.{is_in}
 use Rattle.instructions.specs.Shape.{Shape, Puts, Loads, Stores, Jumps, Links, shape_of, puts_of}
 use Rattle.instructions.specs.Operands.{reg_eq}
-use Rattle.scoreboard.specs.declared.row.Progress.{Progress}
-use Rattle.scoreboard.specs.declared.row.Progress.TheVariants.{Reserved, Left}
-use Rattle.scoreboard.specs.declared.row.Row.{Row}
+use Rattle.scoreboard.specs.declared.reservation.Progress.{Progress}
+use Rattle.scoreboard.specs.declared.reservation.Progress.TheVariants.{Reserved, Left}
+use Rattle.scoreboard.specs.declared.reservation.Reservation.{Reservation}
 use Rattle.scoreboard.specs.declared.writer.Writer.{Writer}
 use Rattle.scoreboard.specs.declared.writer.Writer.TheVariants.{OfUnit, OfChannel}
 use Rattle.scoreboard.specs.declared.issued.Issued.{Issued}
 
 -- what was issued, to which unit, and how far it has come
-unfoldable pub row_of : Issued → Row
-row_of x = x.row
+unfoldable pub reservation_of : Issued → Reservation
+reservation_of x = x.reservation
 
 -- the number of its reservation
 unfoldable pub number_of : Issued → ℕ
@@ -44,7 +44,7 @@ written_in r unit shape (Left returning) = written_by_channel r returning
 
 -- who writes the register for it: its unit at the store event, or the channel of its load
 unfoldable pub written_by : Reg → Issued → Option Writer
-written_by r x = written_in r x.row.unit (shape_of x.row.instr) x.row.progress
+written_by r x = written_in r x.reservation.unit (shape_of x.reservation.instr) x.reservation.progress
 
 -- this answer, or the other one where there is none
 unfoldable pub or_else : {W : Type 0} → Option W → Option W → Option W

@@ -4,9 +4,9 @@ ghost use Rattle.std.specs.Prelude.{◌≡◌, ◌<◌, ◌+◌, ◌^◌, [], Is
 ghost use Rattle.std.specs.List.{list_any};
 ghost use Rattle.instructions.specs.Finding.{seek, replaced};
 ghost use Rattle.instructions.specs.Operands.{uses};
-ghost use Rattle.scoreboard.specs.Rows.{is_branch, has_store_turn};
+ghost use Rattle.scoreboard.specs.Reservations.{is_branch, has_store_turn};
 ghost use Rattle.scoreboard.specs.Units.{unit_number};
-ghost use Rattle.scoreboard.specs.Issued.{row_of};
+ghost use Rattle.scoreboard.specs.Issued.{reservation_of};
 ghost use Rattle.scoreboard.specs.Conflicts.{unit_for};
 ghost use Rattle.scoreboard.specs.Answers.{held_in, returning_by, read_answer, store_answer, return_answer};
 ghost use Rattle.scoreboard.specs.Answers.{turn_answer, reserve_answer, reserved, read, left, gone, with_issued};
@@ -103,7 +103,7 @@ impl Board {
         requires unit { IsSome (uses instr.now).unit }
         requires number { self.old.last + 1 < 2 ^ 64 }
         ensures answer { result ≡ reserve_answer self.old instr.now
-            (unit_for row_of self.old.issued (uses instr.now).unit) }
+            (unit_for reservation_of self.old.issued (uses instr.now).unit) }
         ensures after { self.new ≡ reserved self.old instr.now result }
     {
         let Some(unit) = free_unit_for(&self.units, instr) else {
@@ -144,7 +144,7 @@ impl Board {
             return Ok(());
         }
         // Only a refusal has to know which sources they are.
-        let sources = sources(&issued.row.instr);
+        let sources = sources(&issued.reservation.instr);
         match first_produced(sources.as_slice(), awaited) {
             Some(register) => Err(Refusal::OperandAwaited(register)),
             None => Ok(()),
@@ -164,7 +164,7 @@ impl Board {
         let Some(issued) = seat else {
             return Ok(());
         };
-        let written = issued.row.instr.puts();
+        let written = issued.reservation.instr.puts();
         match first_to_be_read(&self.units, issued.number, written.as_slice()) {
             Some(register) => Err(Refusal::ResultHeld(register)),
             None => Ok(()),
@@ -205,7 +205,7 @@ impl Board {
         let Some(issued) = seat else {
             return Ok(());
         };
-        if issued.row.instr.has_reference() && any_turn(&self.units, issued.number) {
+        if issued.reservation.instr.has_reference() && any_turn(&self.units, issued.number) {
             Err(Refusal::OutOfTurn)
         } else {
             Ok(())
@@ -215,7 +215,7 @@ impl Board {
     /// Whether a branch was issued that hasn't come to its store event. While Branch is held, nothing is to be
     /// issued; that is this project's choice and the caller's to keep.
     pub fn is_branch_held(&self) -> bool
-        ensures { result ≡ list_any (λ x. is_branch x.row) self.now.issued }
+        ensures { result ≡ list_any (λ x. is_branch x.reservation) self.now.issued }
     {
         // Branch takes no other instructions than branches.
         is_taken(&self.units, Unit::Branch)
@@ -224,7 +224,7 @@ impl Board {
     /// Whether an SA6 or SA7 was issued that hasn't come to its store event. A return jump isn't counted: it
     /// holds Branch.
     pub fn has_store_to_come(&self) -> bool
-        ensures { result ≡ list_any (λ x. has_store_turn x.row) self.now.issued }
+        ensures { result ≡ list_any (λ x. has_store_turn x.reservation) self.now.issued }
     {
         any_store(&self.units)
     }
@@ -236,7 +236,7 @@ impl Board {
     {
         let index = index_of(unit);
         if let Some(issued) = &mut self.units[index] {
-            issued.row.progress = Progress::Reserved { has_read: true };
+            issued.reservation.progress = Progress::Reserved { has_read: true };
         }
     }
 
@@ -251,7 +251,7 @@ impl Board {
         let Some(issued) = seat else {
             return;
         };
-        let written = issued.row.instr.puts();
+        let written = issued.reservation.instr.puts();
         self.units[index] = None;
         put_left(&mut self.channels, &issued);
         // The unit is entered as the writer of these registers alone.

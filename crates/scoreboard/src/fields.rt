@@ -7,7 +7,7 @@ ghost use Rattle.instructions.specs.declared.instr.Unit.TheVariants.{Branch};
 ghost use Rattle.instructions.specs.Operands.{uses};
 ghost use Rattle.scoreboard.specs.Conflicts.{first_free};
 ghost use Rattle.scoreboard.specs.Units.{units_of, first_unit};
-ghost use Rattle.scoreboard.specs.Rows.{has_store_turn};
+ghost use Rattle.scoreboard.specs.Reservations.{has_store_turn};
 ghost use Rattle.scoreboard.specs.inner.Fields.{seat_at, in_increment, is_taken, seat_is, seat_waits, seat_reads};
 ghost use Rattle.scoreboard.specs.inner.Fields.{seat_has_turn, free_for, channels_with, writers_with, forget_in_taken};
 ghost use Rattle.instructions.specs.Shape.{shape_of, puts_of};
@@ -48,7 +48,7 @@ fn seat_waits(seat: &Option<Issued>, number: u64) -> bool
 {
     match seat {
         None => false,
-        Some(issued) => issued.number < number && issued.row.is_unread(),
+        Some(issued) => issued.number < number && issued.reservation.is_unread(),
     }
 }
 
@@ -66,7 +66,7 @@ fn seat_reads(seat: &Option<Issued>, number: u64, register: &Reg) -> bool
 {
     match seat {
         None => false,
-        Some(issued) => issued.number < number && issued.row.has_to_read(register),
+        Some(issued) => issued.number < number && issued.reservation.has_to_read(register),
     }
 }
 
@@ -105,7 +105,7 @@ fn unit_has_turn(units: &[Option<Issued>], unit: Unit, number: u64) -> bool
 {
     match &units[usize::from(unit_number(unit))] {
         None => false,
-        Some(issued) => issued.number < number && issued.row.has_turn(),
+        Some(issued) => issued.number < number && issued.reservation.has_turn(),
     }
 }
 
@@ -129,7 +129,7 @@ fn unit_has_store(units: &[Option<Issued>], unit: Unit) -> bool
 {
     match &units[usize::from(unit_number(unit))] {
         None => false,
-        Some(issued) => issued.row.has_store_turn(),
+        Some(issued) => issued.reservation.has_store_turn(),
     }
 }
 
@@ -214,10 +214,11 @@ pub(crate) fn free_unit_for(units: &[Option<Issued>], instr: &Instr) -> Option<U
 #[tactic(auto, unfolding(crate::specs::inner::Fields::channels_with))]
 pub(crate) fn put_left(channels: &mut [Option<Issued>], issued: &Issued)
     requires { length channels.old ≡ 8 }
-    ensures value { channels.new ≡ channels_with channels.old issued.now (channel_of (shape_of issued.now.row.instr)) }
-    ensures channel { IfSome (channel_of (shape_of issued.now.row.instr)) (λ n. n < 8) }
+    ensures value { channels.new ≡ channels_with channels.old issued.now
+        (channel_of (shape_of issued.now.reservation.instr)) }
+    ensures channel { IfSome (channel_of (shape_of issued.now.reservation.instr)) (λ n. n < 8) }
 {
-    if let Some(n) = channel(&issued.row.instr) {
+    if let Some(n) = channel(&issued.reservation.instr) {
         let returning = Progress::Left { returning: Some(n) };
         channels[usize::from(n.get())] = Some(issued.in_progress(returning));
     }

@@ -3,7 +3,7 @@ ghost use Rattle.instructions.specs.Shape.{shape_of};
 ghost use Rattle.scoreboard.specs.Issued.{channel_of};
 ghost use Rattle.scoreboard.specs.Answers.{new_issued, in_progress};
 
-use crate::{Progress, Row};
+use crate::{Progress, Reservation};
 use instructions::{Digit, Instr, Target, Unit};
 
 /// An issued instruction with the number of its reservation.
@@ -12,7 +12,7 @@ pub struct Issued {
     /// From 1, in issue order; no two have the same.
     pub number: u64,
     /// What was issued, to which unit, and how far it has come.
-    pub row: Row,
+    pub reservation: Reservation,
 }
 
 /// The channel of a load, SA1 to SA5: the number of the X register that it writes at its return.
@@ -44,7 +44,7 @@ impl Issued {
     {
         Issued {
             number,
-            row: Row {
+            reservation: Reservation {
                 instr: *instr,
                 unit,
                 progress: Progress::Reserved { has_read: false },
@@ -59,9 +59,9 @@ impl Issued {
     {
         Issued {
             number: self.number,
-            row: Row {
+            reservation: Reservation {
                 progress,
-                ..self.row
+                ..self.reservation
             },
         }
     }

@@ -7,8 +7,6 @@ mod place;
 mod replaying;
 mod state;
 mod stepping;
-#[cfg(test)]
-mod tests;
 mod work;
 
 pub use fetching::Fetched;

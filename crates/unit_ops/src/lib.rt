@@ -8,8 +8,6 @@
 #![tactic(auto)]
 
 mod compute;
-#[cfg(test)]
-mod tests;
 
 pub use compute::{branch_taken, value};
 use word60::{Word18, Word60};

@@ -28,6 +28,3 @@ pub fn lane(alloc: Global, unit: Unit) -> Result<(Lane, SendPass, TakePass), Ref
 {
     Lane::new(alloc, unit)
 }
-
-#[cfg(test)]
-mod tests;

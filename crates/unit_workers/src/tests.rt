@@ -2,11 +2,11 @@ ghost use Rattle.std.specs.Prelude.{◌≡◌};
 
 use crate::lines::{Line, Pair};
 use crate::requests::Requests;
+use crate::test_machines::{Words, booted, word, x};
 use crate::{Ended, Gate, Gates, Open, Orders, Tally, run_threads, serve, worker};
 use instruction_table::{Digit, Halt, Refusal, Reg, Unit};
 use machine::{Machine, Note, Seat};
 use machine_lock::{Ground, Naming, Seen, Shared};
-use relocation::Storage;
 use sequential::Entry;
 use std::alloc::Global;
 use std::marker::Brand;
@@ -17,35 +17,6 @@ use std::test::Fail;
 use std::thread;
 use std::thread::Threads;
 use unit_queue::lane;
-use word60::Word60;
-
-/// Words at their absolute addresses, in octal.
-type Words<'a> = &'a [(u32, &'a str)];
-
-/// A word of twenty octal digits or fewer, and +0 for any other text.
-fn word(octal: &str) -> Word60 {
-    Word60::from_octal(octal.as_bytes()).unwrap_or_default()
-}
-
-fn place_all(memory: &mut Storage, words: Words<'_>) {
-    for (address, octal) in words {
-        if *address < memory.size() {
-            memory.store(*address, word(octal));
-        }
-    }
-}
-
-/// A machine with 256 words of memory: a package at 40 that has RA 100 and FL 20, and over that these words.
-fn booted(alloc: Global, words: Words<'_>) -> Result<Machine, Refusal> {
-    let area = [
-        (0o41, "00000100000000000000"),
-        (0o42, "00000020000000000000"),
-    ];
-    let mut memory = Storage::new(alloc, 256)?;
-    place_all(&mut memory, &area);
-    place_all(&mut memory, words);
-    Machine::boot(alloc, memory, 1_000_000)
-}
 
 fn orders(alloc: Global) -> Orders {
     Orders {
@@ -75,10 +46,6 @@ fn ran<R: Threads + Wait + Sync>(
 ) -> Result<Ended, Refusal> {
     let machine = booted(alloc, words)?;
     run_threads(rt, alloc, machine, &orders(alloc), open_gates())
-}
-
-fn x(number: u16) -> Reg {
-    Reg::X(Digit::low(number))
 }
 
 /// Whether these registers hold these words.

@@ -22,14 +22,14 @@ use Rattle.hopper.specs.Hopper.{free_place, stores_to}
 use Rattle.hopper.specs.Queue.{Queue, stands_at, stores_here, place_for as free_in, is_taken as taken_in, free_answer}
 use Rattle.hopper.proofs.Standing.{first_same}
 use Rattle.scoreboard.specs.declared.issued.Issued.{Issued}
-use Rattle.scoreboard.specs.declared.row.Progress.TheVariants.{Left}
-use Rattle.scoreboard.specs.declared.row.Row.{Row}
-use Rattle.scoreboard.specs.Rows as board
-use Rattle.scoreboard.specs.Rows.{is_reserved, returning_to, has_store_turn}
+use Rattle.scoreboard.specs.declared.reservation.Progress.TheVariants.{Left}
+use Rattle.scoreboard.specs.declared.reservation.Reservation.{Reservation}
+use Rattle.scoreboard.specs.Reservations as board
+use Rattle.scoreboard.specs.Reservations.{is_reserved, returning_to, has_store_turn}
 use Rattle.scoreboard.specs.Conflicts as conflict
 use Rattle.scoreboard.specs.Units.{first_unit, same_unit, units_of}
 use Rattle.scoreboard.specs.Conflicts.{first_free, free_unit, is_held}
-use Rattle.scoreboard.specs.Issued.{row_of as row_of_issued}
+use Rattle.scoreboard.specs.Issued.{reservation_of as reservation_of_issued}
 use Rattle.scoreboard.specs.Answers.{Standing, held_in, returning_by, unless, read_answer, store_answer, return_answer}
 use Rattle.scoreboard.specs.Answers.{turn_answer, read, gone, with_issued, reserve_answer, reserved, new_issued}
 use Rattle.unit_ops.specs.declared.Operands.{Operands}
@@ -47,12 +47,13 @@ use Rattle.in_flight.specs.declared.pending.Stage.TheVariants.{Waiting, Read, Fi
 use Rattle.in_flight.specs.declared.slots.Sought.{Sought}
 use Rattle.in_flight.specs.inner.Board.{on_board}
 use Rattle.in_flight.specs.Tests.{refusal_in, store_conflicts, Test, refusal_of, nothing, tests_found, read_tests}
-use Rattle.in_flight.specs.Tests.{return_tests, free_tests, row_tests, unit_for}
+use Rattle.in_flight.specs.Tests.{return_tests, free_tests, reservation_tests, unit_for}
 use Rattle.in_flight.specs.Flight.{Flight, flight_of, waiting_in, waiting, reserved_in, with_pending}
 use Rattle.in_flight.specs.inner.Board.{IsTied}
-use Rattle.in_flight.specs.Pending.{has_read, row_of, progress_of, returning, to_come, awaited, is_branch, has_turn}
+use Rattle.in_flight.specs.Pending.{has_read, reservation_of, progress_of, returning, to_come, awaited, is_branch, has_turn}
 use Rattle.in_flight.specs.Pending.{stores_in, delays_fetch}
 use Rattle.in_flight.proofs.asking.Asked.{comes}
+use Rattle.in_flight.proofs.Opened.{coming}
 use Rattle.in_flight.specs.Lookup.{sought, stage_at, stage_in, arrival_at, arrival_in, entry_at, entry_in, in_place}
 use Rattle.in_flight.specs.Lookup.{is_taken, place_for, is_pending, in_phase}
 use Rattle.instructions.specs.Finding.{replaced, Found, seek, put_back}
@@ -104,22 +105,24 @@ nothing_pending (m ∷ ms) = refl
 
 -- ---- what the board sees of them ----
 
-no_branch : (row : Row) → row.progress ≡ Left None → board.is_branch row ≡ false
+no_branch : (reservation : Reservation) → reservation.progress ≡ Left None → board.is_branch reservation ≡ false
 unfolding board.is_branch is_reserved
-no_branch row e = ap (λ p. is_reserved p && is_branch_shape (shape_of row.instr)) e
+no_branch reservation e = ap (λ p. is_reserved p && is_branch_shape (shape_of reservation.instr)) e
 
-no_store : (row : Row) → row.progress ≡ Left None → has_store_turn row ≡ false
+no_store : (reservation : Reservation) → reservation.progress ≡ Left None → has_store_turn reservation ≡ false
 unfolding has_store_turn is_reserved
-no_store row e =
-    ap (λ p. (is_reserved p && has_store (shape_of row.instr)) && not (is_branch_shape (shape_of row.instr))) e
+no_store reservation e =
+    ap (λ p. (is_reserved p && has_store (shape_of reservation.instr)) && not (is_branch_shape (shape_of
+    reservation.instr))) e
 
-pub branch_held : (ms : List Pending) → list_any (λ x. board.is_branch x.row) (on_board ms) ≡ list_any is_branch ms
-unfolding row_of_issued is_branch
+pub branch_held : (ms : List Pending) → list_any (λ x. board.is_branch x.reservation) (on_board ms)
+    ≡ list_any is_branch ms
+unfolding reservation_of_issued is_branch
 branch_held ms = board_any board.is_branch no_branch ms
 
 store_held : (ms : List Pending)
-    → list_any (λ x. has_store_turn x.row) (on_board ms) ≡ list_any (λ m. has_store_turn (row_of m)) ms
-unfolding row_of_issued
+    → list_any (λ x. has_store_turn x.reservation) (on_board ms) ≡ list_any (λ m. has_store_turn (reservation_of m)) ms
+unfolding reservation_of_issued
 store_held ms = board_any has_store_turn no_store ms
 
 pub any-append : {K : Type 0} (f : K → Bool) (xs ys : List K) → list_any f (xs ++ ys) ≡ (list_any f xs || list_any f ys)
@@ -161,15 +164,16 @@ any_either f g (x ∷ xs) =
     exchange false false false d = refl
 
 pub fetch_delayed : (a : ℕ) (ms : List Pending) (queue : Queue) (standing : Standing) → IsTied ms queue standing
-    → (list_any (λ x. has_store_turn x.row) standing.issued || list_any (stores_here a) queue.entered)
+    → (list_any (λ x. has_store_turn x.reservation) standing.issued || list_any (stores_here a) queue.entered)
     ≡ list_any (delays_fetch a) ms
 unfolding delays_fetch
 fetch_delayed a ms queue standing tied =
-    ap (λ xs. list_any (λ (x : Issued). has_store_turn x.row) xs || list_any (stores_here a) queue.entered) tied.boarded
+    ap (λ xs. list_any (λ (x : Issued). has_store_turn x.reservation) xs || list_any (stores_here a) queue.entered)
+    tied.boarded
     ∙ ap (λ b. b || list_any (stores_here a) queue.entered) (store_held ms)
-    ∙ ap (λ es. list_any (λ m. has_store_turn (row_of m)) ms || list_any (stores_here a) es) tied.entered
-    ∙ ap (λ b. list_any (λ m. has_store_turn (row_of m)) ms || b) (store_waits a ms)
-    ∙ sym (any_either (λ m. has_store_turn (row_of m)) (λ m. stores_in a m.phase) ms)
+    ∙ ap (λ es. list_any (λ m. has_store_turn (reservation_of m)) ms || list_any (stores_here a) es) tied.entered
+    ∙ ap (λ b. list_any (λ m. has_store_turn (reservation_of m)) ms || b) (store_waits a ms)
+    ∙ sym (any_either (λ m. has_store_turn (reservation_of m)) (λ m. stores_in a m.phase) ms)
 
 -- ---- what waits in the hopper ----
 
@@ -375,19 +379,19 @@ finish_tied u ms ns queue b v (Some f) h k tied en =
 -- ---- a load that returns ----
 
 returns_apart : (n w : ℕ) (e m : Pending) → m.phase ≡ After (Accepted n w) → IsApart e m → comes (X n) e ≡ false
-unfolding comes board.comes to_come board.to_come row_of board.to_come_in progress_of returning returning_to overlap
+unfolding coming overlap
 returns_apart n w e m h a = (or_parts (is_in (to_come e) (X n)) false
     (ap (λ p. overlap (board.to_come_in (shape_of m.instr) (progress_of p)) (to_come e)) (sym h) ∙ a.disjoint)).0
 
 none_awaits : (n w : ℕ) (es : List Pending) (m : Pending) → m.phase ≡ After (Accepted n w) → Each (λ e. IsApart e m) es
-    → conflict.awaited row_of es (X n) ≡ false
+    → conflict.awaited reservation_of es (X n) ≡ false
 unfolding conflict.awaited comes
 none_awaits n w [] m h a = refl
 none_awaits n w (e ∷ es) m h a =
-    ap (λ b. b || conflict.awaited row_of es (X n)) (comes_is e ∙ returns_apart n w e m h a.0)
+    ap (λ b. b || conflict.awaited reservation_of es (X n)) (comes_is e ∙ returns_apart n w e m h a.0)
     ∙ none_awaits n w es m h a.1
   where
-    comes_is : (y : Pending) → board.comes (X n) (row_of y) ≡ comes (X n) y
+    comes_is : (y : Pending) → board.comes (X n) (reservation_of y) ≡ comes (X n) y
     comes_is y = refl
 
 in_channel : (n : ℕ) (p : Phase) (x : Arrival) → arrival_in n p ≡ Some x → x.channel ≡ n
@@ -409,7 +413,7 @@ unfolding arrival_at
 arrival_channel n m x h = in_channel n m.phase x h
 
 pub free_load : (n : ℕ) (ms : List Pending) (f : Found Pending Arrival) → seek (arrival_at n) ms ≡ Some f
-    → Pairs IsApart ms → conflict.awaited row_of f.earlier (X n) ≡ false
+    → Pairs IsApart ms → conflict.awaited reservation_of f.earlier (X n) ≡ false
 free_load n ms f h apart =
     let p = seek_splits (arrival_at n) ms f h in
     none_awaits n f.answer.word f.earlier f.member (arrival_phase n f.member f.answer p.1)
@@ -454,9 +458,13 @@ return_answered n ms xs s r e apart h k =
     let p = there (seek (arrival_at n) ms) s h in
     let q = seek_splits (arrival_at n) ms p.0 p.1 in
     ap (λ o. refusal_of (tests_found o (λ f. return_tests f.earlier f.answer))) p.1
-    ∙ ap (λ c. refusal_of (record { fails = conflict.to_be_read row_of p.0.earlier (X c); refusal = ResultHeld (X c) }
+    ∙ ap (λ c. refusal_of (record {
+      fails = conflict.to_be_read reservation_of p.0.earlier (X c);
+      refusal = ResultHeld
+          (X c);
+    }
     ∷ [])) (arrival_channel n p.0.member p.0.answer q.1)
-    ∙ test_is (conflict.to_be_read row_of p.0.earlier (X n)) (ResultHeld (X n))
+    ∙ test_is (conflict.to_be_read reservation_of p.0.earlier (X n)) (ResultHeld (X n))
     ∙ ap refusal_in (sym (k ∙ ap (λ l. return_answer n (seek (returning_by n) l)) e
     ∙ return_of_all n ms p.0 p.1 (free_load n ms p.0 p.1 apart)))
 
@@ -498,8 +506,8 @@ changed_flight g ms ns queue b c xs f ef en ec =
 -- ---- a reservation ----
 
 pub no_unit_there : (ms : List Pending) (i : Instr) (place : SomePlace) (o : Option UnitKind) → o ≡ (uses i).unit
-    → o ≡ None → refusal_of (row_tests ms (Taking i place)) ≡ Some (UnitBusy Branch)
-unfolding row_tests refusal_of conflict.unit_for first_unit
+    → o ≡ None → refusal_of (reservation_tests ms (Taking i place)) ≡ Some (UnitBusy Branch)
+unfolding reservation_tests refusal_of conflict.unit_for first_unit
 no_unit_there ms i place (Some kind) e h = cc
 no_unit_there ms i place None e h =
     ap (λ u. refusal_of (record { fails = is_none (unit_for ms u); refusal = UnitBusy (first_unit u) }
@@ -509,7 +517,7 @@ no_unit_there ms i place None e h =
     } ∷ [])) (sym e)
 
 same_unit_for : (ms : List Pending) (kind : Option UnitKind)
-    → conflict.unit_for row_of_issued (on_board ms) kind ≡ unit_for ms kind
+    → conflict.unit_for reservation_of_issued (on_board ms) kind ≡ unit_for ms kind
 unfolding conflict.unit_for
 same_unit_for ms None = refl
 same_unit_for ms (Some kind) = same_free kind ms
@@ -525,13 +533,15 @@ unfolding reserve_answer refusal_of
 reserve_refused ms i b None e = refl
 reserve_refused ms i b (Some u) e =
     by_test (list_any (awaited ms) rs) (ResultReserved (conflict.first_such (awaited ms) rs)) (u, suc b.last)
-    ∙ sym (ap refusal_in (ap (λ xs. cond (list_any (conflict.awaited row_of_issued xs) rs)
-    (Err (ResultReserved (conflict.first_such (conflict.awaited row_of_issued xs) rs))) (Ok (u, suc b.last))) e
-    ∙ ap (λ t. cond t (Err (ResultReserved (conflict.first_such (conflict.awaited row_of_issued (on_board ms)) rs)))
-    (Ok (u, suc b.last))) (any_same (conflict.awaited row_of_issued (on_board ms)) (awaited ms) (same_awaited ms)
+    ∙ sym (ap refusal_in (ap (λ xs. cond (list_any (conflict.awaited reservation_of_issued xs) rs)
+    (Err (ResultReserved (conflict.first_such (conflict.awaited reservation_of_issued xs) rs))) (Ok (u, suc b.last))) e
+    ∙ ap (λ t. cond t (Err (ResultReserved (conflict.first_such (conflict.awaited reservation_of_issued (on_board ms))
+    rs)))
+    (Ok (u, suc b.last))) (any_same (conflict.awaited reservation_of_issued (on_board ms)) (awaited ms) (same_awaited
+    ms)
     rs)
     ∙ ap (λ z. cond (list_any (awaited ms) rs) (Err (ResultReserved (unwrap_or z (B 0)))) (Ok (u, suc b.last)))
-    (find_same (conflict.awaited row_of_issued (on_board ms)) (awaited ms) (same_awaited ms) rs)))
+    (find_same (conflict.awaited reservation_of_issued (on_board ms)) (awaited ms) (same_awaited ms) rs)))
   where
     rs : List Reg
     rs = results (shape_of i)
@@ -543,13 +553,13 @@ reserve_refused ms i b (Some u) e =
 
 pub reserve_answered : (ms : List Pending) (i : Instr) (place : SomePlace) (b : Standing)
     (r : Result (FunctionalUnit × ℕ) Refusal) → b.issued ≡ on_board ms
-    → r ≡ reserve_answer b i (conflict.unit_for row_of_issued b.issued (uses i).unit)
-    → refusal_of (row_tests ms (Taking i place)) ≡ refusal_in r
-unfolding row_tests
+    → r ≡ reserve_answer b i (conflict.unit_for reservation_of_issued b.issued (uses i).unit)
+    → refusal_of (reservation_tests ms (Taking i place)) ≡ refusal_in r
+unfolding reservation_tests
 reserve_answered ms i place b r e k =
     reserve_refused ms i b (unit_for ms (uses i).unit) e
     ∙ ap (λ o. refusal_in (reserve_answer b i o))
-    (sym (ap (λ xs. conflict.unit_for row_of_issued xs (uses i).unit) e ∙ same_unit_for ms (uses i).unit))
+    (sym (ap (λ xs. conflict.unit_for reservation_of_issued xs (uses i).unit) e ∙ same_unit_for ms (uses i).unit))
     ∙ ap refusal_in (sym k)
 
 pub unreserved : (b c : Standing) (i : Instr) (r : Result (FunctionalUnit × ℕ) Refusal) (k : Refusal)
@@ -569,7 +579,8 @@ reserve_ok : (b : Standing) (i : Instr) (o : Option FunctionalUnit) (p : Functio
     → reserve_answer b i o ≡ Ok p → (o ≡ Some p.0) × (p.1 ≡ suc b.last)
 unfolding reserve_answer
 reserve_ok b i None p h = cc
-reserve_ok b i (Some u) p h = by_test (list_any (conflict.awaited row_of_issued b.issued) (results (shape_of i))) _ h
+reserve_ok b i (Some u) p h = by_test (list_any (conflict.awaited reservation_of_issued b.issued) (results (shape_of
+    i))) _ h
   where
     by_test : (t : Bool) (k : Refusal) → cond t (Err k) (Ok (u, suc b.last)) ≡ Ok p → (Some u ≡ Some p.0)
         × (p.1 ≡ suc b.last)
@@ -580,11 +591,14 @@ reserve_ok b i (Some u) p h = by_test (list_any (conflict.awaited row_of_issued 
 -- the unit and the number that are answered
 pub reserved_as : (ms : List Pending) (i : Instr) (b : Standing) (r : Result (FunctionalUnit × ℕ) Refusal)
     (p : FunctionalUnit × ℕ) → b.issued ≡ on_board ms
-    → r ≡ reserve_answer b i (conflict.unit_for row_of_issued b.issued (uses i).unit) → r ≡ Ok p
+    → r ≡ reserve_answer b i (conflict.unit_for reservation_of_issued b.issued (uses i).unit) → r ≡ Ok p
     → (unit_for ms (uses i).unit ≡ Some p.0) × (p.1 ≡ suc b.last)
 reserved_as ms i b r p e k h =
-    let q = reserve_ok b i (conflict.unit_for row_of_issued b.issued (uses i).unit) p (sym k ∙ h) in
-    (sym (ap (λ xs. conflict.unit_for row_of_issued xs (uses i).unit) e ∙ same_unit_for ms (uses i).unit) ∙ q.0, q.1)
+    let q = reserve_ok b i (conflict.unit_for reservation_of_issued b.issued (uses i).unit) p (sym k ∙ h) in (
+      sym (ap (λ xs. conflict.unit_for reservation_of_issued xs (uses i).unit) e ∙ same_unit_for ms (uses i).unit)
+          ∙ q.0,
+      q.1,
+    )
 
 first_free_is : (held : FunctionalUnit → Bool) (us : List FunctionalUnit) (u : FunctionalUnit)
     → first_free held us ≡ Some u → held u ≡ false
@@ -597,8 +611,8 @@ first_free_is held (v ∷ us) u h = by_test (held v) refl (first_free_is held us
     by_test true e rest k = rest k
     by_test false e rest k = ap held (sym (some_inj v u k)) ∙ e
 
-not_held : (u : FunctionalUnit) (m : Pending) → board.holds u (row_of m) ≡ false → stage_at u m ≡ None
-unfolding board.holds row_of stage_at stage_in is_reserved progress_of
+not_held : (u : FunctionalUnit) (m : Pending) → board.holds u (reservation_of m) ≡ false → stage_at u m ≡ None
+unfolding board.holds reservation_of stage_at stage_in is_reserved progress_of
 not_held u m h = by_phase m.phase (same_unit m.unit u) h
   where
     by_phase : (p : Phase) (t : Bool) → (t && is_reserved (progress_of p)) ≡ false → cond t (stage_in p) None ≡ None
@@ -612,8 +626,8 @@ pub unit_free : (ms : List Pending) (kind : Option UnitKind) (u : FunctionalUnit
 unfolding conflict.unit_for free_unit is_held
 unit_free ms None u h = cc
 unit_free ms (Some kind) u h =
-    seek_nobody (stage_at u) ms (each_of_any (λ m. board.holds u (row_of m)) (λ m. stage_at u m ≡ None)
-    (λ m k. not_held u m k) ms (first_free_is (is_held row_of ms) (units_of kind) u h))
+    seek_nobody (stage_at u) ms (each_of_any (λ m. board.holds u (reservation_of m)) (λ m. stage_at u m ≡ None)
+    (λ m k. not_held u m k) ms (first_free_is (is_held reservation_of ms) (units_of kind) u h))
 
 pub reserve_tied : (ms ns : List Pending) (queue : Queue) (b c : Standing) (i : Instr) (at : ℕ)
     (p : FunctionalUnit × ℕ) → IsTied ms queue b → p.1 ≡ suc b.last

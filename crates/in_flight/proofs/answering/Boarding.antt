@@ -15,11 +15,11 @@ use Rattle.instructions.specs.RegisterLists.{is_in}
 use Rattle.instructions.specs.Shape.{shape_of, puts_of, has_reference}
 use Rattle.instructions.specs.Operands.{sources_of}
 use Rattle.relocation.specs.declared.area.Access.TheVariants.{Load, Store}
-use Rattle.scoreboard.specs.declared.row.Progress.{Progress}
-use Rattle.scoreboard.specs.declared.row.Progress.TheVariants.{Reserved, Left}
-use Rattle.scoreboard.specs.declared.row.Row.{Row}
-use Rattle.scoreboard.specs.Rows.{is_reserved, returning_to, to_come, to_come_in, reads, reads_in, comes, reads_it}
-use Rattle.scoreboard.specs.Rows.{holds, has_turn}
+use Rattle.scoreboard.specs.declared.reservation.Progress.{Progress}
+use Rattle.scoreboard.specs.declared.reservation.Progress.TheVariants.{Reserved, Left}
+use Rattle.scoreboard.specs.declared.reservation.Reservation.{Reservation}
+use Rattle.scoreboard.specs.Reservations.{is_reserved, returning_to, to_come, to_come_in, reads, reads_in, comes, reads_it}
+use Rattle.scoreboard.specs.Reservations.{holds, has_turn}
 use Rattle.scoreboard.specs.Units.{same_unit, units_of}
 use Rattle.scoreboard.specs.Conflicts.{awaited, to_be_read, first_such, out_of_turn, is_held, first_free, free_unit}
 use Rattle.unit_ops.specs.declared.Operands.{Operands}
@@ -27,7 +27,7 @@ use Rattle.unit_ops.specs.declared.UnitValue.{UnitValue}
 use Rattle.scoreboard.specs.declared.issued.Issued.{Issued}
 use Rattle.scoreboard.specs.Answers.{held_in, returns_in, returning_by, new_issued, unless, read_answer, store_answer}
 use Rattle.scoreboard.specs.Answers.{return_answer, turn_answer, in_progress, read, left, left_with, gone}
-use Rattle.scoreboard.specs.Issued.{row_of as row_of_issued, channel_of}
+use Rattle.scoreboard.specs.Issued.{reservation_of as reservation_of_issued, channel_of}
 use Rattle.instructions.specs.Each.{Each}
 use Rattle.in_flight.specs.declared.pending.Arrival.{Arrival}
 use Rattle.in_flight.specs.declared.pending.HopperEntry.{HopperEntry}
@@ -38,7 +38,7 @@ use Rattle.in_flight.specs.declared.pending.Phase.{Phase}
 use Rattle.in_flight.specs.declared.pending.Phase.TheVariants.{Before, After}
 use Rattle.in_flight.specs.declared.pending.Stage.{Stage}
 use Rattle.in_flight.specs.declared.pending.Stage.TheVariants.{Waiting, Read, Finished}
-use Rattle.in_flight.specs.Pending.{has_read, returning, progress_of, row_of}
+use Rattle.in_flight.specs.Pending.{has_read, returning, progress_of, reservation_of}
 use Rattle.instructions.specs.Finding.{Found, found_further, found_here, seek, put_back, replaced}
 use Rattle.in_flight.specs.Lookup.{arrival_in, stage_in, stage_at, entry_at, arrival_at, in_phase, kept}
 use Rattle.in_flight.specs.inner.Board.{issued_of, kept_on, on_board}
@@ -62,7 +62,7 @@ found_on_board (Some f) = Some
 board-append : (xs ys : List Pending) → on_board (xs ++ ys) ≡ on_board xs ++ on_board ys
 unfolding on_board kept_on
 board-append [] ys = refl
-board-append (m ∷ xs) ys = by_progress (row_of m).progress (board-append xs ys)
+board-append (m ∷ xs) ys = by_progress (reservation_of m).progress (board-append xs ys)
   where
     by_progress : (p : Progress) → on_board (xs ++ ys) ≡ on_board xs ++ on_board ys
         → kept_on p (on_board (xs ++ ys)) (issued_of m) ≡ kept_on p (on_board xs) (issued_of m) ++ on_board ys
@@ -71,52 +71,59 @@ board-append (m ∷ xs) ys = by_progress (row_of m).progress (board-append xs ys
     by_progress (Left None) e = e
 
 -- a test that an entered store fails
-pub board_any : (t : Row → Bool) → ((row : Row) → row.progress ≡ Left None → t row ≡ false) → (ms : List Pending)
-    → list_any (λ x. t (row_of_issued x)) (on_board ms) ≡ list_any (λ m. t (row_of m)) ms
-unfolding on_board kept_on issued_of row_of_issued
+pub board_any : (t : Reservation → Bool) → ((reservation : Reservation) → reservation.progress ≡ Left None
+    → t reservation ≡ false) → (ms : List Pending)
+    → list_any (λ x. t (reservation_of_issued x)) (on_board ms) ≡ list_any (λ m. t (reservation_of m)) ms
+unfolding on_board kept_on issued_of reservation_of_issued
 board_any t h [] = refl
-board_any t h (m ∷ ms) = by_progress (row_of m).progress refl (board_any t h ms)
+board_any t h (m ∷ ms) = by_progress (reservation_of m).progress refl (board_any t h ms)
   where
-    by_progress : (p : Progress) → (row_of m).progress ≡ p
-        → list_any (λ x. t (row_of_issued x)) (on_board ms) ≡ list_any (λ x. t (row_of x)) ms
-        → list_any (λ x. t (row_of_issued x)) (kept_on p (on_board ms) (issued_of m))
-        ≡ (t (row_of m) || list_any (λ x. t (row_of x)) ms)
-    by_progress (Reserved b) e k = ap (λ b. t (row_of m) || b) k
-    by_progress (Left (Some n)) e k = ap (λ b. t (row_of m) || b) k
-    by_progress (Left None) e k = k ∙ ap (λ b. b || list_any (λ x. t (row_of x)) ms) (sym (h (row_of m) e))
+    by_progress : (p : Progress) → (reservation_of m).progress ≡ p
+        → list_any (λ x. t (reservation_of_issued x)) (on_board ms) ≡ list_any (λ x. t (reservation_of x)) ms
+        → list_any (λ x. t (reservation_of_issued x)) (kept_on p (on_board ms) (issued_of m))
+        ≡ (t (reservation_of m) || list_any (λ x. t (reservation_of x)) ms)
+    by_progress (Reserved b) e k = ap (λ b. t (reservation_of m) || b) k
+    by_progress (Left (Some n)) e k = ap (λ b. t (reservation_of m) || b) k
+    by_progress (Left None) e k = k ∙ ap (λ b. b || list_any (λ x. t (reservation_of x)) ms) (sym (h (reservation_of m)
+        e))
 
-nothing_comes : (r : Reg) (row : Row) → row.progress ≡ Left None → comes r row ≡ false
+nothing_comes : (r : Reg) (reservation : Reservation) → reservation.progress ≡ Left None → comes r reservation ≡ false
 unfolding comes to_come to_come_in returning_to is_in
-nothing_comes r row e = ap (λ p. is_in (to_come_in (shape_of row.instr) p) r) e
+nothing_comes r reservation e = ap (λ p. is_in (to_come_in (shape_of reservation.instr) p) r) e
 
-nothing_read : (r : Reg) (row : Row) → row.progress ≡ Left None → reads_it r row ≡ false
+nothing_read : (r : Reg) (reservation : Reservation) → reservation.progress ≡ Left None → reads_it r reservation ≡ false
 unfolding reads_it reads reads_in is_in
-nothing_read r row e = ap (λ p. is_in (reads_in (sources_of row.instr) p) r) e
+nothing_read r reservation e = ap (λ p. is_in (reads_in (sources_of reservation.instr) p) r) e
 
-pub no_turn : (row : Row) → row.progress ≡ Left None → has_turn row ≡ false
+pub no_turn : (reservation : Reservation) → reservation.progress ≡ Left None → has_turn reservation ≡ false
 unfolding has_turn is_reserved
-no_turn row e = ap (λ p. is_reserved p && has_reference (shape_of row.instr)) e
+no_turn reservation e = ap (λ p. is_reserved p && has_reference (shape_of reservation.instr)) e
 
 and_false : (b : Bool) → (b && false) ≡ false
 and_false true = refl
 and_false false = refl
 
-no_unit : (u : FunctionalUnit) (row : Row) → row.progress ≡ Left None → holds u row ≡ false
+no_unit : (u : FunctionalUnit) (reservation : Reservation) → reservation.progress ≡ Left None
+    → holds u reservation ≡ false
 unfolding holds is_reserved
-no_unit u row e = ap (λ p. same_unit row.unit u && is_reserved p) e ∙ and_false (same_unit row.unit u)
+no_unit u reservation e = ap (λ p. same_unit reservation.unit u && is_reserved p) e
+    ∙ and_false (same_unit reservation.unit u)
 
-pub same_awaited : (ms : List Pending) (r : Reg) → awaited row_of_issued (on_board ms) r ≡ awaited row_of ms r
+pub same_awaited : (ms : List Pending) (r : Reg) → awaited reservation_of_issued (on_board ms) r
+    ≡ awaited reservation_of ms r
 unfolding awaited
 same_awaited ms r = board_any (comes r) (nothing_comes r) ms
 
-pub same_to_be_read : (ms : List Pending) (r : Reg) → to_be_read row_of_issued (on_board ms) r ≡ to_be_read row_of ms r
+pub same_to_be_read : (ms : List Pending) (r : Reg) → to_be_read reservation_of_issued (on_board ms) r
+    ≡ to_be_read reservation_of ms r
 unfolding to_be_read
 same_to_be_read ms r = board_any (reads_it r) (nothing_read r) ms
 
-pub same_turn : (ms : List Pending) → out_of_turn row_of_issued (on_board ms) ≡ out_of_turn row_of ms
+pub same_turn : (ms : List Pending) → out_of_turn reservation_of_issued (on_board ms) ≡ out_of_turn reservation_of ms
 same_turn ms = board_any has_turn no_turn ms
 
-pub same_held : (ms : List Pending) (u : FunctionalUnit) → is_held row_of_issued (on_board ms) u ≡ is_held row_of ms u
+pub same_held : (ms : List Pending) (u : FunctionalUnit) → is_held reservation_of_issued (on_board ms) u
+    ≡ is_held reservation_of ms u
 unfolding is_held
 same_held ms u = board_any (holds u) (no_unit u) ms
 
@@ -128,10 +135,11 @@ first_free_same f g h (u ∷ us) =
     ap (λ b. cond b (first_free f us) (Some u)) (h u) ∙ ap (λ o. cond (g u) o (Some u)) (first_free_same f g h us)
 
 pub same_free : (kind : UnitKind) (ms : List Pending)
-    → free_unit row_of_issued (on_board ms) kind ≡ free_unit row_of ms kind
+    → free_unit reservation_of_issued (on_board ms) kind ≡ free_unit reservation_of ms kind
 unfolding free_unit
 same_free kind ms =
-    first_free_same (is_held row_of_issued (on_board ms)) (is_held row_of ms) (same_held ms) (units_of kind)
+    first_free_same (is_held reservation_of_issued (on_board ms)) (is_held reservation_of ms) (same_held ms) (units_of
+    kind)
 
 -- ---- the one that holds a unit ----
 
@@ -139,7 +147,7 @@ kept_nothing : (l : List Issued) (x : Issued) → kept_on (Left None) l x ≡ l
 unfolding kept_on
 kept_nothing l x = refl
 
-after_off : {K : Type 0} (m : Pending) (o : Option (Found Pending K)) → (row_of m).progress ≡ Left None
+after_off : {K : Type 0} (m : Pending) (o : Option (Found Pending K)) → (reservation_of m).progress ≡ Left None
     → found_on_board (found_further m o) ≡ found_on_board o
 unfolding found_on_board found_further on_board
 after_off m None e = refl
@@ -153,7 +161,7 @@ kept_here (Reserved b) l x h = refl
 kept_here (Left (Some n)) l x h = refl
 kept_here (Left None) l x h = absurd (h refl)
 
-after_on : {K : Type 0} (m : Pending) (o : Option (Found Pending K)) → ((row_of m).progress ≡ Left None → ⊥)
+after_on : {K : Type 0} (m : Pending) (o : Option (Found Pending K)) → ((reservation_of m).progress ≡ Left None → ⊥)
     → found_on_board (found_further m o) ≡ found_further (issued_of m) (found_on_board o)
 unfolding found_on_board found_further on_board
 after_on m None h = refl
@@ -163,20 +171,20 @@ after_on m (Some f) h = ap (λ l. Some
       member = issued_of f.member;
       answer = f.member.instr;
       later = on_board f.later;
-    })) (kept_here (row_of m).progress (on_board f.earlier) (issued_of m) h)
+    })) (kept_here (reservation_of m).progress (on_board f.earlier) (issued_of m) h)
 
--- the one that is sought by its row is the one that is sought among the pending
+-- the one that is sought by its reservation is the one that is sought among the pending
 board_seek : {K : Type 0} (f : Pending → Option K) (g : Issued → Option Instr)
     → ((m : Pending) (k : K) → f m ≡ Some k → g (issued_of m) ≡ Some m.instr)
     → ((m : Pending) → f m ≡ None → g (issued_of m) ≡ None)
-    → ((m : Pending) (k : K) → f m ≡ Some k → (row_of m).progress ≡ Left None → ⊥) → (ms : List Pending)
+    → ((m : Pending) (k : K) → f m ≡ Some k → (reservation_of m).progress ≡ Left None → ⊥) → (ms : List Pending)
     → seek g (on_board ms) ≡ found_on_board (seek f ms)
 unfolding seek found_here found_on_board on_board
 board_seek f g pass fail stay [] = refl
 board_seek {K} f g pass fail stay (m ∷ ms) =
-    by_answer (f m) refl (row_of m).progress refl (board_seek f g pass fail stay ms)
+    by_answer (f m) refl (reservation_of m).progress refl (board_seek f g pass fail stay ms)
   where
-    by_answer : (o : Option K) → f m ≡ o → (p : Progress) → (row_of m).progress ≡ p
+    by_answer : (o : Option K) → f m ≡ o → (p : Progress) → (reservation_of m).progress ≡ p
         → seek g (on_board ms) ≡ found_on_board (seek f ms)
         → seek g (kept_on p (on_board ms) (issued_of m)) ≡ found_on_board (found_here o m ms (seek f ms))
     by_answer (Some k) e p ep ih =
@@ -227,7 +235,7 @@ unit_on_in false p t h e = cc
 
 pub unit_found : (u : FunctionalUnit) (ms : List Pending)
     → seek (held_in u) (on_board ms) ≡ found_on_board (seek (stage_at u) ms)
-unfolding held_in holds issued_of row_of stage_at
+unfolding held_in holds issued_of reservation_of stage_at
 unit_found u ms =
     board_seek (stage_at u) (held_in u)
     (λ m t h. ap (λ b. cond b (Some m.instr) None) (unit_here_in u m.unit m.phase t h))
@@ -252,28 +260,29 @@ unless_same f g rs k h = ap (λ b. unless b (k (first_such f rs))) (any_same f g
 
 pub read_of_all : (u : FunctionalUnit) (ms : List Pending) (f : Found Pending Stage) → seek (stage_at u) ms ≡ Some f
     → read_answer (seek (held_in u) (on_board ms))
-    ≡ unless (list_any (awaited row_of f.earlier) (sources_of f.member.instr))
-    (OperandAwaited (first_such (awaited row_of f.earlier) (sources_of f.member.instr)))
-unfolding read_answer found_on_board issued_of row_of
+    ≡ unless (list_any (awaited reservation_of f.earlier) (sources_of f.member.instr))
+    (OperandAwaited (first_such (awaited reservation_of f.earlier) (sources_of f.member.instr)))
+unfolding read_answer found_on_board issued_of reservation_of
 read_of_all u ms f h =
     ap read_answer (unit_found u ms ∙ ap found_on_board h)
-    ∙ unless_same (awaited row_of_issued (on_board f.earlier)) (awaited row_of f.earlier) (sources_of f.member.instr)
+    ∙ unless_same (awaited reservation_of_issued (on_board f.earlier)) (awaited reservation_of f.earlier) (sources_of
+    f.member.instr)
     OperandAwaited (same_awaited f.earlier)
 
 pub store_of_all : (u : FunctionalUnit) (ms : List Pending) (f : Found Pending Stage) → seek (stage_at u) ms ≡ Some f
     → store_answer (seek (held_in u) (on_board ms))
-    ≡ unless (list_any (to_be_read row_of f.earlier) (puts_of (shape_of f.member.instr)))
-    (ResultHeld (first_such (to_be_read row_of f.earlier) (puts_of (shape_of f.member.instr))))
-unfolding store_answer found_on_board issued_of row_of
+    ≡ unless (list_any (to_be_read reservation_of f.earlier) (puts_of (shape_of f.member.instr)))
+    (ResultHeld (first_such (to_be_read reservation_of f.earlier) (puts_of (shape_of f.member.instr))))
+unfolding store_answer found_on_board issued_of reservation_of
 store_of_all u ms f h =
     ap store_answer (unit_found u ms ∙ ap found_on_board h)
-    ∙ unless_same (to_be_read row_of_issued (on_board f.earlier)) (to_be_read row_of f.earlier)
+    ∙ unless_same (to_be_read reservation_of_issued (on_board f.earlier)) (to_be_read reservation_of f.earlier)
     (puts_of (shape_of f.member.instr)) ResultHeld (same_to_be_read f.earlier)
 
 pub turn_of_all : (u : FunctionalUnit) (ms : List Pending) (f : Found Pending Stage) → seek (stage_at u) ms ≡ Some f
     → turn_answer (seek (held_in u) (on_board ms))
-    ≡ unless (has_reference (shape_of f.member.instr) && out_of_turn row_of f.earlier) OutOfTurn
-unfolding turn_answer found_on_board issued_of row_of
+    ≡ unless (has_reference (shape_of f.member.instr) && out_of_turn reservation_of f.earlier) OutOfTurn
+unfolding turn_answer found_on_board issued_of reservation_of
 turn_of_all u ms f h =
     ap turn_answer (unit_found u ms ∙ ap found_on_board h)
     ∙ ap (λ b. unless (has_reference (shape_of f.member.instr) && b) OutOfTurn) (same_turn f.earlier)
@@ -292,34 +301,38 @@ arrival_in_there c (After (Accepted n v)) x h = by_test (eqb n c) refl h
         ∙ ap (λ (y : Arrival). After (Accepted c y.word)) (some_inj _ x k)
     by_test false e k = cc
 
-arrival_progress : (c : ℕ) (m : Pending) (x : Arrival) → arrival_at c m ≡ Some x → (row_of m).progress ≡ Left (Some c)
-unfolding arrival_at row_of progress_of returning
+arrival_progress : (c : ℕ) (m : Pending) (x : Arrival) → arrival_at c m ≡ Some x
+    → (reservation_of m).progress ≡ Left (Some c)
+unfolding arrival_at reservation_of progress_of returning
 arrival_progress c m x h = ap progress_of (arrival_in_there c m.phase x h)
 
-not_reserved : (n : ℕ) (e : Pending) (b : Bool) → (row_of e).progress ≡ Reserved b → returning_by n (issued_of e) ≡ None
+not_reserved : (n : ℕ) (e : Pending) (b : Bool) → (reservation_of e).progress ≡ Reserved b
+    → returning_by n (issued_of e) ≡ None
 unfolding returning_by returns_in issued_of
-not_reserved n e b h = ap (λ p. cond (returns_in n p) (Some (row_of e).instr) None) h
+not_reserved n e b h = ap (λ p. cond (returns_in n p) (Some (reservation_of e).instr) None) h
 
-not_that : (n m : ℕ) (e : Pending) → (row_of e).progress ≡ Left (Some m) → comes (X n) (row_of e) ≡ false
+not_that : (n m : ℕ) (e : Pending) → (reservation_of e).progress ≡ Left (Some m)
+    → comes (X n) (reservation_of e) ≡ false
     → returning_by n (issued_of e) ≡ None
 unfolding returning_by returns_in issued_of comes to_come to_come_in returning_to is_in
 not_that n m e h k =
-    ap (λ p. cond (returns_in n p) (Some (row_of e).instr) None) h
-    ∙ ap (λ b. cond b (Some (row_of e).instr) None)
+    ap (λ p. cond (returns_in n p) (Some (reservation_of e).instr) None) h
+    ∙ ap (λ b. cond b (Some (reservation_of e).instr) None)
     (ne_eqb m n (λ q. let z : (eqb n m || false)
-    ≡ false = sym (ap (λ p. is_in (to_come_in (shape_of (row_of e).instr) p) (X n)) h)
+    ≡ false = sym (ap (λ p. is_in (to_come_in (shape_of (reservation_of e).instr) p) (X n)) h)
     ∙ k in let y : (eqb n m || false) ≡ true = ap (λ b. b || false) (eq-eqb n m (sym q)) in cc))
 
-silent_returns : (n : ℕ) (es : List Pending) → awaited row_of es (X n) ≡ false
+silent_returns : (n : ℕ) (es : List Pending) → awaited reservation_of es (X n) ≡ false
     → Each (λ x. returning_by n x ≡ None) (on_board es)
 unfolding awaited on_board kept_on
 silent_returns n [] h = tt
 silent_returns n (e ∷ es) h =
-    let p = or_parts (comes (X n) (row_of e)) (list_any (λ m. comes (X n) (row_of m)) es) h in
-    by_progress n (row_of e).progress refl (issued_of e) (on_board es) refl p.0 (silent_returns n es p.1)
+    let p = or_parts (comes (X n) (reservation_of e)) (list_any (λ m. comes (X n) (reservation_of m)) es) h in
+    by_progress n (reservation_of e).progress refl (issued_of e) (on_board es) refl p.0 (silent_returns n es p.1)
   where
-    by_progress : (n : ℕ) (p : Progress) → (row_of e).progress ≡ p → (x : Issued) (l : List Issued) → x ≡ issued_of e
-        → comes (X n) (row_of e) ≡ false → Each (λ x. returning_by n x ≡ None) l
+    by_progress : (n : ℕ) (p : Progress) → (reservation_of e).progress ≡ p → (x : Issued) (l : List Issued)
+        → x ≡ issued_of e
+        → comes (X n) (reservation_of e) ≡ false → Each (λ x. returning_by n x ≡ None) l
         → Each (λ x. returning_by n x ≡ None) (kept_on p l x)
     by_progress n (Reserved b) ep x l ex h k = (ap (returning_by n) ex ∙ not_reserved n e b ep, k)
     by_progress n (Left (Some m)) ep x l ex h k = (ap (returning_by n) ex ∙ not_that n m e ep h, k)
@@ -327,21 +340,22 @@ silent_returns n (e ∷ es) h =
 
 returning_here : (n : ℕ) (m : Pending) (x : Arrival) → arrival_at n m ≡ Some x
     → returning_by n (issued_of m) ≡ Some m.instr
-unfolding returning_by returns_in issued_of row_of
+unfolding returning_by returns_in issued_of reservation_of
 returning_here n m x h =
     ap (λ p. cond (returns_in n p) (Some m.instr) None) (arrival_progress n m x h)
     ∙ ap (λ b. cond b (Some m.instr) None) (eq-eqb n n refl)
 
 -- the board's part of a list round an instruction that it has
-board_around : (es : List Pending) (m : Pending) (ls : List Pending) → ((row_of m).progress ≡ Left None → ⊥)
+board_around : (es : List Pending) (m : Pending) (ls : List Pending) → ((reservation_of m).progress ≡ Left None → ⊥)
     → on_board (es ++ m ∷ ls) ≡ on_board es ++ issued_of m ∷ on_board ls
 unfolding on_board
 board_around es m ls h =
-    board-append es (m ∷ ls) ∙ ap (λ l. on_board es ++ l) (kept_here (row_of m).progress (on_board ls) (issued_of m) h)
+    board-append es (m ∷ ls) ∙ ap (λ l. on_board es ++ l) (kept_here (reservation_of m).progress (on_board ls)
+    (issued_of m) h)
 
 -- a load that returns, as it is found on the board
 pub return_found : (n : ℕ) (ms : List Pending) (f : Found Pending Arrival) → seek (arrival_at n) ms ≡ Some f
-    → awaited row_of f.earlier (X n) ≡ false → seek (returning_by n) (on_board ms) ≡ found_on_board (Some f)
+    → awaited reservation_of f.earlier (X n) ≡ false → seek (returning_by n) (on_board ms) ≡ found_on_board (Some f)
 unfolding found_on_board
 return_found n ms f h k =
     let p = seek_splits (arrival_at n) ms f h in
@@ -352,9 +366,9 @@ return_found n ms f h k =
     (silent_returns n f.earlier k) (returning_here n f.member f.answer p.1)
 
 pub return_of_all : (n : ℕ) (ms : List Pending) (f : Found Pending Arrival) → seek (arrival_at n) ms ≡ Some f
-    → awaited row_of f.earlier (X n) ≡ false
+    → awaited reservation_of f.earlier (X n) ≡ false
     → return_answer n (seek (returning_by n) (on_board ms))
-    ≡ unless (to_be_read row_of f.earlier (X n)) (ResultHeld (X n))
+    ≡ unless (to_be_read reservation_of f.earlier (X n)) (ResultHeld (X n))
 unfolding return_answer found_on_board
 return_of_all n ms f h k =
     ap (return_answer n) (return_found n ms f h k)
@@ -374,7 +388,7 @@ unfolding replaced put_back found_on_board
 unit_changed u ms f g h = ap (λ o. replaced o (on_board ms) g) (unit_found u ms ∙ ap found_on_board h)
 
 read_put : (m : Pending) (os : Operands) → on_board (in_phase m (Before (Read os)) ∷ []) ≡ read (issued_of m)
-unfolding on_board kept_on read issued_of row_of in_progress in_phase progress_of has_read
+unfolding on_board kept_on read issued_of reservation_of in_progress in_phase progress_of has_read
 read_put m os = refl
 
 pub read_follows : (u : FunctionalUnit) (ms : List Pending) (f : Found Pending Stage) (os : Operands)
@@ -397,13 +411,13 @@ same_put g ms f xs h e =
 
 seen_alike : (m n : Pending) → issued_of m ≡ issued_of n → on_board (m ∷ []) ≡ on_board (n ∷ [])
 unfolding on_board issued_of
-seen_alike m n e = ap (λ (x : Issued). kept_on x.row.progress [] x) e
+seen_alike m n e = ap (λ (x : Issued). kept_on x.reservation.progress [] x) e
 
 -- an instruction that has read comes to another stage in which it has
 pub stage_follows : (u : FunctionalUnit) (ms : List Pending) (f : Found Pending Stage) (v : UnitValue)
     → seek (stage_at u) ms ≡ Some f → has_read f.answer ≡ true
     → on_board (put_back f (in_phase f.member (Before (Finished v)) ∷ [])) ≡ on_board ms
-unfolding issued_of row_of in_phase progress_of has_read
+unfolding issued_of reservation_of in_phase progress_of has_read
 stage_follows u ms f v h e =
     let p = seek_splits (stage_at u) ms f h in
     let q : progress_of f.member.phase ≡ Reserved true =
@@ -412,16 +426,16 @@ stage_follows u ms f v h e =
     (seen_alike (in_phase f.member (Before (Finished v))) f.member
     (sym (ap (λ z. record {
       number = f.member.number;
-      row = record { instr = f.member.instr; unit = f.member.unit; progress = z };
+      reservation = record { instr = f.member.instr; unit = f.member.unit; progress = z };
     }) q)))
 
 kept_put : (m : Pending) (l : Option Outstanding) → on_board (kept m l) ≡ left_with (issued_of m) (left_to_return l)
-unfolding on_board kept kept_on left_with issued_of row_of in_progress in_phase progress_of left_to_return
+unfolding on_board kept kept_on left_with issued_of reservation_of in_progress in_phase progress_of left_to_return
 kept_put m None = refl
 kept_put m (Some l) = by_register (returning l)
   where
     by_register : (o : Option ℕ) → kept_on (Left o) []
-        (record { number = m.number; row = record { instr = m.instr; unit = m.unit; progress = Left o } })
+        (record { number = m.number; reservation = record { instr = m.instr; unit = m.unit; progress = Left o } })
         ≡ left_with (issued_of m) o
     by_register None = refl
     by_register (Some n) = refl
@@ -429,7 +443,7 @@ kept_put m (Some l) = by_register (returning l)
 pub store_follows : (u : FunctionalUnit) (ms : List Pending) (f : Found Pending Stage) (l : Option Outstanding)
     → seek (stage_at u) ms ≡ Some f → left_to_return l ≡ channel_of (shape_of f.member.instr)
     → on_board (put_back f (kept f.member l)) ≡ replaced (seek (held_in u) (on_board ms)) (on_board ms) left
-unfolding left issued_of row_of
+unfolding left issued_of reservation_of
 store_follows u ms f l h e =
     board_put f (kept f.member l)
     ∙ ap (λ k. on_board f.earlier ++ (k ++ on_board f.later))
@@ -439,34 +453,34 @@ store_follows u ms f l h e =
 pub load_follows : (p : ℕ) (ms : List Pending) (f : Found Pending HopperEntry) (n w : ℕ)
     → seek (entry_at p) ms ≡ Some f → f.answer.access ≡ Load n
     → on_board (put_back f (in_phase f.member (After (Accepted n w)) ∷ [])) ≡ on_board ms
-unfolding entry_at issued_of row_of in_phase progress_of returning
+unfolding entry_at issued_of reservation_of in_phase progress_of returning
 load_follows p ms f n w h e =
     let q = entry_in_found p f.member.phase f.answer (seek_splits (entry_at p) ms f h).1 in
     same_put (entry_at p) ms f (in_phase f.member (After (Accepted n w)) ∷ []) h
     (seen_alike (in_phase f.member (After (Accepted n w))) f.member
     (sym (ap (λ z. record {
       number = f.member.number;
-      row = record {
+      reservation = record {
         instr = f.member.instr;
         unit = f.member.unit;
         progress = progress_of z;
       };
     }) (q.1 ∙ ap (λ x. After (Entered q.0 f.answer.a x)) e))))
 
-unseen : (m : Pending) → (row_of m).progress ≡ Left None → [] ≡ on_board (m ∷ [])
+unseen : (m : Pending) → (reservation_of m).progress ≡ Left None → [] ≡ on_board (m ∷ [])
 unfolding on_board kept_on
 unseen m e = sym (ap (λ p. kept_on p [] (issued_of m)) e)
 
 pub stored_follows : (p : ℕ) (ms : List Pending) (f : Found Pending HopperEntry) (w : ℕ)
     → seek (entry_at p) ms ≡ Some f → f.answer.access ≡ Store w → on_board (put_back f []) ≡ on_board ms
-unfolding entry_at row_of progress_of returning on_board
+unfolding entry_at reservation_of progress_of returning on_board
 stored_follows p ms f w h e =
     let q = entry_in_found p f.member.phase f.answer (seek_splits (entry_at p) ms f h).1 in
     same_put (entry_at p) ms f [] h
     (unseen f.member (ap progress_of (q.1 ∙ ap (λ x. After (Entered q.0 f.answer.a x)) e)))
 
 pub return_follows : (n : ℕ) (ms : List Pending) (f : Found Pending Arrival) → seek (arrival_at n) ms ≡ Some f
-    → awaited row_of f.earlier (X n) ≡ false
+    → awaited reservation_of f.earlier (X n) ≡ false
     → on_board (put_back f []) ≡ replaced (seek (returning_by n) (on_board ms)) (on_board ms) gone
 unfolding gone on_board replaced put_back found_on_board
 return_follows n ms f h k =
@@ -476,6 +490,6 @@ return_follows n ms f h k =
 pub issue_follows : (ms : List Pending) (i : Instr) (at number : ℕ) (u : FunctionalUnit)
     → on_board (ms ++ record { instr = i; at = at; number = number; unit = u; phase = Before Waiting } ∷ [])
     ≡ on_board ms ++ new_issued i u number ∷ []
-unfolding on_board kept_on issued_of row_of progress_of has_read new_issued
+unfolding on_board kept_on issued_of reservation_of progress_of has_read new_issued
 issue_follows ms i at number u =
     board-append ms (record { instr = i; at = at; number = number; unit = u; phase = Before Waiting } ∷ [])

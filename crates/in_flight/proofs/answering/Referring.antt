@@ -23,8 +23,8 @@ use Rattle.hopper.specs.Hopper.{bank_of}
 use Rattle.hopper.specs.Queue.{Queue, reference_at, waits_for_bank, accept_answer, accepted, place_for as free_in}
 use Rattle.hopper.specs.declared.entered.Entered.{Entered}
 use Rattle.hopper.specs.declared.reference.Reference.{Reference}
-use Rattle.scoreboard.specs.Rows as board
-use Rattle.scoreboard.specs.Rows.{is_reserved, returning_to}
+use Rattle.scoreboard.specs.Reservations as board
+use Rattle.scoreboard.specs.Reservations.{is_reserved, returning_to}
 use Rattle.scoreboard.specs.Issued.{channel_of}
 use Rattle.scoreboard.specs.Answers.{Standing, held_in, left, with_issued}
 use Rattle.scoreboard.specs.Units.{unit_number}
@@ -44,7 +44,7 @@ use Rattle.in_flight.specs.Tests.{refusal_in, refusal_of, nothing, tests_found, 
 use Rattle.in_flight.specs.Flight.{left_by, Flight, flight_of, waiting_in, waiting, IsRestOf, outstanding_of}
 use Rattle.in_flight.specs.inner.Board.{IsTied}
 use Rattle.in_flight.specs.Flight.{entered_at, rest_at, queue_with, queue_after, with_pending}
-use Rattle.in_flight.specs.Pending.{row_of, progress_of, returning, to_come, has_turn, is_entered, entered_in, in_bank}
+use Rattle.in_flight.specs.Pending.{reservation_of, progress_of, returning, to_come, has_turn, is_entered, entered_in, in_bank}
 use Rattle.in_flight.specs.Pending.{in_bank_in}
 use Rattle.in_flight.specs.inner.Slots.{IsSlotted, IsChannel, IsPlaced}
 use Rattle.in_flight.specs.inner.Seats.{seat_in, seat_of, AreElsewhere, HasRoom}
@@ -269,7 +269,7 @@ one_load n rs ts e l he hl a =
     eqb-false n n f.0 refl
 
 coming_in : (n w : ℕ) (y : Pending) → y.phase ≡ After (Accepted n w) → to_come y ≡ X n ∷ []
-unfolding to_come board.to_come row_of board.to_come_in progress_of returning returning_to
+unfolding to_come board.to_come reservation_of board.to_come_in progress_of returning returning_to
 coming_in n w y h = ap (λ p. board.to_come_in (shape_of y.instr) (progress_of p)) h
 
 coming_to : (n : ℕ) (y : Pending) → n < 8 → seat_of y ≡ 14 + n → to_come y ≡ X n ∷ []
@@ -291,7 +291,7 @@ channel_free n rs es m ls apart h b away =
     )
 
 referring_comes : (n p a : ℕ) (y : Pending) → y.phase ≡ After (HasEntered p a (Load n)) → to_come y ≡ X n ∷ []
-unfolding to_come board.to_come row_of board.to_come_in progress_of returning returning_to
+unfolding to_come board.to_come reservation_of board.to_come_in progress_of returning returning_to
 referring_comes n p a y h = ap (λ q. board.to_come_in (shape_of y.instr) (progress_of q)) h
 
 referring_away : (n p a : ℕ) (x : Access) (y : Pending) → p < 4 → y.phase ≡ After (HasEntered p a x)
@@ -443,7 +443,7 @@ loads_through Links n e = cc
 
 load_comes : (m : Pending) (t : Stage) (n : ℕ) → m.phase ≡ Before t → shape_of m.instr ≡ Loads n
     → to_come m ≡ (A n ∷ []) ++ X n ∷ []
-unfolding to_come board.to_come row_of board.to_come_in progress_of results puts_of loads_of
+unfolding to_come board.to_come reservation_of board.to_come_in progress_of results puts_of loads_of
 load_comes m t n h e = ap (λ p. board.to_come_in (shape_of m.instr) (progress_of p)) h ∙ ap results e
 
 unit_away : (m : Pending) (t : Stage) (n : ℕ) → m.phase ≡ Before t → seat_of m ≢ 14 + n
@@ -521,7 +521,7 @@ none_entered m (l ∷ ls) h a = ap (λ w. w ++ waiting ls) (not_entered l m h a.
 
 turn_there : (m : Pending) (t : Stage) → m.phase ≡ Before t → has_reference (shape_of m.instr) ≡ true
     → has_turn m ≡ true
-unfolding has_turn board.has_turn row_of is_reserved progress_of
+unfolding has_turn board.has_turn reservation_of is_reserved progress_of
 turn_there m t h e = ap (λ p. is_reserved (progress_of p) && has_reference (shape_of m.instr)) h ∙ e
 
 queue_left : (u : FunctionalUnit) (ms : List Pending) (queue : Queue) (f : Found Pending Stage) (rest : Option Rest)

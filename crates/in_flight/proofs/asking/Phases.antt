@@ -5,25 +5,25 @@ use Rattle.instructions.specs.declared.instr.Reg.{Reg}
 use Rattle.instructions.specs.Shape.{Shape, shape_of, is_branch_shape, has_store}
 use Rattle.relocation.specs.declared.area.Access.TheVariants.{Load as LoadInto, Store as StoreWord}
 use Rattle.hopper.specs.Hopper.{stores_to}
-use Rattle.scoreboard.specs.Rows as row
-use Rattle.scoreboard.specs.Rows.{is_reserved, returning_to}
+use Rattle.scoreboard.specs.Reservations as reservation
+use Rattle.scoreboard.specs.Reservations.{is_reserved, returning_to}
 use Rattle.in_flight.specs.declared.pending.Outstanding.{Outstanding}
 use Rattle.in_flight.specs.declared.pending.Outstanding.TheVariants.{Entered, Accepted}
 use Rattle.in_flight.specs.declared.pending.Phase.{Phase}
 use Rattle.in_flight.specs.declared.pending.Phase.TheVariants.{Before, After}
 use Rattle.in_flight.specs.declared.pending.Pending.{Pending}
-use Rattle.in_flight.specs.Pending.{returning, progress_of, row_of, is_branch, stores_in, delays_fetch}
+use Rattle.in_flight.specs.Pending.{returning, progress_of, reservation_of, is_branch, stores_in, delays_fetch}
 use Rattle.in_flight.specs.inner.Slots.{unit_slot}
 use Rattle.instructions.specs.declared.instr.Unit.{Unit as FunctionalUnit}
 
 unfoldable pub to_come_in : Shape → Phase → List Reg
-to_come_in h p = row.to_come_in h (progress_of p)
+to_come_in h p = reservation.to_come_in h (progress_of p)
 
 unfoldable pub target_of : Outstanding → List Reg
 target_of l = returning_to (returning l)
 
 unfoldable pub reads_in : List Reg → Phase → List Reg
-reads_in rs p = row.reads_in rs (progress_of p)
+reads_in rs p = reservation.reads_in rs (progress_of p)
 
 unfoldable pub before_and : Bool → Phase → Bool
 before_and f p = is_reserved (progress_of p) && f
@@ -68,6 +68,6 @@ may_store_none f g a (After (Accepted n w)) h k = refl
 
 -- an instruction that delays no fetch of a word, and is no branch, stores nothing there
 pub stores_nothing : (a : ℕ) (m : Pending) → delays_fetch a m ≡ false → is_branch m ≡ false → may_store a m ≡ false
-unfolding delays_fetch is_branch row_of row.has_store_turn row.is_branch may_store
+unfolding delays_fetch is_branch reservation_of reservation.has_store_turn reservation.is_branch may_store
 stores_nothing a m h k =
     may_store_none (has_store (shape_of m.instr)) (is_branch_shape (shape_of m.instr)) a m.phase h k

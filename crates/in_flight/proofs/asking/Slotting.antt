@@ -10,15 +10,15 @@ use Rattle.instructions.specs.declared.instr.Unit.TheVariants.{Multiply2, Divide
 use Rattle.instructions.specs.RegisterLists.{is_in, overlap}
 use Rattle.instructions.specs.Shape.{Shape, shape_of, Puts, Loads, Stores}
 use Rattle.instructions.specs.Operands.{reg_eq}
-use Rattle.scoreboard.specs.Rows as board
-use Rattle.scoreboard.specs.Rows.{returning_to}
+use Rattle.scoreboard.specs.Reservations as board
+use Rattle.scoreboard.specs.Reservations.{returning_to}
 use Rattle.scoreboard.specs.Units.{unit_number, same_unit}
 use Rattle.in_flight.specs.declared.pending.Outstanding.TheVariants.{Entered, Accepted}
 use Rattle.in_flight.specs.declared.pending.Phase.{Phase}
 use Rattle.in_flight.specs.declared.pending.Phase.TheVariants.{Before, After}
 use Rattle.in_flight.specs.declared.pending.Pending.{Pending}
 use Rattle.instructions.specs.Each.{Each, Pairs}
-use Rattle.in_flight.specs.Pending.{progress_of, returning, row_of, to_come}
+use Rattle.in_flight.specs.Pending.{progress_of, returning, reservation_of, to_come}
 use Rattle.in_flight.specs.inner.Slots.{unit_slot, clash_in, clash, IsPlaced, IsProper, IsSlotted, IsChannel}
 use Rattle.in_flight.specs.Apart.{IsApart}
 use Rattle.instructions.proofs.Lists.{each_left, each_right, each_append, each_map, each_both, pairs_without}
@@ -33,7 +33,7 @@ use Rattle.instructions.specs.declared.instr.Instr.TheVariants.{LongAdd as LongS
 use Rattle.instructions.specs.declared.instr.Target.TheVariants.{A as TargetA, B as TargetB, X as TargetX}
 use Rattle.relocation.specs.declared.area.Access.{Access}
 use Rattle.hopper.specs.Hopper.{first_place, free_place}
-use Rattle.scoreboard.specs.Rows as board
+use Rattle.scoreboard.specs.Reservations as board
 use Rattle.in_flight.specs.declared.pending.HopperEntry.{HopperEntry}
 use Rattle.in_flight.specs.declared.pending.Outstanding.{Outstanding}
 use Rattle.in_flight.specs.declared.pending.Stage.{Stage}
@@ -95,7 +95,7 @@ slots_differ size h k u v (After (Accepted m w)) (After (Accepted n x)) a b c d 
 
 pub coming : (m n : Pending) → overlap (to_come n) (to_come m) ≡ false
     → overlap (to_come_in (shape_of n.instr) n.phase) (to_come_in (shape_of m.instr) m.phase) ≡ false
-unfolding to_come board.to_come row_of to_come_in
+unfolding to_come board.to_come reservation_of to_come_in
 coming m n e = e
 
 two_slots : (size : ℕ) (m n : Pending) → IsProper size m → IsProper size n → clash m n ≡ false → IsApart m n

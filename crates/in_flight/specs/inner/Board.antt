@@ -3,16 +3,16 @@ use Rattle.std.specs.Prelude.{◌≡◌, ◌≤◌, ℕ, List, [], ◌∷◌, Op
 use Rattle.instructions.specs.Each.{Each}
 use Rattle.scoreboard.specs.Answers.{Standing}
 use Rattle.hopper.specs.Queue.{Queue}
-use Rattle.scoreboard.specs.declared.row.Progress.{Progress}
-use Rattle.scoreboard.specs.declared.row.Progress.TheVariants.{Reserved, Left}
+use Rattle.scoreboard.specs.declared.reservation.Progress.{Progress}
+use Rattle.scoreboard.specs.declared.reservation.Progress.TheVariants.{Reserved, Left}
 use Rattle.scoreboard.specs.declared.issued.Issued.{Issued}
 use Rattle.in_flight.specs.declared.pending.Pending.{Pending}
-use Rattle.in_flight.specs.Pending.{row_of}
+use Rattle.in_flight.specs.Pending.{reservation_of}
 use Rattle.in_flight.specs.Flight.{waiting}
 
--- what the board has of an instruction: the number of its reservation, and its row
+-- what the board has of an instruction: the number of its reservation, and its reservation
 unfoldable pub issued_of : Pending → Issued
-issued_of m = record { number = m.number; row = row_of m }
+issued_of m = record { number = m.number; reservation = reservation_of m }
 
 -- one instruction before the others; a store that waits in the hopper has nothing more to do with the board
 unfoldable pub kept_on : Progress → List Issued → Issued → List Issued
@@ -23,7 +23,7 @@ kept_on (Left None) rest x = rest
 -- what the board has of the pending instructions, in issue order
 unfoldable pub on_board : List Pending → List Issued
 on_board [] = []
-on_board (m ∷ ms) = kept_on (row_of m).progress (on_board ms) (issued_of m)
+on_board (m ∷ ms) = kept_on (reservation_of m).progress (on_board ms) (issued_of m)
 
 -- the board and the hopper answer for just these
 pub record IsTied (ms : List Pending) (queue : Queue) (standing : Standing) : Type 0 where

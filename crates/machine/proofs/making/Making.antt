@@ -46,7 +46,7 @@ use Rattle.in_flight.specs.declared.pending.Phase.TheVariants.{Before}
 use Rattle.in_flight.specs.declared.pending.Stage.{Stage}
 use Rattle.in_flight.specs.declared.pending.Stage.TheVariants.{Waiting, Read as HasRead, Finished}
 use Rattle.in_flight.specs.Tests.{refusal_in, refusal_of, tests_found, read_tests, accept_tests, return_tests}
-use Rattle.in_flight.specs.Tests.{free_tests, row_tests}
+use Rattle.in_flight.specs.Tests.{free_tests, reservation_tests}
 use Rattle.in_flight.specs.Flight.{left_by, Flight, outstanding_of, reserved_in, unit_taken, with_pending}
 use Rattle.program_order.specs.Run.{note_by, done_by, answer_by, answer_of, settled}
 use Rattle.in_flight.specs.Lookup.{sought, stage_at, entry_at, arrival_at, place_for, in_phase, kept, is_pending}
@@ -123,8 +123,8 @@ unfolding allowed tests_of
 issue_refused w count k n h = ap (λ c. refusal_of (issue_tests w.state w.pending w.request w.budget c)) (sym n) ∙ h
 
 pub issue_judged : (w : Processor) (count : ℕ) (g : Fetched) (o : Option Refusal) → count ≡ issued w.log
-    → refusal_of (issue_tests w.state w.pending w.request w.budget count) ≡ refusal_of (row_tests w.pending g)
-    → refusal_of (row_tests w.pending g) ≡ o → allowed w Issue ≡ o
+    → refusal_of (issue_tests w.state w.pending w.request w.budget count) ≡ refusal_of (reservation_tests w.pending g)
+    → refusal_of (reservation_tests w.pending g) ≡ o → allowed w Issue ≡ o
 unfolding allowed tests_of
 issue_judged w count g o n h k =
     ap (λ c. refusal_of (issue_tests w.state w.pending w.request w.budget c)) (sym n) ∙ h ∙ k
@@ -363,7 +363,7 @@ exchange_made w n s log e es el =
 -- what an issue leaves, but for its entry in the log, and the reservation that it answers
 pub record IsIssued (w : Processor) (before : Logged) (g : Fetched) (v : Processor) (log : Logged)
     (given : Option Note) : Type 0 where
-  pub judged : refusal_of (row_tests w.pending g) ≡ None
+  pub judged : refusal_of (reservation_tests w.pending g) ≡ None
   pub left : record v { log = w.log ++ Issued ∷ [] } ≡ after_issue w g
   pub noted : given ≡ note_by w g
   pub same_log : log ≡ before
@@ -374,7 +374,7 @@ pub record IsIssued (w : Processor) (before : Logged) (g : Fetched) (v : Process
 pub issued_halting : (w : Processor) (log : Logged) (halt : Halt) (place : Place)
     → IsIssued w log (Halting halt place) (record w { state = record w.state { place = place; halt = Some halt } }) log
     None
-unfolding refusal_of row_tests after_issue move_to halt_by note_by
+unfolding refusal_of reservation_tests after_issue move_to halt_by note_by
 issued_halting w log halt place =
     record {
       judged = refl;
@@ -388,7 +388,7 @@ issued_halting w log halt place =
 
 pub issued_passing : (w : Processor) (log : Logged) (place : Place)
     → IsIssued w log (Passing place) (record w { state = record w.state { place = place } }) log None
-unfolding refusal_of row_tests after_issue move_to note_by
+unfolding refusal_of reservation_tests after_issue move_to note_by
 issued_passing w log place = record {
   judged = refl;
   left = refl;
@@ -400,7 +400,7 @@ issued_passing w log place = record {
 }
 
 pub issued_taking : (w : Processor) (log : Logged) (i : Instr) (place : Place) (unit : FunctionalUnit) (number : ℕ)
-    (f : Flight) → refusal_of (row_tests w.pending (Taking i place)) ≡ None → unit ≡ unit_taken (flight w) i
+    (f : Flight) → refusal_of (reservation_tests w.pending (Taking i place)) ≡ None → unit ≡ unit_taken (flight w) i
     → number ≡ suc w.last → f ≡ reserved_in (flight w) i w.state.place.p
     → IsIssued w log (Taking i place) (with_flight (record w { state = record w.state { place = place } }) f) log
     (Some (record { unit = unit; number = number }))

@@ -25,8 +25,8 @@ use Rattle.instructions.specs.Shape.{Shape, Puts, Loads, Stores, Jumps, Links, s
 use Rattle.instructions.specs.Shape.{has_reference}
 use Rattle.instructions.specs.Operands.{uses}
 use Rattle.relocation.specs.declared.area.Access.TheVariants.{Load as LoadInto, Store as StoreWord}
-use Rattle.scoreboard.specs.Rows as board
-use Rattle.scoreboard.specs.Rows.{is_reserved}
+use Rattle.scoreboard.specs.Reservations as board
+use Rattle.scoreboard.specs.Reservations.{is_reserved}
 use Rattle.scoreboard.specs.Units.{same_unit, units_of, may_take}
 use Rattle.in_flight.specs.declared.pending.Outstanding.TheVariants.{Entered, Accepted}
 use Rattle.in_flight.specs.declared.pending.Pending.{Pending}
@@ -35,7 +35,7 @@ use Rattle.in_flight.specs.declared.pending.Phase.TheVariants.{Before, After}
 use Rattle.in_flight.specs.declared.pending.Stage.{Stage}
 use Rattle.in_flight.specs.declared.pending.Stage.TheVariants.{Waiting, Read as HasRead, Finished}
 use Rattle.instructions.specs.Each.{Each, Pairs}
-use Rattle.in_flight.specs.Pending.{progress_of, row_of, entered_in, is_entered, has_turn}
+use Rattle.in_flight.specs.Pending.{progress_of, reservation_of, entered_in, is_entered, has_turn}
 use Rattle.in_flight.specs.inner.Slots.{unit_slot, IsChannel, IsPlaced, IsProper, IsSlotted}
 use Rattle.in_flight.specs.Apart.{IsApart}
 use Rattle.program_order.specs.Working.{reference_cost, stage_cost, outstanding_cost, phase_cost, cost, work_left}
@@ -163,7 +163,7 @@ phase_bound h (After (Accepted n word)) = omega arith
 
 member_bound : (m : Pending) → cost m ≤ 3 * one_if (in_unit m) + 2 * (one_if (has_turn m) + one_if (is_entered m))
     + one_if (has_load m)
-unfolding cost in_unit has_turn board.has_turn row_of before_and is_entered has_load
+unfolding cost in_unit has_turn board.has_turn reservation_of before_and is_entered has_load
 member_bound m = phase_bound (shape_of m.instr) m.phase
 
 work_bound : (ms : List Pending)
@@ -269,7 +269,7 @@ turn_slot i u (After l) e h = cc
 
 turns_bound : (size : ℕ) (ms : List Pending) → Pairs (λ a b. slot_of a ≢ slot_of b) ms → Each (IsProper size) ms
     → count_of has_turn ms ≤ 3
-unfolding has_turn board.has_turn row_of slot_of
+unfolding has_turn board.has_turn reservation_of slot_of
 turns_bound size ms h k =
     count_bound has_turn slot_of (0 ∷ 5 ∷ 6 ∷ []) _ (IsProper size) ms (λ a b x y d. d)
     (λ m e p. turn_slot m.instr m.unit m.phase e p.of_kind) h k

@@ -10,8 +10,8 @@ use Rattle.instructions.specs.declared.instr.Unit.{Unit as FunctionalUnit}
 use Rattle.relocation.specs.declared.area.Access.{Access}
 use Rattle.relocation.specs.declared.area.Access.TheVariants.{Load as LoadInto, Store as StoreWord}
 use Rattle.hopper.specs.Hopper.{bank_of, first_place, free_place}
-use Rattle.scoreboard.specs.Rows as row
-use Rattle.scoreboard.specs.Rows.{is_reserved}
+use Rattle.scoreboard.specs.Reservations as reservation
+use Rattle.scoreboard.specs.Reservations.{is_reserved}
 use Rattle.scoreboard.specs.Conflicts as conflict
 use Rattle.scoreboard.specs.Units.{unit_number, same_unit}
 use Rattle.sequential.specs.State.{Bounds, bounds_of, absolute}
@@ -29,7 +29,7 @@ use Rattle.in_flight.specs.declared.pending.Phase.TheVariants.{Before, After}
 use Rattle.in_flight.specs.declared.pending.Stage.{Stage}
 use Rattle.in_flight.specs.declared.pending.Stage.TheVariants.{Waiting, Read as HasRead, Finished}
 use Rattle.instructions.specs.Each.{Each, Pairs}
-use Rattle.in_flight.specs.Pending.{progress_of, row_of, is_entered, entered_in, has_turn}
+use Rattle.in_flight.specs.Pending.{progress_of, reservation_of, is_entered, entered_in, has_turn}
 use Rattle.in_flight.specs.Apart.{IsApart}
 use Rattle.program_order.specs.Sound.{IsSound}
 use Rattle.instructions.specs.Finding.{Found, seek, put_back}
@@ -118,7 +118,7 @@ place_is_free m ms ls t e p k h =
     (or_from (in_place 0 m) (list_any (in_place 0) ls) (no_place 0 m.phase (ap entered_in p)) (none_entered m ls k h))
 
 turn_of : (m : Pending) (t : Stage) → m.phase ≡ Before t → has_reference (shape_of m.instr) ≡ true → has_turn m ≡ true
-unfolding has_turn row.has_turn row_of progress_of is_reserved
+unfolding has_turn reservation.has_turn reservation_of progress_of is_reserved
 turn_of m t e k = ap (λ p. is_reserved (progress_of p) && has_reference (shape_of m.instr)) e ∙ k
 
 enters_nothing : (b : Bounds) (h : Shape) (v : UnitValue) → has_reference h ≡ false

@@ -39,7 +39,7 @@ use Rattle.instruction_table.specs.Decoding.{reading_at}
 use Rattle.program_order.specs.declared.event.Event.TheVariants.{Issue, Exchange as MakeExchange}
 use Rattle.in_flight.specs.declared.pending.Pending.{Pending}
 use Rattle.in_flight.specs.Pending.{awaited}
-use Rattle.in_flight.specs.Tests.{Test, refusal_of, row_tests, unit_for}
+use Rattle.in_flight.specs.Tests.{Test, refusal_of, reservation_tests, unit_for}
 use Rattle.program_order.specs.Processor.{Processor}
 use Rattle.program_order.specs.Events.{allowed, tests_of}
 use Rattle.program_order.specs.Exchange.{exchange_tests}
@@ -153,8 +153,8 @@ unfolding conflict.awaited
 none_awaited [] = refl
 none_awaited (r ∷ rs) = none_awaited rs
 
-row_passes : (g : Fetched) → HasUnit g → Each (λ t. t.fails ≡ false) (row_tests [] g)
-unfolding row_tests
+row_passes : (g : Fetched) → HasUnit g → Each (λ t. t.fails ≡ false) (reservation_tests [] g)
+unfolding reservation_tests
 row_passes (Halting halt place) h = tt
 row_passes (Passing place) h = tt
 row_passes (Taking i place) h = (unit_free (uses i).unit h, (none_awaited (results (shape_of i)), tt))

@@ -1,10 +1,11 @@
 -- A change that no pending instruction touches is made before them all as well as after them all.
-use Rattle.scoreboard.specs.Rows as board
-use Rattle.in_flight.specs.Pending.{progress_of, returning, row_of, is_branch, to_come}
+use Rattle.scoreboard.specs.Reservations as board
+use Rattle.in_flight.specs.Pending.{progress_of, returning, reservation_of, is_branch, to_come}
 use Rattle.in_flight.proofs.asking.Asked.{comes, reads}
+use Rattle.program_order.proofs.Opened.{results_to_come}
 use Rattle.sequential.specs.Place.{gone}
 use Rattle.in_flight.proofs.asking.Phases.{to_come_in, may_store}
-use Rattle.scoreboard.specs.Rows.{returning_to}
+use Rattle.scoreboard.specs.Reservations.{returning_to}
 use Rattle.std.proofs.Common.{◌≡◌, ℕ, false, List, [], ◌∷◌, ◌++◌, Option, Some, None, refl, ap, ◌∙◌, get_or}
 use Rattle.std.proofs.lemmas.Bool.{or_parts}
 use Rattle.std.specs.List.{list_any}
@@ -94,7 +95,7 @@ complete-word b s ms a h = complete-keeps b (λ x. get_or x.memory a 0) ms
 -- a register that is no result still to come
 pub complete-get : (b : Bounds) (s : State) (ms : List Pending) (r : Reg) → Each (λ m. comes r m ≡ false) ms
     → get (complete b s ms).registers r ≡ get s.registers r
-unfolding comes board.comes row_of to_come board.to_come to_come_in board.to_come_in progress_of returning_to returning
+unfolding comes board.comes results_to_come
 complete-get b s ms r h = complete-keeps b (λ x. get x.registers r) ms
     (each_step (λ m. is_in (to_come m) r ≡ false) _ (λ m e x. run-get b x m r e) ms h) s
 

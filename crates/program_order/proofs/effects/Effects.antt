@@ -1,7 +1,7 @@
 -- Changes of the state that don't touch one another, made in either order.
 use Rattle.in_flight.specs.Pending.{returning}
 use Rattle.sequential.specs.Place.{gone}
-use Rattle.scoreboard.specs.Rows.{returning_to}
+use Rattle.scoreboard.specs.Reservations.{returning_to}
 use Rattle.std.proofs.Common.{◌≡◌, ℕ, Bool, true, false, List, [], ◌∷◌, Option, Some, None, refl, sym, ap, ◌∙◌, get_or}
 use Rattle.std.proofs.Common.{eqb}
 use Rattle.std.specs.Prelude.{◌||◌}
@@ -37,7 +37,7 @@ unfoldable pub do_option : State → Option Outstanding → State
 do_option s None = s
 do_option s (Some l) = do_outstanding s l
 
--- the whole of a row's work, in two parts: what it does now, and what is left
+-- the whole of a reservation's work, in two parts: what it does now, and what is left
 unfoldable pub do_parts : Bounds → State → Work → State
 do_parts b s w = do_option (do_now b s w) (rest_of b 0 w.reference)
 
@@ -139,7 +139,7 @@ unfolding do_option
 do_option-move s None p = refl
 do_option-move s (Some l) p = do_outstanding-move s l p
 
--- a row that is no branch leaves the place alone
+-- a reservation that is no branch leaves the place alone
 pub no_jump : (h : Shape) (x : UnitValue) → is_branch_shape h ≡ false → jump_for h x ≡ None
 unfolding jump_for
 no_jump h x e = rw e refl
@@ -296,7 +296,7 @@ no_rest : (b : Bounds) (s : State) (r : Option ProgramReference) → r ≡ None 
 unfolding do_option rest_of
 no_rest b s r e = rw e refl
 
--- a row without a reference is done at the store event
+-- a reservation without a reference is done at the store event
 pub do_parts-now : (b : Bounds) (s : State) (h : Shape) (x : UnitValue) → has_reference h ≡ false
     → do_parts b s (work_of h x) ≡ do_now b s (work_of h x)
 unfolding do_parts work_of
@@ -455,7 +455,7 @@ pub do_parts-place : (b : Bounds) (s : State) (h : Shape) (x : UnitValue) → is
 unfolding move_to
 do_parts-place b s h x e = ap (λ y. y.place) (do_parts-move b s h x s.place e)
 
--- ---- the work of a row is its two parts ----
+-- ---- the work of a reservation is its two parts ----
 
 refer_at-is : (s : State) (o : Option ℕ) (access : Access) → refer_at s o access ≡ do_option s (entering 0 o access)
 unfolding refer_at do_option entering do_outstanding

@@ -1,8 +1,8 @@
 -- What one pending instruction doesn't touch.
-use Rattle.scoreboard.specs.Rows as board
-use Rattle.in_flight.specs.Pending.{has_read, progress_of, returning, row_of, is_branch, to_come}
+use Rattle.scoreboard.specs.Reservations as board
+use Rattle.in_flight.specs.Pending.{has_read, progress_of, returning, reservation_of, is_branch, to_come}
 use Rattle.in_flight.proofs.asking.Asked.{reads}
-use Rattle.scoreboard.specs.Rows.{is_reserved, returning_to}
+use Rattle.scoreboard.specs.Reservations.{is_reserved, returning_to}
 use Rattle.std.specs.Prelude.{◌||◌}
 use Rattle.std.proofs.lemmas.Bool.{eqb-true, or_parts}
 use Rattle.std.proofs.Common.{◌≡◌, ℕ, Bool, true, false, cond, sym, subst, List, [], ◌∷◌, ◌++◌, Option, Some, None}
@@ -204,7 +204,7 @@ run-write b s m r v c d = phase-write b s m.instr m.at m.phase r v c d
 
 pub run-move : (b : Bounds) (s : State) (m : Pending) (k : Place) → is_branch m ≡ false
     → run b (move_to s k) m ≡ move_to (run b s m) k
-unfolding run is_branch board.is_branch row_of before_and is_reserved progress_of
+unfolding run is_branch board.is_branch reservation_of before_and is_reserved progress_of
 run-move b s m k e = phase-move b s m.instr m.at m.phase k e
 
 pub run-halt : (b : Bounds) (s : State) (m : Pending) (k : Halt) → run b (halt_by s k) m ≡ halt_by (run b s m) k
@@ -243,5 +243,5 @@ unfolding run
 run-bounds b s m = phase-bounds b s m.instr m.at m.phase
 
 pub run-place : (b : Bounds) (s : State) (m : Pending) → is_branch m ≡ false → (run b s m).place ≡ s.place
-unfolding run is_branch board.is_branch row_of before_and is_reserved progress_of
+unfolding run is_branch board.is_branch reservation_of before_and is_reserved progress_of
 run-place b s m e = phase-place b s m.instr m.at m.phase e

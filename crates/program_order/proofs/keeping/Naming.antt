@@ -19,7 +19,7 @@ use Rattle.program_order.specs.Refusals.{is_nothing, is_read_refusal, is_return_
 use Rattle.program_order.specs.Run.{IsAnswer, answer_by, answer_of, is_ask}
 use Rattle.instructions.specs.Finding.{Found, seek}
 use Rattle.in_flight.specs.Tests.{Test, accept_tests, free_tests, nothing, read_tests, refusal_of, return_tests}
-use Rattle.in_flight.specs.Tests.{row_tests, tests_found}
+use Rattle.in_flight.specs.Tests.{reservation_tests, tests_found}
 use Rattle.program_order.specs.Processor.{Processor}
 use Rattle.program_order.specs.Events.{allowed, tests_of}
 use Rattle.program_order.specs.Exchange.{ask_tests, exchange_tests}
@@ -52,8 +52,8 @@ unfolding tests_found nothing is_nothing
 found_one_of p None f k h e = one_of (λ r. is_nothing r || p r) nothing k (refl, tt) e
 found_one_of p (Some x) f k h e = one_of (λ r. is_nothing r || p r) (f x) k (h x) e
 
-row_named : (ms : List Pending) (f : Fetched) → Each (λ t. is_issue_refusal t.refusal ≡ true) (row_tests ms f)
-unfolding row_tests is_issue_refusal
+row_named : (ms : List Pending) (f : Fetched) → Each (λ t. is_issue_refusal t.refusal ≡ true) (reservation_tests ms f)
+unfolding reservation_tests is_issue_refusal
 row_named ms (Halting h place) = tt
 row_named ms (Passing place) = tt
 row_named ms (Taking i place) = (refl, (refl, tt))

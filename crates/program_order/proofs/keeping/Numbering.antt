@@ -27,7 +27,7 @@ use Rattle.in_flight.specs.declared.pending.Pending.{Pending}
 use Rattle.in_flight.specs.declared.pending.Stage.{Stage}
 use Rattle.in_flight.specs.declared.pending.Stage.TheVariants.{Waiting, Read as HasRead, Finished}
 use Rattle.in_flight.specs.Pending.{is_branch}
-use Rattle.in_flight.specs.Tests.{row_tests, unit_for}
+use Rattle.in_flight.specs.Tests.{reservation_tests, unit_for}
 use Rattle.in_flight.proofs.asking.Finding.{refusal_none}
 use Rattle.program_order.specs.declared.event.Done.{Done}
 use Rattle.program_order.specs.declared.event.Done.TheVariants.{Issued as DoneIssue}
@@ -131,16 +131,16 @@ boot_numbered memory budget = refl
 -- ---- what an issue answers ----
 
 row_unit : (w : Processor) (i : Instr) (place : Place)
-    → Each (λ t. t.fails ≡ false) (row_tests w.pending (Taking i place))
+    → Each (λ t. t.fails ≡ false) (reservation_tests w.pending (Taking i place))
     → may_take (uses i).unit (unwrap_or (unit_for w.pending (uses i).unit) Branch) ≡ true
-unfolding row_tests
+unfolding reservation_tests
 row_unit w i place h = (unit_found w.pending (uses i).unit h.0).of_kind
 
 some_inj : (i j : Instr) → Some i ≡ Some j → i ≡ j
 some_inj i j e = cc
 
 noted_by : (w : Processor) (g : Fetched) → IsReplay w → IsNumbered w → taken_in (completed w) ≡ taken_by g
-    → Each (λ t. t.fails ≡ false) (row_tests w.pending g)
+    → Each (λ t. t.fails ≡ false) (reservation_tests w.pending g)
     → IsNoted (completed w) (taken (boot w.boot_memory) (w.log ++ Issued ∷ [])) (note_by w g)
 unfolding note_by taken_by one_for
 noted_by w (Halting halt place) r h t u =
@@ -171,7 +171,7 @@ log_issue w (Passing place) = (refl, refl)
 log_issue w (Taking i place) = (refl, refl)
 
 issue_rows : (w : Processor) → allowed w Issue ≡ None
-    → Each (λ t. t.fails ≡ false) (row_tests w.pending (fetch (bounds_of w.state) w.state.memory w.state.place))
+    → Each (λ t. t.fails ≡ false) (reservation_tests w.pending (fetch (bounds_of w.state) w.state.memory w.state.place))
 unfolding allowed tests_of issue_tests
 issue_rows w h = (refusal_none _ h).1.1.1.1.1.1
 

@@ -16,8 +16,8 @@ use Rattle.instructions.specs.Operands.{uses}
 use Rattle.relocation.specs.declared.area.Access.{Access}
 use Rattle.relocation.specs.declared.area.Access.TheVariants.{Load as LoadInto, Store as StoreWord}
 use Rattle.relocation.specs.Relocation.{relocate}
-use Rattle.scoreboard.specs.Rows as board
-use Rattle.scoreboard.specs.Rows.{is_reserved}
+use Rattle.scoreboard.specs.Reservations as board
+use Rattle.scoreboard.specs.Reservations.{is_reserved}
 use Rattle.scoreboard.specs.Units.{same_unit, units_of, may_take}
 use Rattle.scoreboard.specs.Conflicts.{is_held, first_free, free_unit, unit_for as free_unit_for}
 use Rattle.sequential.specs.declared.work.ProgramReference.{ProgramReference}
@@ -39,7 +39,7 @@ use Rattle.in_flight.specs.declared.pending.Pending.{Pending}
 use Rattle.in_flight.specs.declared.pending.Stage.{Stage}
 use Rattle.in_flight.specs.declared.pending.Stage.TheVariants.{Waiting, Read as HasRead, Finished}
 use Rattle.instructions.specs.Each.{Each}
-use Rattle.in_flight.specs.Pending.{progress_of, row_of}
+use Rattle.in_flight.specs.Pending.{progress_of, reservation_of}
 use Rattle.in_flight.proofs.asking.Asked.{holds}
 use Rattle.in_flight.specs.inner.Slots.{unit_slot, clash_in, clash, IsChannel, IsLoadable, IsPlaced}
 use Rattle.in_flight.specs.inner.Slots.{IsProper, IsSlotted}
@@ -50,7 +50,7 @@ use Rattle.program_order.specs.Units.{store_tests, entering, rest_of, after_read
 use Rattle.program_order.specs.Exchange.{exchange_tests, after_exchange}
 use Rattle.program_order.specs.Events.{tests_of, allowed, after_found, after}
 use Rattle.program_order.specs.Memory.{after_accept, after_return}
-use Rattle.in_flight.specs.Tests.{refusal_of, tests_found, unit_for, row_tests}
+use Rattle.in_flight.specs.Tests.{refusal_of, tests_found, unit_for, reservation_tests}
 use Rattle.in_flight.specs.Lookup.{stage_at, entry_at, arrival_at, in_place, place_for, enters, kept}
 use Rattle.program_order.proofs.effects.Effects.{do_now-bounds}
 use Rattle.in_flight.proofs.asking.Finding.{refusal_none, stage_found, entry_found}
@@ -281,7 +281,7 @@ pub record TakesUnit (ms : List Pending) (kind : Option UnitKind) (u : Functiona
   free : list_any (holds u) ms ≡ false
   in_use : unit_slot u < 7
 
-held_is : (ms : List Pending) (u : FunctionalUnit) → is_held row_of ms u ≡ list_any (holds u) ms
+held_is : (ms : List Pending) (u : FunctionalUnit) → is_held reservation_of ms u ≡ list_any (holds u) ms
 unfolding is_held holds
 held_is ms u = refl
 
@@ -289,13 +289,14 @@ pub unit_found : (ms : List Pending) (kind : Option UnitKind) → is_none (unit_
     → TakesUnit ms kind (unwrap_or (unit_for ms kind) Branch)
 unfolding free_unit_for free_unit
 unit_found ms None h = cc
-unit_found ms (Some kind) h = by_unit (first_free (is_held row_of ms) (units_of kind)) refl h
+unit_found ms (Some kind) h = by_unit (first_free (is_held reservation_of ms) (units_of kind)) refl h
   where
-    by_unit : (o : Option FunctionalUnit) → first_free (is_held row_of ms) (units_of kind) ≡ o → is_none o ≡ false
+    by_unit : (o : Option FunctionalUnit) → first_free (is_held reservation_of ms) (units_of kind) ≡ o
+        → is_none o ≡ false
         → TakesUnit ms (Some kind) (unwrap_or o Branch)
     by_unit None i k = cc
     by_unit (Some u) i k =
-        let f = first_free_found kind (is_held row_of ms) (units_of kind) u (in_use kind) i in
+        let f = first_free_found kind (is_held reservation_of ms) (units_of kind) u (in_use kind) i in
         record { of_kind = f.1.1; free = sym (held_is ms u) ∙ f.0; in_use = f.1.0 }
 
 and_false : (f : Bool) → (f && true) ≡ false → f ≡ false
@@ -310,7 +311,7 @@ waiting_clash size u v (After l) h k e = refl
 
 new_clash : (size : ℕ) (x m : Pending) → m.phase ≡ Before Waiting → unit_slot m.unit < 7 → IsProper size x
     → holds m.unit x ≡ false → clash x m ≡ false
-unfolding clash holds board.holds row_of
+unfolding clash holds board.holds reservation_of
 new_clash size x m e h p k =
     ap (clash_in x.unit x.phase m.unit) e ∙ waiting_clash size m.unit x.unit x.phase h p.placed k
 
@@ -326,9 +327,9 @@ slotted_push size ms m e u h free s = record {
       (record { of_kind = u; placed = subst (IsPlaced size m.unit) (sym e) h }, tt);
 }
 
-pub issue_slotted : (w : Processor) (g : Fetched) → Each (λ t. t.fails ≡ false) (row_tests w.pending g)
+pub issue_slotted : (w : Processor) (g : Fetched) → Each (λ t. t.fails ≡ false) (reservation_tests w.pending g)
     → IsSlottedWhole w → IsSlottedWhole (after_issue w g)
-unfolding after_issue row_tests move_to halt_by
+unfolding after_issue reservation_tests move_to halt_by
 issue_slotted w (Halting k place) h s = s
 issue_slotted w (Passing place) h s = s
 issue_slotted w (Taking i place) h s =

@@ -13,7 +13,7 @@ use Rattle.sequential.specs.declared.state.State.{State}
 use Rattle.sequential.specs.State.{Bounds, bounds_of, mark}
 use Rattle.in_flight.specs.declared.pending.Pending.{Pending}
 use Rattle.in_flight.specs.Lookup.{is_pending}
-use Rattle.in_flight.specs.Tests.{Test, refusal_of, row_tests}
+use Rattle.in_flight.specs.Tests.{Test, refusal_of, reservation_tests}
 use Rattle.in_flight.proofs.asking.Finding.{refusal_none}
 use Rattle.program_order.specs.declared.event.Done.{Done}
 use Rattle.program_order.specs.declared.event.Event.{Event}
@@ -71,8 +71,8 @@ is_other (Halted halt) = false
 is_other Faulted = false
 is_other _ = true
 
-rows_other : (ms : List Pending) (g : Fetched) → Each (λ t. is_other t.refusal ≡ true) (row_tests ms g)
-unfolding row_tests is_other
+rows_other : (ms : List Pending) (g : Fetched) → Each (λ t. is_other t.refusal ≡ true) (reservation_tests ms g)
+unfolding reservation_tests is_other
 rows_other ms (Halting h place) = tt
 rows_other ms (Passing place) = tt
 rows_other ms (Taking i place) = (refl, (refl, tt))

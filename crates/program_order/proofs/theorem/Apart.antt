@@ -1,11 +1,11 @@
 -- What the tests of an event, and that pending instructions are apart, give for the earlier ones.
 use Rattle.scoreboard.specs.Conflicts as conflict
-use Rattle.scoreboard.specs.Rows as board
-use Rattle.in_flight.specs.Pending.{progress_of, row_of, awaited, entered_in, has_turn, in_bank}
+use Rattle.scoreboard.specs.Reservations as board
+use Rattle.in_flight.specs.Pending.{progress_of, reservation_of, awaited, entered_in, has_turn, in_bank}
 use Rattle.in_flight.specs.Pending.{in_bank_in, is_branch, is_entered, to_be_read, to_come}
 use Rattle.in_flight.proofs.asking.Asked.{comes, reads_it}
 use Rattle.in_flight.proofs.asking.Phases.{before_and, may_store, may_store_in, target_of, to_come_in}
-use Rattle.scoreboard.specs.Rows.{is_reserved}
+use Rattle.scoreboard.specs.Reservations.{is_reserved}
 use Rattle.std.proofs.Common.{◌≡◌, ℕ, Bool, true, false, List, [], ◌∷◌, ◌++◌, Option, Some, None, refl, sym, ap, ◌∙◌}
 use Rattle.std.proofs.Common.{eqb}
 use Rattle.std.specs.Prelude.{◌&&◌}
@@ -41,7 +41,7 @@ use Rattle.sequential.specs.Work.{reference_for}
 use Rattle.sequential.specs.declared.work.ProgramReference.{ProgramReference}
 use Rattle.unit_ops.specs.declared.UnitValue.{UnitValue}
 
--- ---- rows and columns ----
+-- ---- reservations and columns ----
 
 pub each_swap : {P Q : Type 0} (R : P → Q → Type 0) (ps : List P) (qs : List Q) → Each (λ p. Each (R p) qs) ps
     → Each (λ q. Each (λ p. R p q) ps) qs
@@ -160,7 +160,7 @@ turns_past es m slot a access e apart =
 
 pub untouched : (es : List Pending) (a : ℕ) → Each (λ e. has_turn e ≡ false) es
     → list_any (in_bank (bank_of a)) es ≡ false → Each (λ e. touches a e ≡ false) es
-unfolding has_turn in_bank touches board.has_turn row_of before_and is_reserved progress_of
+unfolding has_turn in_bank touches board.has_turn reservation_of before_and is_reserved progress_of
 untouched es a h k =
     each_both (λ y. has_turn y ≡ false) (λ y. in_bank (bank_of a) y ≡ false) (λ y. touches a y ≡ false)
     (λ y i j. touches-from _ a y.phase i j) es h
@@ -168,7 +168,7 @@ untouched es a h k =
 
 pub unstored : (es : List Pending) (a : ℕ) → Each (λ e. has_turn e ≡ false) es
     → list_any (in_bank (bank_of a)) es ≡ false → Each (λ e. may_store a e ≡ false) es
-unfolding has_turn in_bank may_store board.has_turn row_of before_and is_reserved progress_of
+unfolding has_turn in_bank may_store board.has_turn reservation_of before_and is_reserved progress_of
 unstored es a h k =
     each_both (λ y. has_turn y ≡ false) (λ y. in_bank (bank_of a) y ≡ false) (λ y. may_store a y ≡ false)
     (λ y i j. may_store-from (shape_of y.instr) a y.phase i j) es h
@@ -247,7 +247,7 @@ less_accepted m slot a n w e = record {
   branch_less = λ h. refl;
 }
 
--- a row of which something is left after its store event has a reference
+-- a reservation of which something is left after its store event has a reference
 left_has_reference : (b : Bounds) (slot : ℕ) (h : Shape) (v : UnitValue) (l : Outstanding) (f : Bool)
     → has_reference h ≡ f → rest_of b slot (reference_for h v) ≡ Some l → f ≡ true
 unfolding rest_of

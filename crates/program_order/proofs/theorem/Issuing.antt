@@ -1,5 +1,5 @@
 -- An issue is a step of the completed state.
-use Rattle.scoreboard.specs.Rows as board
+use Rattle.scoreboard.specs.Reservations as board
 use Rattle.in_flight.specs.Pending.{delays_fetch, awaited, entered_in, has_turn}
 use Rattle.in_flight.specs.Pending.{is_branch, is_entered, to_come}
 use Rattle.in_flight.proofs.asking.Asked.{comes}

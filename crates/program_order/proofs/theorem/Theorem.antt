@@ -33,7 +33,7 @@ use Rattle.program_order.specs.Events.{after, after_found, allowed, tests_of}
 use Rattle.program_order.specs.Memory.{after_accept, after_return}
 use Rattle.program_order.specs.Units.{after_finish, after_read, after_store, after_work, finish_tests, store_tests}
 use Rattle.program_order.specs.Issue.{after_issue, issue_tests}
-use Rattle.in_flight.specs.Tests.{free_tests, accept_tests, read_tests, refusal_of, return_tests, row_tests}
+use Rattle.in_flight.specs.Tests.{free_tests, accept_tests, read_tests, refusal_of, return_tests, reservation_tests}
 use Rattle.in_flight.specs.Tests.{tests_found}
 use Rattle.in_flight.specs.Lookup.{arrival_at, entry_at, is_pending, stage_at}
 use Rattle.program_order.specs.declared.event.Event.{Event}
@@ -191,8 +191,8 @@ issue_completed w (Passing place) nb = complete-move _ w.state w.pending place (
 issue_completed w (Taking i place) nb = issue_taking _ w.state w.pending place _ refl nb
 
 issue_sound : (w : Processor) (g : Fetched) → list_any is_branch w.pending ≡ false
-    → Each (λ t. t.fails ≡ false) (row_tests w.pending g) → IsSound w → IsSound (after_issue w g)
-unfolding after_issue row_tests move_to halt_by
+    → Each (λ t. t.fails ≡ false) (reservation_tests w.pending g) → IsSound w → IsSound (after_issue w g)
+unfolding after_issue reservation_tests move_to halt_by
 issue_sound w (Halting k place) nb h s = record { apart = s.apart; request_fits = s.request_fits }
 issue_sound w (Passing place) nb h s = record { apart = s.apart; request_fits = s.request_fits }
 issue_sound w (Taking i place) nb h s =

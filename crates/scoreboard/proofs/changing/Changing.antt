@@ -6,7 +6,7 @@ use Rattle.std.proofs.lemmas.List.{length-set, length-append, set-set, set-appen
 use Rattle.instructions.specs.declared.instr.Unit.{Unit as FunctionalUnit}
 use Rattle.instructions.specs.Finding.{seek, replaced}
 use Rattle.instructions.specs.Shape.{shape_of}
-use Rattle.scoreboard.specs.declared.row.Progress.TheVariants.{Reserved, Left}
+use Rattle.scoreboard.specs.declared.reservation.Progress.TheVariants.{Reserved, Left}
 use Rattle.scoreboard.specs.Units.{unit_number, same_unit}
 use Rattle.scoreboard.specs.declared.issued.Issued.{Issued}
 use Rattle.scoreboard.specs.declared.writer.Writer.{Writer}
@@ -85,15 +85,15 @@ marked_view units channels producers ws last u i x right e h =
 
 pub released_view : (units channels : List (Option Issued)) (producers : List (List (Option Writer))) (ws : Writers)
     (last : ℕ) (u : FunctionalUnit) (i : ℕ) (x : Issued) → IsRight units channels producers ws last → i ≡ unit_number u
-    → get_or units i None ≡ Some x → IfSome (channel_of (shape_of x.row.instr)) (λ n. n < 8)
-    → standing_of (set units i None) (channels_with channels x (channel_of (shape_of x.row.instr))) last
+    → get_or units i None ≡ Some x → IfSome (channel_of (shape_of x.reservation.instr)) (λ n. n < 8)
+    → standing_of (set units i None) (channels_with channels x (channel_of (shape_of x.reservation.instr))) last
     ≡ with_issued (standing_of units channels last)
     (replaced (seek (held_in u) (standing_of units channels last).issued) (standing_of units channels last).issued
     left)
 unfolding seated with_issued left left_with number_of in_progress channels_with
 released_view units channels producers ws last u i x right e h below_8 =
     ap (λ l. record { issued = l; last = last })
-    (by_channel (channel_of (shape_of x.row.instr)) refl below_8
+    (by_channel (channel_of (shape_of x.reservation.instr)) refl below_8
     ∙ sym (changed (held_in u) left os i x here right.apart (here_held u os i x e here right.sits)
     (others_free u os i e right.sits)))
   where
@@ -103,7 +103,7 @@ released_view units channels producers ws last u i x right e h below_8 =
     here : get_or os i None ≡ Some x
     here = unit_seat units channels u i (Some x) right.all_units e h
 
-    reserved : (b : Bool) × (x.row.progress ≡ Reserved b) × (same_unit x.row.unit u ≡ true)
+    reserved : (b : Bool) × (x.reservation.progress ≡ Reserved b) × (same_unit x.reservation.unit u ≡ true)
     reserved = sits_reserved u x (seated_here seat_of os 0 i x here right.sits ∙ omega (arith, e))
 
     front : set os i None ≡ set units i None ++ channels
@@ -112,7 +112,7 @@ released_view units channels producers ws last u i x right e h below_8 =
     fewer : length (set units i None) ≡ 10
     fewer = length-set units i None ∙ right.all_units
 
-    by_channel : (o : Option ℕ) → channel_of (shape_of x.row.instr) ≡ o → IfSome o (λ n. n < 8)
+    by_channel : (o : Option ℕ) → channel_of (shape_of x.reservation.instr) ≡ o → IfSome o (λ n. n < 8)
         → sort_by number_of (somes (set units i None ++ channels_with channels x o)) ≡ before_seat number_of os i x
         ++ (left_with x o ++ after_seat number_of os i x)
     by_channel None k l = ap (λ m. sort_by number_of (somes m)) (sym front) ∙ taken_without number_of (number_of x) os i

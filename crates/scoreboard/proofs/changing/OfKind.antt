@@ -44,15 +44,15 @@ use Rattle.instructions.proofs.Lists.{each_map, each_both}
 use Rattle.instructions.proofs.Seats.{seated_others, seated_empty, found_there}
 use Rattle.instructions.proofs.Sorted.{any_sort}
 use Rattle.scoreboard.specs.declared.issued.Issued.{Issued}
-use Rattle.scoreboard.specs.declared.row.Progress.{Progress}
-use Rattle.scoreboard.specs.declared.row.Progress.TheVariants.{Reserved, Left}
+use Rattle.scoreboard.specs.declared.reservation.Progress.{Progress}
+use Rattle.scoreboard.specs.declared.reservation.Progress.TheVariants.{Reserved, Left}
 use Rattle.scoreboard.specs.declared.writer.Writer.{Writer}
 use Rattle.scoreboard.specs.declared.writers.Writers.{Writers}
 use Rattle.scoreboard.specs.Answers.{held_in, unless, turn_answer}
 use Rattle.scoreboard.specs.Conflicts.{is_held}
 use Rattle.scoreboard.specs.inner.Fields.{seat_is, seat_has_turn, seat_at, is_taken, in_increment}
-use Rattle.scoreboard.specs.Issued.{row_of, number_of}
-use Rattle.scoreboard.specs.Rows.{holds, is_branch, has_turn, has_store_turn, is_reserved}
+use Rattle.scoreboard.specs.Issued.{reservation_of, number_of}
+use Rattle.scoreboard.specs.Reservations.{holds, is_branch, has_turn, has_store_turn, is_reserved}
 use Rattle.scoreboard.specs.Units.{unit_number, same_unit, units_of, may_take}
 use Rattle.scoreboard.specs.inner.View.{seated, seat_in, seat_of, IsOfKind, IsRight}
 use Rattle.scoreboard.proofs.changing.Reserving.{held_taken}
@@ -275,32 +275,33 @@ and_swap true false = refl
 and_swap false true = refl
 and_swap false false = refl
 
-branch_holds : (y : Issued) → IsOfKind y → holds Branch y.row ≡ is_branch y.row
+branch_holds : (y : Issued) → IsOfKind y → holds Branch y.reservation ≡ is_branch y.reservation
 unfolding holds is_branch
 branch_holds y h =
-    ap (λ b. b && is_reserved y.row.progress) (branch_there y.row.instr y.row.unit h)
-    ∙ and_swap (is_branch_shape (shape_of y.row.instr)) (is_reserved y.row.progress)
+    ap (λ b. b && is_reserved y.reservation.progress) (branch_there y.reservation.instr y.reservation.unit h)
+    ∙ and_swap (is_branch_shape (shape_of y.reservation.instr)) (is_reserved y.reservation.progress)
 
 turn_silent : (y : Issued) → IsOfKind y → seat_of y ≢ unit_number Branch → seat_of y ≢ unit_number Increment1
-    → seat_of y ≢ unit_number Increment2 → has_turn y.row ≡ false
+    → seat_of y ≢ unit_number Increment2 → has_turn y.reservation ≡ false
 unfolding has_turn seat_of seat_in is_reserved
-turn_silent y h = by_progress y.row.progress
+turn_silent y h = by_progress y.reservation.progress
   where
-    by_progress : (p : Progress) → seat_in y.row.unit p ≢ unit_number Branch
-        → seat_in y.row.unit p ≢ unit_number Increment1 → seat_in y.row.unit p ≢ unit_number Increment2
-        → (is_reserved p && has_reference (shape_of y.row.instr)) ≡ false
-    by_progress (Reserved has_read) a b c = no_reference y.row.instr y.row.unit h a b c
+    by_progress : (p : Progress) → seat_in y.reservation.unit p ≢ unit_number Branch
+        → seat_in y.reservation.unit p ≢ unit_number Increment1 → seat_in y.reservation.unit p ≢ unit_number Increment2
+        → (is_reserved p && has_reference (shape_of y.reservation.instr)) ≡ false
+    by_progress (Reserved has_read) a b c = no_reference y.reservation.instr y.reservation.unit h a b c
     by_progress (Left o) a b c = refl
 
 store_silent : (y : Issued) → IsOfKind y → seat_of y ≢ unit_number Increment1 → seat_of y ≢ unit_number Increment2
-    → has_store_turn y.row ≡ false
+    → has_store_turn y.reservation ≡ false
 unfolding has_store_turn seat_of seat_in is_reserved
-store_silent y h = by_progress y.row.progress
+store_silent y h = by_progress y.reservation.progress
   where
-    by_progress : (p : Progress) → seat_in y.row.unit p ≢ unit_number Increment1
-        → seat_in y.row.unit p ≢ unit_number Increment2
-        → ((is_reserved p && has_store (shape_of y.row.instr)) && not (is_branch_shape (shape_of y.row.instr))) ≡ false
-    by_progress (Reserved has_read) b c = no_store y.row.instr y.row.unit h b c
+    by_progress : (p : Progress) → seat_in y.reservation.unit p ≢ unit_number Increment1
+        → seat_in y.reservation.unit p ≢ unit_number Increment2
+        → ((is_reserved p && has_store (shape_of y.reservation.instr)) && not (is_branch_shape (shape_of
+        y.reservation.instr))) ≡ false
+    by_progress (Reserved has_read) b c = no_store y.reservation.instr y.reservation.unit h b c
     by_progress (Left o) b c = refl
 
 -- ---- a test of all is a test of some seats ----
@@ -404,23 +405,24 @@ each_of_same f g P h (y ∷ ys) p =
 -- a branch is issued where Branch is taken
 pub branch_found : (units channels : List (Option Issued)) (producers : List (List (Option Writer))) (ws : Writers)
     (last : ℕ) → IsRight units channels producers ws last
-    → is_taken units Branch ≡ list_any (λ y. is_branch y.row) (sort_by number_of (seated units channels))
-unfolding seated is_held row_of
+    → is_taken units Branch ≡ list_any (λ y. is_branch y.reservation) (sort_by number_of (seated units channels))
+unfolding seated is_held reservation_of
 branch_found units channels producers ws last right =
     held_taken units channels producers ws last right Branch
-    ∙ any_sort number_of (λ y. holds Branch y.row) (somes (units ++ channels))
-    ∙ each_of_same (λ y. holds Branch y.row) (λ y. is_branch y.row) IsOfKind branch_holds (somes (units ++ channels))
+    ∙ any_sort number_of (λ y. holds Branch y.reservation) (somes (units ++ channels))
+    ∙ each_of_same (λ y. holds Branch y.reservation) (λ y. is_branch y.reservation) IsOfKind branch_holds (somes (units
+    ++ channels))
     right.kinds
-    ∙ sym (any_sort number_of (λ y. is_branch y.row) (somes (units ++ channels)))
+    ∙ sym (any_sort number_of (λ y. is_branch y.reservation) (somes (units ++ channels)))
 
 -- an SA6 or SA7 is in an Increment unit
 pub store_found : (units channels : List (Option Issued)) (producers : List (List (Option Writer))) (ws : Writers)
     (last : ℕ) → IsRight units channels producers ws last
     → in_increment (seat_is has_store_turn) units
-    ≡ list_any (λ y. has_store_turn y.row) (sort_by number_of (seated units channels))
+    ≡ list_any (λ y. has_store_turn y.reservation) (sort_by number_of (seated units channels))
 unfolding seated seat_is
 store_found units channels producers ws last right =
-    let t : Issued → Bool = λ y. has_store_turn y.row in
+    let t : Issued → Bool = λ y. has_store_turn y.reservation in
     sym (any_sort number_of t (somes (units ++ channels))
     ∙ seats_any t (seat_is has_store_turn) refl (λ y. refl) (unit_number Increment1 ∷ unit_number Increment2 ∷ [])
     IsOfKind (units ++ channels) right.sits right.kinds (λ y k l. store_silent y k l.0 l.1.0)
@@ -430,10 +432,10 @@ store_found units channels producers ws last right =
 pub turn_found : (n : ℕ) (units channels : List (Option Issued)) → length units ≡ 10
     → IsSeated seat_of 0 (units ++ channels) → Each IsOfKind (somes (units ++ channels))
     → (seat_has_turn n (seat_at units Branch) || in_increment (seat_has_turn n) units)
-    ≡ list_any (λ y. ltb y.number n && has_turn y.row) (somes (units ++ channels))
+    ≡ list_any (λ y. ltb y.number n && has_turn y.reservation) (somes (units ++ channels))
 unfolding seat_has_turn
 turn_found n units channels l s k =
-    let t : Issued → Bool = λ y. ltb y.number n && has_turn y.row in
+    let t : Issued → Bool = λ y. ltb y.number n && has_turn y.reservation in
     sym (seats_any t (seat_has_turn n) refl (λ y. refl)
     (unit_number Branch ∷ unit_number Increment1 ∷ unit_number Increment2 ∷ []) IsOfKind (units ++ channels) s k
     (λ y q d. ap (λ b. ltb y.number n && b) (turn_silent y q d.0 d.1.0 d.1.1.0) ∙ and_false (ltb y.number n))
@@ -449,16 +451,17 @@ turn_found n units channels l s k =
 pub turn_answered : (units channels : List (Option Issued)) (producers : List (List (Option Writer))) (ws : Writers)
     (last : ℕ) (u : FunctionalUnit) (i : ℕ) (x : Issued) (b : Bool) → IsRight units channels producers ws last
     → i ≡ unit_number u → get_or units i None ≡ Some x
-    → b ≡ (has_reference (shape_of x.row.instr)
+    → b ≡ (has_reference (shape_of x.reservation.instr)
     && (seat_has_turn x.number (seat_at units Branch)
     || in_increment (seat_has_turn x.number) units)) → unless b OutOfTurn ≡ turn_answer (seek (held_in u) (sort_by
     number_of (seated units channels)))
-unfolding seated turn_answer number_of row_of
+unfolding seated turn_answer number_of reservation_of
 turn_answered units channels producers ws last u i x b right e h eb =
     let os : List (Option Issued) = units ++ channels in
     let here = unit_seat units channels u i (Some x) right.all_units e h in
-    ap (λ q. unless q OutOfTurn) (eb ∙ ap (λ q. has_reference (shape_of x.row.instr) && q)
+    ap (λ q. unless q OutOfTurn) (eb ∙ ap (λ q. has_reference (shape_of x.reservation.instr) && q)
     (turn_found x.number units channels right.all_units right.sits right.kinds
-    ∙ earlier_any (λ y. has_turn y.row) os i x here right.apart))
-    ∙ ap turn_answer (sym (found_there number_of (held_in u) os i x x.row.instr here (own_keys (somes os) right.apart)
+    ∙ earlier_any (λ y. has_turn y.reservation) os i x here right.apart))
+    ∙ ap turn_answer (sym (found_there number_of (held_in u) os i x x.reservation.instr here (own_keys (somes os)
+    right.apart)
     (here_held u os i x e here right.sits) (others_free u os i e right.sits)))

@@ -18,7 +18,7 @@ use Rattle.instructions.specs.RegisterLists.{is_in}
 use Rattle.instructions.specs.Shape.{shape_of, puts_of, results}
 use Rattle.instructions.specs.Operands.{uses, sources_of, reg_eq}
 use Rattle.scoreboard.specs.Conflicts.{awaited, is_held, first_free, free_unit, unit_for, first_such}
-use Rattle.scoreboard.specs.Rows.{comes, to_come, to_come_in, holds}
+use Rattle.scoreboard.specs.Reservations.{comes, to_come, to_come_in, holds}
 use Rattle.scoreboard.specs.Units.{unit_number, same_unit, units_of, may_take, first_unit}
 use Rattle.scoreboard.specs.declared.issued.Issued.{Issued}
 use Rattle.scoreboard.specs.declared.writer.Writer.{Writer}
@@ -27,7 +27,7 @@ use Rattle.scoreboard.specs.declared.writers.Writers.{Writers}
 use Rattle.scoreboard.specs.Answers.{Standing, new_issued, reserve_answer, reserved}
 use Rattle.instructions.specs.Each.{Each, Pairs}
 use Rattle.scoreboard.specs.inner.Fields.{writers_with, is_taken, free_for}
-use Rattle.scoreboard.specs.Issued.{row_of, number_of, channel_of, written_by_channel, written_in, written_by, or_else}
+use Rattle.scoreboard.specs.Issued.{reservation_of, number_of, channel_of, written_by_channel, written_in, written_by, or_else}
 use Rattle.scoreboard.specs.Issued.{first_some, if_earlier, writer_of, writer_before}
 use Rattle.instructions.specs.Order.{sort_by, somes, IsSeated}
 use Rattle.scoreboard.specs.inner.View.{standing_of, seated, seat_in, seat_of, IsOther, IsOfKind, AreProducers}
@@ -80,13 +80,13 @@ with_gives ws u rs (Some n) r l v b =
 -- somebody is to write a register where it is a result still to come
 pub awaited_field : (units channels : List (Option Issued)) (producers : List (List (Option Writer))) (ws : Writers)
     (last : ℕ) → IsRight units channels producers ws last → (r : Reg) → IsRegister r
-    → is_some (writer_at ws r) ≡ awaited row_of (sort_by number_of (seated units channels)) r
-unfolding seated awaited row_of writer_of
+    → is_some (writer_at ws r) ≡ awaited reservation_of (sort_by number_of (seated units channels)) r
+unfolding seated awaited reservation_of writer_of
 awaited_field units channels producers ws last right r v =
     ap is_some (right.written r v)
     ∙ some_any (written_by r) (somes (units ++ channels))
-    ∙ any_same (λ y. is_some (written_by r y)) (λ y. comes r y.row) (some_written r) (somes (units ++ channels))
-    ∙ sym (any_sort number_of (λ y. comes r y.row) (somes (units ++ channels)))
+    ∙ any_same (λ y. is_some (written_by r y)) (λ y. comes r y.reservation) (some_written r) (somes (units ++ channels))
+    ∙ sym (any_sort number_of (λ y. comes r y.reservation) (somes (units ++ channels)))
 
 find_valid : (f g : Reg → Bool) → ((r : Reg) → IsRegister r → f r ≡ g r) → (rs : List Reg) → Each IsRegister rs
     → find f rs ≡ find g rs
@@ -98,10 +98,10 @@ find_valid f g h (r ∷ rs) v =
 pub first_awaited : (units channels : List (Option Issued)) (producers : List (List (Option Writer))) (ws : Writers)
     (last : ℕ) (rs : List Reg) (ps : List (Option Writer)) (o : Option Reg) → IsRight units channels producers ws last
     → AreProducers (writer_at ws) rs ps → Each IsRegister rs → o ≡ first_produced rs ps
-    → o ≡ find (awaited row_of (sort_by number_of (seated units channels))) rs
+    → o ≡ find (awaited reservation_of (sort_by number_of (seated units channels))) rs
 first_awaited units channels producers ws last rs ps o right h v e =
     e ∙ produced_found (writer_at ws) rs ps h
-    ∙ find_valid (λ r. is_some (writer_at ws r)) (awaited row_of (sort_by number_of (seated units channels)))
+    ∙ find_valid (λ r. is_some (writer_at ws r)) (awaited reservation_of (sort_by number_of (seated units channels)))
     (λ r k. awaited_field units channels producers ws last right r k) rs v
 
 -- where none passes, each fails
@@ -118,18 +118,20 @@ found_none test (s ∷ rs) h r k = by_tests (λ i j. found_none test rs i r j) (
     by_tests rest false e i false f j = rest i j
 
 new_comes : (r : Reg) (i : Instr) (u : FunctionalUnit) (n : ℕ)
-    → comes r (new_issued i u n).row ≡ is_in (results (shape_of i)) r
+    → comes r (new_issued i u n).reservation ≡ is_in (results (shape_of i)) r
 unfolding comes to_come to_come_in new_issued
 new_comes r i u n = refl
 
 -- none of the new results is still to come
 pub fresh : (units channels : List (Option Issued)) (i : Instr) (u : FunctionalUnit) (n : ℕ)
-    → find (awaited row_of (sort_by number_of (seated units channels))) (results (shape_of i)) ≡ None → (r : Reg)
-    → comes r (new_issued i u n).row ≡ true → list_any (λ z. comes r z.row) (somes (units ++ channels)) ≡ false
-unfolding seated awaited row_of
+    → find (awaited reservation_of (sort_by number_of (seated units channels))) (results (shape_of i)) ≡ None
+    → (r : Reg)
+    → comes r (new_issued i u n).reservation ≡ true → list_any (λ z. comes r z.reservation) (somes (units ++ channels))
+    ≡ false
+unfolding seated awaited reservation_of
 fresh units channels i u n h r k =
-    sym (any_sort number_of (λ z. comes r z.row) (somes (units ++ channels)))
-    ∙ found_none (awaited row_of (sort_by number_of (seated units channels))) (results (shape_of i)) h r
+    sym (any_sort number_of (λ z. comes r z.reservation) (somes (units ++ channels)))
+    ∙ found_none (awaited reservation_of (sort_by number_of (seated units channels))) (results (shape_of i)) h r
     (sym (new_comes r i u n) ∙ k)
 
 -- ---- the unit ----
@@ -149,19 +151,19 @@ any_here t os i x h e =
 -- a unit is held where its seat is taken
 pub held_taken : (units channels : List (Option Issued)) (producers : List (List (Option Writer))) (ws : Writers)
     (last : ℕ) → IsRight units channels producers ws last → (u : FunctionalUnit)
-    → is_taken units u ≡ is_held row_of (sort_by number_of (seated units channels)) u
-unfolding seated is_held row_of
+    → is_taken units u ≡ is_held reservation_of (sort_by number_of (seated units channels)) u
+unfolding seated is_held reservation_of
 held_taken units channels producers ws last right u = by_seat (get_or units (unit_number u) None) refl
-    ∙ sym (any_sort number_of (λ y. holds u y.row) (somes (units ++ channels)))
+    ∙ sym (any_sort number_of (λ y. holds u y.reservation) (somes (units ++ channels)))
   where
     by_seat : (o : Option Issued) → get_or units (unit_number u) None ≡ o
-        → is_some o ≡ list_any (λ y. holds u y.row) (somes (units ++ channels))
-    by_seat None e = sym (none_any (λ y. holds u y.row) (somes (units ++ channels))
+        → is_some o ≡ list_any (λ y. holds u y.reservation) (somes (units ++ channels))
+    by_seat None e = sym (none_any (λ y. holds u y.reservation) (somes (units ++ channels))
         (nobody_holds u (units ++ channels) (unit_number u) refl
         (unit_seat units channels u (unit_number u) None right.all_units refl e) right.sits))
     by_seat (Some x) e =
         let here = unit_seat units channels u (unit_number u) (Some x) right.all_units refl e in
-        sym (any_here (λ y. holds u y.row) (units ++ channels) (unit_number u) x here
+        sym (any_here (λ y. holds u y.reservation) (units ++ channels) (unit_number u) x here
         (here_holds u (units ++ channels) (unit_number u) x refl here right.sits))
 
 first_free_same : (f g : FunctionalUnit → Bool) → ((u : FunctionalUnit) → f u ≡ g u) → (us : List FunctionalUnit)
@@ -173,11 +175,11 @@ first_free_same f g h (u ∷ us) =
 
 pub free_same : (units channels : List (Option Issued)) (producers : List (List (Option Writer))) (ws : Writers)
     (last : ℕ) → IsRight units channels producers ws last → (k : Option UnitKind)
-    → free_for (is_taken units) k ≡ unit_for row_of (sort_by number_of (seated units channels)) k
+    → free_for (is_taken units) k ≡ unit_for reservation_of (sort_by number_of (seated units channels)) k
 unfolding free_for unit_for free_unit
 free_same units channels producers ws last right None = refl
 free_same units channels producers ws last right (Some k) =
-    first_free_same (is_taken units) (is_held row_of (sort_by number_of (seated units channels)))
+    first_free_same (is_taken units) (is_held reservation_of (sort_by number_of (seated units channels)))
     (held_taken units channels producers ws last right) (units_of k)
 
 first_is_free : (f : FunctionalUnit → Bool) (us : List FunctionalUnit) (u : FunctionalUnit) → first_free f us ≡ Some u
@@ -231,23 +233,24 @@ unfolding reserve_answer
 busy_answer s i o e = ap (reserve_answer s i) (sym e)
 
 pub taken_answer : (s : Standing) (i : Instr) (o : Option FunctionalUnit) (u : FunctionalUnit) (q : Option Reg)
-    (r : Reg) → o ≡ Some u → q ≡ find (awaited row_of s.issued) (results (shape_of i)) → q ≡ Some r
+    (r : Reg) → o ≡ Some u → q ≡ find (awaited reservation_of s.issued) (results (shape_of i)) → q ≡ Some r
     → Err (ResultReserved r) ≡ reserve_answer s i o
 unfolding reserve_answer
 taken_answer s i o u q r e f g =
-    let t : find (awaited row_of s.issued) (results (shape_of i)) ≡ Some r = sym f ∙ g in
+    let t : find (awaited reservation_of s.issued) (results (shape_of i)) ≡ Some r = sym f ∙ g in
     ap (λ z. Err (ResultReserved (unwrap_or z (B 0)))) (sym t)
-    ∙ sym (ap (λ b. cond b (Err (ResultReserved (first_such (awaited row_of s.issued) (results (shape_of i)))))
-    (Ok (u, suc s.last))) (any_find (awaited row_of s.issued) (results (shape_of i)) ∙ ap is_some t))
+    ∙ sym (ap (λ b. cond b (Err (ResultReserved (first_such (awaited reservation_of s.issued) (results (shape_of i)))))
+    (Ok (u, suc s.last))) (any_find (awaited reservation_of s.issued) (results (shape_of i)) ∙ ap is_some t))
     ∙ ap (reserve_answer s i) (sym e)
 
 pub reserved_answer : (s : Standing) (i : Instr) (o : Option FunctionalUnit) (u : FunctionalUnit) (n : ℕ) → o ≡ Some u
-    → find (awaited row_of s.issued) (results (shape_of i)) ≡ None → n ≡ suc s.last → Ok (u, n) ≡ reserve_answer s i o
+    → find (awaited reservation_of s.issued) (results (shape_of i)) ≡ None → n ≡ suc s.last
+    → Ok (u, n) ≡ reserve_answer s i o
 unfolding reserve_answer
 reserved_answer s i o u n e t k =
     ap (λ m. Ok (u, m)) k
-    ∙ sym (ap (λ b. cond b (Err (ResultReserved (first_such (awaited row_of s.issued) (results (shape_of i)))))
-    (Ok (u, suc s.last))) (any_find (awaited row_of s.issued) (results (shape_of i)) ∙ ap is_some t))
+    ∙ sym (ap (λ b. cond b (Err (ResultReserved (first_such (awaited reservation_of s.issued) (results (shape_of i)))))
+    (Ok (u, suc s.last))) (any_find (awaited reservation_of s.issued) (results (shape_of i)) ∙ ap is_some t))
     ∙ ap (reserve_answer s i) (sym e)
 
 -- ---- what holds then ----
@@ -257,17 +260,24 @@ front_seat : (units channels : List (Option Issued)) (j : ℕ) (z : Issued) → 
 front_seat units channels j z h = get_or_append_left units channels None j (within units j z h) ∙ h
 
 fresh_others : (last : ℕ) (y : Issued) (ys : List Issued) → y.number ≡ suc last → Each (λ x. x.number ≤ last) ys
-    → ((r : Reg) → comes r y.row ≡ true → list_any (λ z. comes r z.row) ys ≡ false) → Each (IsOther y) ys
+    → ((r : Reg) → comes r y.reservation ≡ true → list_any (λ z. comes r z.reservation) ys ≡ false)
+    → Each (IsOther y) ys
 unfolding number_of
 fresh_others last y [] e n h = tt
 fresh_others last y (z ∷ ys) e n h = (
-  one z n.0 (λ r k. (or_parts (comes r z.row) (list_any (λ w. comes r w.row) ys) (h r k)).0),
-  fresh_others last y ys e n.1 (λ r k. (or_parts (comes r z.row) (list_any (λ w. comes r w.row) ys) (h r k)).1),
+  one z n.0 (λ r k. (or_parts (comes r z.reservation) (list_any (λ w. comes r w.reservation) ys) (h r k)).0),
+  fresh_others last y ys e n.1 (λ r k. (or_parts (comes r z.reservation) (list_any (λ w. comes r w.reservation) ys) (h
+      r k)).1),
 )
   where
-    one : (z : Issued) → z.number ≤ last → ((r : Reg) → comes r y.row ≡ true → comes r z.row ≡ false) → IsOther y z
+    one : (z : Issued) → z.number ≤ last → ((r : Reg) → comes r y.reservation ≡ true → comes r z.reservation ≡ false)
+        → IsOther y z
     one z l k =
-        record { number = λ q. omega (arith, l, q, e); results = λ r. by_test (comes r y.row) (comes r z.row) (k r) }
+        record {
+          number = λ q. omega (arith, l, q, e);
+          results = λ r. by_test (comes r y.reservation) (comes r
+              z.reservation) (k r);
+        }
       where
         by_test : (a b : Bool) → (a ≡ true → b ≡ false) → (a && b) ≡ false
         by_test true b f = f refl
@@ -301,7 +311,7 @@ new_number : (i : Instr) (u : FunctionalUnit) (n : ℕ) → (new_issued i u n).n
 unfolding new_issued
 new_number i u n = refl
 
-new_sources : (i : Instr) (u : FunctionalUnit) (n : ℕ) → sources_of (new_issued i u n).row.instr ≡ sources_of i
+new_sources : (i : Instr) (u : FunctionalUnit) (n : ℕ) → sources_of (new_issued i u n).reservation.instr ≡ sources_of i
 unfolding new_issued
 new_sources i u n = refl
 
@@ -314,8 +324,8 @@ pub reserved_right : (units channels : List (Option Issued)) (producers : List (
     → IsRight units channels producers ws last → k ≡ unit_number u → get_or units k None ≡ None
     → AreProducers (writer_at ws) (sources_of i) ps → Each IsRegister (sources_of i)
     → Each IsRegister (puts_of (shape_of i)) → IfSome (channel_of (shape_of i)) (λ n. n < 8)
-    → ((r : Reg) → comes r (new_issued i u (suc last)).row ≡ true
-    → list_any (λ z. comes r z.row) (somes (units ++ channels)) ≡ false) → may_take (uses i).unit u ≡ true
+    → ((r : Reg) → comes r (new_issued i u (suc last)).reservation ≡ true
+    → list_any (λ z. comes r z.reservation) (somes (units ++ channels)) ≡ false) → may_take (uses i).unit u ≡ true
     → IsRight (set units k (Some (new_issued i u (suc last)))) channels (set producers k ps)
     (writers_with ws u (puts_of (shape_of i)) (channel_of (shape_of i))) (suc last)
 unfolding seated writer_before or_else
@@ -368,7 +378,7 @@ reserved_right units channels producers ws last u k i ps right e h made sources 
         ∙ ap (λ o. or_else o (writer_before n (somes os) r)) (not_earlier n r y (omega (arith, l, number)))
 
     by_place : (j : ℕ) (z : Issued) → get_or (set units k (Some y)) j None ≡ Some z → (b : Bool) → eqb j k ≡ b
-        → AreProducers (writer_before z.number (somes (set os k (Some y)))) (sources_of z.row.instr)
+        → AreProducers (writer_before z.number (somes (set os k (Some y)))) (sources_of z.reservation.instr)
         (get_or (set producers k ps) j [])
     by_place j z q true b =
         let p : j ≡ k = eqb-true j k b in
@@ -378,7 +388,7 @@ reserved_right units channels producers ws last u k i ps right e h made sources 
         let own : get_or (set producers k ps) j [] ≡ ps = ap (λ m. get_or (set producers k ps) m []) p
         ∙ get_or-set_same producers k ps [] (omega (arith, inside, right.all_units, right.all_producers)) in
         subst (λ (v : Issued). AreProducers (writer_before v.number (somes (set os k (Some y))))
-        (sources_of v.row.instr) (get_or (set producers k ps) j [])) yz
+        (sources_of v.reservation.instr) (get_or (set producers k ps) j [])) yz
         (subst (λ rs. AreProducers (writer_before y.number (somes (set os k (Some y)))) rs
         (get_or (set producers k ps) j [])) (sym (new_sources i u (suc last)))
         (subst (λ l. AreProducers (writer_before y.number (somes (set os k (Some y)))) (sources_of i) l) (sym own)
@@ -390,10 +400,11 @@ reserved_right units channels producers ws last u k i ps right e h made sources 
         let t : get_or units j None ≡ Some z = sym (get_or-set_other units k j (Some y) None (eqb-false j k b)) ∙ q in
         let n : z.number ≤ last =
         each_here (λ w. w.number ≤ last) os j z (front_seat units channels j z t) right.counted in
-        subst (λ l. AreProducers (writer_before z.number (somes (set os k (Some y)))) (sources_of z.row.instr) l)
+        subst (λ l. AreProducers (writer_before z.number (somes (set os k (Some y)))) (sources_of z.reservation.instr)
+        l)
         (sym (get_or-set_other producers k j ps [] (eqb-false j k b)))
         (producers_same (writer_before z.number (somes os)) (writer_before z.number (somes (set os k (Some y))))
-        (λ r. same z.number r (omega (arith, n))) (sources_of z.row.instr) (get_or producers j [])
+        (λ r. same z.number r (omega (arith, n))) (sources_of z.reservation.instr) (get_or producers j [])
         (right.produced j z t))
 
 -- ---- what the board stands for then ----
@@ -483,16 +494,16 @@ pub first_found : (units channels : List (Option Issued)) (producers : List (Lis
     (last : ℕ) (i : Instr) (rs ss : List Reg) (ps : List (Option Writer)) (q : Option Reg)
     → IsRight units channels producers ws last → AreProducers (writer_at ws) rs ps → Each IsRegister rs
     → rs ≡ results (shape_of i) → ss ≡ results (shape_of i) → q ≡ first_produced ss ps
-    → q ≡ find (awaited row_of (sort_by number_of (seated units channels))) (results (shape_of i))
+    → q ≡ find (awaited reservation_of (sort_by number_of (seated units channels))) (results (shape_of i))
 first_found units channels producers ws last i rs ss ps q right h v er es eq =
     let e : rs ≡ ss = er ∙ sym es in
     first_awaited units channels producers ws last ss ps q right (subst (λ l. AreProducers (writer_at ws) l ps) e h)
     (subst (Each IsRegister) e v) eq
-    ∙ ap (find (awaited row_of (sort_by number_of (seated units channels)))) es
+    ∙ ap (find (awaited reservation_of (sort_by number_of (seated units channels)))) es
 
 pub unit_found : (units channels : List (Option Issued)) (producers : List (List (Option Writer))) (ws : Writers)
     (last : ℕ) (k : Option UnitKind) (o q : Option FunctionalUnit) → IsRight units channels producers ws last
-    → o ≡ free_for (is_taken units) k → o ≡ q → unit_for row_of (standing_of units channels last).issued k ≡ q
+    → o ≡ free_for (is_taken units) k → o ≡ q → unit_for reservation_of (standing_of units channels last).issued k ≡ q
 unit_found units channels producers ws last k o q right e h =
     sym (free_same units channels producers ws last right k) ∙ sym e ∙ h
 
@@ -509,7 +520,7 @@ pub new_right : (units channels : List (Option Issued)) (producers : List (List 
     → IsRight units channels producers ws last → n ≡ suc last → k ≡ unit_number u → get_or units k None ≡ None
     → rs ≡ sources_of i → AreProducers (writer_at ws) rs ps → Each IsRegister rs
     → Each IsRegister (puts_of (shape_of i)) → IfSome (channel_of (shape_of i)) (λ m. m < 8)
-    → find (awaited row_of (sort_by number_of (seated units channels))) (results (shape_of i)) ≡ None
+    → find (awaited reservation_of (sort_by number_of (seated units channels))) (results (shape_of i)) ≡ None
     → may_take (uses i).unit u ≡ true → y ≡ new_issued i u n
     → ws' ≡ writers_with ws u (puts_of (shape_of i)) (channel_of (shape_of i))
     → IsRight (set units k (Some y)) channels (set producers k ps) ws' n

@@ -11,8 +11,8 @@ use Rattle.instructions.specs.declared.instr.Unit.{Unit as FunctionalUnit}
 use Rattle.instructions.specs.RegisterLists.{is_in}
 use Rattle.instructions.specs.Shape.{Shape, Puts, Loads, Stores, Jumps, Links, shape_of, puts_of, loads_of, results}
 use Rattle.instructions.specs.Operands.{sources_of, reg_eq}
-use Rattle.scoreboard.specs.declared.row.Progress.TheVariants.{Reserved, Left}
-use Rattle.scoreboard.specs.Rows.{comes, to_come, to_come_in, returning_to}
+use Rattle.scoreboard.specs.declared.reservation.Progress.TheVariants.{Reserved, Left}
+use Rattle.scoreboard.specs.Reservations.{comes, to_come, to_come_in, returning_to}
 use Rattle.scoreboard.specs.Units.{unit_number, same_unit}
 use Rattle.scoreboard.specs.declared.issued.Issued.{Issued}
 use Rattle.scoreboard.specs.declared.writer.Writer.{Writer}
@@ -44,7 +44,7 @@ pub right_again : (units channels l : List (Option Issued)) (producers : List (L
     → IsSeated seat_of 0 l → Pairs IsOther (somes l) → Each (λ x. x.number ≤ last) (somes l) → Each IsOfKind (somes l)
     → ((r : Reg) → IsRegister r → writer_at ws r ≡ writer_before (suc last) (somes l) r)
     → ((j : ℕ) (z : Issued) → get_or units j None ≡ Some z
-    → AreProducers (writer_before z.number (somes l)) (sources_of z.row.instr)
+    → AreProducers (writer_before z.number (somes l)) (sources_of z.reservation.instr)
     (get_or producers j [])) → IsRight units channels producers ws last
 unfolding seated
 right_again units channels l producers ws last e lu lc lp lw s a n k w p = record {
@@ -57,7 +57,7 @@ right_again units channels l producers ws last e lu lc lp lw s a n k w p = recor
   counted = subst (λ m. Each (λ x. x.number ≤ last) (somes m)) e n;
   kinds = subst (λ m. Each IsOfKind (somes m)) e k;
   written = λ r v. w r v ∙ all_earlier last r (somes l) n ∙ ap (λ m. writer_of (somes m) r) e;
-  produced = λ j z h. subst (λ m. AreProducers (writer_before z.number (somes m)) (sources_of z.row.instr)
+  produced = λ j z h. subst (λ m. AreProducers (writer_before z.number (somes m)) (sources_of z.reservation.instr)
       (get_or producers j [])) e (p j z h);
 }
 
@@ -76,11 +76,12 @@ producers_same f g h (r ∷ rs) [] k = absurd k
 producers_same f g h (r ∷ rs) (p ∷ ps) k = (k.0 ∙ sym (h r), producers_same f g h rs ps k.1)
 
 -- it has no more to write than before
-other_less : (x y z : Issued) → number_of y ≡ number_of x → ((r : Reg) → comes r y.row ≡ true → comes r x.row ≡ true)
+other_less : (x y z : Issued) → number_of y ≡ number_of x → ((r : Reg) → comes r y.reservation ≡ true
+    → comes r x.reservation ≡ true)
     → IsOther x z → IsOther y z
 other_less x y z e h k = record {
   number = λ q. k.number (sym e ∙ q);
-  results = λ r. by_tests (comes r y.row) (comes r x.row) (comes r z.row) (h r) (k.results r);
+  results = λ r. by_tests (comes r y.reservation) (comes r x.reservation) (comes r z.reservation) (h r) (k.results r);
 }
   where
     by_tests : (a b c : Bool) → (a ≡ true → b ≡ true) → (b && c) ≡ false → (a && c) ≡ false
@@ -90,22 +91,22 @@ other_less x y z e h k = record {
 
 -- ---- operands are read ----
 
-pub marked_written : (r : Reg) (x : Issued) (b : Bool) → x.row.progress ≡ Reserved b
+pub marked_written : (r : Reg) (x : Issued) (b : Bool) → x.reservation.progress ≡ Reserved b
     → written_by r x ≡ written_by r (in_progress x (Reserved true))
 unfolding written_by written_in in_progress
-marked_written r x b e = ap (λ p. written_in r x.row.unit (shape_of x.row.instr) p) e
+marked_written r x b e = ap (λ p. written_in r x.reservation.unit (shape_of x.reservation.instr) p) e
 
-pub marked_comes : (r : Reg) (x : Issued) (b : Bool) → x.row.progress ≡ Reserved b
-    → comes r (in_progress x (Reserved true)).row ≡ comes r x.row
+pub marked_comes : (r : Reg) (x : Issued) (b : Bool) → x.reservation.progress ≡ Reserved b
+    → comes r (in_progress x (Reserved true)).reservation ≡ comes r x.reservation
 unfolding comes to_come to_come_in in_progress
-marked_comes r x b e = sym (ap (λ p. is_in (to_come_in (shape_of x.row.instr) p) r) e)
+marked_comes r x b e = sym (ap (λ p. is_in (to_come_in (shape_of x.reservation.instr) p) r) e)
 
-marked_seat : (x : Issued) (b : Bool) → x.row.progress ≡ Reserved b
+marked_seat : (x : Issued) (b : Bool) → x.reservation.progress ≡ Reserved b
     → seat_of (in_progress x (Reserved true)) ≡ seat_of x
 unfolding seat_of seat_in in_progress
-marked_seat x b e = sym (ap (seat_in x.row.unit) e)
+marked_seat x b e = sym (ap (seat_in x.reservation.unit) e)
 
-marked_other : (x z : Issued) (b : Bool) → x.row.progress ≡ Reserved b → IsOther x z
+marked_other : (x z : Issued) (b : Bool) → x.reservation.progress ≡ Reserved b → IsOther x z
     → IsOther (in_progress x (Reserved true)) z
 unfolding number_of in_progress
 marked_other x z b e k = other_less x (in_progress x (Reserved true)) z refl (λ r q. sym (marked_comes r x b e) ∙ q) k
@@ -142,7 +143,7 @@ marked_right units channels producers ws last u i x right e h =
     here : get_or os i None ≡ Some x
     here = unit_seat units channels u i (Some x) right.all_units e h
 
-    reserved : (b : Bool) × (x.row.progress ≡ Reserved b) × (same_unit x.row.unit u ≡ true)
+    reserved : (b : Bool) × (x.reservation.progress ≡ Reserved b) × (same_unit x.reservation.unit u ≡ true)
     reserved = sits_reserved u x (seated_here seat_of os 0 i x here right.sits ∙ omega (arith, e))
 
     again : set (set os i None) i (Some y) ≡ set os i (Some y)
@@ -162,7 +163,7 @@ marked_right units channels producers ws last u i x right e h =
     same n r = writer_same n r os i x y here refl (marked_written r x reserved.0 reserved.1)
 
     by_place : (j : ℕ) (z : Issued) → get_or (set units i (Some y)) j None ≡ Some z → (b : Bool) → eqb j i ≡ b
-        → AreProducers (writer_before z.number (somes (set os i (Some y)))) (sources_of z.row.instr)
+        → AreProducers (writer_before z.number (somes (set os i (Some y)))) (sources_of z.reservation.instr)
         (get_or producers j [])
     by_place j z k true b =
         let q : j ≡ i = eqb-true j i b in
@@ -170,14 +171,14 @@ marked_right units channels producers ws last u i x right e h =
         ∙ ap (λ m. get_or (set units i (Some y)) m None) (sym q) ∙ k in
         let yz : y ≡ z = cc in
         subst (λ (v : Issued). AreProducers (writer_before v.number (somes (set os i (Some y))))
-        (sources_of v.row.instr) (get_or producers j [])) yz
-        (subst (λ m. AreProducers (writer_before x.number (somes (set os i (Some y)))) (sources_of x.row.instr)
+        (sources_of v.reservation.instr) (get_or producers j [])) yz
+        (subst (λ m. AreProducers (writer_before x.number (somes (set os i (Some y)))) (sources_of x.reservation.instr)
         (get_or producers m [])) (sym q)
         (producers_same (writer_before x.number (somes os)) (writer_before x.number (somes (set os i (Some y))))
-        (same x.number) (sources_of x.row.instr) (get_or producers i []) (right.produced i x h)))
+        (same x.number) (sources_of x.reservation.instr) (get_or producers i []) (right.produced i x h)))
     by_place j z k false b =
         producers_same (writer_before z.number (somes os)) (writer_before z.number (somes (set os i (Some y))))
-        (same z.number) (sources_of z.row.instr) (get_or producers j [])
+        (same z.number) (sources_of z.reservation.instr) (get_or producers j [])
         (right.produced j z (sym (get_or-set_other units i j (Some y) None (eqb-false j i b)) ∙ k))
 
 -- ---- somebody has written ----
@@ -206,7 +207,7 @@ abbrev pub AreForgotten : Writer → List (Option Issued) → List (Option Issue
 AreForgotten w os units pss =
     (length pss ≡ 10) × ((j : ℕ) (z : Issued) → get_or units j None ≡ Some z → (g : Reg → Option Writer)
     → ((r : Reg) → g r ≡ forget w (writer_before z.number (somes os) r))
-    → AreProducers g (sources_of z.row.instr) (get_or pss j []))
+    → AreProducers g (sources_of z.reservation.instr) (get_or pss j []))
 
 pub all_forgotten : (w : Writer) (units channels units' : List (Option Issued))
     (producers : List (List (Option Writer))) (ws : Writers) (last : ℕ) → IsRight units channels producers ws last
@@ -215,8 +216,9 @@ pub all_forgotten : (w : Writer) (units channels units' : List (Option Issued))
 unfolding seated
 all_forgotten w units channels units' producers ws last right t = (
   length_forgotten w units' producers ∙ right.all_producers,
-  λ j z h g k. subst (λ ps. AreProducers g (sources_of z.row.instr) ps) (sym (forgotten_at w units' producers j z h))
-      (producers_forget w (writer_before z.number (somes (units ++ channels))) g k (sources_of z.row.instr)
+  λ j z h g k. subst (λ ps. AreProducers g (sources_of z.reservation.instr) ps) (sym (forgotten_at w units' producers j
+      z h))
+      (producers_forget w (writer_before z.number (somes (units ++ channels))) g k (sources_of z.reservation.instr)
       (get_or producers j []) (right.produced j z (t j z h))),
 )
 
@@ -349,35 +351,37 @@ last_forgotten w units channels units' producers ws last i x right here others k
       producers_same (writer_before z.number (somes (units ++ channels))) g
       (λ r. f r ∙ nobody_waits w (units ++ channels) i x z.number r here right.apart (others r)
       (omega (arith, up_to, k)))
-      (sources_of z.row.instr) (get_or producers j []) (right.produced j z there),
+      (sources_of z.reservation.instr) (get_or producers j []) (right.produced j z there),
 )
 
 -- ---- a load has returned ----
 
-field_returned : (n : ℕ) (r : Reg) (x : Issued) (rest : Option Writer) → x.row.progress ≡ Left (Some n)
+field_returned : (n : ℕ) (r : Reg) (x : Issued) (rest : Option Writer) → x.reservation.progress ≡ Left (Some n)
     → forget (OfChannel n) rest ≡ rest
     → cond (reg_eq r (X n)) None (or_else (written_by r x) rest) ≡ forget (OfChannel n) (or_else (written_by r x) rest)
 unfolding written_by written_in written_by_channel forget same_writer or_else
 field_returned n r x rest e k =
-    ap (λ p. cond (reg_eq r (X n)) None (or_else (written_in r x.row.unit (shape_of x.row.instr) p) rest)) e
+    ap (λ p. cond (reg_eq r (X n)) None (or_else (written_in r x.reservation.unit (shape_of x.reservation.instr) p)
+    rest)) e
     ∙ by_test (reg_eq r (X n))
-    ∙ ap (λ p. forget (OfChannel n) (or_else (written_in r x.row.unit (shape_of x.row.instr) p) rest)) (sym e)
+    ∙ ap (λ p. forget (OfChannel n) (or_else (written_in r x.reservation.unit (shape_of x.reservation.instr) p) rest))
+    (sym e)
   where
     by_test : (b : Bool) → cond b None (or_else (cond b (Some (OfChannel n)) None) rest)
         ≡ forget (OfChannel n) (or_else (cond b (Some (OfChannel n)) None) rest)
     by_test true = sym (ap (λ b. cond b None (Some (OfChannel n))) (eq-eqb n n refl))
     by_test false = sym k
 
-comes_returning : (n : ℕ) (x : Issued) → x.row.progress ≡ Left (Some n) → comes (X n) x.row ≡ true
+comes_returning : (n : ℕ) (x : Issued) → x.reservation.progress ≡ Left (Some n) → comes (X n) x.reservation ≡ true
 unfolding comes to_come to_come_in returning_to is_in
 comes_returning n x e =
-    ap (λ p. is_in (to_come_in (shape_of x.row.instr) p) (X n)) e ∙ ap (λ b. b || false) (eq-eqb n n refl)
+    ap (λ p. is_in (to_come_in (shape_of x.reservation.instr) p) (X n)) e ∙ ap (λ b. b || false) (eq-eqb n n refl)
 
-others_not_loading : (n : ℕ) (x : Issued) (ys : List Issued) → comes (X n) x.row ≡ true → Each (IsOther x) ys
+others_not_loading : (n : ℕ) (x : Issued) (ys : List Issued) → comes (X n) x.reservation ≡ true → Each (IsOther x) ys
     → (r : Reg) → Each (λ y. forget (OfChannel n) (written_by r y) ≡ written_by r y) ys
 others_not_loading n x ys h k r =
     each_map (IsOther x) (λ y. forget (OfChannel n) (written_by r y) ≡ written_by r y)
-    (λ y q. channel_kept n r y (sym (ap (λ b. b && comes (X n) y.row) h) ∙ q.results (X n))) ys k
+    (λ y q. channel_kept n r y (sym (ap (λ b. b && comes (X n) y.reservation) h) ∙ q.results (X n))) ys k
 
 pub returned_right : (units channels : List (Option Issued)) (producers : List (List (Option Writer))) (ws : Writers)
     (last n : ℕ) (x : Issued) → IsRight units channels producers ws last → n < 8 → get_or channels n None ≡ Some x
@@ -404,7 +408,7 @@ returned_right units channels producers ws last n x right below_8 h pss forgotte
     here : get_or os (10 + n) None ≡ Some x
     here = channel_seat units channels n (Some x) right.all_units h
 
-    returning : x.row.progress ≡ Left (Some n)
+    returning : x.reservation.progress ≡ Left (Some n)
     returning = sits_returning n x below_8 (seated_here seat_of os 0 (10 + n) x here right.sits ∙ omega arith)
 
     others : (r : Reg) → Each (λ y. forget (OfChannel n) (written_by r y) ≡ written_by r y)
@@ -426,7 +430,7 @@ returned_last units channels producers ws last n x right below_8 h k =
     here : get_or (units ++ channels) (10 + n) None ≡ Some x
     here = channel_seat units channels n (Some x) right.all_units h
 
-    returning : x.row.progress ≡ Left (Some n)
+    returning : x.reservation.progress ≡ Left (Some n)
     returning =
         sits_returning n x below_8 (seated_here seat_of (units ++ channels) 0 (10 + n) x here right.sits ∙ omega arith)
 
@@ -456,15 +460,16 @@ field_left_in u v r s has_read rest h k = by_test (is_in (puts_of s) r)
     by_test false = by_channel (written_by_channel r (channel_of s)) (channel_no_unit u r (channel_of s))
 
 field_left : (u : FunctionalUnit) (r : Reg) (x : Issued) (has_read : Bool) (rest : Option Writer)
-    → x.row.progress ≡ Reserved has_read → same_unit x.row.unit u ≡ true → forget (OfUnit u) rest ≡ rest
-    → cond (is_in (puts_of (shape_of x.row.instr)) r) None (or_else (written_by r x) rest)
+    → x.reservation.progress ≡ Reserved has_read → same_unit x.reservation.unit u ≡ true → forget (OfUnit u) rest ≡ rest
+    → cond (is_in (puts_of (shape_of x.reservation.instr)) r) None (or_else (written_by r x) rest)
     ≡ forget (OfUnit u) (or_else (written_by r x) rest)
 unfolding written_by
 field_left u r x has_read rest e h k =
-    ap (λ p. cond (is_in (puts_of (shape_of x.row.instr)) r) None
-    (or_else (written_in r x.row.unit (shape_of x.row.instr) p) rest)) e
-    ∙ field_left_in u x.row.unit r (shape_of x.row.instr) has_read rest h k
-    ∙ ap (λ p. forget (OfUnit u) (or_else (written_in r x.row.unit (shape_of x.row.instr) p) rest)) (sym e)
+    ap (λ p. cond (is_in (puts_of (shape_of x.reservation.instr)) r) None
+    (or_else (written_in r x.reservation.unit (shape_of x.reservation.instr) p) rest)) e
+    ∙ field_left_in u x.reservation.unit r (shape_of x.reservation.instr) has_read rest h k
+    ∙ ap (λ p. forget (OfUnit u) (or_else (written_in r x.reservation.unit (shape_of x.reservation.instr) p) rest))
+    (sym e)
 
 others_elsewhere : (u : FunctionalUnit) (os : List (Option Issued)) (i : ℕ) → i ≡ unit_number u → IsSeated seat_of 0 os
     → (r : Reg) → Each (λ y. forget (OfUnit u) (written_by r y) ≡ written_by r y) (somes (set os i None))
@@ -483,36 +488,38 @@ comes_loading_in n Jumps b h = cc
 comes_loading_in n Links b h = cc
 
 -- a load in its unit has its register still to come
-pub comes_loading : (n : ℕ) (x : Issued) (b : Bool) → x.row.progress ≡ Reserved b
-    → channel_of (shape_of x.row.instr) ≡ Some n → comes (X n) x.row ≡ true
+pub comes_loading : (n : ℕ) (x : Issued) (b : Bool) → x.reservation.progress ≡ Reserved b
+    → channel_of (shape_of x.reservation.instr) ≡ Some n → comes (X n) x.reservation ≡ true
 unfolding comes to_come
 comes_loading n x b e h =
-    ap (λ p. is_in (to_come_in (shape_of x.row.instr) p) (X n)) e ∙ comes_loading_in n (shape_of x.row.instr) b h
+    ap (λ p. is_in (to_come_in (shape_of x.reservation.instr) p) (X n)) e
+    ∙ comes_loading_in n (shape_of x.reservation.instr) b h
 
 -- and nothing else once it has left
-left_comes : (n : ℕ) (x : Issued) (b : Bool) → x.row.progress ≡ Reserved b → channel_of (shape_of x.row.instr) ≡ Some n
-    → (r : Reg) → comes r (in_progress x (Left (Some n))).row ≡ true → comes r x.row ≡ true
+left_comes : (n : ℕ) (x : Issued) (b : Bool) → x.reservation.progress ≡ Reserved b
+    → channel_of (shape_of x.reservation.instr) ≡ Some n
+    → (r : Reg) → comes r (in_progress x (Left (Some n))).reservation ≡ true → comes r x.reservation ≡ true
 unfolding comes to_come to_come_in returning_to is_in in_progress
 left_comes n x b e h r k =
-    ap (λ s. comes s x.row) (reg_eq_same r (X n) (or_left (reg_eq r (X n)) k)) ∙ comes_loading n x b e h
+    ap (λ s. comes s x.reservation) (reg_eq_same r (X n) (or_left (reg_eq r (X n)) k)) ∙ comes_loading n x b e h
   where
     or_left : (t : Bool) → (t || false) ≡ true → t ≡ true
     or_left true q = refl
     or_left false q = q
 
-left_other : (n : ℕ) (x z : Issued) (b : Bool) → x.row.progress ≡ Reserved b
-    → channel_of (shape_of x.row.instr) ≡ Some n → IsOther x z → IsOther (in_progress x (Left (Some n))) z
+left_other : (n : ℕ) (x z : Issued) (b : Bool) → x.reservation.progress ≡ Reserved b
+    → channel_of (shape_of x.reservation.instr) ≡ Some n → IsOther x z → IsOther (in_progress x (Left (Some n))) z
 unfolding number_of in_progress
 left_other n x z b e h k = other_less x (in_progress x (Left (Some n))) z refl (left_comes n x b e h) k
 
-left_writes : (u : FunctionalUnit) (n : ℕ) (r : Reg) (x : Issued) (b : Bool) → x.row.progress ≡ Reserved b
-    → same_unit x.row.unit u ≡ true → channel_of (shape_of x.row.instr) ≡ Some n
+left_writes : (u : FunctionalUnit) (n : ℕ) (r : Reg) (x : Issued) (b : Bool) → x.reservation.progress ≡ Reserved b
+    → same_unit x.reservation.unit u ≡ true → channel_of (shape_of x.reservation.instr) ≡ Some n
     → written_by r (in_progress x (Left (Some n))) ≡ forget (OfUnit u) (written_by r x)
 unfolding written_by written_in in_progress
 left_writes u n r x b e h k = ap (written_by_channel r) (sym k) ∙ left_written u r x b e h
 
-left_nothing : (u : FunctionalUnit) (r : Reg) (x : Issued) (b : Bool) → x.row.progress ≡ Reserved b
-    → same_unit x.row.unit u ≡ true → channel_of (shape_of x.row.instr) ≡ None
+left_nothing : (u : FunctionalUnit) (r : Reg) (x : Issued) (b : Bool) → x.reservation.progress ≡ Reserved b
+    → same_unit x.reservation.unit u ≡ true → channel_of (shape_of x.reservation.instr) ≡ None
     → None ≡ forget (OfUnit u) (written_by r x)
 unfolding written_by_channel
 left_nothing u r x b e h k = ap (written_by_channel r) (sym k) ∙ left_written u r x b e h
@@ -523,21 +530,21 @@ left_seat n x = refl
 
 -- the channel of a load that is in its unit is empty
 pub channel_empty : (os : List (Option Issued)) (i n : ℕ) (x : Issued) (b : Bool) → n < 8 → get_or os i None ≡ Some x
-    → IsSeated seat_of 0 os → Pairs IsOther (somes os) → x.row.progress ≡ Reserved b
-    → channel_of (shape_of x.row.instr) ≡ Some n → get_or (set os i None) (10 + n) None ≡ None
+    → IsSeated seat_of 0 os → Pairs IsOther (somes os) → x.reservation.progress ≡ Reserved b
+    → channel_of (shape_of x.reservation.instr) ≡ Some n → get_or (set os i None) (10 + n) None ≡ None
 channel_empty os i n x b l h s p e k = by_seat (get_or (set os i None) (10 + n) None) refl
   where
     by_seat : (o : Option Issued) → get_or (set os i None) (10 + n) None ≡ o → o ≡ None
     by_seat None q = refl
     by_seat (Some z) q =
-        let t : z.row.progress ≡ Left (Some n) =
+        let t : z.reservation.progress ≡ Left (Some n) =
         sits_returning n z l (seated_here seat_of (set os i None) 0 (10 + n) z q (seated_empty seat_of os 0 i s)
         ∙ omega arith) in
         let o : IsOther x z = each_here (IsOther x) (set os i None) (10 + n) z q (others_of os i x h p) in
-        let f : (comes (X n) x.row && comes (X n) z.row) ≡ false = o.results (X n) in
-        let g : (comes (X n) x.row && comes (X n) z.row) ≡ true =
-        ap (λ v. v && comes (X n) z.row) (comes_loading n x b e k) ∙ comes_returning n z t in
-        absurd (both (comes (X n) x.row && comes (X n) z.row) f g)
+        let f : (comes (X n) x.reservation && comes (X n) z.reservation) ≡ false = o.results (X n) in
+        let g : (comes (X n) x.reservation && comes (X n) z.reservation) ≡ true =
+        ap (λ v. v && comes (X n) z.reservation) (comes_loading n x b e k) ∙ comes_returning n z t in
+        absurd (both (comes (X n) x.reservation && comes (X n) z.reservation) f g)
       where
         both : (v : Bool) → v ≡ false → v ≡ true → ⊥
         both true f g = cc
@@ -567,14 +574,14 @@ released_others units channels producers ws last u i x right h =
 
 pub released_right : (units channels : List (Option Issued)) (producers : List (List (Option Writer))) (ws : Writers)
     (last : ℕ) (u : FunctionalUnit) (i : ℕ) (x : Issued) → IsRight units channels producers ws last → i ≡ unit_number u
-    → get_or units i None ≡ Some x → Each IsRegister (puts_of (shape_of x.row.instr))
-    → IfSome (channel_of (shape_of x.row.instr)) (λ n. n < 8)
+    → get_or units i None ≡ Some x → Each IsRegister (puts_of (shape_of x.reservation.instr))
+    → IfSome (channel_of (shape_of x.reservation.instr)) (λ n. n < 8)
     → (pss : List (List (Option Writer))) → AreForgotten (OfUnit u) (units ++ channels) (set units i None) pss
-    → IsRight (set units i None) (channels_with channels x (channel_of (shape_of x.row.instr))) pss
-    (set_each ws (puts_of (shape_of x.row.instr)) None) last
+    → IsRight (set units i None) (channels_with channels x (channel_of (shape_of x.reservation.instr))) pss
+    (set_each ws (puts_of (shape_of x.reservation.instr)) None) last
 unfolding seated channels_with number_of in_progress
 released_right units channels producers ws last u i x right e h valid below_8 pss forgotten =
-    by_channel (channel_of (shape_of x.row.instr)) refl below_8
+    by_channel (channel_of (shape_of x.reservation.instr)) refl below_8
   where
     os : List (Option Issued)
     os = units ++ channels
@@ -582,7 +589,7 @@ released_right units channels producers ws last u i x right e h valid below_8 ps
     here : get_or os i None ≡ Some x
     here = unit_seat units channels u i (Some x) right.all_units e h
 
-    reserved : (b : Bool) × (x.row.progress ≡ Reserved b) × (same_unit x.row.unit u ≡ true)
+    reserved : (b : Bool) × (x.reservation.progress ≡ Reserved b) × (same_unit x.reservation.unit u ≡ true)
     reserved = sits_reserved u x (seated_here seat_of os 0 i x here right.sits ∙ omega (arith, e))
 
     front : set os i None ≡ set units i None ++ channels
@@ -592,23 +599,24 @@ released_right units channels producers ws last u i x right e h valid below_8 ps
     fewer = length-set units i None ∙ right.all_units
 
     emptied : Writers
-    emptied = set_each ws (puts_of (shape_of x.row.instr)) None
+    emptied = set_each ws (puts_of (shape_of x.reservation.instr)) None
 
     sized : AreSized emptied
-    sized = each_sized (puts_of (shape_of x.row.instr)) ws None right.all_writers
+    sized = each_sized (puts_of (shape_of x.reservation.instr)) ws None right.all_writers
 
     elsewhere : (r : Reg) → Each (λ y. forget (OfUnit u) (written_by r y) ≡ written_by r y) (somes (set os i None))
     elsewhere = others_elsewhere u os i e right.sits
 
     fields : (r : Reg) → IsRegister r → writer_at emptied r ≡ forget (OfUnit u) (writer_at ws r)
     fields r v =
-        each_gives (puts_of (shape_of x.row.instr)) ws r None right.all_writers valid
-        ∙ cleared (OfUnit u) (is_in (puts_of (shape_of x.row.instr)) r) units channels producers ws last i x r right v
+        each_gives (puts_of (shape_of x.reservation.instr)) ws r None right.all_writers valid
+        ∙ cleared (OfUnit u) (is_in (puts_of (shape_of x.reservation.instr)) r) units channels producers ws last i x r
+        right v
         here elsewhere (λ rest k. field_left u r x reserved.0 rest reserved.1 reserved.2 k)
 
-    by_channel : (o : Option ℕ) → channel_of (shape_of x.row.instr) ≡ o → IfSome o (λ n. n < 8)
+    by_channel : (o : Option ℕ) → channel_of (shape_of x.reservation.instr) ≡ o → IfSome o (λ n. n < 8)
         → IsRight (set units i None) (channels_with channels x o) pss
-        (set_each ws (puts_of (shape_of x.row.instr)) None) last
+        (set_each ws (puts_of (shape_of x.reservation.instr)) None) last
     by_channel None k l =
         written (OfUnit u) units channels (set units i None) channels (set os i None) producers pss ws emptied last
         right front fewer right.all_channels sized

@@ -7,9 +7,9 @@ use Rattle.instructions.specs.declared.instr.Reg.{Reg}
 use Rattle.instructions.specs.declared.instr.Unit.{Unit as FunctionalUnit}
 use Rattle.instructions.specs.declared.instr.Unit.TheVariants.{Branch, Boolean, Shift, Add, LongAdd, Multiply1}
 use Rattle.instructions.specs.declared.instr.Unit.TheVariants.{Multiply2, Divide, Increment1, Increment2}
-use Rattle.scoreboard.specs.declared.row.Progress.{Progress}
-use Rattle.scoreboard.specs.declared.row.Progress.TheVariants.{Reserved, Left}
-use Rattle.scoreboard.specs.Rows.{comes, holds, is_reserved}
+use Rattle.scoreboard.specs.declared.reservation.Progress.{Progress}
+use Rattle.scoreboard.specs.declared.reservation.Progress.TheVariants.{Reserved, Left}
+use Rattle.scoreboard.specs.Reservations.{comes, holds, is_reserved}
 use Rattle.scoreboard.specs.Units.{unit_number, same_unit}
 use Rattle.scoreboard.specs.declared.issued.Issued.{Issued}
 use Rattle.scoreboard.specs.declared.writer.Writer.{Writer}
@@ -60,9 +60,9 @@ holds_in u v (Reserved has_read) h = ap (λ b. b && true) (eq-eqb (unit_number v
 holds_in u v (Left None) h = absurd (let b = unit_below u in omega (arith, h, b))
 holds_in u v (Left (Some n)) h = absurd (let b = unit_below u in omega (arith, h, b))
 
-pub sits_holds : (u : FunctionalUnit) (x : Issued) → seat_of x ≡ unit_number u → holds u x.row ≡ true
+pub sits_holds : (u : FunctionalUnit) (x : Issued) → seat_of x ≡ unit_number u → holds u x.reservation ≡ true
 unfolding holds seat_of
-sits_holds u x h = holds_in u x.row.unit x.row.progress h
+sits_holds u x h = holds_in u x.reservation.unit x.reservation.progress h
 
 holds_not_in : (u v : FunctionalUnit) (p : Progress) → (seat_in v p ≡ unit_number u → ⊥)
     → (same_unit v u && is_reserved p) ≡ false
@@ -74,17 +74,17 @@ holds_not_in u v (Left o) h = and_false (same_unit v u)
     and_false true = refl
     and_false false = refl
 
-pub sits_not : (u : FunctionalUnit) (x : Issued) → (seat_of x ≡ unit_number u → ⊥) → holds u x.row ≡ false
+pub sits_not : (u : FunctionalUnit) (x : Issued) → (seat_of x ≡ unit_number u → ⊥) → holds u x.reservation ≡ false
 unfolding holds seat_of
-sits_not u x h = holds_not_in u x.row.unit x.row.progress h
+sits_not u x h = holds_not_in u x.reservation.unit x.reservation.progress h
 
-pub sits_held : (u : FunctionalUnit) (x : Issued) → seat_of x ≡ unit_number u → held_in u x ≡ Some x.row.instr
+pub sits_held : (u : FunctionalUnit) (x : Issued) → seat_of x ≡ unit_number u → held_in u x ≡ Some x.reservation.instr
 unfolding held_in
-sits_held u x h = ap (λ b. cond b (Some x.row.instr) None) (sits_holds u x h)
+sits_held u x h = ap (λ b. cond b (Some x.reservation.instr) None) (sits_holds u x h)
 
 pub sits_not_held : (u : FunctionalUnit) (x : Issued) → (seat_of x ≡ unit_number u → ⊥) → held_in u x ≡ None
 unfolding held_in
-sits_not_held u x h = ap (λ b. cond b (Some x.row.instr) None) (sits_not u x h)
+sits_not_held u x h = ap (λ b. cond b (Some x.reservation.instr) None) (sits_not u x h)
 
 -- one in the seat of a unit is reserved there
 reserved_in : (u v : FunctionalUnit) (p : Progress) → seat_in v p ≡ unit_number u → (b : Bool) × (p ≡ Reserved b)
@@ -95,9 +95,9 @@ reserved_in u v (Left None) h = absurd (let b = unit_below u in omega (arith, h,
 reserved_in u v (Left (Some n)) h = absurd (let b = unit_below u in omega (arith, h, b))
 
 pub sits_reserved : (u : FunctionalUnit) (x : Issued) → seat_of x ≡ unit_number u → (b : Bool)
-    × (x.row.progress ≡ Reserved b) × (same_unit x.row.unit u ≡ true)
+    × (x.reservation.progress ≡ Reserved b) × (same_unit x.reservation.unit u ≡ true)
 unfolding seat_of
-sits_reserved u x h = reserved_in u x.row.unit x.row.progress h
+sits_reserved u x h = reserved_in u x.reservation.unit x.reservation.progress h
 
 returns_at : (n : ℕ) (v : FunctionalUnit) (p : Progress) → n < 8 → seat_in v p ≡ 10 + n → p ≡ Left (Some n)
 unfolding seat_in
@@ -105,14 +105,14 @@ returns_at n v (Reserved has_read) b h = absurd (let k = unit_below v in omega (
 returns_at n v (Left None) b h = absurd (omega (arith, h, b))
 returns_at n v (Left (Some m)) b h = let e : m ≡ n = omega (arith, h) in ap (λ k. Left (Some k)) e
 
-pub sits_returning : (n : ℕ) (x : Issued) → n < 8 → seat_of x ≡ 10 + n → x.row.progress ≡ Left (Some n)
+pub sits_returning : (n : ℕ) (x : Issued) → n < 8 → seat_of x ≡ 10 + n → x.reservation.progress ≡ Left (Some n)
 unfolding seat_of
-sits_returning n x b h = returns_at n x.row.unit x.row.progress b h
+sits_returning n x b h = returns_at n x.reservation.unit x.reservation.progress b h
 
-pub sits_returns : (n : ℕ) (x : Issued) → n < 8 → seat_of x ≡ 10 + n → returning_by n x ≡ Some x.row.instr
+pub sits_returns : (n : ℕ) (x : Issued) → n < 8 → seat_of x ≡ 10 + n → returning_by n x ≡ Some x.reservation.instr
 unfolding returning_by returns_in
 sits_returns n x b h =
-    ap (λ t. cond t (Some x.row.instr) None) (ap (returns_in n) (sits_returning n x b h) ∙ eq-eqb n n refl)
+    ap (λ t. cond t (Some x.reservation.instr) None) (ap (returns_in n) (sits_returning n x b h) ∙ eq-eqb n n refl)
 
 returns_not_in : (n : ℕ) (v : FunctionalUnit) (p : Progress) → (seat_in v p ≡ 10 + n → ⊥) → returns_in n p ≡ false
 unfolding seat_in returns_in
@@ -122,7 +122,8 @@ returns_not_in n v (Left (Some m)) h = ne_eqb m n (λ e. h (ap (λ k. 10 + k) e)
 
 pub sits_not_returning : (n : ℕ) (x : Issued) → (seat_of x ≡ 10 + n → ⊥) → returning_by n x ≡ None
 unfolding returning_by seat_of
-sits_not_returning n x h = ap (λ t. cond t (Some x.row.instr) None) (returns_not_in n x.row.unit x.row.progress h)
+sits_not_returning n x h = ap (λ t. cond t (Some x.reservation.instr) None) (returns_not_in n x.reservation.unit
+    x.reservation.progress h)
 
 -- ---- pairs in seats ----
 
@@ -141,7 +142,11 @@ pairs_insert R (x ∷ xs) y ys h k l = (
 
 pub other_flip : (x y : Issued) → IsOther x y → IsOther y x
 other_flip x y h =
-    record { number = λ e. h.number (sym e); results = λ r. flip (comes r x.row) (comes r y.row) (h.results r) }
+    record {
+      number = λ e. h.number (sym e);
+      results = λ r. flip (comes r x.reservation) (comes r y.reservation)
+          (h.results r);
+    }
   where
     flip : (a b : Bool) → (a && b) ≡ false → (b && a) ≡ false
     flip true true k = k

@@ -10,10 +10,10 @@ use Rattle.scoreboard.specs.declared.issued.Issued.{Issued}
 use Rattle.instructions.specs.Each.{Each}
 use Rattle.instructions.specs.RegisterLists.{is_in}
 use Rattle.instructions.specs.Operands.{sources_of}
-use Rattle.scoreboard.specs.declared.row.Progress.{Progress}
-use Rattle.scoreboard.specs.declared.row.Progress.TheVariants.{Reserved, Left}
+use Rattle.scoreboard.specs.declared.reservation.Progress.{Progress}
+use Rattle.scoreboard.specs.declared.reservation.Progress.TheVariants.{Reserved, Left}
 use Rattle.scoreboard.specs.inner.Fields.{forget_in_taken, seat_waits, seat_reads}
-use Rattle.scoreboard.specs.Rows.{is_unread, reads, reads_in, reads_it}
+use Rattle.scoreboard.specs.Reservations.{is_unread, reads, reads_in, reads_it}
 use Rattle.scoreboard.specs.inner.View.{AreProducers, first_produced}
 use Rattle.scoreboard.specs.Writers.{IsRegister, writer_if, is_expected, forget}
 
@@ -170,10 +170,10 @@ three_registers (r ∷ s ∷ t ∷ u ∷ rs) h e g k = absurd (omega arith)
 no_source : (n : ℕ) (r : Reg) (o : Option Issued) → seat_waits n o ≡ false → seat_reads n r o ≡ false
 unfolding seat_waits seat_reads reads_it reads is_unread reads_in is_in
 no_source n r None h = refl
-no_source n r (Some x) h = by_test (ltb x.number n) x.row.progress h
+no_source n r (Some x) h = by_test (ltb x.number n) x.reservation.progress h
   where
     by_test : (b : Bool) (p : Progress) → (b && is_unread p) ≡ false
-        → (b && is_in (reads_in (sources_of x.row.instr) p) r) ≡ false
+        → (b && is_in (reads_in (sources_of x.reservation.instr) p) r) ≡ false
     by_test false p k = refl
     by_test true (Reserved false) k = cc
     by_test true (Reserved true) k = refl

@@ -14,9 +14,9 @@ use Rattle.instructions.specs.declared.instr.Instr.{Instr}
 use Rattle.instructions.specs.Finding.{seek, replaced}
 use Rattle.instructions.specs.Shape.{shape_of, puts_of}
 use Rattle.instructions.specs.Operands.{sources_of}
-use Rattle.scoreboard.specs.declared.row.Progress.{Progress}
-use Rattle.scoreboard.specs.declared.row.Progress.TheVariants.{Reserved, Left}
-use Rattle.scoreboard.specs.Rows.{comes, holds, reads, reads_in, reads_it, is_reserved}
+use Rattle.scoreboard.specs.declared.reservation.Progress.{Progress}
+use Rattle.scoreboard.specs.declared.reservation.Progress.TheVariants.{Reserved, Left}
+use Rattle.scoreboard.specs.Reservations.{comes, holds, reads, reads_in, reads_it, is_reserved}
 use Rattle.scoreboard.specs.Units.{unit_number}
 use Rattle.scoreboard.specs.Conflicts.{awaited, to_be_read, first_such}
 use Rattle.instructions.specs.RegisterLists.{is_in}
@@ -26,7 +26,7 @@ use Rattle.scoreboard.specs.declared.writers.Writers.{Writers}
 use Rattle.scoreboard.specs.Answers.{held_in, returning_by, unless, read_answer, store_answer, return_answer}
 use Rattle.instructions.specs.Each.{Each, Pairs}
 use Rattle.scoreboard.specs.inner.Fields.{seat_reads}
-use Rattle.scoreboard.specs.Issued.{row_of, number_of, written_by, if_earlier, writer_before}
+use Rattle.scoreboard.specs.Issued.{reservation_of, number_of, written_by, if_earlier, writer_before}
 use Rattle.instructions.specs.Order.{sort_by, somes, IsSeated}
 use Rattle.scoreboard.specs.inner.View.{seated, IsOther, seat_in, seat_of, AreProducers, first_produced, IsRight}
 use Rattle.instructions.proofs.Lists.{each_map}
@@ -42,13 +42,13 @@ use Rattle.scoreboard.proofs.seating.Seating.{sits_returns, sits_not_returning, 
 
 -- with others in its place
 pub changed : (f : Issued → Option Instr) (g : Issued → List Issued) (os : List (Option Issued)) (i : ℕ) (x : Issued)
-    → get_or os i None ≡ Some x → Pairs IsOther (somes os) → f x ≡ Some x.row.instr
+    → get_or os i None ≡ Some x → Pairs IsOther (somes os) → f x ≡ Some x.reservation.instr
     → Each (λ y. f y ≡ None) (somes (set os i None))
     → replaced (seek f (sort_by number_of (somes os))) (sort_by number_of (somes os)) g ≡ before_seat number_of os i x
     ++ (g x ++ after_seat number_of os i x)
 changed f g os i x h p e k =
     ap (λ l. replaced (seek f l) l g) (taken_with number_of os i x h (own_keys (somes os) p))
-    ∙ replaced_around f g (before_seat number_of os i x) x x.row.instr (after_seat number_of os i x)
+    ∙ replaced_around f g (before_seat number_of os i x) x x.reservation.instr (after_seat number_of os i x)
     (each_before number_of (λ y. f y ≡ None) os i x k) e
 
 pub nobody_changed : (f : Issued → Option Instr) (g : Issued → List Issued) (os : List (Option Issued))
@@ -106,8 +106,8 @@ others_free u os i e s = each_map (λ y. seat_of y ≢ i) (λ y. held_in u y ≡
     (seated_others seat_of os 0 i i (omega arith) s)
 
 pub nobody_holds : (u : FunctionalUnit) (os : List (Option Issued)) (i : ℕ) → i ≡ unit_number u
-    → get_or os i None ≡ None → IsSeated seat_of 0 os → Each (λ y. holds u y.row ≡ false) (somes os)
-nobody_holds u os i e h s = each_map (λ y. seat_of y ≢ i) (λ y. holds u y.row ≡ false)
+    → get_or os i None ≡ None → IsSeated seat_of 0 os → Each (λ y. holds u y.reservation ≡ false) (somes os)
+nobody_holds u os i e h s = each_map (λ y. seat_of y ≢ i) (λ y. holds u y.reservation ≡ false)
     (λ y k. sits_not u y (λ q. k (q ∙ sym e))) (somes os) (seated_nobody seat_of os i h s)
 
 pub nobody_held : (u : FunctionalUnit) (os : List (Option Issued)) (i : ℕ) → i ≡ unit_number u
@@ -116,11 +116,11 @@ nobody_held u os i e h s = each_map (λ y. seat_of y ≢ i) (λ y. held_in u y �
     (λ y k. sits_not_held u y (λ q. k (q ∙ sym e))) (somes os) (seated_nobody seat_of os i h s)
 
 pub here_holds : (u : FunctionalUnit) (os : List (Option Issued)) (i : ℕ) (x : Issued) → i ≡ unit_number u
-    → get_or os i None ≡ Some x → IsSeated seat_of 0 os → holds u x.row ≡ true
+    → get_or os i None ≡ Some x → IsSeated seat_of 0 os → holds u x.reservation ≡ true
 here_holds u os i x e h s = let q = seated_here seat_of os 0 i x h s in sits_holds u x (q ∙ omega (arith, e))
 
 pub here_held : (u : FunctionalUnit) (os : List (Option Issued)) (i : ℕ) (x : Issued) → i ≡ unit_number u
-    → get_or os i None ≡ Some x → IsSeated seat_of 0 os → held_in u x ≡ Some x.row.instr
+    → get_or os i None ≡ Some x → IsSeated seat_of 0 os → held_in u x ≡ Some x.reservation.instr
 here_held u os i x e h s = let q = seated_here seat_of os 0 i x h s in sits_held u x (q ∙ omega (arith, e))
 
 pub others_not_returning : (n : ℕ) (os : List (Option Issued)) → IsSeated seat_of 0 os
@@ -135,7 +135,7 @@ nobody_returns n os h s = each_map (λ y. seat_of y ≢ 10 + n) (λ y. returning
     (λ y k. sits_not_returning n y k) (somes os) (seated_nobody seat_of os (10 + n) h s)
 
 pub here_returns : (n : ℕ) (os : List (Option Issued)) (x : Issued) → n < 8 → get_or os (10 + n) None ≡ Some x
-    → IsSeated seat_of 0 os → returning_by n x ≡ Some x.row.instr
+    → IsSeated seat_of 0 os → returning_by n x ≡ Some x.reservation.instr
 here_returns n os x b h s = let q = seated_here seat_of os 0 (10 + n) x h s in sits_returns n x b (q ∙ omega arith)
 
 -- ---- answers by the first register ----
@@ -181,32 +181,35 @@ produced_found f (r ∷ rs) (Some w ∷ ps) h = ap (λ o. cond (is_some o) (Some
 -- a source has a producer where it is a result still to come of an earlier one
 pub awaited_earlier : (r : Reg) (os : List (Option Issued)) (i : ℕ) (x : Issued) → get_or os i None ≡ Some x
     → Pairs IsOther (somes os) → is_some (writer_before x.number (somes os) r)
-    ≡ awaited row_of (before_seat number_of os i x) r
-unfolding writer_before awaited number_of row_of
+    ≡ awaited reservation_of (before_seat number_of os i x) r
+unfolding writer_before awaited number_of reservation_of
 awaited_earlier r os i x h p =
     some_any (if_earlier x.number (written_by r)) (somes os)
-    ∙ any_same (λ y. is_some (if_earlier x.number (written_by r) y)) (λ y. ltb y.number x.number && comes r y.row)
+    ∙ any_same (λ y. is_some (if_earlier x.number (written_by r) y)) (λ y. ltb y.number x.number && comes r
+    y.reservation)
     (earlier_some x.number r) (somes os)
-    ∙ earlier_any (λ y. comes r y.row) os i x h p
+    ∙ earlier_any (λ y. comes r y.reservation) os i x h p
 
 pub read_answered : (units channels : List (Option Issued)) (producers : List (List (Option Writer))) (ws : Writers)
     (last : ℕ) (u : FunctionalUnit) (i : ℕ) (x : Issued) (rs : List Reg) (ps : List (Option Writer)) (o : Option Reg)
     → IsRight units channels producers ws last → i ≡ unit_number u → get_or units i None ≡ Some x
-    → rs ≡ sources_of x.row.instr → ps ≡ get_or producers i [] → o ≡ first_produced rs ps
+    → rs ≡ sources_of x.reservation.instr → ps ≡ get_or producers i [] → o ≡ first_produced rs ps
     → from_found o OperandAwaited ≡ read_answer (seek (held_in u) (sort_by number_of (seated units channels)))
 unfolding seated read_answer
 read_answered units channels producers ws last u i x rs ps o right e h er ep eo =
     let os : List (Option Issued) = units ++ channels in
     let here = unit_seat units channels u i (Some x) right.all_units e h in
     let f : Reg → Option Writer = writer_before x.number (somes os) in
-    let made : AreProducers f (sources_of x.row.instr) (get_or producers i []) = right.produced i x h in
+    let made : AreProducers f (sources_of x.reservation.instr) (get_or producers i []) = right.produced i x h in
     ap (λ q. from_found q OperandAwaited)
-    (eo ∙ ap (λ l. first_produced l ps) er ∙ ap (first_produced (sources_of x.row.instr)) ep
-    ∙ produced_found f (sources_of x.row.instr) (get_or producers i []) made
-    ∙ find_same (λ r. is_some (f r)) (awaited row_of (before_seat number_of os i x))
-    (λ r. awaited_earlier r os i x here right.apart) (sources_of x.row.instr))
-    ∙ unless_found (awaited row_of (before_seat number_of os i x)) (sources_of x.row.instr) OperandAwaited
-    ∙ ap read_answer (sym (found_there number_of (held_in u) os i x x.row.instr here (own_keys (somes os) right.apart)
+    (eo ∙ ap (λ l. first_produced l ps) er ∙ ap (first_produced (sources_of x.reservation.instr)) ep
+    ∙ produced_found f (sources_of x.reservation.instr) (get_or producers i []) made
+    ∙ find_same (λ r. is_some (f r)) (awaited reservation_of (before_seat number_of os i x))
+    (λ r. awaited_earlier r os i x here right.apart) (sources_of x.reservation.instr))
+    ∙ unless_found (awaited reservation_of (before_seat number_of os i x)) (sources_of x.reservation.instr)
+    OperandAwaited
+    ∙ ap read_answer (sym (found_there number_of (held_in u) os i x x.reservation.instr here (own_keys (somes os)
+    right.apart)
     (here_held u os i x e here right.sits) (others_free u os i e right.sits)))
 
 pub nobody_answers : (units channels : List (Option Issued)) (producers : List (List (Option Writer))) (ws : Writers)
@@ -226,11 +229,15 @@ seated_back (None ∷ xs) ys k l e s = seated_back xs ys (suc k) l (omega (arith
 seated_back (Some x ∷ xs) ys k l e s = seated_back xs ys (suc k) l (omega (arith, e)) s.1
 
 left_from : (os : List (Option Issued)) (k : ℕ) → 10 ≤ k → IsSeated seat_of k os
-    → Each (λ y. is_reserved y.row.progress ≡ false) (somes os)
+    → Each (λ y. is_reserved y.reservation.progress ≡ false) (somes os)
 unfolding somes seat_in seat_of is_reserved
 left_from [] k h s = tt
 left_from (None ∷ os) k h s = left_from os (suc k) (omega arith) s
-left_from (Some x ∷ os) k h s = (by_progress x.row.unit x.row.progress s.0, left_from os (suc k) (omega arith) s.1)
+left_from (Some x ∷ os) k h s = (
+  by_progress x.reservation.unit x.reservation.progress s.0,
+  left_from os (suc k) (omega
+      arith) s.1,
+)
   where
     by_progress : (u : FunctionalUnit) (p : Progress) → seat_in u p ≡ k → is_reserved p ≡ false
     by_progress u (Reserved b) e = absurd (let q = unit_below u in omega (arith, e, q, h))
@@ -252,7 +259,8 @@ or_false false = refl
 
 -- a test that those in channels fail is a test of the units
 pub units_any : (t : Issued → Bool) (g : Option Issued → Bool) → g None ≡ false → ((x : Issued) → g (Some x) ≡ t x)
-    → ((y : Issued) → is_reserved y.row.progress ≡ false → t y ≡ false) → (units channels : List (Option Issued))
+    → ((y : Issued) → is_reserved y.reservation.progress ≡ false → t y ≡ false)
+    → (units channels : List (Option Issued))
     → length units ≡ 10 → IsSeated seat_of 0 (units ++ channels)
     → list_any g units ≡ list_any t (somes (units ++ channels))
 units_any t g none some silent units channels l s =
@@ -260,7 +268,7 @@ units_any t g none some silent units channels l s =
     ∙ sym (or_false (list_any t (somes units)))
     ∙ ap (λ b. list_any t (somes units) || b)
     (sym (none_any t (somes channels)
-    (each_map (λ y. is_reserved y.row.progress ≡ false) (λ y. t y ≡ false) silent (somes channels)
+    (each_map (λ y. is_reserved y.reservation.progress ≡ false) (λ y. t y ≡ false) silent (somes channels)
     (left_from channels 10 (omega arith) (seated_back units channels 0 10 (omega (arith, l)) s)))))
     ∙ sym (list_any-append t (somes units) (somes channels))
     ∙ ap (list_any t) (sym (somes-append units channels))
@@ -269,11 +277,11 @@ and_false : (b : Bool) → (b && false) ≡ false
 and_false true = refl
 and_false false = refl
 
-no_reads : (r : Reg) (y : Issued) → is_reserved y.row.progress ≡ false → reads_it r y.row ≡ false
+no_reads : (r : Reg) (y : Issued) → is_reserved y.reservation.progress ≡ false → reads_it r y.reservation ≡ false
 unfolding reads_it reads is_reserved reads_in is_in
-no_reads r y h = by_progress y.row.progress h
+no_reads r y h = by_progress y.reservation.progress h
   where
-    by_progress : (p : Progress) → is_reserved p ≡ false → is_in (reads_in (sources_of y.row.instr) p) r ≡ false
+    by_progress : (p : Progress) → is_reserved p ≡ false → is_in (reads_in (sources_of y.reservation.instr) p) r ≡ false
     by_progress (Reserved b) k = cc
     by_progress (Left o) k = refl
 
@@ -281,31 +289,33 @@ no_reads r y h = by_progress y.row.progress h
 pub read_earlier : (r : Reg) (units channels : List (Option Issued)) (i : ℕ) (x : Issued) → length units ≡ 10
     → IsSeated seat_of 0 (units ++ channels) → get_or (units ++ channels) i None ≡ Some x
     → Pairs IsOther (somes (units ++ channels))
-    → list_any (seat_reads x.number r) units ≡ to_be_read row_of (before_seat number_of (units ++ channels) i x) r
-unfolding to_be_read number_of row_of seat_reads
+    → list_any (seat_reads x.number r) units ≡ to_be_read reservation_of (before_seat number_of (units ++ channels) i
+    x) r
+unfolding to_be_read number_of reservation_of seat_reads
 read_earlier r units channels i x l s h p =
-    units_any (λ y. ltb y.number x.number && reads_it r y.row) (seat_reads x.number r) refl (λ y. refl)
+    units_any (λ y. ltb y.number x.number && reads_it r y.reservation) (seat_reads x.number r) refl (λ y. refl)
     (λ y k. ap (λ b. ltb y.number x.number && b) (no_reads r y k) ∙ and_false (ltb y.number x.number)) units
     channels l s
-    ∙ earlier_any (λ y. reads_it r y.row) (units ++ channels) i x h p
+    ∙ earlier_any (λ y. reads_it r y.reservation) (units ++ channels) i x h p
 
 pub store_answered : (units channels : List (Option Issued)) (producers : List (List (Option Writer))) (ws : Writers)
     (last : ℕ) (u : FunctionalUnit) (i : ℕ) (x : Issued) (rs : List Reg) (o : Option Reg)
     → IsRight units channels producers ws last → i ≡ unit_number u → get_or units i None ≡ Some x
-    → rs ≡ puts_of (shape_of x.row.instr) → o ≡ find (λ r. list_any (seat_reads x.number r) units) rs
+    → rs ≡ puts_of (shape_of x.reservation.instr) → o ≡ find (λ r. list_any (seat_reads x.number r) units) rs
     → from_found o ResultHeld ≡ store_answer (seek (held_in u) (sort_by number_of (seated units channels)))
 unfolding seated store_answer
 store_answered units channels producers ws last u i x rs o right e h er eo =
     let os : List (Option Issued) = units ++ channels in
     let here = unit_seat units channels u i (Some x) right.all_units e h in
-    let test : Reg → Bool = to_be_read row_of (before_seat number_of os i x) in
+    let test : Reg → Bool = to_be_read reservation_of (before_seat number_of os i x) in
     ap (λ q. from_found q ResultHeld)
     (eo ∙ ap (find (λ r. list_any (seat_reads x.number r) units)) er
     ∙ find_same (λ r. list_any (seat_reads x.number r) units) test
     (λ r. read_earlier r units channels i x right.all_units right.sits here right.apart)
-    (puts_of (shape_of x.row.instr)))
-    ∙ unless_found test (puts_of (shape_of x.row.instr)) ResultHeld
-    ∙ ap store_answer (sym (found_there number_of (held_in u) os i x x.row.instr here (own_keys (somes os) right.apart)
+    (puts_of (shape_of x.reservation.instr)))
+    ∙ unless_found test (puts_of (shape_of x.reservation.instr)) ResultHeld
+    ∙ ap store_answer (sym (found_there number_of (held_in u) os i x x.reservation.instr here (own_keys (somes os)
+    right.apart)
     (here_held u os i x e here right.sits) (others_free u os i e right.sits)))
 
 pub return_answered : (units channels : List (Option Issued)) (producers : List (List (Option Writer))) (ws : Writers)
@@ -318,7 +328,7 @@ return_answered units channels producers ws last n x b right below_8 h eb =
     let here = channel_seat units channels n (Some x) right.all_units h in
     ap (λ q. unless q (ResultHeld (X n)))
     (eb ∙ read_earlier (X n) units channels (10 + n) x right.all_units right.sits here right.apart)
-    ∙ ap (return_answer n) (sym (found_there number_of (returning_by n) os (10 + n) x x.row.instr here
+    ∙ ap (return_answer n) (sym (found_there number_of (returning_by n) os (10 + n) x x.reservation.instr here
     (own_keys (somes os) right.apart) (here_returns n os x below_8 here right.sits)
     (others_not_returning n os right.sits)))
 

@@ -1,4 +1,4 @@
--- Who writes a register: the first answer of a list, and what one row answers.
+-- Who writes a register: the first answer of a list, and what one reservation answers.
 use Rattle.std.proofs.Common.{◌≡◌, ◌≤◌, ℕ, suc, Bool, true, false, cond, List, [], ◌∷◌, ◌++◌, Option, Some, None, refl}
 use Rattle.std.proofs.Common.{sym, ap, ◌∙◌, eqb, ltb, map, arith}
 use Rattle.std.specs.Prelude.{is_some, ◌&&◌, ◌||◌}
@@ -10,9 +10,9 @@ use Rattle.instructions.specs.declared.instr.Unit.{Unit as FunctionalUnit}
 use Rattle.instructions.specs.RegisterLists.{is_in}
 use Rattle.instructions.specs.Shape.{Shape, Puts, Loads, Stores, Jumps, Links, shape_of, puts_of, loads_of, results}
 use Rattle.instructions.specs.Operands.{reg_eq}
-use Rattle.scoreboard.specs.declared.row.Progress.{Progress}
-use Rattle.scoreboard.specs.declared.row.Progress.TheVariants.{Reserved, Left}
-use Rattle.scoreboard.specs.Rows.{comes, to_come, to_come_in, returning_to}
+use Rattle.scoreboard.specs.declared.reservation.Progress.{Progress}
+use Rattle.scoreboard.specs.declared.reservation.Progress.TheVariants.{Reserved, Left}
+use Rattle.scoreboard.specs.Reservations.{comes, to_come, to_come_in, returning_to}
 use Rattle.scoreboard.specs.Units.{unit_number, same_unit}
 use Rattle.scoreboard.specs.declared.issued.Issued.{Issued}
 use Rattle.scoreboard.specs.declared.writer.Writer.{Writer}
@@ -105,7 +105,7 @@ forgotten_rest w (Some v) rest h k = by_test (same_writer v w)
     by_test true = h refl
     by_test false = refl
 
--- ---- what one row answers ----
+-- ---- what one reservation answers ----
 
 in_nothing_more : (rs : List Reg) (r : Reg) → is_in (rs ++ []) r ≡ is_in rs r
 unfolding is_in
@@ -116,7 +116,7 @@ some_if : {W : Type 0} (b : Bool) (w : W) → is_some (cond b (Some w) None) ≡
 some_if true w = refl
 some_if false w = refl
 
--- who writes a register for one row, and what the row has still to put
+-- who writes a register for one reservation, and what the reservation has still to put
 unfoldable writing : Unit {0}
 unfolding written_in written_by_channel channel_of to_come_in results puts_of loads_of is_in returning_to
 writing = tt
@@ -143,9 +143,9 @@ some_in r u s (Left (Some n)) = by_test (reg_eq r (X n))
     by_test false = refl
 
 -- somebody writes the register for it where it is a result still to come
-pub some_written : (r : Reg) (x : Issued) → is_some (written_by r x) ≡ comes r x.row
+pub some_written : (r : Reg) (x : Issued) → is_some (written_by r x) ≡ comes r x.reservation
 unfolding written_by comes to_come
-some_written r x = some_in r x.row.unit (shape_of x.row.instr) x.row.progress
+some_written r x = some_in r x.reservation.unit (shape_of x.reservation.instr) x.reservation.progress
 
 -- a channel is no unit
 pub channel_no_unit : (u : FunctionalUnit) (r : Reg) (o : Option ℕ)
@@ -173,7 +173,7 @@ unit_kept_in u r v s (Left o) h = channel_no_unit u r o
 pub unit_kept : (u : FunctionalUnit) (r : Reg) (y : Issued) → (seat_of y ≡ unit_number u → ⊥)
     → forget (OfUnit u) (written_by r y) ≡ written_by r y
 unfolding written_by seat_of
-unit_kept u r y h = unit_kept_in u r y.row.unit (shape_of y.row.instr) y.row.progress h
+unit_kept u r y h = unit_kept_in u r y.reservation.unit (shape_of y.reservation.instr) y.reservation.progress h
 
 other_channel : (n m : ℕ) (r : Reg) → (eqb n m || false) ≡ false
     → forget (OfChannel n) (written_by_channel r (Some m)) ≡ written_by_channel r (Some m)
@@ -212,10 +212,10 @@ channel_kept_in n r v s (Left None) h = refl
 channel_kept_in n r v s (Left (Some m)) h = other_channel n m r h
 
 -- one that does not load Xn is not written by channel n
-pub channel_kept : (n : ℕ) (r : Reg) (y : Issued) → comes (X n) y.row ≡ false
+pub channel_kept : (n : ℕ) (r : Reg) (y : Issued) → comes (X n) y.reservation ≡ false
     → forget (OfChannel n) (written_by r y) ≡ written_by r y
 unfolding written_by comes to_come
-channel_kept n r y h = channel_kept_in n r y.row.unit (shape_of y.row.instr) y.row.progress h
+channel_kept n r y h = channel_kept_in n r y.reservation.unit (shape_of y.reservation.instr) y.reservation.progress h
 
 left_in : (u v : FunctionalUnit) (r : Reg) (s : Shape) (has_read : Bool) → same_unit v u ≡ true
     → written_by_channel r (channel_of s) ≡ forget (OfUnit u) (written_in r v s (Reserved has_read))
@@ -245,19 +245,21 @@ left_in u v r Jumps has_read h = refl
 left_in u v r Links has_read h = refl
 
 -- what is written for one that has left its unit
-pub left_written : (u : FunctionalUnit) (r : Reg) (x : Issued) (has_read : Bool) → x.row.progress ≡ Reserved has_read
-    → same_unit x.row.unit u ≡ true
-    → written_by_channel r (channel_of (shape_of x.row.instr)) ≡ forget (OfUnit u) (written_by r x)
+pub left_written : (u : FunctionalUnit) (r : Reg) (x : Issued) (has_read : Bool)
+    → x.reservation.progress ≡ Reserved has_read
+    → same_unit x.reservation.unit u ≡ true
+    → written_by_channel r (channel_of (shape_of x.reservation.instr)) ≡ forget (OfUnit u) (written_by r x)
 unfolding written_by
-left_written u r x has_read e h = left_in u x.row.unit r (shape_of x.row.instr) has_read h
-    ∙ ap (λ p. forget (OfUnit u) (written_in r x.row.unit (shape_of x.row.instr) p)) (sym e)
+left_written u r x has_read e h = left_in u x.reservation.unit r (shape_of x.reservation.instr) has_read h
+    ∙ ap (λ p. forget (OfUnit u) (written_in r x.reservation.unit (shape_of x.reservation.instr) p)) (sym e)
 
 -- and for one that has returned
-pub returned_written : (n : ℕ) (r : Reg) (x : Issued) → x.row.progress ≡ Left (Some n)
+pub returned_written : (n : ℕ) (r : Reg) (x : Issued) → x.reservation.progress ≡ Left (Some n)
     → None ≡ forget (OfChannel n) (written_by r x)
 unfolding written_by written_in written_by_channel forget same_writer
 returned_written n r x e =
-    by_test (reg_eq r (X n)) ∙ ap (λ p. forget (OfChannel n) (written_in r x.row.unit (shape_of x.row.instr) p)) (sym e)
+    by_test (reg_eq r (X n)) ∙ ap (λ p. forget (OfChannel n) (written_in r x.reservation.unit (shape_of
+    x.reservation.instr) p)) (sym e)
   where
     by_test : (b : Bool) → None ≡ forget (OfChannel n) (cond b (Some (OfChannel n)) None)
     by_test true = sym (ap (λ b. cond b None (Some (OfChannel n))) (eq-eqb n n refl))
@@ -266,20 +268,20 @@ returned_written n r x e =
 -- ---- by number ----
 
 pub earlier_some : (n : ℕ) (r : Reg) (y : Issued)
-    → is_some (if_earlier n (written_by r) y) ≡ (ltb y.number n && comes r y.row)
+    → is_some (if_earlier n (written_by r) y) ≡ (ltb y.number n && comes r y.reservation)
 unfolding if_earlier
 earlier_some n r y = by_test (ltb y.number n)
   where
-    by_test : (b : Bool) → is_some (cond b (written_by r y) None) ≡ (b && comes r y.row)
+    by_test : (b : Bool) → is_some (cond b (written_by r y) None) ≡ (b && comes r y.reservation)
     by_test true = some_written r y
     by_test false = refl
 
-pub earlier_alone : (n : ℕ) (r : Reg) (x y : Issued) → (comes r x.row && comes r y.row) ≡ false
+pub earlier_alone : (n : ℕ) (r : Reg) (x y : Issued) → (comes r x.reservation && comes r y.reservation) ≡ false
     → IsAlone (if_earlier n (written_by r)) x y
 earlier_alone n r x y h =
     ap (λ b. b && is_some (if_earlier n (written_by r) y)) (earlier_some n r x)
-    ∙ ap (λ b. (ltb x.number n && comes r x.row) && b) (earlier_some n r y)
-    ∙ by_tests (ltb x.number n) (comes r x.row) (ltb y.number n) (comes r y.row) h
+    ∙ ap (λ b. (ltb x.number n && comes r x.reservation) && b) (earlier_some n r y)
+    ∙ by_tests (ltb x.number n) (comes r x.reservation) (ltb y.number n) (comes r y.reservation) h
   where
     by_tests : (a b c d : Bool) → (b && d) ≡ false → ((a && b) && (c && d)) ≡ false
     by_tests false b c d h = refl

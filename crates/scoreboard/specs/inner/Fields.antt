@@ -6,8 +6,8 @@ use Rattle.std.specs.Prelude.{slice_index_or, slice_set}
 use Rattle.instructions.specs.declared.instr.Reg.TheVariants.{X}
 use Rattle.instructions.specs.declared.instr.Unit.TheVariants.{Increment1, Increment2}
 use Rattle.instructions.specs.declared.instr.UnitKind.{UnitKind}
-use Rattle.scoreboard.specs.declared.row.Progress.TheVariants.{Left}
-use Rattle.scoreboard.specs.declared.row.Row.{Row}
+use Rattle.scoreboard.specs.declared.reservation.Progress.TheVariants.{Left}
+use Rattle.scoreboard.specs.declared.reservation.Reservation.{Reservation}
 use Rattle.scoreboard.specs.Conflicts.{first_free}
 use Rattle.scoreboard.specs.Units.{units_of, unit_number}
 use Rattle.scoreboard.specs.declared.writer.Writer.{Writer}
@@ -17,28 +17,28 @@ use Rattle.scoreboard.specs.Answers.{in_progress}
 use Rattle.scoreboard.specs.Writers.{set_each, set_writer, forget}
 use Rattle.instructions.specs.declared.instr.Reg.{Reg}
 use Rattle.instructions.specs.declared.instr.Unit.{Unit as FunctionalUnit}
-use Rattle.scoreboard.specs.Rows.{is_unread, reads_it, has_turn}
+use Rattle.scoreboard.specs.Reservations.{is_unread, reads_it, has_turn}
 use Rattle.scoreboard.specs.declared.issued.Issued.{Issued}
 
 -- an instruction sits there, and it passes the test
-unfoldable pub seat_is : (Row → Bool) → Option Issued → Bool
+unfoldable pub seat_is : (Reservation → Bool) → Option Issued → Bool
 seat_is test None = false
-seat_is test (Some x) = test x.row
+seat_is test (Some x) = test x.reservation
 
 -- its instruction has a lower number and has not come to its read event
 unfoldable pub seat_waits : ℕ → Option Issued → Bool
 seat_waits n None = false
-seat_waits n (Some x) = nat_lt x.number n && is_unread x.row.progress
+seat_waits n (Some x) = nat_lt x.number n && is_unread x.reservation.progress
 
 -- its instruction has a lower number and has still to read the register
 unfoldable pub seat_reads : ℕ → Reg → Option Issued → Bool
 seat_reads n r None = false
-seat_reads n r (Some x) = nat_lt x.number n && reads_it r x.row
+seat_reads n r (Some x) = nat_lt x.number n && reads_it r x.reservation
 
 -- its instruction has a lower number and a reference that has not come to its store event
 unfoldable pub seat_has_turn : ℕ → Option Issued → Bool
 seat_has_turn n None = false
-seat_has_turn n (Some x) = nat_lt x.number n && has_turn x.row
+seat_has_turn n (Some x) = nat_lt x.number n && has_turn x.reservation
 
 -- what sits in the seat of the unit
 abbrev pub seat_at : List (Option Issued) → FunctionalUnit → Option Issued

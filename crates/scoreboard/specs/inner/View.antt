@@ -5,9 +5,9 @@ use Rattle.std.specs.Prelude.{slice_index_or}
 use Rattle.instructions.specs.declared.instr.Reg.{Reg}
 use Rattle.instructions.specs.declared.instr.Unit.{Unit as FunctionalUnit}
 use Rattle.instructions.specs.Operands.{uses, sources_of}
-use Rattle.scoreboard.specs.declared.row.Progress.{Progress}
-use Rattle.scoreboard.specs.declared.row.Progress.TheVariants.{Reserved, Left}
-use Rattle.scoreboard.specs.Rows.{comes}
+use Rattle.scoreboard.specs.declared.reservation.Progress.{Progress}
+use Rattle.scoreboard.specs.declared.reservation.Progress.TheVariants.{Reserved, Left}
+use Rattle.scoreboard.specs.Reservations.{comes}
 use Rattle.scoreboard.specs.Units.{unit_number, may_take}
 use Rattle.scoreboard.specs.declared.issued.Issued.{Issued}
 use Rattle.scoreboard.specs.declared.writer.Writer.{Writer}
@@ -34,16 +34,16 @@ seat_in unit (Left None) = 18
 
 -- the seat of an issued instruction
 unfoldable pub seat_of : Issued → ℕ
-seat_of x = seat_in x.row.unit x.row.progress
+seat_of x = seat_in x.reservation.unit x.reservation.progress
 
 -- two have neither the number nor a result still to come in common
 pub record IsOther (x y : Issued) : Type 0 where
   pub number : number_of x ≢ number_of y
-  pub results : (r : Reg) → (comes r x.row && comes r y.row) ≡ false
+  pub results : (r : Reg) → (comes r x.reservation && comes r y.reservation) ≡ false
 
 -- it was issued to a unit of the kind that its instruction takes
 abbrev pub IsOfKind : Issued → Type 0
-IsOfKind x = may_take (uses x.row.instr).unit x.row.unit ≡ true
+IsOfKind x = may_take (uses x.reservation.instr).unit x.reservation.unit ≡ true
 
 -- each operand has its producer: who is to write the operand's register, if anybody is
 abbrev pub AreProducers : (Reg → Option Writer) → List Reg → List (Option Writer) → Type 0
@@ -78,5 +78,5 @@ pub record IsRight (units channels : List (Option Issued)) (producers : List (Li
   pub written : (r : Reg) → IsRegister r → writer_at writers r ≡ writer_of (seated units channels) r
   -- each operand's producer is the writer of its register among those with a lower number
   pub produced : (i : ℕ) (x : Issued) → slice_index_or units i None ≡ Some x
-      → AreProducers (writer_before x.number (seated units channels)) (sources_of x.row.instr)
+      → AreProducers (writer_before x.number (seated units channels)) (sources_of x.reservation.instr)
       (slice_index_or producers i [])

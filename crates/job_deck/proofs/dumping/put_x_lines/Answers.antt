@@ -18,7 +18,8 @@ pub returns-in_err-put_pieces-clause-written : goal.returns-in_err-put_pieces-cl
 returns-in_err-put_pieces-clause-written g c =
     let p = err_from_is_err_and c.from_residual.result c.from_residual.ensures.1 in
     rw p.1 (address_cut (x_line c.args.x.now) _ c.loop-number.number _ _ (g.O.Output.contents c.put_pieces.new.output) _
-    c.loop-number-test.true c.loop-number.invariant.written (rw c.x_line.ensures at c.in_err-put_pieces.ensures.written))
+    c.loop-number-test.true c.loop-number.invariant.written
+    (rw c.x_line.ensures at c.in_err-put_pieces.ensures.written))
 
 pub loop-number-preserved : goal.loop-number-preserved
 loop-number-preserved g c =

@@ -3,7 +3,7 @@ use Rattle.std.specs.Prelude.{unwrap_or}
 use Rattle.instructions.specs.declared.instr.Unit.TheVariants.{Branch}
 use Rattle.instructions.specs.Operands.{uses}
 use Rattle.sequential.specs.declared.fetching.Fetched.TheVariants.{Taking}
-use Rattle.in_flight.specs.Tests.{refusal_in, refusal_of, row_tests}
+use Rattle.in_flight.specs.Tests.{refusal_in, refusal_of, reservation_tests}
 use Rattle.in_flight.specs.Flight.{Flight, flight_of, unit_taken, reserved_in}
 use Rattle.in_flight.specs.inner.Board.{IsTied}
 use Rattle.in_flight.proofs.answering.Beside.{none_from, no_unit_there, reserve_answered, unreserved, reserved_now}
@@ -22,7 +22,7 @@ invariant_of-self c = subst (IsTied c.self.inside.slots c.self.inside.hopper)
 
 pub returns-in-Err-clause-answer : goal.returns-in-Err-clause-answer
 returns-in-Err-clause-answer c place =
-    sym (ap (λ (f : Flight). refusal_of (row_tests f.pending (Taking c.args.instr.now place))) c.self.view_is)
+    sym (ap (λ (f : Flight). refusal_of (reservation_tests f.pending (Taking c.args.instr.now place))) c.self.view_is)
     ∙ reserve_answered c.self.inside.slots c.args.instr.now place c.self.inside.board c.try_reserve.result
     c.self.invariant.boarded c.try_reserve.ensures.answer
     ∙ ap refusal_in c.in-Err.is
@@ -57,7 +57,7 @@ invariant_of-self-2 c =
 
 pub returns-clause-answer : goal.returns-clause-answer
 returns-clause-answer c place =
-    sym (ap (λ (f : Flight). refusal_of (row_tests f.pending (Taking c.args.instr.now place))) c.self.view_is)
+    sym (ap (λ (f : Flight). refusal_of (reservation_tests f.pending (Taking c.args.instr.now place))) c.self.view_is)
     ∙ reserve_answered c.self.inside.slots c.args.instr.now place c.self.inside.board c.try_reserve.result
     c.self.invariant.boarded c.try_reserve.ensures.answer
     ∙ ap refusal_in c.in-Ok.is

@@ -1,7 +1,7 @@
 -- Whether an Increment unit has an SA6 or SA7, as the list says it.
 use Rattle.std.proofs.Common.{ap, ◌∙◌}
 use Rattle.std.specs.List.{list_any}
-use Rattle.scoreboard.specs.Rows.{has_store_turn}
+use Rattle.scoreboard.specs.Reservations.{has_store_turn}
 use Rattle.scoreboard.specs.Answers.{Standing}
 use Rattle.scoreboard.proofs.changing.OfKind.{store_found}
 use Rattle.scoreboard.proofs.board.Board.has_store_to_come.Goals as goal
@@ -11,4 +11,4 @@ returns c =
     c.any_store.ensures
     ∙ store_found c.self.inside.units c.self.inside.channels c.self.inside.producers c.self.inside.writers
     c.self.inside.last c.self.invariant
-    ∙ ap (λ (s : Standing). list_any (λ x. has_store_turn x.row) s.issued) c.self.view_is
+    ∙ ap (λ (s : Standing). list_any (λ x. has_store_turn x.reservation) s.issued) c.self.view_is

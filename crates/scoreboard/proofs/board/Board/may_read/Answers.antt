@@ -24,13 +24,14 @@ pub returns-then-not-any_writer : goal.returns-then-not-any_writer
 unfolding from_found
 returns-then-not-any_writer c =
     read_answered c.self.inside.units c.self.inside.channels c.self.inside.producers c.self.inside.writers
-    c.self.inside.last c.args.unit c.index_of-index.result c.in-Some.issued (sources_of c.in-Some.issued.row.instr)
+    c.self.inside.last c.args.unit c.index_of-index.result c.in-Some.issued (sources_of
+    c.in-Some.issued.reservation.instr)
     c.index-producers-index.result None c.self.invariant c.index_of-index.ensures.value
     (seat_any c.self.inside.units c.index_of-index.result c.index-self-index.result
     (omega (arith, c.index_of-index.ensures.range, c.self.invariant.all_units))
     ∙ c.in-Some.is) refl (list_read c.self.inside.producers c.index_of-index.result c.index-producers-index.result
     (omega (arith, c.index_of-index.ensures.range, c.self.invariant.all_producers)) c.index-producers-index.is)
-    (none_produced (sources_of c.in-Some.issued.row.instr) c.index-producers-index.result
+    (none_produced (sources_of c.in-Some.issued.reservation.instr) c.index-producers-index.result
     (sym c.any_writer.ensures ∙ c.if-not-any_writer.true))
     ∙ ap (λ (s : Standing). read_answer (seek (held_in c.args.unit) s.issued)) c.self.view_is
 

@@ -28,7 +28,7 @@ invariant_of-self c =
     subst (λ cs. IsRight (set c.self.inside.units c.index_of-index.result None) cs c.forget_in_taken.new.producers
     c.set_each.new.self c.self.inside.last) (sym c.put_left.ensures.value)
     (subst (λ ws. IsRight (set c.self.inside.units c.index_of-index.result None)
-    (channels_with c.self.inside.channels c.in-Some.issued (channel_of (shape_of c.in-Some.issued.row.instr)))
+    (channels_with c.self.inside.channels c.in-Some.issued (channel_of (shape_of c.in-Some.issued.reservation.instr)))
     c.forget_in_taken.new.producers ws c.self.inside.last) (sym
     (c.set_each.ensures.value ∙ ap (λ rs. set_each c.self.inside.writers rs None)
     (c.as_slice.ensures.value ∙ c.puts-written.ensures)))
@@ -52,7 +52,7 @@ invariant_of-self-else-issued-self c =
     subst (λ cs. IsRight (set c.self.inside.units c.index_of-index.result None) cs c.self.inside.producers
     c.set_each.new.self c.self.inside.last) (sym c.put_left.ensures.value)
     (subst (λ ws. IsRight (set c.self.inside.units c.index_of-index.result None)
-    (channels_with c.self.inside.channels c.in-Some.issued (channel_of (shape_of c.in-Some.issued.row.instr)))
+    (channels_with c.self.inside.channels c.in-Some.issued (channel_of (shape_of c.in-Some.issued.reservation.instr)))
     c.self.inside.producers ws c.self.inside.last) (sym
     (c.set_each.ensures.value ∙ ap (λ rs. set_each c.self.inside.writers rs None)
     (c.as_slice.ensures.value ∙ c.puts-written.ensures)))

@@ -4,7 +4,7 @@ use Rattle.std.specs.Prelude.{Ok, Err}
 use Rattle.instructions.specs.declared.refusal.Refusal.TheVariants.{UnitBusy}
 use Rattle.instructions.specs.Operands.{uses}
 use Rattle.scoreboard.specs.Conflicts.{unit_for}
-use Rattle.scoreboard.specs.Issued.{row_of}
+use Rattle.scoreboard.specs.Issued.{reservation_of}
 use Rattle.scoreboard.specs.Answers.{Standing, reserve_answer, reserved}
 use Rattle.scoreboard.specs.inner.View.{standing_of}
 use Rattle.scoreboard.proofs.changing.Reserving.{first_found, unit_found, seat_found, kind_found, new_right, new_view}
@@ -18,7 +18,8 @@ returns-in_default-clause-answer c =
     (unit_found c.self.inside.units c.self.inside.channels c.self.inside.producers c.self.inside.writers
     c.self.inside.last (uses c.args.instr.now).unit c.free_unit_for.result None c.self.invariant
     c.free_unit_for.ensures c.in_default.is)
-    ∙ ap (λ (s : Standing). reserve_answer s c.args.instr.now (unit_for row_of s.issued (uses c.args.instr.now).unit))
+    ∙ ap (λ (s : Standing). reserve_answer s c.args.instr.now (unit_for reservation_of s.issued (uses
+    c.args.instr.now).unit))
     c.self.view_is
 
 pub returns-in_default-clause-after : goal.returns-in_default-clause-after
@@ -37,7 +38,8 @@ returns-in-Some-first_produced-clause-answer c =
     (c.as_slice.ensures.value ∙ c.results-results.ensures.shape)
     (c.as_slice-2.ensures.value ∙ c.results-results.ensures.shape) c.first_produced.ensures)
     c.in-Some-first_produced.is
-    ∙ ap (λ (s : Standing). reserve_answer s c.args.instr.now (unit_for row_of s.issued (uses c.args.instr.now).unit))
+    ∙ ap (λ (s : Standing). reserve_answer s c.args.instr.now (unit_for reservation_of s.issued (uses
+    c.args.instr.now).unit))
     c.self.view_is
 
 pub returns-in-Some-first_produced-clause-after : goal.returns-in-Some-first_produced-clause-after
@@ -80,7 +82,8 @@ returns-clause-answer c =
     (c.as_slice-2.ensures.value ∙ c.results-results.ensures.shape)
     c.first_produced.ensures) ∙ c.in_default-first_produced.is)
     (omega arith)
-    ∙ ap (λ (s : Standing). reserve_answer s c.args.instr.now (unit_for row_of s.issued (uses c.args.instr.now).unit))
+    ∙ ap (λ (s : Standing). reserve_answer s c.args.instr.now (unit_for reservation_of s.issued (uses
+    c.args.instr.now).unit))
     c.self.view_is
 
 pub returns-clause-after : goal.returns-clause-after

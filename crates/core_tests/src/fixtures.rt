@@ -1,0 +1,116 @@
+//! Words, registers, reasons to halt and values of units, as constants can hold them.
+
+use instruction_table::read_text;
+use instructions::{Digit, Halt, Instr, Op, Reg};
+use unit_ops::UnitValue;
+use word60::{Word18, Word60};
+
+/// A register by its number, 0 to 7.
+#[derive(Clone, Copy, Debug, Drop, PartialEq, Eq)]
+pub(crate) enum Register {
+    A(u8),
+    B(u8),
+    X(u8),
+}
+
+impl Register {
+    pub(crate) fn of(register: Reg) -> Register {
+        match register {
+            Reg::A(digit) => Register::A(digit.get()),
+            Reg::B(digit) => Register::B(digit.get()),
+            Reg::X(digit) => Register::X(digit.get()),
+        }
+    }
+
+    pub(crate) fn reg(self) -> Reg {
+        match self {
+            Register::A(number) => Reg::A(digit(number)),
+            Register::B(number) => Reg::B(digit(number)),
+            Register::X(number) => Reg::X(digit(number)),
+        }
+    }
+}
+
+/// The digit of a number, 0 to 7.
+pub(crate) fn digit(number: u8) -> Digit {
+    Digit::low(u16::from(number))
+}
+
+/// The word of a number of 60 bits, and +0 for one that has more.
+pub(crate) fn word(number: u64) -> Word60 {
+    Word60::new(number).unwrap_or_default()
+}
+
+/// The index of a number of 18 bits, and +0 for one that has more.
+pub(crate) fn index(number: u32) -> Word18 {
+    Word18::new(number).unwrap_or_default()
+}
+
+/// The instruction of a text, and a stop for a text of none.
+pub(crate) fn instruction(text: &str) -> Instr {
+    match read_text(text) {
+        Some(instr) => instr,
+        None => Instr::Stop,
+    }
+}
+
+/// The number of an index, if there is one.
+pub(crate) fn number_of(index: Option<Word18>) -> Option<u32> {
+    match index {
+        Some(index) => Some(index.get()),
+        None => None,
+    }
+}
+
+/// Why a machine stands, or that it runs.
+#[derive(Clone, Copy, Drop)]
+pub(crate) enum Stand {
+    Running,
+    Stopped,
+    Straddling,
+    OutOfRange,
+    /// At an operation that is refused, by the digits f and m.
+    Refused(u8, u8),
+}
+
+impl Stand {
+    pub(crate) fn halt(self) -> Option<Halt> {
+        match self {
+            Stand::Running => None,
+            Stand::Stopped => Some(Halt::Stop),
+            Stand::Straddling => Some(Halt::Straddle),
+            Stand::OutOfRange => Some(Halt::FetchRange),
+            Stand::Refused(f, m) => Some(Halt::Illegal(Op::Plain(digit(f), digit(m)))),
+        }
+    }
+}
+
+/// What a unit answers, by the numbers of words and indexes.
+#[derive(Clone, Copy, Drop)]
+pub(crate) enum Computed {
+    Word(u64),
+    Index(u32),
+    Load(u32),
+    Store(u32, u64),
+    Goes(u32),
+    Stays,
+    /// Where the link word is stored, and where a jump to it goes back to.
+    Link(u32, u32),
+}
+
+impl Computed {
+    pub(crate) fn unit_value(self) -> UnitValue {
+        match self {
+            Computed::Word(number) => UnitValue::Word(word(number)),
+            Computed::Index(number) => UnitValue::Index(index(number)),
+            Computed::Load(address) => UnitValue::Load(index(address)),
+            Computed::Store(address, number) => UnitValue::Store(index(address), word(number)),
+            Computed::Goes(to) => UnitValue::Jump(Some(index(to))),
+            Computed::Stays => UnitValue::Jump(None),
+            Computed::Link(at, back) => UnitValue::Link {
+                at: index(at),
+                back: index(back),
+            },
+        }
+    }
+}

@@ -1,0 +1,362 @@
+//! A hopper's answers, by lists of steps with the answer of the last.
+
+use Answer::{Entered, Freed, IsLoad, IsStore, No, Yes};
+use Step::{Accept, Free, IsBusy, IsFull, Load, Store, StoresTo};
+use hopper::{Hopper, PLACES, Reference, bank_of};
+use instructions::{Digit, Refusal};
+use relocation::Access;
+use word60::Word60;
+
+/// What a test does to a hopper, or asks it.
+#[derive(Clone, Copy, Drop)]
+enum Step {
+    /// A load from the address enters.
+    Load(u32),
+    /// A store to the address enters.
+    Store(u32),
+    /// The place is accepted.
+    Accept(u8),
+    /// The bank is freed.
+    Free(u8),
+    /// Is each place taken?
+    IsFull,
+    /// Is the bank busy?
+    IsBusy(u8),
+    /// Does a store to the address wait?
+    StoresTo(u32),
+}
+
+/// What a step answers.
+#[derive(Clone, Copy, Debug, Drop, PartialEq, Eq)]
+enum Answer {
+    /// What entered has this place.
+    Entered(u8),
+    /// Accepted is a load from the address.
+    IsLoad(u32),
+    /// Accepted is a store to the address.
+    IsStore(u32),
+    /// Accepted is what no test let enter.
+    IsOther,
+    /// The bank is free now.
+    Freed,
+    Yes,
+    No,
+}
+
+fn load(address: u32) -> Reference {
+    Reference {
+        address,
+        access: Access::Load(Digit::low(1)),
+    }
+}
+
+fn store(address: u32) -> Reference {
+    Reference {
+        address,
+        access: Access::Store(Word60::from_bits(5)),
+    }
+}
+
+fn accepted(reference: Reference) -> Answer {
+    let address = reference.address;
+    if reference == load(address) {
+        return IsLoad(address);
+    }
+    if reference == store(address) {
+        return IsStore(address);
+    }
+    Answer::IsOther
+}
+
+fn truth(is_so: bool) -> Answer {
+    if is_so { Yes } else { No }
+}
+
+fn entry(place: Result<u8, Refusal>) -> Result<Answer, Refusal> {
+    match place {
+        Ok(place) => Ok(Entered(place)),
+        Err(refusal) => Err(refusal),
+    }
+}
+
+fn acceptance(reference: Result<Reference, Refusal>) -> Result<Answer, Refusal> {
+    match reference {
+        Ok(reference) => Ok(accepted(reference)),
+        Err(refusal) => Err(refusal),
+    }
+}
+
+fn freeing(freed: Result<(), Refusal>) -> Result<Answer, Refusal> {
+    match freed {
+        Ok(()) => Ok(Freed),
+        Err(refusal) => Err(refusal),
+    }
+}
+
+fn take(hopper: &mut Hopper, step: Step) -> Result<Answer, Refusal> {
+    match step {
+        Load(address) => entry(hopper.enter(load(address))),
+        Store(address) => entry(hopper.enter(store(address))),
+        Accept(place) => acceptance(hopper.accept(place)),
+        Free(bank) => freeing(hopper.bank_free(bank)),
+        IsFull => Ok(truth(hopper.is_full())),
+        IsBusy(bank) => Ok(truth(hopper.is_bank_busy(bank))),
+        StoresTo(address) => Ok(truth(hopper.store_for(address))),
+    }
+}
+
+/// What the last of the steps answers.
+fn last_answer(steps: &[Step]) -> Result<Answer, Refusal> {
+    let mut hopper = Hopper::new();
+    let mut last = Ok(No);
+    for step in steps {
+        last = take(&mut hopper, *step);
+    }
+    last
+}
+
+/// What a case shows, some steps, and what the last of them answers.
+type Case = (&'static str, &'static [Step], Result<Answer, Refusal>);
+
+/// A reference enters at the lowest free place, and the fifth finds none.
+const ENTERING: [Case; 8] = [
+    ("the first", &[Load(0)], Ok(Entered(0))),
+    ("the second", &[Load(0), Load(1)], Ok(Entered(1))),
+    (
+        "the fourth",
+        &[Load(0), Load(1), Load(2), Load(3)],
+        Ok(Entered(3)),
+    ),
+    (
+        "the place that comes free",
+        &[Load(0), Load(1), Load(2), Load(3), Accept(2), Load(7)],
+        Ok(Entered(2)),
+    ),
+    (
+        "the lower of two that come free",
+        &[Load(0), Load(1), Load(2), Accept(1), Accept(0), Load(7)],
+        Ok(Entered(0)),
+    ),
+    (
+        "three leave a place",
+        &[Load(0), Load(1), Load(2), IsFull],
+        Ok(No),
+    ),
+    (
+        "four fill it",
+        &[Load(0), Load(1), Load(2), Load(3), IsFull],
+        Ok(Yes),
+    ),
+    (
+        "a fifth finds no place",
+        &[Load(0), Load(1), Load(2), Load(3), Load(4)],
+        Err(Refusal::HopperFull),
+    ),
+];
+
+/// What entered is accepted once, where its bank is free and no older one waits for it.
+const ACCEPTING: [Case; 15] = [
+    ("a load", &[Load(9), Store(0o47), Accept(0)], Ok(IsLoad(9))),
+    (
+        "a store",
+        &[Load(9), Store(0o47), Accept(1)],
+        Ok(IsStore(0o47)),
+    ),
+    (
+        "an empty place",
+        &[Load(5), Accept(1)],
+        Err(Refusal::Nothing),
+    ),
+    (
+        "the place after the last",
+        &[Load(5), Accept(4)],
+        Err(Refusal::Nothing),
+    ),
+    ("no place", &[Load(5), Accept(255)], Err(Refusal::Nothing)),
+    (
+        "a place that was accepted",
+        &[Load(5), Accept(0), Accept(0)],
+        Err(Refusal::Nothing),
+    ),
+    (
+        "a busy bank comes before an older one",
+        &[Load(5), Load(37), Load(69), Accept(0), Accept(2)],
+        Err(Refusal::BankBusy(5)),
+    ),
+    (
+        "an older one waits for the free bank",
+        &[Load(5), Load(37), Load(69), Accept(0), Free(5), Accept(2)],
+        Err(Refusal::OlderInBank),
+    ),
+    (
+        "the oldest for the free bank",
+        &[Load(5), Load(37), Load(69), Accept(0), Free(5), Accept(1)],
+        Ok(IsLoad(37)),
+    ),
+    (
+        "older ones for other banks",
+        &[Load(6), Load(5), Load(37), Accept(1)],
+        Ok(IsLoad(5)),
+    ),
+    (
+        "the older one stands in a higher place",
+        &[Load(0), Load(5), Accept(0), Load(37), Accept(0)],
+        Err(Refusal::OlderInBank),
+    ),
+    (
+        "the third for the bank, after one in the middle left",
+        &[Load(5), Load(6), Load(37), Accept(1), Load(69), Accept(2)],
+        Err(Refusal::OlderInBank),
+    ),
+    (
+        "the youngest, in the place of the one that left",
+        &[Load(5), Load(6), Load(37), Accept(1), Load(69), Accept(1)],
+        Err(Refusal::OlderInBank),
+    ),
+    (
+        "the oldest, after one in the middle left",
+        &[Load(5), Load(6), Load(37), Accept(1), Load(69), Accept(0)],
+        Ok(IsLoad(5)),
+    ),
+    (
+        "the youngest, after the oldest is done",
+        &[
+            Load(5),
+            Load(6),
+            Load(37),
+            Accept(1),
+            Load(69),
+            Accept(0),
+            Free(5),
+            Accept(1),
+        ],
+        Err(Refusal::OlderInBank),
+    ),
+];
+
+/// A bank is busy from its acceptance until it is freed, and a store is found while it waits.
+const KEEPING: [Case; 16] = [
+    ("no bank is busy at first", &[Load(5), IsBusy(5)], Ok(No)),
+    (
+        "busy once accepted",
+        &[Load(5), Accept(0), IsBusy(5)],
+        Ok(Yes),
+    ),
+    ("another bank", &[Load(5), Accept(0), IsBusy(4)], Ok(No)),
+    (
+        "free again",
+        &[Load(5), Accept(0), Free(5), IsBusy(5)],
+        Ok(No),
+    ),
+    ("the bank after the last", &[IsBusy(32)], Ok(No)),
+    ("no bank", &[IsBusy(255)], Ok(No)),
+    (
+        "frees a busy bank",
+        &[Load(5), Accept(0), Free(5)],
+        Ok(Freed),
+    ),
+    (
+        "frees it once",
+        &[Load(5), Accept(0), Free(5), Free(5)],
+        Err(Refusal::Nothing),
+    ),
+    (
+        "frees no other bank",
+        &[Load(5), Accept(0), Free(4)],
+        Err(Refusal::Nothing),
+    ),
+    (
+        "frees no bank after the last",
+        &[Load(5), Accept(0), Free(32)],
+        Err(Refusal::Nothing),
+    ),
+    (
+        "frees no bank by its address",
+        &[Load(5), Accept(0), Free(37)],
+        Err(Refusal::Nothing),
+    ),
+    (
+        "frees no bank 255",
+        &[Load(5), Accept(0), Free(255)],
+        Err(Refusal::Nothing),
+    ),
+    (
+        "a store waits",
+        &[Load(9), Store(0o47), StoresTo(0o47)],
+        Ok(Yes),
+    ),
+    (
+        "none to another address of its bank",
+        &[Load(9), Store(0o47), StoresTo(0o7)],
+        Ok(No),
+    ),
+    (
+        "a load is no store",
+        &[Load(9), Store(0o47), StoresTo(9)],
+        Ok(No),
+    ),
+    (
+        "an accepted store waits no more",
+        &[Load(9), Store(0o47), Accept(1), StoresTo(0o47)],
+        Ok(No),
+    ),
+];
+
+/// A reference enters where the cases say.
+#[test]
+fn enters(rt: HostRuntime) {
+    for (name, steps, wanted) in ENTERING.as_slice() {
+        assert_eq!(rt; last_answer(steps), *wanted, "{name}");
+    }
+}
+
+/// What the cases accept is accepted, and nothing else.
+#[test]
+fn accepts(rt: HostRuntime) {
+    for (name, steps, wanted) in ACCEPTING.as_slice() {
+        assert_eq!(rt; last_answer(steps), *wanted, "{name}");
+    }
+}
+
+/// Banks are busy, and stores wait, as the cases say.
+#[test]
+fn keeps(rt: HostRuntime) {
+    for (name, steps, wanted) in KEEPING.as_slice() {
+        assert_eq!(rt; last_answer(steps), *wanted, "{name}");
+    }
+}
+
+/// An address, its bank, and the bank after it.
+const BANKS: [(u32, u8, u8); 5] = [
+    (0, 0, 1),
+    (31, 31, 32),
+    (32, 0, 1),
+    (0o47, 7, 8),
+    (131_071, 31, 32),
+];
+
+/// A reference waits for the bank of its address alone.
+#[test]
+fn waits_for_a_bank(rt: HostRuntime) {
+    for (address, bank, next) in BANKS.as_slice() {
+        let reference = load(*address);
+        let answers = (
+            bank_of(*address),
+            reference.is_for_bank(*bank),
+            reference.is_for_bank(*next),
+        );
+        assert_eq!(rt; answers, (*bank, true, false), "at {address}");
+    }
+}
+
+/// A store is to its address alone, not to another of its bank, and a load is no store; there are four places.
+#[test]
+fn stores_to_its_address_alone(rt: HostRuntime) {
+    let answers = [
+        store(0o47).stores_to(0o47),
+        store(0o47).stores_to(0o7),
+        load(0o47).stores_to(0o47),
+        PLACES == 4,
+    ];
+    assert_eq!(rt; answers, [true, false, false, true]);
+}

@@ -1,0 +1,651 @@
+//! The machine that does one instruction at a time: places, fetches, steps, references, exchanges and logs.
+
+use crate::fixtures::{Computed, Register, Stand, digit, index, instruction, number_of, word};
+use Stand::{OutOfRange, Refused, Running, Stopped, Straddling};
+use instructions::{Halt, ParcelNumber, Refusal};
+use registers::RegisterFile;
+use relocation::{Access, Area, Storage};
+use sequential::{
+    Entry, Fetched, Log, Place, ProgramReference, State, faults, jump, number, operands, reference,
+    replay, step,
+};
+use std::alloc::Global;
+use std::test::Fail;
+use unit_ops::Operands;
+use word60::Word60;
+
+/// IX3 X1+X2; NO; BX1 X2; 24.
+const ONE: u64 = 0o36312_46000_10120_24000;
+
+/// NO; NO; PS; and the first parcel of SX1 B1+K.
+const OTHER: u64 = 0o46000_46000_00000_71110;
+
+/// LX3 1; MX1 11; CX1 X0; NO.
+const ROWS: u64 = 0o20301_43111_47100_46000;
+
+/// SA0 B0+5; SB0 B0+5.
+const ZEROS: u64 = 0o51000_00005_61000_00005;
+
+/// Four passes.
+const PASSES: u64 = 0o46000_46000_46000_46000;
+
+/// The place at a parcel of this held word, which stands at 5; the place after it where the parcel is 4.
+fn held_at(held: u64, parcel: u8) -> Place {
+    match ParcelNumber::new(parcel) {
+        Some(parcel) => Place {
+            p: index(5),
+            parcel,
+            held: Some(word(held)),
+        },
+        None => beginning(6),
+    }
+}
+
+/// The place at the beginning of the word at an address.
+fn beginning(p: u32) -> Place {
+    Place {
+        p: index(p),
+        parcel: ParcelNumber::default(),
+        held: None,
+    }
+}
+
+/// The last word is followed by the first, and a jump begins a word.
+#[test]
+fn moves_on(rt: HostRuntime) {
+    let last = index(0o777777);
+    let found = [
+        Place::after(last, word(PASSES), 3),
+        Place::after(last, word(PASSES), 4),
+        Place::at(last),
+        held_at(PASSES, 2).after_jump(None),
+        held_at(PASSES, 2).after_jump(Some(index(0))),
+    ];
+    let wanted = [
+        Place {
+            p: last,
+            ..held_at(PASSES, 3)
+        },
+        beginning(0),
+        beginning(0o777777),
+        held_at(PASSES, 2),
+        beginning(0),
+    ];
+    assert_eq!(rt; found, wanted);
+    assert_eq!(rt;
+        (held_at(PASSES, 2).parcel.get(), ParcelNumber::new(4)),
+        (2, None)
+    );
+}
+
+/// What a fetch does.
+#[derive(Clone, Copy, Drop)]
+enum Outcome {
+    Halts(Stand),
+    Passes,
+    /// It takes the instruction of this text.
+    Takes(&'static str),
+}
+
+fn fetched(outcome: &Outcome, next: Place) -> Fetched {
+    match *outcome {
+        Outcome::Halts(stand) => match stand.halt() {
+            Some(halt) => Fetched::Halting(halt, next),
+            None => Fetched::Passing(next),
+        },
+        Outcome::Passes => Fetched::Passing(next),
+        Outcome::Takes(text) => Fetched::Taking(instruction(text), next),
+    }
+}
+
+/// What a case shows, the held word, the parcel, what the fetch does, and the parcel that is next.
+type Fetch = (&'static str, u64, u8, Outcome, u8);
+
+const FETCHES: [Fetch; 17] = [
+    ("a sum", ONE, 0, Outcome::Takes("IX3 X1+X2"), 1),
+    ("a pass", ONE, 1, Outcome::Passes, 2),
+    ("a copy", ONE, 2, Outcome::Takes("BX1 X2"), 3),
+    (
+        "a refused operation",
+        ONE,
+        3,
+        Outcome::Halts(Refused(2, 4)),
+        3,
+    ),
+    ("a stop", OTHER, 2, Outcome::Halts(Stopped), 2),
+    (
+        "an instruction past its word",
+        OTHER,
+        3,
+        Outcome::Halts(Straddling),
+        3,
+    ),
+    (
+        "a return jump goes to a unit",
+        0o01000_00010_46000_46000,
+        0,
+        Outcome::Takes("RJ 10"),
+        2,
+    ),
+    (
+        "a jump goes to a unit",
+        0o02100_00010_46000_46000,
+        0,
+        Outcome::Takes("JP B1+10"),
+        2,
+    ),
+    (
+        "a branch on X goes to a unit",
+        0o03010_00010_46000_46000,
+        0,
+        Outcome::Takes("ZR X1,10"),
+        2,
+    ),
+    (
+        "a branch on B goes to a unit",
+        0o04010_00010_46000_46000,
+        0,
+        Outcome::Takes("EQ B0,B1,10"),
+        2,
+    ),
+    (
+        "a load goes to a unit",
+        0o53111_46000_46000_46000,
+        0,
+        Outcome::Takes("SA1 X1+B1"),
+        1,
+    ),
+    (
+        "a store goes to a unit",
+        0o53711_46000_46000_46000,
+        0,
+        Outcome::Takes("SA7 X1+B1"),
+        1,
+    ),
+    (
+        "a shift goes to a unit",
+        ROWS,
+        0,
+        Outcome::Takes("LX3 1"),
+        1,
+    ),
+    (
+        "a mask goes to a unit",
+        ROWS,
+        1,
+        Outcome::Takes("MX1 11"),
+        2,
+    ),
+    (
+        "a count goes to a unit",
+        ROWS,
+        2,
+        Outcome::Takes("CX1 X0"),
+        3,
+    ),
+    (
+        "SA0 makes no reference and is taken",
+        ZEROS,
+        0,
+        Outcome::Takes("SA0 B0+5"),
+        2,
+    ),
+    (
+        "SB0 writes nothing and is taken",
+        ZEROS,
+        2,
+        Outcome::Takes("SB0 B0+5"),
+        4,
+    ),
+];
+
+/// What is fetched from a held word.
+#[test]
+fn fetches_from_a_held_word(rt: HostRuntime) -> Result<(), Fail> {
+    let mut state = State::boot(Storage::new(rt.alloc(), 32)?);
+    for (name, held, parcel, outcome, next) in FETCHES.as_slice() {
+        state.place = held_at(*held, *parcel);
+        let wanted = fetched(outcome, held_at(*held, *next));
+        assert_eq!(rt; state.fetch(), wanted, "{name}");
+    }
+    Ok(())
+}
+
+/// RA 20 and an FL, and the exit mode.
+fn area(fl: u32, mode: u32) -> Area {
+    Area {
+        ra: index(0o20),
+        fl: index(fl),
+        mode: index(mode),
+    }
+}
+
+fn out_of_range(p: u32) -> Fetched {
+    Fetched::Halting(Halt::FetchRange, beginning(p))
+}
+
+/// Words are fetched from RA on, and none where FL is reached, as after boot.
+#[test]
+fn fetches_from_memory(rt: HostRuntime) -> Result<(), Fail> {
+    let mut memory = Storage::new(rt.alloc(), 32)?;
+    memory.store(0o23, word(PASSES));
+    let mut state = State::boot(memory);
+    let booted = (state.halt, state.fetch());
+    state.area = area(4, 0);
+    state.place = beginning(3);
+    let last = state.fetch();
+    state.place = beginning(4);
+    let beyond = state.fetch();
+    let passing = Fetched::Passing(Place {
+        p: index(3),
+        ..held_at(PASSES, 1)
+    });
+    assert_eq!(rt; booted, (Some(Halt::Stop), out_of_range(0)));
+    assert_eq!(rt; (last, beyond), (passing, out_of_range(4)));
+    Ok(())
+}
+
+/// What a case shows, how the machine stands before and after a step, the held word, the parcel, and the next one.
+type Stepped = (&'static str, Stand, Stand, u64, u8, u8);
+
+const STEPS: [Stepped; 6] = [
+    ("a sum", Running, Running, ONE, 0, 1),
+    ("a pass", Running, Running, ONE, 1, 2),
+    ("a refused operation", Running, Refused(2, 4), ONE, 3, 3),
+    ("a stop", Running, Stopped, OTHER, 2, 2),
+    (
+        "an instruction past its word",
+        Running,
+        Straddling,
+        OTHER,
+        3,
+        3,
+    ),
+    (
+        "a halted machine stays",
+        OutOfRange,
+        OutOfRange,
+        PASSES,
+        0,
+        0,
+    ),
+];
+
+/// A step does one instruction or halts, and a fault stays. A halted machine doesn't change.
+#[test]
+fn steps_over_one_instruction(rt: HostRuntime) -> Result<(), Fail> {
+    let mut state = State::boot(Storage::new(rt.alloc(), 32)?);
+    state.fault = true;
+    for (name, before, after, held, parcel, next) in STEPS.as_slice() {
+        state.halt = before.halt();
+        state.place = held_at(*held, *parcel);
+        step(&mut state);
+        let found = (state.halt, state.place, state.fault);
+        assert_eq!(rt;
+            found,
+            (after.halt(), held_at(*held, *next), true),
+            "{name}"
+        );
+    }
+    Ok(())
+}
+
+/// A fetch out of range halts.
+#[test]
+fn halts_out_of_range(rt: HostRuntime) -> Result<(), Fail> {
+    let mut state = State::boot(Storage::new(rt.alloc(), 32)?);
+    state.halt = None;
+    state.place = beginning(5);
+    step(&mut state);
+    assert_eq!(rt;
+        (state.halt, state.place),
+        (Some(Halt::FetchRange), beginning(5))
+    );
+    Ok(())
+}
+
+/// What an exchange changes: the place, the halt, the range and the registers, and the first ten words of a package
+/// in memory.
+#[derive(Clone, Copy, Debug, Drop, PartialEq, Eq)]
+struct Seen {
+    place: Place,
+    halt: Option<Halt>,
+    area: Area,
+    registers: RegisterFile,
+    package: Option<[Word60; 10]>,
+}
+
+fn what_is_seen(state: &State) -> Seen {
+    let package = if state.memory.size() == 256 {
+        Some(state.memory.words::<10>(0o40))
+    } else {
+        None
+    };
+    Seen {
+        place: state.place,
+        halt: state.halt,
+        area: state.area,
+        registers: state.registers,
+        package,
+    }
+}
+
+/// A machine of 256 words. At 40 is the package of a program with P 100, FL 200 and 5 in X1.
+fn with_package(alloc: Global) -> Result<State, Fail> {
+    let mut memory = Storage::new(alloc, 256)?;
+    memory.store(0o40, word(0o00000100_000000_000000));
+    memory.store(0o42, word(0o00000200_000000_000000));
+    memory.store(0o51, word(5));
+    Ok(State::boot(memory))
+}
+
+/// What is seen after the exchange: the package that it leaves is all zero but for the status of a halted machine in
+/// word 7.
+fn after_exchange() -> Seen {
+    let zero = Word60::default();
+    let status = word(0o00000001_000000_000000);
+    Seen {
+        place: beginning(0o100),
+        halt: None,
+        area: Area {
+            fl: index(0o200),
+            ..Area::default()
+        },
+        registers: RegisterFile {
+            x: [zero, word(5), zero, zero, zero, zero, zero, zero],
+            ..RegisterFile::default()
+        },
+        package: Some([zero, zero, zero, zero, zero, zero, zero, status, zero, zero]),
+    }
+}
+
+/// A package out of range is refused. An exchange takes a package and leaves one, and a copy has all of it.
+#[test]
+fn exchanges(rt: HostRuntime) -> Result<(), Fail> {
+    let mut state = with_package(rt.alloc())?;
+    let refused = state.exchange(0o361);
+    assert_eq!(rt;
+        (refused, state.halt),
+        (Err(Refusal::PackageRange), Some(Halt::Stop))
+    );
+    state.exchange(0o40)?;
+    let copy = state.copy()?;
+    assert_eq!(rt; what_is_seen(&state), after_exchange());
+    assert_eq!(rt; what_is_seen(&copy), after_exchange());
+    Ok(())
+}
+
+/// -1, in ones' complement.
+const MINUS_ONE: u64 = 0o77777_77777_77777_77776;
+
+/// Operands are what the registers of an instruction hold.
+#[test]
+fn reads_operands(rt: HostRuntime) {
+    let mut registers = RegisterFile::default();
+    registers.set(Register::X(1).reg(), word(1));
+    registers.set(Register::B(1).reg(), word(2));
+    registers.set(Register::X(6).reg(), word(MINUS_ONE));
+    let wanted = Operands {
+        first: word(1),
+        second: word(2),
+        outgoing: word(MINUS_ONE),
+        place: index(5),
+    };
+    assert_eq!(rt;
+        operands(&instruction("SA6 X1+B1"), index(5), &registers),
+        wanted
+    );
+}
+
+/// What a unit answers, and the number that it writes.
+const NUMBERS: [(Computed, u64); 4] = [
+    (Computed::Word(MINUS_ONE), MINUS_ONE),
+    (Computed::Index(0o777777), 0o777777),
+    (Computed::Load(0o777777), 0o777777),
+    (Computed::Store(0o777777, MINUS_ONE), 0o777777),
+];
+
+/// A unit's word is the number that is written, and of a reference its address.
+#[test]
+fn writes_numbers(rt: HostRuntime) {
+    for (computed, wanted) in NUMBERS.as_slice() {
+        assert_eq!(rt; number(&computed.unit_value()), word(*wanted));
+    }
+}
+
+/// An instruction, what its unit answers, and where it jumps to.
+const JUMPS: [(&str, Computed, Option<u32>); 3] = [
+    ("RJ 10", Computed::Link(0o777777, 5), Some(0)),
+    ("JP B0+5", Computed::Goes(5), Some(5)),
+    ("JP B0+5", Computed::Stays, None),
+];
+
+/// A return jump goes on after its link word, and 0 comes after 777777.
+#[test]
+fn jumps(rt: HostRuntime) {
+    for (text, computed, wanted) in JUMPS.as_slice() {
+        let to = jump(&instruction(text), &computed.unit_value());
+        assert_eq!(rt; number_of(to), *wanted, "{text}");
+    }
+}
+
+/// What a reference does to the word at 777777.
+#[derive(Clone, Copy, Drop)]
+enum Reach {
+    Nothing,
+    Load(u8),
+    Store(u64),
+}
+
+fn program_reference(reach: Reach) -> Option<ProgramReference> {
+    let access = match reach {
+        Reach::Nothing => return None,
+        Reach::Load(number) => Access::Load(digit(number)),
+        Reach::Store(number) => Access::Store(word(number)),
+    };
+    Some(ProgramReference {
+        address: index(0o777777),
+        access,
+    })
+}
+
+/// An instruction, what its unit answers, and the reference that is made.
+const REFERENCES: [(&str, Computed, Reach); 4] = [
+    ("SA0 X1+B1", Computed::Index(0o777777), Reach::Nothing),
+    ("SA1 X1+B1", Computed::Load(0o777777), Reach::Load(1)),
+    (
+        "SA6 X1+B1",
+        Computed::Store(0o777777, MINUS_ONE),
+        Reach::Store(MINUS_ONE),
+    ),
+    (
+        "RJ 10",
+        Computed::Link(0o777777, 5),
+        Reach::Store(0o04000_00005_00000_00000),
+    ),
+];
+
+/// SA1 loads, SA6 stores, RJ stores its link word, and SA0 makes no reference.
+#[test]
+fn makes_references(rt: HostRuntime) {
+    for (text, computed, wanted) in REFERENCES.as_slice() {
+        let made = reference(&instruction(text), &computed.unit_value());
+        assert_eq!(rt; made, program_reference(*wanted), "{text}");
+    }
+}
+
+/// What a case shows, an address, the exit mode, the absolute address, and whether the reference faults.
+const RANGES: [(&str, u32, u32, Option<u32>, bool); 3] = [
+    ("the last address below FL", 3, 0o010000, Some(0o23), false),
+    (
+        "FL, where the mode asks for a fault",
+        4,
+        0o010000,
+        None,
+        true,
+    ),
+    ("FL, where the mode asks for none", 4, 0o767777, None, false),
+];
+
+/// References are held to FL 4, and no reference never faults.
+#[test]
+fn holds_references_to_the_range(rt: HostRuntime) {
+    for (name, address, mode, absolute, fault) in RANGES.as_slice() {
+        let area = area(4, *mode);
+        let reference = ProgramReference {
+            address: index(*address),
+            access: Access::Load(digit(1)),
+        };
+        let found = (
+            reference.absolute(&area, 32),
+            faults(&area, 32, &Some(reference)),
+            faults(&area, 32, &None),
+        );
+        assert_eq!(rt; found, (*absolute, *fault, false), "{name}");
+    }
+}
+
+/// What is logged.
+#[derive(Clone, Copy, Drop)]
+enum Did {
+    Instruction,
+    /// An exchange with the package at this address.
+    Exchange(u32),
+}
+
+fn add(log: &mut Log, did: Did) -> Result<(), Refusal> {
+    match log.reserve(1) {
+        Ok(()) => {}
+        Err(refusal) => return Err(refusal),
+    }
+    match did {
+        Did::Exchange(at) => log.exchanged(at),
+        Did::Instruction => {
+            if log.issues() < u64::MAX {
+                log.issued();
+            }
+        }
+    }
+    Ok(())
+}
+
+fn log_of(alloc: Global, steps: &[Did]) -> Result<Log, Refusal> {
+    let mut log = Log::new(alloc);
+    for did in steps {
+        if let Err(refusal) = add(&mut log, *did) {
+            return Err(refusal);
+        }
+    }
+    Ok(log)
+}
+
+/// Steps, the entries of their log, and how many instructions there are.
+const LOGS: [(&[Did], &[Entry], u64); 2] = [
+    (&[], &[], 0),
+    (
+        &[
+            Did::Exchange(0o40),
+            Did::Instruction,
+            Did::Instruction,
+            Did::Exchange(0o60),
+            Did::Instruction,
+        ],
+        &[
+            Entry::Exchange(0o40),
+            Entry::Issued(2),
+            Entry::Exchange(0o60),
+            Entry::Issued(1),
+        ],
+        3,
+    ),
+];
+
+/// Instructions one after another are one entry, and a copy has the same entries.
+#[test]
+fn logs(rt: HostRuntime) -> Result<(), Fail> {
+    for (steps, entries, issues) in LOGS.as_slice() {
+        let log = log_of(rt.alloc(), steps)?;
+        let copy = log.copy()?;
+        let found = (log.entries(), log.issues(), copy.entries(), copy.issues());
+        assert_eq!(rt; found, (*entries, *issues, *entries, *issues));
+    }
+    Ok(())
+}
+
+/// X3 = X1+X1, X3 = X3+X3, NO and PS.
+const DOUBLING: u64 = 0o36311_36333_46000_00000;
+
+/// A machine of 64 words. In word 0 stands `DOUBLING`, and at 40 the package of a program with P 0, RA 0, FL 1 and 5
+/// in X1.
+fn doubling(alloc: Global) -> Result<State, Fail> {
+    let mut memory = Storage::new(alloc, 64)?;
+    memory.store(0, word(DOUBLING));
+    memory.store(0o42, word(0o00000001_000000_000000));
+    memory.store(0o51, word(5));
+    Ok(State::boot(memory))
+}
+
+/// What a case shows, the steps, whether they are done, how the machine stands then, the parcel of word 0, and X3.
+type Replay = (
+    &'static str,
+    &'static [Did],
+    Result<(), Refusal>,
+    Stand,
+    Option<u8>,
+    u64,
+);
+
+const REPLAYS: [Replay; 3] = [
+    ("nothing", &[], Ok(()), Stopped, None, 0),
+    (
+        "a program up to its stop",
+        &[
+            Did::Exchange(0o40),
+            Did::Instruction,
+            Did::Instruction,
+            Did::Instruction,
+            Did::Instruction,
+        ],
+        Ok(()),
+        Stopped,
+        Some(3),
+        20,
+    ),
+    (
+        "the last word of the second package is beyond memory, and what stands before it is done",
+        &[
+            Did::Exchange(0o40),
+            Did::Instruction,
+            Did::Exchange(0o61),
+            Did::Instruction,
+        ],
+        Err(Refusal::PackageRange),
+        Running,
+        Some(1),
+        10,
+    ),
+];
+
+/// What the replay of a log makes of the doubling machine.
+#[test]
+fn replays(rt: HostRuntime) -> Result<(), Fail> {
+    for (name, steps, answer, stand, parcel, x3) in REPLAYS.as_slice() {
+        let mut state = doubling(rt.alloc())?;
+        let done = replay(&mut state, &log_of(rt.alloc(), steps)?);
+        let place = match *parcel {
+            Some(parcel) => Place {
+                p: index(0),
+                ..held_at(DOUBLING, parcel)
+            },
+            None => beginning(0),
+        };
+        let found = (
+            done,
+            state.halt,
+            state.place,
+            state.registers.get(Register::X(3).reg()),
+        );
+        assert_eq!(rt; found, (*answer, stand.halt(), place, word(*x3)), "{name}");
+    }
+    Ok(())
+}

@@ -1,0 +1,46 @@
+//! Events that no line of a session can say, and a program by turns of issue and drain.
+
+use crate::fixtures::{MADE, drain, make, meets, shows, started_on};
+use instruction_table::{Halt, Refusal};
+use machine::{Event, Machine};
+use std::process::Abort;
+use std::test::Fail;
+
+/// SX1 B0+5 and SX2 B0+3, then IX3 X1+X2, IX4 X2-X1, NO and PS.
+const TWO_SUMS: [(u32, &str); 2] = [
+    (0o100, "71100000057120000003"),
+    (0o101, "36312374214600000000"),
+];
+
+/// Numbers past all places, channels, banks and packages.
+#[test]
+fn numbers_out_of_range(rt: HostRuntime) -> Result<(), Fail> {
+    let mut machine = started_on(rt.alloc(), &TWO_SUMS).ok_or("start")?;
+    let steps = [
+        (Event::Accept(200), Err(Refusal::Nothing)),
+        (Event::Return(200), Err(Refusal::Nothing)),
+        (Event::BankFree(200), Err(Refusal::Nothing)),
+        (Event::Ask(u32::MAX), Err(Refusal::PackageRange)),
+        (Event::Ask(0o360), MADE),
+    ];
+    assert!(rt; meets(&mut machine, &steps));
+    Ok(())
+}
+
+/// Issues and drains by turns.
+fn go_on(machine: &mut Machine) {
+    for _ in 0..12u32 {
+        let _ = make(machine, Event::Issue);
+        let _ = drain(machine);
+    }
+}
+
+/// Each instruction is carried out before the next is issued, up to the stop.
+#[test]
+fn by_turns(rt: HostRuntime) -> Result<(), Fail> {
+    let mut machine = started_on(rt.alloc(), &TWO_SUMS).ok_or("start")?;
+    go_on(&mut machine);
+    let answer = make(&mut machine, Event::Issue);
+    assert!(rt; answer == Err(Refusal::Halted(Halt::Stop)) && shows(&machine, "5", "3", 6));
+    Ok(())
+}

@@ -1,0 +1,825 @@
+//! The machine as a list of the pending instructions that is scanned for each conflict, which the fields are compared
+//! with, and the generated events that both are asked.
+
+use crate::fixtures::{Words, memory_of};
+use arrayvec::ArrayVec;
+use hopper::bank_of;
+use in_flight::{Arrival, HopperEntry, Outstanding, Pending, Phase, Stage};
+use instruction_table::{Instr, Refusal, Reg, Unit, UnitKind, results, sources, unit_kind};
+use machine::{Answer, Done, Event, MOST_ISSUES, Machine, Note, Snapshot};
+use relocation::{Access, PACKAGE_WORDS, Storage, relocate};
+use scoreboard::{Progress, Reservation, is_same_unit};
+use sequential::{Fetched, State, faults, jump, number, operands, reference};
+use std::alloc::Global;
+use unit_ops::{UnitValue, value};
+use word60::Word60;
+
+/// How many events of each kind were accepted, in the order of `Event`.
+pub type Accepted = [u32; 9];
+
+/// The number of an event's kind.
+fn kind(event: &Event) -> usize {
+    match event {
+        Event::Issue => 0,
+        Event::Read(_) => 1,
+        Event::Finish(_) => 2,
+        Event::Store(_) => 3,
+        Event::Accept(_) => 4,
+        Event::Return(_) => 5,
+        Event::BankFree(_) => 6,
+        Event::Ask(_) => 7,
+        Event::Exchange => 8,
+    }
+}
+
+/// The central processor and its memory.
+#[derive(Drop)]
+struct ScanningMachine {
+    state: State,
+    /// In issue order.
+    pending: ArrayVec<Pending, 16>,
+    busy: [bool; 32],
+    request: Option<u32>,
+    budget: u64,
+    issues: u64,
+    asked: u32,
+    last: u64,
+    accepted: Accepted,
+}
+
+// ---- what is asked of a pending instruction, and of a list of them ----
+
+/// What the scoreboard sees of it.
+fn reservation(member: &Pending) -> Reservation {
+    let progress = match member.phase {
+        Phase::Before(Stage::Waiting) => Progress::Reserved { has_read: false },
+        Phase::Before(_) => Progress::Reserved { has_read: true },
+        Phase::After(Outstanding::Entered(_, _, Access::Store(_))) => Progress::Left {
+            returning: None,
+        },
+        Phase::After(Outstanding::Entered(_, _, Access::Load(n))) => Progress::Left {
+            returning: Some(n),
+        },
+        Phase::After(Outstanding::Accepted(n, _)) => Progress::Left { returning: Some(n) },
+    };
+    Reservation {
+        instr: member.instr,
+        unit: member.unit,
+        progress,
+    }
+}
+
+/// Its stage, if it holds the unit.
+fn stage_in(member: &Pending, unit: Unit) -> Option<Stage> {
+    if !is_same_unit(member.unit, unit) {
+        return None;
+    }
+    match member.phase {
+        Phase::Before(stage) => Some(stage),
+        Phase::After(_) => None,
+    }
+}
+
+/// Its reference, if it stands in the place of the hopper.
+fn entry_in(member: &Pending, place: u8) -> Option<HopperEntry> {
+    match member.phase {
+        Phase::After(Outstanding::Entered(taken, a, access)) => if taken == place {
+            Some(HopperEntry { a, access })
+        } else {
+            None
+        },
+        _ => None,
+    }
+}
+
+/// Its word, if it waits in the channel.
+fn arrival_in(member: &Pending, given: u8) -> Option<Arrival> {
+    match member.phase {
+        Phase::After(Outstanding::Accepted(channel, word)) => if channel.get() == given {
+            Some(Arrival { channel, word })
+        } else {
+            None
+        },
+        _ => None,
+    }
+}
+
+/// Whether it waits in the hopper for the bank.
+fn is_in_bank(member: &Pending, bank: u8) -> bool {
+    match member.phase {
+        Phase::After(Outstanding::Entered(_, address, _)) => bank_of(address) == bank,
+        _ => false,
+    }
+}
+
+/// Whether a fetch of the word at the absolute address waits for it.
+fn delays_fetch(member: &Pending, address: u32) -> bool {
+    match member.phase {
+        Phase::Before(_) => reservation(member).has_store_turn(),
+        Phase::After(Outstanding::Entered(_, at, Access::Store(_))) => at == address,
+        Phase::After(_) => false,
+    }
+}
+
+/// Those before the one in this place of the list.
+fn before(members: &[Pending], index: usize) -> &[Pending] {
+    if index < members.len() {
+        &members[..index]
+    } else {
+        members
+    }
+}
+
+/// The first of the registers that is a result still to come of one of them.
+fn first_awaited(members: &[Pending], registers: &[Reg]) -> Option<Reg> {
+    for register in registers {
+        if members
+            .iter()
+            .any(|member| reservation(member).has_to_come(register))
+        {
+            return Some(*register);
+        }
+    }
+    None
+}
+
+/// The first of the registers that one of them has still to read.
+fn first_to_be_read(members: &[Pending], registers: &[Reg]) -> Option<Reg> {
+    for register in registers {
+        if members
+            .iter()
+            .any(|member| reservation(member).has_to_read(register))
+        {
+            return Some(*register);
+        }
+    }
+    None
+}
+
+/// Whether one of them holds the unit.
+fn is_held(members: &[Pending], unit: Unit) -> bool {
+    members.iter().any(|member| reservation(member).holds(unit))
+}
+
+/// The lower-numbered unit of an instruction's kind.
+fn first_unit(instr: &Instr) -> Unit {
+    match unit_kind(instr) {
+        None => Unit::Branch,
+        Some(UnitKind::Branch) => Unit::Branch,
+        Some(UnitKind::Boolean) => Unit::Boolean,
+        Some(UnitKind::Shift) => Unit::Shift,
+        Some(UnitKind::LongAdd) => Unit::LongAdd,
+        Some(UnitKind::Divide) => Unit::Divide,
+        Some(UnitKind::Increment) => Unit::Increment1,
+    }
+}
+
+/// The unit that an instruction takes: the lower-numbered free one of its kind.
+fn unit_for(members: &[Pending], instr: &Instr) -> Result<Unit, Refusal> {
+    let first = first_unit(instr);
+    if !is_held(members, first) {
+        return Ok(first);
+    }
+    if is_same_unit(first, Unit::Increment1) && !is_held(members, Unit::Increment2) {
+        return Ok(Unit::Increment2);
+    }
+    Err(Refusal::UnitBusy(first))
+}
+
+/// The lowest-numbered free place of the hopper.
+fn place_for(members: &[Pending]) -> Option<u8> {
+    for place in 0..4u8 {
+        if !members
+            .iter()
+            .any(|member| entry_in(member, place).is_some())
+        {
+            return Some(place);
+        }
+    }
+    None
+}
+
+/// The one that holds the unit, with its place in the list and its stage.
+fn find_stage(members: &[Pending], unit: Unit) -> Option<(usize, Pending, Stage)> {
+    for index in 0..members.len() {
+        if let Some(stage) = stage_in(&members[index], unit) {
+            return Some((index, members[index], stage));
+        }
+    }
+    None
+}
+
+/// The one in the place of the hopper, with its place in the list and its reference.
+fn find_entry(members: &[Pending], place: u8) -> Option<(usize, HopperEntry)> {
+    for index in 0..members.len() {
+        if let Some(entry) = entry_in(&members[index], place) {
+            return Some((index, entry));
+        }
+    }
+    None
+}
+
+/// The one in the channel, with its place in the list and its word.
+fn find_arrival(members: &[Pending], channel: u8) -> Option<(usize, Arrival)> {
+    for index in 0..members.len() {
+        if let Some(arrival) = arrival_in(&members[index], channel) {
+            return Some((index, arrival));
+        }
+    }
+    None
+}
+
+/// The word at an absolute address, if it lies in memory.
+fn word_of(memory: &Storage, address: u32) -> Option<Word60> {
+    if address < memory.size() {
+        Some(memory.load(address))
+    } else {
+        None
+    }
+}
+
+// ---- the events ----
+
+impl ScanningMachine {
+    /// A machine that was just booted with a memory.
+    fn boot(memory: Storage, budget: u64) -> ScanningMachine {
+        ScanningMachine {
+            state: State::boot(memory),
+            pending: ArrayVec::new(),
+            busy: [false; 32],
+            request: None,
+            budget,
+            issues: 0,
+            asked: 0,
+            last: 0,
+            accepted: [0; 9],
+        }
+    }
+
+    /// Makes an event and counts it, or refuses it and stays as it was.
+    fn apply(&mut self, event: Event) -> Answer {
+        let answer = self.make(event);
+        if answer.is_ok() {
+            if let Some(count) = self.accepted.get_mut(kind(&event)) {
+                *count = count.saturating_add(1);
+            }
+        }
+        answer
+    }
+
+    fn make(&mut self, event: Event) -> Answer {
+        match event {
+            Event::Issue => self.issue(),
+            Event::Read(unit) => self.read(unit),
+            Event::Finish(unit) => self.finish(unit),
+            Event::Store(unit) => self.store(unit),
+            Event::Accept(place) => self.accept(place),
+            Event::Return(channel) => self.return_load(channel),
+            Event::BankFree(bank) => self.bank_free(bank),
+            Event::Ask(at) => self.ask(at),
+            Event::Exchange => self.exchange(),
+        }
+    }
+
+    /// Whether the fetch waits: no word is held, P is in range, and a store may still change the word.
+    fn fetch_waits(&self) -> bool {
+        if self.state.place.held.is_some() {
+            return false;
+        }
+        let area = self.state.area;
+        match relocate(
+            self.state.place.p,
+            area.ra,
+            area.fl,
+            self.state.memory.size(),
+        ) {
+            Some(address) => self
+                .pending
+                .iter()
+                .any(|member| delays_fetch(member, address)),
+            None => false,
+        }
+    }
+
+    /// Whether the next word or parcel may be taken.
+    fn judge_issue(&self) -> Result<(), Refusal> {
+        if let Some(halt) = self.state.halt {
+            return Err(Refusal::Halted(halt));
+        }
+        if self.state.fault {
+            return Err(Refusal::Faulted);
+        }
+        if self.issues >= self.budget {
+            return Err(Refusal::Budget);
+        }
+        if self
+            .pending
+            .iter()
+            .any(|member| reservation(member).is_branch())
+        {
+            return Err(Refusal::BranchPending);
+        }
+        if self.request.is_some() && self.state.place.held.is_none() {
+            return Err(Refusal::ExchangeWaiting);
+        }
+        if self.fetch_waits() {
+            return Err(Refusal::FetchWait);
+        }
+        Ok(())
+    }
+
+    /// First order: reserves a unit for an instruction, which joins the list.
+    fn reserve(&mut self, instr: Instr) -> Result<Note, Refusal> {
+        let unit = unit_for(self.pending.as_slice(), &instr)?;
+        if let Some(register) = first_awaited(self.pending.as_slice(), results(&instr).as_slice()) {
+            return Err(Refusal::ResultReserved(register));
+        }
+        self.last = self.last.saturating_add(1);
+        let member = Pending {
+            instr,
+            at: self.state.place.p,
+            number: self.last,
+            unit,
+            phase: Phase::Before(Stage::Waiting),
+        };
+        if self.pending.len() < 16 {
+            self.pending.push(member);
+        }
+        Ok(Note {
+            unit,
+            number: self.last,
+        })
+    }
+
+    fn issue(&mut self) -> Answer {
+        if let Err(refusal) = self.judge_issue() {
+            return Err(refusal);
+        }
+        let (place, note) = match self.state.fetch() {
+            Fetched::Halting(halt, place) => {
+                self.state.halt = Some(halt);
+                (place, None)
+            }
+            Fetched::Passing(place) => (place, None),
+            Fetched::Taking(instr, place) => match self.reserve(instr) {
+                Ok(note) => (place, Some(note)),
+                Err(refusal) => return Err(refusal),
+            },
+        };
+        self.state.place = place;
+        self.issues = self.issues.saturating_add(1);
+        Ok(Done::Issued(note))
+    }
+
+    /// Puts the one in this place of the list into another phase, or takes it out where nothing is left of it.
+    fn put(&mut self, index: usize, phase: Option<Phase>) {
+        if index >= self.pending.len() {
+            return;
+        }
+        match phase {
+            Some(phase) => self.pending[index].phase = phase,
+            None => {
+                self.pending.remove(index);
+            }
+        }
+    }
+
+    fn read(&mut self, unit: Unit) -> Answer {
+        let Some((index, member, stage)) = find_stage(self.pending.as_slice(), unit) else {
+            return Err(Refusal::Nothing);
+        };
+        let Stage::Waiting = stage else {
+            return Err(Refusal::Nothing);
+        };
+        let earlier = before(self.pending.as_slice(), index);
+        if let Some(register) = first_awaited(earlier, sources(&member.instr).as_slice()) {
+            return Err(Refusal::OperandAwaited(register));
+        }
+        let operands = operands(&member.instr, member.at, &self.state.registers);
+        self.put(index, Some(Phase::Before(Stage::Read(operands))));
+        Ok(Done::Made)
+    }
+
+    fn finish(&mut self, unit: Unit) -> Answer {
+        let Some((index, member, stage)) = find_stage(self.pending.as_slice(), unit) else {
+            return Err(Refusal::Nothing);
+        };
+        let Stage::Read(operands) = stage else {
+            return Err(Refusal::Nothing);
+        };
+        // Each instruction that was issued to a unit has a kind of unit.
+        if unit_kind(&member.instr).is_none() {
+            return Err(Refusal::Nothing);
+        }
+        let value = value(&member.instr, &operands);
+        self.put(index, Some(Phase::Before(Stage::Finished(value))));
+        Ok(Done::Made)
+    }
+
+    /// What is left of an instruction after its store event.
+    fn rest_of(&self, instr: &Instr, value: &UnitValue) -> Option<Phase> {
+        let place = place_for(self.pending.as_slice()).unwrap_or(0);
+        let Some(reference) = reference(instr, value) else {
+            return None;
+        };
+        let access = reference.access;
+        match reference.absolute(&self.state.area, self.state.memory.size()) {
+            Some(address) => Some(Phase::After(Outstanding::Entered(place, address, access))),
+            None => match access {
+                Access::Load(n) => Some(Phase::After(Outstanding::Accepted(n, Word60::default()))),
+                Access::Store(_) => None,
+            },
+        }
+    }
+
+    /// Whether what is left enters the hopper, and finds no place there.
+    fn finds_no_place(&self, instr: &Instr, value: &UnitValue) -> bool {
+        match self.rest_of(instr, value) {
+            Some(Phase::After(Outstanding::Entered(_, _, _))) => {
+                place_for(self.pending.as_slice()).is_none()
+            }
+            _ => false,
+        }
+    }
+
+    /// Third order, the hopper's room and the turn of references.
+    fn judge_store(&self, index: usize, instr: &Instr, value: &UnitValue) -> Result<(), Refusal> {
+        let earlier = before(self.pending.as_slice(), index);
+        if let Some(register) = first_to_be_read(earlier, instr.puts().as_slice()) {
+            return Err(Refusal::ResultHeld(register));
+        }
+        if self.finds_no_place(instr, value) {
+            return Err(Refusal::HopperFull);
+        }
+        if instr.has_reference() && earlier.iter().any(|member| reservation(member).has_turn()) {
+            return Err(Refusal::OutOfTurn);
+        }
+        Ok(())
+    }
+
+    /// What a unit does at its store event to the registers, P and the fault flag.
+    fn carry_out(&mut self, instr: &Instr, value: &UnitValue) {
+        for register in instr.puts() {
+            self.state.registers.set(register, number(value));
+        }
+        self.state.place = self.state.place.after_jump(jump(instr, value));
+        let size = self.state.memory.size();
+        if faults(&self.state.area, size, &reference(instr, value)) {
+            self.state.fault = true;
+        }
+    }
+
+    fn store(&mut self, unit: Unit) -> Answer {
+        let Some((index, member, stage)) = find_stage(self.pending.as_slice(), unit) else {
+            return Err(Refusal::Nothing);
+        };
+        let Stage::Finished(value) = stage else {
+            return Err(Refusal::Nothing);
+        };
+        if let Err(refusal) = self.judge_store(index, &member.instr, &value) {
+            return Err(refusal);
+        }
+        let rest = self.rest_of(&member.instr, &value);
+        self.carry_out(&member.instr, &value);
+        self.put(index, rest);
+        Ok(Done::Made)
+    }
+
+    /// Whether a bank is busy; none is after the last.
+    fn is_busy(&self, bank: u8) -> bool {
+        usize::from(bank) < 32 && self.busy[usize::from(bank)]
+    }
+
+    /// Marks a bank as busy or free.
+    fn mark(&mut self, bank: u8, mark: bool) {
+        if usize::from(bank) < 32 {
+            self.busy[usize::from(bank)] = mark;
+        }
+    }
+
+    /// Makes a reference in memory, and answers what is left of it.
+    fn perform(&mut self, entry: &HopperEntry) -> Option<Phase> {
+        if entry.a >= self.state.memory.size() {
+            return None;
+        }
+        match entry.access {
+            Access::Load(n) => Some(Phase::After(Outstanding::Accepted(
+                n,
+                self.state.memory.load(entry.a),
+            ))),
+            Access::Store(word) => {
+                self.state.memory.store(entry.a, word);
+                None
+            }
+        }
+    }
+
+    fn accept(&mut self, place: u8) -> Answer {
+        let Some((index, entry)) = find_entry(self.pending.as_slice(), place) else {
+            return Err(Refusal::Nothing);
+        };
+        let bank = bank_of(entry.a);
+        if self.is_busy(bank) {
+            return Err(Refusal::BankBusy(bank));
+        }
+        if before(self.pending.as_slice(), index)
+            .iter()
+            .any(|member| is_in_bank(member, bank))
+        {
+            return Err(Refusal::OlderInBank);
+        }
+        let rest = self.perform(&entry);
+        self.put(index, rest);
+        self.mark(bank, true);
+        Ok(Done::Made)
+    }
+
+    fn return_load(&mut self, channel: u8) -> Answer {
+        let Some((index, arrival)) = find_arrival(self.pending.as_slice(), channel) else {
+            return Err(Refusal::Nothing);
+        };
+        let register = Reg::X(arrival.channel);
+        let earlier = before(self.pending.as_slice(), index);
+        if earlier
+            .iter()
+            .any(|member| reservation(member).has_to_read(&register))
+        {
+            return Err(Refusal::ResultHeld(register));
+        }
+        self.state.registers.set(register, arrival.word);
+        self.put(index, None);
+        Ok(Done::Made)
+    }
+
+    fn bank_free(&mut self, bank: u8) -> Answer {
+        if !self.is_busy(bank) {
+            return Err(Refusal::Nothing);
+        }
+        self.mark(bank, false);
+        Ok(Done::Made)
+    }
+
+    fn ask(&mut self, at: u32) -> Answer {
+        let size = self.state.memory.size();
+        if self.asked >= 1_000_000 {
+            return Err(Refusal::Budget);
+        }
+        if self.request.is_some() {
+            return Err(Refusal::ExchangeBusy);
+        }
+        if at > size || size - at < PACKAGE_WORDS {
+            return Err(Refusal::PackageRange);
+        }
+        self.request = Some(at);
+        self.asked += 1;
+        Ok(Done::Made)
+    }
+
+    fn exchange(&mut self) -> Answer {
+        let Some(at) = self.request else {
+            return Err(Refusal::Nothing);
+        };
+        if !self.pending.is_empty() {
+            return Err(Refusal::NotDrained);
+        }
+        if self.state.halt.is_none() && !self.state.fault && self.state.place.held.is_some() {
+            return Err(Refusal::MidWord);
+        }
+        self.state.exchange(at)?;
+        self.request = None;
+        Ok(Done::Made)
+    }
+
+    // ---- what it shows ----
+
+    /// The lowest-numbered busy bank, 0 where none is busy.
+    fn lowest_busy(&self) -> u8 {
+        for bank in 0..32u8 {
+            if self.is_busy(bank) {
+                return bank;
+            }
+        }
+        0
+    }
+
+    /// Whether the memory has the same words.
+    fn has_memory(&self, other: &Storage) -> bool {
+        for address in 0..other.size() {
+            if word_of(&self.state.memory, address) != word_of(other, address) {
+                return false;
+            }
+        }
+        self.state.memory.size() == other.size()
+    }
+
+    /// Whether nothing is pending and its state is that of the snapshot, with so many instructions in the log.
+    fn is_left_as(&self, snapshot: &Snapshot) -> bool {
+        let state = snapshot.state();
+        self.pending.is_empty()
+            && self.state.registers == state.registers
+            && self.state.place == state.place
+            && self.state.area == state.area
+            && self.state.halt == state.halt
+            && self.state.fault == state.fault
+            && self.issues == snapshot.log().issues()
+            && self.has_memory(&state.memory)
+    }
+}
+
+// ---- generated events ----
+
+/// A program, what is generated for it, and how much of that is accepted.
+#[derive(Clone, Copy, Drop)]
+pub struct Program {
+    /// What it shows.
+    pub name: &'static str,
+    /// The words of memory, over a package at 40 with RA 100 and FL 20 (octal).
+    pub words: Words<'static>,
+    /// Each round begins at boot.
+    pub rounds: u32,
+    /// The events that are generated in each round.
+    pub events: u32,
+    /// The package with which exchanges are asked for on the way, if any.
+    pub package: Option<u32>,
+    /// How many events of each kind are accepted in all rounds.
+    pub accepted: Accepted,
+}
+
+/// The unit of a number.
+fn unit_of(number: u64) -> Unit {
+    match number {
+        0 => Unit::Branch,
+        1 => Unit::Boolean,
+        2 => Unit::Shift,
+        3 => Unit::Add,
+        4 => Unit::LongAdd,
+        5 => Unit::Multiply1,
+        6 => Unit::Multiply2,
+        7 => Unit::Divide,
+        8 => Unit::Increment1,
+        _ => Unit::Increment2,
+    }
+}
+
+/// What seems to be drawn by chance: one number after another.
+#[derive(Drop)]
+struct Drawing {
+    number: u64,
+}
+
+impl Drawing {
+    fn draw(&mut self) -> u64 {
+        self.number = self.number.wrapping_mul(1_103_515_245).wrapping_add(12_345) % 2_147_483_648;
+        self.number
+    }
+}
+
+/// The event of a number that was drawn, with a bank that may be busy.
+fn event_of(number: u64, bank: u8) -> Event {
+    let choice = number / 65_536 % 64;
+    if choice < 10 {
+        Event::Read(unit_of(choice))
+    } else if choice < 20 {
+        Event::Finish(unit_of(choice - 10))
+    } else if choice < 30 {
+        Event::Store(unit_of(choice - 20))
+    } else if choice < 34 {
+        Event::Accept((choice - 30) as u8)
+    } else if choice < 39 {
+        Event::Return((choice - 33) as u8)
+    } else if choice < 52 {
+        Event::Issue
+    } else {
+        Event::BankFree(bank)
+    }
+}
+
+/// Whether both machines answer the same to an event.
+fn agree_on(machine: &mut Machine, scanning: &mut ScanningMachine, event: Event) -> bool {
+    let answer = machine.apply(event);
+    scanning.apply(event) == answer
+}
+
+/// Whether they do to an exchange that is asked for and made at once.
+fn agree_on_exchange(machine: &mut Machine, scanning: &mut ScanningMachine, at: u32) -> bool {
+    agree_on(machine, scanning, Event::Ask(at)) && agree_on(machine, scanning, Event::Exchange)
+}
+
+/// Whether they do to so many generated events; after each 97th an exchange is asked for, where a package is given.
+fn agree_on_all(
+    machine: &mut Machine,
+    scanning: &mut ScanningMachine,
+    package: Option<u32>,
+    events: u32,
+    drawing: &mut Drawing,
+) -> bool {
+    for made in 0..events {
+        let event = event_of(drawing.draw(), scanning.lowest_busy());
+        if !agree_on(machine, scanning, event) {
+            return false;
+        }
+        if let Some(at) = package {
+            if made % 97 == 96 && !agree_on_exchange(machine, scanning, at) {
+                return false;
+            }
+        }
+    }
+    true
+}
+
+/// Whether both answer the same to all that a unit may do.
+fn agree_on_unit(machine: &mut Machine, scanning: &mut ScanningMachine, unit: Unit) -> bool {
+    agree_on(machine, scanning, Event::Read(unit))
+        && agree_on(machine, scanning, Event::Finish(unit))
+        && agree_on(machine, scanning, Event::Store(unit))
+}
+
+/// Whether they do to an acceptance. The bank that it waits for is freed.
+fn agree_on_place(machine: &mut Machine, scanning: &mut ScanningMachine, place: u8) -> bool {
+    let answer = machine.apply(Event::Accept(place));
+    if scanning.apply(Event::Accept(place)) != answer {
+        return false;
+    }
+    match answer {
+        Err(Refusal::BankBusy(bank)) => agree_on(machine, scanning, Event::BankFree(bank)),
+        _ => true,
+    }
+}
+
+/// Whether they do to one turn through units, places and channels.
+fn agree_on_turn(machine: &mut Machine, scanning: &mut ScanningMachine) -> bool {
+    (0..10u64).all(|number| agree_on_unit(machine, scanning, unit_of(number)))
+        && (0..4u8).all(|place| agree_on_place(machine, scanning, place))
+        && (1..6u8).all(|channel| agree_on(machine, scanning, Event::Return(channel)))
+}
+
+/// Whether both are drained by the same events, and leave the same.
+fn agree_at_the_end(machine: &mut Machine, scanning: &mut ScanningMachine) -> bool {
+    for _ in 0..40u32 {
+        if !agree_on_turn(machine, scanning) {
+            return false;
+        }
+    }
+    match machine.snapshot() {
+        Ok(snapshot) => scanning.is_left_as(&snapshot),
+        Err(_) => false,
+    }
+}
+
+/// Whether both answer the same to all of this, and leave the same.
+fn agree(
+    machine: &mut Machine,
+    scanning: &mut ScanningMachine,
+    package: Option<u32>,
+    events: u32,
+    drawing: &mut Drawing,
+) -> bool {
+    agree_on_exchange(machine, scanning, 0o40)
+        && agree_on_all(machine, scanning, package, events, drawing)
+        && agree_at_the_end(machine, scanning)
+}
+
+/// The machine that was just booted with the program's words, and the one that is scanned.
+fn booted(alloc: Global, words: Words<'_>) -> Result<(Machine, ScanningMachine), Refusal> {
+    let scanned = memory_of(alloc, words)?;
+    let memory = memory_of(alloc, words)?;
+    let machine = Machine::boot(alloc, memory, MOST_ISSUES)?;
+    Ok((machine, ScanningMachine::boot(scanned, MOST_ISSUES)))
+}
+
+/// How many events of each kind are accepted in one round, none where the machines aren't the same.
+fn accepted_in_round(alloc: Global, program: &Program, drawing: &mut Drawing) -> Option<Accepted> {
+    let (mut machine, mut scanning) = booted(alloc, program.words).ok()?;
+    if agree(
+        &mut machine,
+        &mut scanning,
+        program.package,
+        program.events,
+        drawing,
+    ) {
+        Some(scanning.accepted)
+    } else {
+        None
+    }
+}
+
+/// The sums of the counts of each kind.
+fn added(one: &Accepted, other: &Accepted) -> Accepted {
+    let mut sums = *one;
+    for kind in 0..9usize {
+        sums[kind] = sums[kind].saturating_add(other[kind]);
+    }
+    sums
+}
+
+/// How many events of each kind are accepted of the program in a memory of 256 words, none where the machines aren't
+/// the same.
+pub fn accepted(alloc: Global, program: &Program) -> Option<Accepted> {
+    let mut drawing = Drawing { number: 1 };
+    let mut sums = [0; 9];
+    for _ in 0..program.rounds {
+        let round = accepted_in_round(alloc, program, &mut drawing);
+        sums = added(&sums, &round?);
+    }
+    Some(sums)
+}

@@ -1,0 +1,306 @@
+//! Each worked schedule by each way in which events are made: as the lines of a session, one by one, as one list, and
+//! by the calls of a machine under its lock.
+
+ghost use Rattle.std.specs.Prelude.{◌≡◌};
+
+use super::test_crew::Crew;
+use super::test_program::{called, dump_text};
+use super::test_schedule::Schedule;
+use super::{test_branches, test_exchanges, test_references, test_registers};
+use instruction_table::{Refusal, Unit};
+use job_deck::{Deck, Spoken, Tracked, dump, put_answer, read_deck, spoken_in};
+use machine::{Answer, Event, Machine, Snapshot};
+use machine_lock::{Ground, Naming};
+use relocation::Storage;
+use std::alloc::{AllocError, Global};
+use std::marker::Brand;
+use std::process::Abort;
+use std::sync::Wait;
+use std::test::Fail;
+use std::thread::Threads;
+use word60::Word60;
+
+/// The lines of the events, and those of their answers.
+fn lines_of(alloc: Global, schedule: &Schedule) -> Result<(Vec<u8>, Vec<u8>), AllocError> {
+    let mut events = Vec::new(alloc);
+    let mut answers = Vec::new(alloc);
+    for (event, answer) in schedule.steps {
+        events.extend_from_slice(event.as_bytes())?;
+        events.push(b'\n')?;
+        answers.extend_from_slice(answer.as_bytes())?;
+        answers.push(b'\n')?;
+    }
+    Ok((events, answers))
+}
+
+/// The events that the lines say.
+fn events_of(alloc: Global, schedule: &Schedule) -> Result<Vec<Event>, Fail> {
+    let mut events = Vec::new(alloc);
+    for (line, _) in schedule.steps {
+        match spoken_in(line.as_bytes()) {
+            Spoken::Makes(event) => events.push(event)?,
+            _ => return Err(Fail::from(*line)),
+        }
+    }
+    Ok(events)
+}
+
+/// The lines that answers have in a session.
+fn text_of(alloc: Global, answers: &[Answer]) -> Result<Vec<u8>, Fail> {
+    let mut text = Vec::new(alloc);
+    let mut output = Tracked::new(&mut text);
+    for answer in answers {
+        put_answer(&mut output, answer)?;
+    }
+    Ok(text)
+}
+
+/// The deck of a schedule.
+fn deck_of(alloc: Global, schedule: &Schedule) -> Result<Deck, Fail> {
+    let mut text = schedule.deck.as_bytes();
+    match read_deck(alloc, &mut text) {
+        Ok(deck) => Ok(deck),
+        Err(_) => Err(Fail::from(schedule.name)),
+    }
+}
+
+/// A machine that was booted with the memory of a deck.
+fn booted(alloc: Global, deck: &Deck, schedule: &Schedule) -> Result<Machine, Fail> {
+    let memory = deck.image.memory().copy()?;
+    let budget = schedule.budget.min(10_000_000);
+    Ok(Machine::boot(alloc, memory, budget)?)
+}
+
+/// A memory of so many words in which these stand, and the status of the booted machine at 47 (octal), where no other
+/// word stands there.
+fn memory_of(alloc: Global, size: u32, words: &[(u32, &str)]) -> Result<Storage, Refusal> {
+    let mut memory = Storage::new(alloc, size)?;
+    memory.store(0o47 % size, Word60::from_bits(1 << 36));
+    for (address, octal) in words {
+        let word = Word60::from_octal(octal.as_bytes()).unwrap_or_default();
+        if *address < memory.size() {
+            memory.store(*address, word);
+        }
+    }
+    Ok(memory)
+}
+
+/// Whether two memories have the same words.
+fn is_same(one: &Storage, other: &Storage) -> bool {
+    let words = one.size().min(other.size());
+    (0..words).all(|address| one.load(address) == other.load(address)) && one.size() == other.size()
+}
+
+/// The drained machine shows what the schedule leaves, and boots from the deck's memory.
+fn expect_left(
+    rt: &(impl Abort + AllocGlobal),
+    schedule: &Schedule,
+    deck: &Deck,
+    snapshot: &Snapshot,
+) -> Result<(), Fail> {
+    let mut text = Vec::new(rt.alloc());
+    dump(snapshot.state(), snapshot.log(), deck, &mut text)?;
+    let wanted = dump_text(rt.alloc(), schedule.dump)?;
+    let memory = memory_of(rt.alloc(), deck.image.memory().size(), schedule.memory)?;
+    let is_left = is_same(&snapshot.state().memory, &memory);
+    let is_booted = is_same(snapshot.boot_memory(), deck.image.memory());
+    assert_eq!(rt;
+        (text, is_left, is_booted),
+        (wanted, true, true),
+        "{}",
+        schedule.name
+    );
+    Ok(())
+}
+
+/// The events get their answers. A snapshot is given only when the machine is drained, which takes as many events as
+/// the schedule says; it shows what is left.
+fn expect_answers(
+    rt: &(impl Abort + AllocGlobal),
+    schedule: &Schedule,
+    deck: &Deck,
+    machine: &mut Machine,
+    answers: &[Answer],
+) -> Result<(), Fail> {
+    let text = text_of(rt.alloc(), answers)?;
+    let (_, wanted) = lines_of(rt.alloc(), schedule)?;
+    let is_pending = matches!(machine.snapshot(), Err(Refusal::NotDrained));
+    let left = machine.drain();
+    let snapshot = machine.snapshot()?;
+    let is_logged = machine.log().entries() == snapshot.log().entries();
+    assert_eq!(rt;
+        (text, is_pending, left, is_logged),
+        (wanted, schedule.left > 0, schedule.left, true),
+        "{}",
+        schedule.name
+    );
+    expect_left(rt, schedule, deck, &snapshot)
+}
+
+/// One event after another.
+fn expect_events(rt: &(impl Abort + AllocGlobal), schedule: &Schedule) -> Result<(), Fail> {
+    let deck = deck_of(rt.alloc(), schedule)?;
+    let mut machine = booted(rt.alloc(), &deck, schedule)?;
+    let mut answers = Vec::new(rt.alloc());
+    for event in events_of(rt.alloc(), schedule)? {
+        answers.push(machine.apply(event))?;
+    }
+    expect_answers(rt, schedule, &deck, &mut machine, answers.as_slice())
+}
+
+/// All events as one list.
+fn expect_one_run(rt: &(impl Abort + AllocGlobal), schedule: &Schedule) -> Result<(), Fail> {
+    let deck = deck_of(rt.alloc(), schedule)?;
+    let mut machine = booted(rt.alloc(), &deck, schedule)?;
+    let events = events_of(rt.alloc(), schedule)?;
+    let mut answers = Vec::new(rt.alloc());
+    machine.run(events.as_slice(), &mut answers)?;
+    expect_answers(rt, schedule, &deck, &mut machine, answers.as_slice())
+}
+
+/// The lines of a session by the program, and a drain.
+fn expect_lines(
+    rt: &(impl Abort + AllocGlobal + Threads + Wait + Sync),
+    schedule: &Schedule,
+) -> Result<(), Fail> {
+    let (events, answers) = lines_of(rt.alloc(), schedule)?;
+    let mut input = Vec::from_slice(rt.alloc(), schedule.deck.as_bytes())?;
+    input.extend_from_slice(events.as_slice())?;
+    input.extend_from_slice(b"drain\n")?;
+    let dump = dump_text(rt.alloc(), schedule.dump)?;
+    let mut printed = answers;
+    printed.extend_from_slice(dump.as_slice())?;
+    let limit = schedule.budget.to_string(rt.alloc())?;
+    let budget = limit.as_str();
+    let ended = called(rt, &["events", "--budget", budget], input.as_slice())?;
+    assert_eq!(rt;
+        ended,
+        (0, printed, Vec::new(rt.alloc())),
+        "{}",
+        schedule.name
+    );
+    Ok(())
+}
+
+/// How many reservations the schedule stores with a unit.
+fn stored_with(schedule: &Schedule, store: &str) -> u64 {
+    let mut stored = 0u64;
+    for step in schedule.steps {
+        if *step == (store, "ok") {
+            stored = stored.saturating_add(1);
+        }
+    }
+    stored
+}
+
+/// What the seats are to tell: each its unit, and how many reservations were stored with it.
+fn stored_by_unit(schedule: &Schedule) -> [Option<(Unit, u64)>; 7] {
+    [
+        (Unit::Branch, "store branch"),
+        (Unit::Boolean, "store boolean"),
+        (Unit::Shift, "store shift"),
+        (Unit::LongAdd, "store longadd"),
+        (Unit::Divide, "store divide"),
+        (Unit::Increment1, "store increment1"),
+        (Unit::Increment2, "store increment2"),
+    ]
+    .map(|(unit, store)| Some((unit, stored_with(schedule, store))))
+}
+
+/// Makes an event by the call of its name, and on a machine of its own. Whether the answers are the same, and both
+/// machines drained or neither.
+fn is_alike<K: Naming>(
+    rt: &impl Wait,
+    crew: &mut Crew<K>,
+    machine: &mut Machine,
+    event: Event,
+) -> bool {
+    crew.call(rt, event) == machine.apply(event) && crew.drained(rt) == machine.drained()
+}
+
+/// The calls of a locked machine, beside its progress word, and what the seats and the snapshot then tell. The schedule
+/// leaves nothing pending.
+fn expect_calls_beside<K: Naming>(
+    rt: &(impl Abort + AllocGlobal + Wait),
+    schedule: &Schedule,
+    ground: Ground,
+) -> Result<(), Fail>
+    requires { ground ≡ K.table }
+{
+    let deck = deck_of(rt.alloc(), schedule)?;
+    let events = events_of(rt.alloc(), schedule)?;
+    let mut alone = booted(rt.alloc(), &deck, schedule)?;
+    let machine = booted(rt.alloc(), &deck, schedule)?;
+    let mut crew = Crew::<K>::open(rt.alloc(), ground, machine)?;
+    let mut alike = 0usize;
+    for event in events {
+        if is_alike(rt, &mut crew, &mut alone, event) {
+            alike = alike.saturating_add(1);
+        }
+    }
+    let snapshot = crew.snapshot(rt);
+    let stored = crew.leave();
+    assert_eq!(rt;
+        (alike, stored),
+        (schedule.steps.len(), stored_by_unit(schedule)),
+        "{}",
+        schedule.name
+    );
+    expect_left(rt, schedule, &deck, &snapshot?)
+}
+
+/// The same beside a progress word of its own.
+fn expect_calls(rt: &(impl Abort + AllocGlobal + Wait), schedule: &Schedule) -> Result<(), Fail> {
+    let ground = Ground::new(rt.alloc())?;
+    expect_calls_beside::<Brand>(rt, schedule, ground)
+}
+
+/// A schedule by each way.
+fn expect_each(
+    rt: &(impl Abort + AllocGlobal + Threads + Wait + Sync),
+    schedule: &Schedule,
+) -> Result<(), Fail> {
+    expect_lines(rt, schedule)?;
+    expect_events(rt, schedule)?;
+    expect_one_run(rt, schedule)?;
+    if schedule.left == 0 {
+        expect_calls(rt, schedule)?;
+    }
+    Ok(())
+}
+
+/// Instructions that read and set registers alone.
+#[test]
+fn registers(rt: HostRuntime) -> Result<(), Fail> {
+    for schedule in &test_registers::SCHEDULES {
+        expect_each(&rt, schedule)?;
+    }
+    Ok(())
+}
+
+/// Loads and stores.
+#[test]
+fn references(rt: HostRuntime) -> Result<(), Fail> {
+    for schedule in &test_references::SCHEDULES {
+        expect_each(&rt, schedule)?;
+    }
+    Ok(())
+}
+
+/// Branches.
+#[test]
+fn branches(rt: HostRuntime) -> Result<(), Fail> {
+    for schedule in &test_branches::SCHEDULES {
+        expect_each(&rt, schedule)?;
+    }
+    Ok(())
+}
+
+/// Requests for exchanges.
+#[test]
+fn exchanges(rt: HostRuntime) -> Result<(), Fail> {
+    for schedule in &test_exchanges::SCHEDULES {
+        expect_each(&rt, schedule)?;
+    }
+    Ok(())
+}

@@ -1,0 +1,205 @@
+//! What the tests share: calls of the program, decks, and texts of dumps.
+
+use super::program::program;
+use std::alloc::{AllocError, Global};
+use std::process::Abort;
+use std::sync::Wait;
+use std::test::Fail;
+use std::thread::Threads;
+
+pub fn words(alloc: Global, texts: &[&str]) -> Result<Vec<String>, AllocError> {
+    let mut all = Vec::new(alloc);
+    for text in texts {
+        all.push(String::from_str(alloc, text)?)?;
+    }
+    Ok(all)
+}
+
+/// Texts one after another.
+pub fn joined(alloc: Global, texts: &[&[u8]]) -> Result<Vec<u8>, AllocError> {
+    let mut all = Vec::new(alloc);
+    for text in texts {
+        all.extend_from_slice(text)?;
+    }
+    Ok(all)
+}
+
+/// The program's status with these arguments and this input, what it prints and what it says of faults.
+pub fn called(
+    rt: &(impl Abort + AllocGlobal + Threads + Wait + Sync),
+    texts: &[&str],
+    input: &[u8],
+) -> Result<(u8, Vec<u8>, Vec<u8>), Fail> {
+    let words = words(rt.alloc(), texts)?;
+    let mut input = input;
+    let mut output = Vec::new(rt.alloc());
+    let mut faults = Vec::new(rt.alloc());
+    let status = program(
+        rt,
+        rt.alloc(),
+        words.as_slice(),
+        &mut input,
+        &mut output,
+        &mut faults,
+    );
+    Ok((status, output, faults))
+}
+
+/// A call of the program, and how it ends.
+#[derive(Clone, Copy, Drop)]
+pub struct Case<'a> {
+    /// What it shows.
+    pub name: &'a str,
+    pub arguments: &'a [&'a str],
+    pub input: &'a [u8],
+    /// The exit status.
+    pub status: u8,
+    pub printed: &'a [u8],
+    /// What it says of faults.
+    pub told: &'a [u8],
+}
+
+/// The call ends as the case says.
+pub fn expect(
+    rt: &(impl Abort + AllocGlobal + Threads + Wait + Sync),
+    case: &Case<'_>,
+) -> Result<(), Fail> {
+    let (status, printed, told) = called(rt, case.arguments, case.input)?;
+    assert_eq!(rt;
+        (status, printed.as_slice(), told.as_slice()),
+        (case.status, case.printed, case.told),
+        "{}",
+        case.name
+    );
+    Ok(())
+}
+
+/// What a dump has that isn't the same in each: the lines before the registers, the registers that aren't +0
+/// with their digits from the first that isn't 0 on, the words that are shown, and the log.
+#[derive(Clone, Copy, Drop)]
+pub struct Dump<'a> {
+    pub begins: &'a str,
+    pub registers: &'a [(&'a str, &'a str)],
+    pub shows: &'a str,
+    pub log: &'a str,
+}
+
+/// Digits with zeros before them.
+fn put_octal(text: &mut Vec<u8>, digits: &str, width: usize) -> Result<(), AllocError> {
+    for _ in digits.len()..width {
+        text.push(b'0')?;
+    }
+    text.extend_from_slice(digits.as_bytes())
+}
+
+/// A register's digits.
+fn put_register(
+    text: &mut Vec<u8>,
+    dump: Dump<'_>,
+    register: &str,
+    width: usize,
+) -> Result<(), AllocError> {
+    for (named, digits) in dump.registers {
+        if *named == register {
+            return put_octal(text, digits, width);
+        }
+    }
+    put_octal(text, "", width)
+}
+
+/// The line of the A or B registers.
+fn put_indexes(
+    text: &mut Vec<u8>,
+    dump: Dump<'_>,
+    letter: &str,
+    registers: [&str; 8],
+) -> Result<(), AllocError> {
+    text.extend_from_slice(letter.as_bytes())?;
+    for register in registers {
+        text.push(b' ')?;
+        put_register(text, dump, register, 6)?;
+    }
+    text.extend_from_slice(b"\n")
+}
+
+/// The text of a dump.
+pub fn dump_text(alloc: Global, dump: Dump<'_>) -> Result<Vec<u8>, AllocError> {
+    let mut text = Vec::from_slice(alloc, dump.begins.as_bytes())?;
+    let a = ["A0", "A1", "A2", "A3", "A4", "A5", "A6", "A7"];
+    put_indexes(&mut text, dump, "A", a)?;
+    let b = ["B0", "B1", "B2", "B3", "B4", "B5", "B6", "B7"];
+    put_indexes(&mut text, dump, "B", b)?;
+    for register in ["X0", "X1", "X2", "X3", "X4", "X5", "X6", "X7"] {
+        text.extend_from_slice(register.as_bytes())?;
+        text.push(b' ')?;
+        put_register(&mut text, dump, register, 20)?;
+        text.push(b'\n')?;
+    }
+    for part in [dump.shows, "LOG ", dump.log, "\n"] {
+        text.extend_from_slice(part.as_bytes())?;
+    }
+    Ok(text)
+}
+
+/// A deck that adds 5 and 3, subtracts them and stops.
+pub const TWO_ADDS: &[u8] = b"\
+    core 256\n\
+    at 40\n\
+    word 00000000000000000000\n\
+    word 00000100000000000000\n\
+    word 00000020000000000000\n\
+    at 100\n\
+    word 71100000057120000003\n\
+    word 36312374214600000000\n\
+    start 40\n\
+    show 100 101\n\
+    end\n";
+
+/// What its run prints.
+pub const TWO_ADDS_DUMP: &[u8] = b"\
+    P 000001 PARCEL 3 HELD 36312374214600000000\n\
+    HALT stop FAULT none\n\
+    RA 000100 FL 000020 EM 000000\n\
+    A 000000 000000 000000 000000 000000 000000 000000 000000\n\
+    B 000000 000000 000000 000000 000000 000000 000000 000000\n\
+    X0 00000000000000000000\n\
+    X1 00000000000000000005\n\
+    X2 00000000000000000003\n\
+    X3 00000000000000000010\n\
+    X4 77777777777777777775\n\
+    X5 00000000000000000000\n\
+    X6 00000000000000000000\n\
+    X7 00000000000000000000\n\
+    M 000100 71100000057120000003\n\
+    M 000101 36312374214600000000\n\
+    LOG E40 I6\n";
+
+/// What is shown of it before any exchange.
+pub const BOOT_DUMP: &[u8] = b"\
+    P 000000 PARCEL 0 HELD none\n\
+    HALT stop FAULT none\n\
+    RA 000000 FL 000000 EM 000000\n\
+    A 000000 000000 000000 000000 000000 000000 000000 000000\n\
+    B 000000 000000 000000 000000 000000 000000 000000 000000\n\
+    X0 00000000000000000000\n\
+    X1 00000000000000000000\n\
+    X2 00000000000000000000\n\
+    X3 00000000000000000000\n\
+    X4 00000000000000000000\n\
+    X5 00000000000000000000\n\
+    X6 00000000000000000000\n\
+    X7 00000000000000000000\n\
+    M 000100 71100000057120000003\n\
+    M 000101 36312374214600000000\n\
+    LOG none\n";
+
+/// A deck that shifts X3 to the left and then comes to an opcode that is refused.
+pub const LEFT_SHIFT: &[u8] = b"\
+    core 256\n\
+    at 41\n\
+    word 00000100000000000000\n\
+    word 00000020000000000000\n\
+    at 100\n\
+    word 20301301234600046000\n\
+    start 40\n\
+    end\n";

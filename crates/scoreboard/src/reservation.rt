@@ -1,0 +1,157 @@
+ghost use Rattle.std.specs.Prelude.{◌≡◌};
+ghost use Rattle.scoreboard.specs.Reservations.{is_unread, returning_to, to_come, reads, comes, reads_it, holds};
+ghost use Rattle.scoreboard.specs.Reservations.{is_branch, has_turn, has_store_turn, is_reserved};
+ghost use Rattle.instructions.specs.Operands.{reg_eq};
+ghost use Rattle.instructions.specs.RegisterLists.{is_in};
+
+use crate::is_same_unit;
+use arrayvec::ArrayVec;
+use instructions::{Digit, Instr, Reg, Unit, results, sources};
+
+/// How far the scoreboard has seen an issued instruction come.
+#[derive(Clone, Copy, Debug, Drop, PartialEq, Eq)]
+pub enum Progress {
+    /// It holds its unit.
+    Reserved {
+        /// Whether it has read its operands.
+        has_read: bool,
+    },
+    /// It has come to its store event and left its unit.
+    Left {
+        /// The number of the X register to which its load has still to return.
+        returning: Option<Digit>,
+    },
+}
+
+/// An issued instruction as the scoreboard sees it.
+#[derive(Clone, Copy, Debug, Drop, PartialEq, Eq)]
+pub struct Reservation {
+    /// What was issued.
+    pub instr: Instr,
+    /// The unit that it was issued to.
+    pub unit: Unit,
+    /// How far it has come.
+    pub progress: Progress,
+}
+
+/// Whether two registers are one.
+fn is_same(register: &Reg, other: &Reg) -> bool
+    ensures { result ≡ reg_eq register.now other.now }
+{
+    register == other
+}
+
+/// The X register of this number, if there is one.
+#[tactic(auto, unfolding(crate::specs::Reservations::returning_to))]
+fn returning_to(number: Option<Digit>) -> ArrayVec<Reg, 2>
+    ensures { result.items ≡ returning_to number }
+{
+    let mut registers = ArrayVec::new();
+    if let Some(number) = number {
+        registers.push(Reg::X(number));
+    }
+    registers
+}
+
+/// Whether the register is among those.
+#[tactic(auto, unfolding(instructions::specs::RegisterLists::is_in))]
+fn is_among(registers: &[Reg], register: &Reg) -> bool
+    ensures { result ≡ is_in registers.now register.now }
+{
+    registers.iter().any(|other| is_same(register, other))
+}
+
+impl Reservation {
+    /// Whether it holds a unit.
+    #[tactic(auto, unfolding(crate::specs::Reservations::is_reserved))]
+    fn is_reserved(&self) -> bool
+        ensures { result ≡ is_reserved self.now.progress }
+    {
+        match self.progress {
+            Progress::Reserved { .. } => true,
+            Progress::Left { .. } => false,
+        }
+    }
+
+    /// Whether it has still to read its operands.
+    #[tactic(auto, unfolding(crate::specs::Reservations::is_unread))]
+    pub(crate) fn is_unread(&self) -> bool
+        ensures { result ≡ is_unread self.now.progress }
+    {
+        match self.progress {
+            Progress::Reserved { has_read } => !has_read,
+            Progress::Left { .. } => false,
+        }
+    }
+
+    /// Its results still to come.
+    #[tactic(auto, unfolding(crate::specs::Reservations::to_come, crate::specs::Reservations::to_come_in))]
+    fn to_come(&self) -> ArrayVec<Reg, 2>
+        ensures { result.items ≡ to_come self.now }
+    {
+        match self.progress {
+            Progress::Reserved { .. } => results(&self.instr),
+            Progress::Left { returning } => returning_to(returning),
+        }
+    }
+
+    /// The sources that it has still to read.
+    #[tactic(auto, unfolding(crate::specs::Reservations::reads, crate::specs::Reservations::reads_in))]
+    fn reads(&self) -> ArrayVec<Reg, 3>
+        ensures { result.items ≡ reads self.now }
+    {
+        match self.progress {
+            Progress::Reserved { has_read: false } => sources(&self.instr),
+            Progress::Reserved { has_read: true } => ArrayVec::new(),
+            Progress::Left { .. } => ArrayVec::new(),
+        }
+    }
+
+    /// Whether the register is one of its results still to come.
+    #[tactic(auto, unfolding(crate::specs::Reservations::comes))]
+    pub fn has_to_come(&self, register: &Reg) -> bool
+        ensures { result ≡ comes register.now self.now }
+    {
+        is_among(self.to_come().as_slice(), register)
+    }
+
+    /// Whether the register is one of the sources that it has still to read.
+    #[tactic(auto, unfolding(crate::specs::Reservations::reads_it))]
+    pub fn has_to_read(&self, register: &Reg) -> bool
+        ensures { result ≡ reads_it register.now self.now }
+    {
+        is_among(self.reads().as_slice(), register)
+    }
+
+    /// Whether it holds the unit.
+    #[tactic(auto, unfolding(crate::specs::Reservations::holds))]
+    pub fn holds(&self, unit: Unit) -> bool
+        ensures { result ≡ holds unit self.now }
+    {
+        is_same_unit(self.unit, unit) && self.is_reserved()
+    }
+
+    /// Whether it is a branch that holds its unit.
+    #[tactic(auto, unfolding(crate::specs::Reservations::is_branch))]
+    pub fn is_branch(&self) -> bool
+        ensures { result ≡ is_branch self.now }
+    {
+        self.is_reserved() && self.instr.is_branch()
+    }
+
+    /// Whether it makes a reference that hasn't come to its store event.
+    #[tactic(auto, unfolding(crate::specs::Reservations::has_turn))]
+    pub fn has_turn(&self) -> bool
+        ensures { result ≡ has_turn self.now }
+    {
+        self.is_reserved() && self.instr.has_reference()
+    }
+
+    /// Whether it is an SA6 or SA7 that hasn't come to its store event.
+    #[tactic(auto, unfolding(crate::specs::Reservations::has_store_turn))]
+    pub fn has_store_turn(&self) -> bool
+        ensures { result ≡ has_store_turn self.now }
+    {
+        self.is_reserved() && self.instr.has_store() && !self.instr.is_branch()
+    }
+}

@@ -1,0 +1,158 @@
+//! Numbers, fields, lines and pieces, by devices that fail too.
+
+ghost use Rattle.std.specs.Prelude.{Some, vec_items};
+
+use arrayvec::ArrayVec;
+use device_text::{
+    Output, Piece, ReadFailed, Took, Tracked, Watched, WatchedBuffer, WriteFailed, first_field,
+    number, put_pieces, read_line, unit_named,
+};
+use instruction_table::Unit;
+use std::io;
+use std::io::{ErrorKind, Write};
+use std::process::Abort;
+use std::test::Fail;
+
+/// Takes one byte a call, fails once it holds so many, and counts those that a flush handed on.
+#[derive(Drop)]
+struct Dripping {
+    bytes: Vec<u8>,
+    most: usize,
+    handed_on: usize,
+}
+
+impl Write for Dripping {
+    ghost contents = { λ d. Some d.bytes.items };
+
+    fn write(&mut self, buf: &[u8]) -> io::Result<usize> {
+        if self.bytes.len() >= self.most {
+            return Err(io::Error::from(ErrorKind::Other));
+        }
+        match buf.first() {
+            None => Ok(0),
+            Some(byte) => {
+                self.bytes.push(*byte)?;
+                Ok(1)
+            }
+        }
+    }
+
+    fn flush(&mut self) -> io::Result<()> {
+        self.handed_on = self.bytes.len();
+        Ok(())
+    }
+}
+
+/// The base, the digits, of which there may be six, and the number.
+const NUMBERS: [(u32, &str, Option<u64>); 7] = [
+    (10, "0", Some(0)),
+    (10, "000256", Some(256)),
+    (8, "777777", Some(0o777777)),
+    (8, "", None),
+    (8, "8", None),
+    (8, "0000000", None),
+    (10, "-1", None),
+];
+
+#[test]
+fn numbers(rt: HostRuntime) -> Result<(), Fail> {
+    for (base, text, value) in &NUMBERS {
+        assert_eq!(rt; number(*base, 6, text.as_bytes()), *value, "{text}");
+    }
+    Ok(())
+}
+
+/// A text, its first field, and what stands after the space.
+const FIELDS: [(&str, &str, Option<&str>); 5] = [
+    ("", "", None),
+    ("end", "end", None),
+    ("at 100", "at", Some("100")),
+    (" at", "", Some("at")),
+    ("at ", "at", Some("")),
+];
+
+#[test]
+fn fields(rt: HostRuntime) -> Result<(), Fail> {
+    for (text, first, rest) in &FIELDS {
+        let (field, more) = first_field(text.as_bytes());
+        let wanted = match rest {
+            Some(rest) => Some(rest.as_bytes()),
+            None => None,
+        };
+        assert_eq!(rt; (field, more), (first.as_bytes(), wanted), "{text}");
+    }
+    Ok(())
+}
+
+#[test]
+fn unit_names(rt: HostRuntime) -> Result<(), Fail> {
+    let named = unit_named(b"longadd");
+    assert!(rt; named == Some(Unit::LongAdd) && unit_named(b"LongAdd").is_none());
+    Ok(())
+}
+
+/// Lines by a reader and by a buffered one: an empty line, one without an end, and nothing after it.
+#[test]
+fn lines(rt: HostRuntime) -> Result<(), Fail> {
+    let mut bytes = b"one\n\nlast".as_slice();
+    let mut buffered = bytes;
+    let mut watched = Watched::new(&mut bytes);
+    let mut buffer = WatchedBuffer::new(&mut buffered);
+    let mut line = ArrayVec::new();
+    for (took, text) in [
+        (Took::Whole, "one"),
+        (Took::Whole, ""),
+        (Took::Whole, "last"),
+        (Took::Nothing, ""),
+    ] {
+        let is_read = read_line(&mut watched, &mut line) == Ok(took);
+        assert!(rt; is_read && line.as_slice() == text.as_bytes());
+        let is_read = read_line(&mut buffer, &mut line) == Ok(took);
+        assert!(rt; is_read && line.as_slice() == text.as_bytes());
+    }
+    Ok(())
+}
+
+/// A line of 200 bytes is whole, and of a longer one 201 bytes are taken.
+#[test]
+fn long_lines(rt: HostRuntime) -> Result<(), Fail> {
+    for (length, took) in [(200u32, Took::Whole), (201, Took::Long)] {
+        let mut text = Vec::new(rt.alloc());
+        for _ in 0..length {
+            text.push(b'7')?;
+        }
+        text.extend_from_slice(b"\nrest")?;
+        let mut bytes = text.as_slice();
+        let mut line = ArrayVec::new();
+        let read: Result<Took, ReadFailed> = read_line(&mut Watched::new(&mut bytes), &mut line);
+        assert!(rt; read == Ok(took) && line.len() == length as usize);
+    }
+    Ok(())
+}
+
+/// What a writer takes before it fails is a beginning of the pieces, and a flush hands it on.
+#[test]
+fn pieces(rt: HostRuntime) -> Result<(), Fail> {
+    let line = b"longadd 100 18446744073709551615".as_slice();
+    for most in [0, 1, 8, 31, 32] {
+        let mut dripping = Dripping {
+            bytes: Vec::new(rt.alloc()),
+            most,
+            handed_on: 0,
+        };
+        let mut output = Tracked::new(&mut dripping);
+        let pieces = [
+            Piece::UnitName(Unit::LongAdd),
+            Piece::Text(b" "),
+            Piece::Address(0o100),
+            Piece::Text(b" "),
+            Piece::Count(18_446_744_073_709_551_615),
+        ];
+        let put = put_pieces(&mut output, pieces.as_slice());
+        let wanted = if most < 32 { Err(WriteFailed) } else { Ok(()) };
+        let is_put = put == wanted && output.flush().is_ok();
+        assert!(rt; is_put && dripping.handed_on == most, "{most}");
+        assert_eq!(rt; dripping.bytes.as_slice(), &line[..most]);
+    }
+    Ok(())
+}

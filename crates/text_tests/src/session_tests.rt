@@ -1,0 +1,226 @@
+//! Sessions: what is answered, handed on and left unread.
+
+use crate::fixtures::{Dripping, Failing, joined};
+use instruction_table::{DeckFault, Refusal};
+use job_deck::{events, replay};
+use std::alloc::{AllocGlobal, Global};
+use std::process::Abort;
+use std::test::Fail;
+
+/// A deck of ten lines: a package at 40, and a program of two increments and two sums.
+const DECK: &str = "\
+    core 256\n\
+    at 41\n\
+    word 00000100000000000000\n\
+    word 00000020000000000000\n\
+    at 100\n\
+    word 71100000057120000003\n\
+    word 36312374214600000000\n\
+    start 40\n\
+    show 100 101\n\
+    end\n";
+
+const EXCHANGED: &str = "\
+    RA 000100 FL 000020 EM 000000\n\
+    A 000000 000000 000000 000000 000000 000000 000000 000000\n\
+    B 000000 000000 000000 000000 000000 000000 000000 000000\n\
+    X0 00000000000000000000\n\
+    X1 00000000000000000005\n\
+    X2 00000000000000000003\n\
+    X3 00000000000000000010\n\
+    X4 00000000000000000000\n\
+    X5 00000000000000000000\n\
+    X6 00000000000000000000\n\
+    X7 00000000000000000000\n\
+    M 000100 71100000057120000003\n\
+    M 000101 36312374214600000000\n";
+
+const BOOTED: &str = "\
+    P 000000 PARCEL 0 HELD none\n\
+    HALT stop FAULT none\n\
+    RA 000000 FL 000000 EM 000000\n\
+    A 000000 000000 000000 000000 000000 000000 000000 000000\n\
+    B 000000 000000 000000 000000 000000 000000 000000 000000\n\
+    X0 00000000000000000000\n\
+    X1 00000000000000000000\n\
+    X2 00000000000000000000\n\
+    X3 00000000000000000000\n\
+    X4 00000000000000000000\n\
+    X5 00000000000000000000\n\
+    X6 00000000000000000000\n\
+    X7 00000000000000000000\n\
+    LOG none\n";
+
+/// The session of a deck with its schedule, which writes these texts and leaves the rest.
+fn expect_session(
+    rt: &(impl Abort + AllocGlobal),
+    deck: &str,
+    schedule: &str,
+    rest: &str,
+    texts: &[&str],
+) -> Result<(), Fail> {
+    let bytes = joined(rt.alloc(), [deck, schedule, rest].as_slice())?;
+    let written = joined(rt.alloc(), texts)?;
+    let mut input = bytes.as_slice();
+    let mut output = Vec::new(rt.alloc());
+    let held = events(rt.alloc(), &mut input, &mut output, 4);
+    assert_eq!(rt; (held, output, input), (Ok(()), written, rest.as_bytes()));
+    Ok(())
+}
+
+#[test]
+fn drains_two_sums(rt: HostRuntime) -> Result<(), Fail> {
+    expect_session(
+        &rt,
+        DECK,
+        "ask 40\nexchange\nissue\nissue\nissue\nissue\nread longadd\ndrain\n",
+        "more\n",
+        [
+            "ok\nok\nok increment1 1\nok increment2 2\nok longadd 3\nE7 unit busy longadd\nE9 operand awaited X1\n",
+            "P 000001 PARCEL 1 HELD 36312374214600000000\nHALT running FAULT none\n",
+            EXCHANGED,
+            "LOG E40 I3\n",
+        ]
+        .as_slice(),
+    )
+}
+
+/// The same three instructions, gone through one at a time.
+#[test]
+fn replays_two_sums(rt: HostRuntime) -> Result<(), Fail> {
+    let mut input = DECK.as_bytes();
+    let mut output = Vec::new(rt.alloc());
+    let replayed = replay(rt.alloc(), &mut input, &mut output, "E40 I3");
+    let is_replayed = matches!(replayed, Ok(Some(_)));
+    let place = "P 000001 PARCEL 1 HELD 36312374214600000000\nHALT running FAULT none\n";
+    let wanted = joined(rt.alloc(), [place, EXCHANGED, "LOG E40 I3\n"].as_slice())?;
+    assert_eq!(rt; (is_replayed, output), (true, wanted));
+    Ok(())
+}
+
+#[test]
+fn ends_where_it_stands(rt: HostRuntime) -> Result<(), Fail> {
+    for (deck, schedule, text) in [
+        ("core 32\nstart 0\nend\n", "end\n", BOOTED),
+        (
+            DECK,
+            "ask 40\nexchange\nissue\nend\n",
+            "ok\nok\nok increment1 1\nNOT DRAINED\nLOG E40 I1\n",
+        ),
+    ] {
+        expect_session(&rt, deck, schedule, "", [text].as_slice())?;
+    }
+    Ok(())
+}
+
+/// A schedule that is refused at a line after the deck's ten, after these answers.
+fn expect_fault(
+    rt: &(impl Abort + AllocGlobal),
+    schedule: &str,
+    answers: &str,
+    line: u32,
+    fault: DeckFault,
+) -> Result<(), Fail> {
+    let bytes = joined(rt.alloc(), [DECK, schedule].as_slice())?;
+    let mut input = bytes.as_slice();
+    let mut output = Vec::new(rt.alloc());
+    let held = events(rt.alloc(), &mut input, &mut output, 4);
+    assert_eq!(rt;
+        (held, output.as_slice()),
+        (Err(Refusal::Deck { line, fault }), answers.as_bytes())
+    );
+    Ok(())
+}
+
+/// Schedules after the deck, their answers, and the line at fault.
+const FAULTY: [(&str, &str, u32, DeckFault); 11] = [
+    ("", "", 11, DeckFault::NoEnd),
+    ("issue\n", "E1 halted stop\n", 12, DeckFault::NoEnd),
+    ("ask 40\nread jump\nend\n", "ok\n", 12, DeckFault::Unknown),
+    ("read add add\n", "", 11, DeckFault::Unknown),
+    ("end \n", "", 11, DeckFault::Unknown),
+    ("\n", "", 11, DeckFault::Unknown),
+    ("jump 9\n", "", 11, DeckFault::Unknown),
+    ("ask 48\n", "", 11, DeckFault::Number),
+    ("ask 0000040\n", "", 11, DeckFault::Number),
+    ("accept 123\n", "", 11, DeckFault::Number),
+    ("bank \n", "", 11, DeckFault::Number),
+];
+
+#[test]
+fn faulty_schedules(rt: HostRuntime) -> Result<(), Fail> {
+    for (schedule, answers, line, fault) in &FAULTY {
+        expect_fault(&rt, schedule, answers, *line, *fault)?;
+    }
+    Ok(())
+}
+
+/// Schedules that come to no end, and their answers.
+const ENDLESS: [(&str, &str, u32); 3] = [
+    (
+        "finish add\nstore divide\naccept 3\nreturn 05\nbank 31\nexchange\n",
+        "E15 nothing\nE15 nothing\nE15 nothing\nE15 nothing\nE15 nothing\nE15 nothing\n",
+        17,
+    ),
+    (
+        "ask 361\nask 360\nask 0\n",
+        "E19 package range\nok\nE17 exchange busy\n",
+        14,
+    ),
+    (
+        "ask 40\nexchange\nissue\nask 40\nexchange\n",
+        "ok\nok\nok increment1 1\nok\nE18 not drained\n",
+        16,
+    ),
+];
+
+#[test]
+fn endless_schedules(rt: HostRuntime) -> Result<(), Fail> {
+    for (schedule, answers, line) in &ENDLESS {
+        expect_fault(&rt, schedule, answers, *line, DeckFault::NoEnd)?;
+    }
+    Ok(())
+}
+
+/// Whether a session ends with a read that fails, this one, and has written these answers by then.
+fn fails_after(alloc: Global, bytes: &[u8], fails_from: u64, answers: &str) -> bool {
+    let mut input = Failing {
+        bytes,
+        turn: 0,
+        fails_from,
+    };
+    let mut output = Vec::new(alloc);
+    let held = events(alloc, &mut input, &mut output, 4);
+    held == Err(Refusal::Read) && output.as_slice() == answers.as_bytes()
+}
+
+/// Each line is answered before the next is read.
+#[test]
+fn answers_before_a_failing_read(rt: HostRuntime) -> Result<(), Fail> {
+    let bytes = joined(rt.alloc(), [DECK, "issue\nissue\n"].as_slice())?;
+    let read = DECK.len() as u64 + 6;
+    assert!(rt; fails_after(rt.alloc(), bytes.as_slice(), read, ""));
+    assert!(rt; fails_after(rt.alloc(), bytes.as_slice(), read + 1, "E1 halted stop\n"));
+    Ok(())
+}
+
+#[test]
+fn answers_to_a_failing_writer(rt: HostRuntime) -> Result<(), Fail> {
+    let bytes = joined(rt.alloc(), [DECK, "issue\nissue\n"].as_slice())?;
+    let mut input = bytes.as_slice();
+    let mut output = Dripping {
+        bytes: Vec::new(rt.alloc()),
+        turn: 0,
+        fails_from: 5,
+    };
+    let held = events(rt.alloc(), &mut input, &mut output, 4);
+    assert_eq!(rt;
+        (held, output.bytes.as_slice(), input),
+        (
+            Err(Refusal::Write),
+            b"E1 h".as_slice(),
+            b"issue\n".as_slice()
+        )
+    );
+    Ok(())
+}

@@ -1,0 +1,69 @@
+//! Two threads that drive one machine and meet, as docs/threads.md shows it.
+ghost use Rattle.std.specs.Prelude.{◌≡◌};
+ghost use Rattle.machine_lock.specs.Known.{AreApart, NumbersApart};
+
+use crate::lock_tests::leave_all;
+use crate::test_machines::booted;
+use instruction_table::Refusal;
+use machine::{Machine, Note};
+use machine_lock::{Ground, Naming, Seen, Shared};
+use sequential::Entry;
+use std::alloc::Global;
+use std::marker::Brand;
+use std::process::Abort;
+use std::sync::Wait;
+use std::test::Fail;
+use std::thread::{Threads, join};
+
+/// What a thread has seen at its end, and what its two issues answered.
+type Issues<K> = (Seen<K>, [Result<Option<Note>, Refusal>; 2]);
+
+/// One thread's part: it issues twice, with what it has seen so far.
+fn issue_twice<K: Naming, R: Wait>(rt: &R, shared: &Shared<K>, mut seen: Seen<K>) -> Issues<K> {
+    let first = shared.issue(rt, &mut seen);
+    let second = shared.issue(rt, &mut seen);
+    (seen, [first, second])
+}
+
+/// Two callers that meet know what neither could know alone: no step was made by both, and no reservation's number
+/// was answered to both.
+fn meet<K: Naming>(shared: &Shared<K>, one: &mut Seen<K>, other: &mut Seen<K>)
+    ensures apart { AreApart one.new.mine other.new.mine }
+    ensures numbers { NumbersApart one.new other.new }
+{
+    shared.meet(one, other);
+}
+
+/// Four passes after the first exchange, two of which each of two threads issues.
+fn two_threads<K: Naming + Send + Sync, R: Threads + Wait + Sync + Abort>(
+    rt: &R,
+    alloc: Global,
+    ground: Ground,
+    machine: Machine,
+) -> Result<(), Fail>
+    requires { ground ≡ K.table }
+{
+    let (shared, seats, mut seen) = Shared::<K>::open(alloc, ground, machine)?;
+    leave_all(seats);
+    shared.ask(rt, &mut seen, 0o40)?;
+    shared.exchange(rt, &mut seen)?;
+    let other = seen.split()?;
+    let ((mut one, ones), (mut two, twos)) = join(
+        rt,
+        || issue_twice(rt, &shared, seen),
+        || issue_twice(rt, &shared, other),
+    );
+    meet(&shared, &mut one, &mut two);
+    let snapshot = shared.snapshot(rt, &mut one)?;
+    assert!(rt; ones == [Ok(None), Ok(None)]);
+    assert!(rt; twos == [Ok(None), Ok(None)]);
+    assert!(rt; snapshot.log().entries() == [Entry::Exchange(0o40), Entry::Issued(4)].as_slice());
+    Ok(())
+}
+
+#[test]
+fn two_threads_meet(rt: HostRuntime) -> Result<(), Fail> {
+    let machine = booted(rt.alloc(), &[(0o100, "46000460004600046000")])?;
+    let ground = Ground::new(rt.alloc())?;
+    two_threads::<Brand, _>(&rt, rt.alloc(), ground, machine)
+}

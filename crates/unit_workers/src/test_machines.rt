@@ -1,0 +1,55 @@
+//! What the tests share: words, booted machines and notes.
+
+use instruction_table::{Digit, Refusal, Reg, Unit};
+use machine::{Machine, Note, Seat};
+use relocation::Storage;
+use std::alloc::Global;
+use word60::Word60;
+
+/// SX1 B0+5 and SX2 B0+3.
+pub(crate) const FIRST: &str = "71100000057120000003";
+
+/// IX3 X1+X2, IX4 X2-X1, NO and PS.
+pub(crate) const SECOND: &str = "36312374214600000000";
+
+/// Words at their absolute addresses, in octal.
+pub(crate) type Words<'a> = &'a [(u32, &'a str)];
+
+/// A word of twenty octal digits or fewer, and +0 for any other text.
+pub(crate) fn word(octal: &str) -> Word60 {
+    Word60::from_octal(octal.as_bytes()).unwrap_or_default()
+}
+
+fn place_all(memory: &mut Storage, words: Words<'_>) {
+    for (address, octal) in words {
+        if *address < memory.size() {
+            memory.store(*address, word(octal));
+        }
+    }
+}
+
+/// A machine with 256 words of memory: a package at 40 that has RA 100 and FL 20, and over that these words.
+pub(crate) fn booted(alloc: Global, words: Words<'_>) -> Result<Machine, Refusal> {
+    let area = [
+        (0o41, "00000100000000000000"),
+        (0o42, "00000020000000000000"),
+    ];
+    let mut memory = Storage::new(alloc, 256)?;
+    place_all(&mut memory, &area);
+    place_all(&mut memory, words);
+    Machine::boot(alloc, memory, 1_000_000)
+}
+
+pub(crate) fn x(number: u16) -> Reg {
+    Reg::X(Digit::low(number))
+}
+
+pub(crate) fn note(unit: Unit, number: u64) -> Note {
+    Note { unit, number }
+}
+
+/// The unit of a seat and what was stored with it; the seat is left.
+pub(crate) fn leave(seat: Seat) -> (Unit, u64) {
+    let unit = seat.unit();
+    (unit, seat.leave())
+}
