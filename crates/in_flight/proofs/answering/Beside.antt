@@ -50,7 +50,8 @@ use Rattle.in_flight.specs.Tests.{refusal_in, store_conflicts, Test, refusal_of,
 use Rattle.in_flight.specs.Tests.{return_tests, free_tests, reservation_tests, unit_for}
 use Rattle.in_flight.specs.Flight.{Flight, flight_of, waiting_in, waiting, reserved_in, with_pending}
 use Rattle.in_flight.specs.inner.Board.{IsTied}
-use Rattle.in_flight.specs.Pending.{has_read, reservation_of, progress_of, returning, to_come, awaited, is_branch, has_turn}
+use Rattle.in_flight.specs.Pending.{has_read, reservation_of, progress_of, returning, to_come, awaited, is_branch}
+use Rattle.in_flight.specs.Pending.{has_turn}
 use Rattle.in_flight.specs.Pending.{stores_in, delays_fetch}
 use Rattle.in_flight.proofs.asking.Asked.{comes}
 use Rattle.in_flight.proofs.Opened.{coming}

@@ -18,7 +18,8 @@ use Rattle.relocation.specs.declared.area.Access.TheVariants.{Load, Store}
 use Rattle.scoreboard.specs.declared.reservation.Progress.{Progress}
 use Rattle.scoreboard.specs.declared.reservation.Progress.TheVariants.{Reserved, Left}
 use Rattle.scoreboard.specs.declared.reservation.Reservation.{Reservation}
-use Rattle.scoreboard.specs.Reservations.{is_reserved, returning_to, to_come, to_come_in, reads, reads_in, comes, reads_it}
+use Rattle.scoreboard.specs.Reservations.{is_reserved, returning_to, to_come, to_come_in, reads, reads_in, comes}
+use Rattle.scoreboard.specs.Reservations.{reads_it}
 use Rattle.scoreboard.specs.Reservations.{holds, has_turn}
 use Rattle.scoreboard.specs.Units.{same_unit, units_of}
 use Rattle.scoreboard.specs.Conflicts.{awaited, to_be_read, first_such, out_of_turn, is_held, first_free, free_unit}

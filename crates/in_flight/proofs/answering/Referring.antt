@@ -44,7 +44,8 @@ use Rattle.in_flight.specs.Tests.{refusal_in, refusal_of, nothing, tests_found, 
 use Rattle.in_flight.specs.Flight.{left_by, Flight, flight_of, waiting_in, waiting, IsRestOf, outstanding_of}
 use Rattle.in_flight.specs.inner.Board.{IsTied}
 use Rattle.in_flight.specs.Flight.{entered_at, rest_at, queue_with, queue_after, with_pending}
-use Rattle.in_flight.specs.Pending.{reservation_of, progress_of, returning, to_come, has_turn, is_entered, entered_in, in_bank}
+use Rattle.in_flight.specs.Pending.{reservation_of, progress_of, returning, to_come, has_turn, is_entered, entered_in}
+use Rattle.in_flight.specs.Pending.{in_bank}
 use Rattle.in_flight.specs.Pending.{in_bank_in}
 use Rattle.in_flight.specs.inner.Slots.{IsSlotted, IsChannel, IsPlaced}
 use Rattle.in_flight.specs.inner.Seats.{seat_in, seat_of, AreElsewhere, HasRoom}

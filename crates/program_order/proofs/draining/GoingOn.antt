@@ -153,11 +153,11 @@ unfolding conflict.awaited
 none_awaited [] = refl
 none_awaited (r ∷ rs) = none_awaited rs
 
-row_passes : (g : Fetched) → HasUnit g → Each (λ t. t.fails ≡ false) (reservation_tests [] g)
+reservation_passes : (g : Fetched) → HasUnit g → Each (λ t. t.fails ≡ false) (reservation_tests [] g)
 unfolding reservation_tests
-row_passes (Halting halt place) h = tt
-row_passes (Passing place) h = tt
-row_passes (Taking i place) h = (unit_free (uses i).unit h, (none_awaited (results (shape_of i)), tt))
+reservation_passes (Halting halt place) h = tt
+reservation_passes (Passing place) h = tt
+reservation_passes (Taking i place) h = (unit_free (uses i).unit h, (none_awaited (results (shape_of i)), tt))
 
 nothing_delays : (o : Option ℕ) → waits_at o [] ≡ false
 unfolding waits_at
@@ -206,7 +206,7 @@ issue_accepted w p h f b r =
               held_or_unasked w.request w.state.place.held r,
               (
                 fetch_goes (bounds_of w.state) w.state.place,
-                row_passes (fetch (bounds_of w.state) w.state.memory w.state.place)
+                reservation_passes (fetch (bounds_of w.state) w.state.memory w.state.place)
                     (fetched_unit (bounds_of w.state) w.state.memory w.state.place),
               ),
             ),

@@ -52,11 +52,12 @@ unfolding tests_found nothing is_nothing
 found_one_of p None f k h e = one_of (λ r. is_nothing r || p r) nothing k (refl, tt) e
 found_one_of p (Some x) f k h e = one_of (λ r. is_nothing r || p r) (f x) k (h x) e
 
-row_named : (ms : List Pending) (f : Fetched) → Each (λ t. is_issue_refusal t.refusal ≡ true) (reservation_tests ms f)
+reservation_named : (ms : List Pending) (f : Fetched)
+    → Each (λ t. is_issue_refusal t.refusal ≡ true) (reservation_tests ms f)
 unfolding reservation_tests is_issue_refusal
-row_named ms (Halting h place) = tt
-row_named ms (Passing place) = tt
-row_named ms (Taking i place) = (refl, (refl, tt))
+reservation_named ms (Halting h place) = tt
+reservation_named ms (Passing place) = tt
+reservation_named ms (Taking i place) = (refl, (refl, tt))
 
 read_named : (t : Stage) (x : Found Pending Stage)
     → Each (λ t. (is_nothing t.refusal || is_read_refusal t.refusal) ≡ true) (read_tests t x.earlier x.member.instr)
@@ -86,7 +87,7 @@ or_false false h = cc
 pub refusal_named : (w : Processor) (e : Event) (k : Refusal) → allowed w e ≡ Some k → may_refuse e k ≡ true
 unfolding refusals_by_event allowed tests_of issue_tests accept_tests return_tests free_tests ask_tests exchange_tests
 refusal_named w Issue k h = one_of is_issue_refusal (issue_tests w.state w.pending w.request w.budget _) k
-    (refl, (refl, (refl, (refl, (refl, (refl, row_named w.pending _)))))) h
+    (refl, (refl, (refl, (refl, (refl, (refl, reservation_named w.pending _)))))) h
 refusal_named w (Read u) k h =
     found_one_of is_read_refusal (seek (stage_at u) w.pending) _ k (λ x. read_named x.answer x) h
 refusal_named w (Finish u) k h =

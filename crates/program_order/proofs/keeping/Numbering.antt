@@ -130,11 +130,11 @@ boot_numbered memory budget = refl
 
 -- ---- what an issue answers ----
 
-row_unit : (w : Processor) (i : Instr) (place : Place)
+reserved_unit : (w : Processor) (i : Instr) (place : Place)
     → Each (λ t. t.fails ≡ false) (reservation_tests w.pending (Taking i place))
     → may_take (uses i).unit (unwrap_or (unit_for w.pending (uses i).unit) Branch) ≡ true
 unfolding reservation_tests
-row_unit w i place h = (unit_found w.pending (uses i).unit h.0).of_kind
+reserved_unit w i place h = (unit_found w.pending (uses i).unit h.0).of_kind
 
 some_inj : (i j : Instr) → Some i ≡ Some j → i ≡ j
 some_inj i j e = cc
@@ -157,7 +157,7 @@ noted_by w (Taking i place) r h t u =
             note,
             refl,
             record {
-              of_kind = subst (λ x. may_take (uses x).unit note.unit ≡ true) k (row_unit w i place u);
+              of_kind = subst (λ x. may_take (uses x).unit note.unit ≡ true) k (reserved_unit w i place u);
               numbered = n;
             },
           );
@@ -170,10 +170,10 @@ log_issue w (Halting halt place) = (refl, refl)
 log_issue w (Passing place) = (refl, refl)
 log_issue w (Taking i place) = (refl, refl)
 
-issue_rows : (w : Processor) → allowed w Issue ≡ None
+issue_reservations : (w : Processor) → allowed w Issue ≡ None
     → Each (λ t. t.fails ≡ false) (reservation_tests w.pending (fetch (bounds_of w.state) w.state.memory w.state.place))
 unfolding allowed tests_of issue_tests
-issue_rows w h = (refusal_none _ h).1.1.1.1.1.1
+issue_reservations w h = (refusal_none _ h).1.1.1.1.1.1
 
 ok_done : (w : Processor) (e : Event) (d : Done) → IsAnswer w e (Ok d) → allowed w e ≡ None → d ≡ done_by w e
 unfolding answer_of answer_by
@@ -208,7 +208,7 @@ noted_at w note r h a d =
     (sym (note_is w note d))
     (subst (λ n. IsNoted (completed w) n (note_by w g))
     (sym (ap (λ m. taken (boot m) (after_issue w g).log) l.1 ∙ ap (taken (boot w.boot_memory)) l.0))
-    (noted_by w g r h (issue_taken w a) (issue_rows w a)))
+    (noted_by w g r h (issue_taken w a) (issue_reservations w a)))
 
 pub noted : (w v : Processor) (e : Event) (a : Result Done Refusal) (note : Option Note) → IsReplay w → IsNumbered w
     → IsAnswer w e a → v ≡ settled w e a → a ≡ Ok (DoneIssue note)

@@ -71,11 +71,11 @@ is_other (Halted halt) = false
 is_other Faulted = false
 is_other _ = true
 
-rows_other : (ms : List Pending) (g : Fetched) → Each (λ t. is_other t.refusal ≡ true) (reservation_tests ms g)
+reservations_other : (ms : List Pending) (g : Fetched) → Each (λ t. is_other t.refusal ≡ true) (reservation_tests ms g)
 unfolding reservation_tests is_other
-rows_other ms (Halting h place) = tt
-rows_other ms (Passing place) = tt
-rows_other ms (Taking i place) = (refl, (refl, tt))
+reservations_other ms (Halting h place) = tt
+reservations_other ms (Passing place) = tt
+reservations_other ms (Taking i place) = (refl, (refl, tt))
 
 halt_is : (o : Option Halt) (h : Halt) → is_some o ≡ true → Halted (unwrap_or o Stop) ≡ Halted h → o ≡ Some h
 halt_is None h e i = absurd (cc)
@@ -87,7 +87,8 @@ issue_halted w h e =
     ⊎_elim (λ x. halt_is w.state.halt h x.0 x.1)
     (λ x. ⊎_elim (λ y. let k = y.1 in absurd (cc))
     (λ y.
-    let k = one_of is_other _ (Halted h) (refl, (refl, (refl, (refl, rows_other w.pending _)))) y.1 in absurd (cc))
+    let k = one_of is_other _ (Halted h) (refl, (refl, (refl, (refl, reservations_other w.pending _)))) y.1 in
+    absurd (cc))
     (first_or_rest _ _ (Halted h) x.1))
     (first_or_rest _ _ (Halted h) e)
 
@@ -96,7 +97,9 @@ unfolding allowed tests_of issue_tests is_other
 issue_faulted w e =
     ⊎_elim (λ x. let k = x.1 in absurd (cc))
     (λ x. ⊎_elim (λ y. y.0)
-    (λ y. let k = one_of is_other _ Faulted (refl, (refl, (refl, (refl, rows_other w.pending _)))) y.1 in absurd (cc))
+    (λ y.
+    let k = one_of is_other _ Faulted (refl, (refl, (refl, (refl, reservations_other w.pending _)))) y.1 in
+    absurd (cc))
     (first_or_rest _ _ Faulted x.1))
     (first_or_rest _ _ Faulted e)
 

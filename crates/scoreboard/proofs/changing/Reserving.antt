@@ -27,7 +27,8 @@ use Rattle.scoreboard.specs.declared.writers.Writers.{Writers}
 use Rattle.scoreboard.specs.Answers.{Standing, new_issued, reserve_answer, reserved}
 use Rattle.instructions.specs.Each.{Each, Pairs}
 use Rattle.scoreboard.specs.inner.Fields.{writers_with, is_taken, free_for}
-use Rattle.scoreboard.specs.Issued.{reservation_of, number_of, channel_of, written_by_channel, written_in, written_by, or_else}
+use Rattle.scoreboard.specs.Issued.{reservation_of, number_of, channel_of, written_by_channel, written_in, written_by}
+use Rattle.scoreboard.specs.Issued.{or_else}
 use Rattle.scoreboard.specs.Issued.{first_some, if_earlier, writer_of, writer_before}
 use Rattle.instructions.specs.Order.{sort_by, somes, IsSeated}
 use Rattle.scoreboard.specs.inner.View.{standing_of, seated, seat_in, seat_of, IsOther, IsOfKind, AreProducers}
