@@ -1,5 +1,6 @@
 -- What reading a line does to the reading of a deck.
-use Rattle.std.proofs.Common.{◌≡◌, ℕ, ◌+◌, ◌<◌, ◌≤◌, true, false, cond, ltb, List, [], ◌∷◌, length, Option, refl, sym}
+use Rattle.std.proofs.Common.{◌≡◌, ℕ, ◌+◌, ◌<◌, ◌≤◌, true, false, cond, ltb, List, [], ◌∷◌, length, Option, Ok, refl}
+use Rattle.std.proofs.Common.{sym}
 use Rattle.std.proofs.Common.{ap, ◌∙◌, ◌++◌, drop, subst, arith}
 use Rattle.std.proofs.lemmas.Bool.{lt-ltb, le-ltb}
 use Rattle.std.proofs.Math.Seq.{drop-append_seam}
@@ -7,9 +8,9 @@ use Rattle.device_text.specs.Device.{Moves}
 use Rattle.device_text.specs.Line.{IsText, LineTaken, left_after, lines_of}
 use Rattle.device_text.specs.declared.line.Took.TheVariants.{Whole, Long, Nothing}
 use Rattle.device_text.proofs.Moving.{Moves-weaker, Moves-trans}
-use Rattle.deck.specs.Deck.{Judged, Goes, Ends, Good, Bad, deck, read_all, read_from, read_on, judged_first}
+use Rattle.deck.specs.Deck.{Judgement, Good, Bad, deck, goes_on, read_all, read_from, read_on, judged_first}
 use Rattle.deck.specs.Deck.{judged_line}
-use Rattle.deck.specs.Views.{sketch, plan}
+use Rattle.deck.specs.declared.deck.Step.TheVariants.{Ends}
 use Rattle.deck.specs.Reading.{Refuses, GivesErr, FollowsErr}
 use Rattle.deck.specs.declared.deck.Draft.{Draft}
 use Rattle.deck.specs.declared.deck.Deck.{Deck}
@@ -70,7 +71,7 @@ first_refused a b e m =
     Moves-weaker a b (λ xs ys. Refuses 1 e xs ys (lines_of xs)) (λ xs ys. GivesErr e (deck xs) ys)
     (λ xs ys h. refused_first e xs ys (lines_of xs) h) m
 
-err_on : (n : ℕ) (e : DeckError) (j : Judged) (rest : List ℕ) (next : _) → FollowsErr n e j
+err_on : (n : ℕ) (e : DeckError) (j : Judgement) (rest : List ℕ) (next : _) → FollowsErr n e j
     → GivesErr e (read_on n j rest next) rest
 err_on n (errors.Deck m fault) j rest next h = rw (h.1, h.0) refl
 err_on n errors.OutOfMemory j rest next h = tt
@@ -91,24 +92,24 @@ first_err a b text e short m h = Moves-weaker a b (Taken text) (λ xs ys. GivesE
     (err_on 1 e (judged_first text) ys (λ s. read_from 2 s ys (lines_of ys)) h)) m
 
 pub first_goes : (a b : Option (List ℕ)) (text : List ℕ) (d : Draft) → length text ≤ 200 → Moves a b (Taken text)
-    → judged_first text ≡ Goes (sketch d) → Moves a b (λ xs ys. deck xs ≡ read_from 2 (sketch d) ys (lines_of ys))
+    → judged_first text ≡ goes_on d → Moves a b (λ xs ys. deck xs ≡ read_from 2 d ys (lines_of ys))
 first_goes a b text d short m h =
-    Moves-weaker a b (Taken text) (λ xs ys. deck xs ≡ read_from 2 (sketch d) ys (lines_of ys))
+    Moves-weaker a b (Taken text) (λ xs ys. deck xs ≡ read_from 2 d ys (lines_of ys))
     (λ xs ys t. first_on text xs ys short t ∙ ap (λ j. read_on 1 j ys (λ s. read_from 2 s ys (lines_of ys))) h) m
 
 pub first_ends : (a b : Option (List ℕ)) (text : List ℕ) (d : Deck) → length text ≤ 200 → Moves a b (Taken text)
-    → judged_first text ≡ Ends (plan d) → Moves a b (λ xs ys. deck xs ≡ Good (plan d) 1 ys)
-first_ends a b text d short m h = Moves-weaker a b (Taken text) (λ xs ys. deck xs ≡ Good (plan d) 1 ys)
+    → judged_first text ≡ Ok (Ends d) → Moves a b (λ xs ys. deck xs ≡ Good d 1 ys)
+first_ends a b text d short m h = Moves-weaker a b (Taken text) (λ xs ys. deck xs ≡ Good d 1 ys)
     (λ xs ys t. first_on text xs ys short t ∙ ap (λ j. read_on 1 j ys (λ s. read_from 2 s ys (lines_of ys))) h) m
 
 -- ---- a later line
 
--- reading all is reading on from line n with this sketch
+-- reading all is reading on from line n with this draft
 abbrev pub ReadsOn : ℕ → Draft → List ℕ → List ℕ → Type 0
-ReadsOn n d xs ys = deck xs ≡ read_from n (sketch d) ys (lines_of ys)
+ReadsOn n d xs ys = deck xs ≡ read_from n d ys (lines_of ys)
 
 refused_later : (n : ℕ) (d : Draft) (e : DeckError) (xs ys : List ℕ) (lines : List (List ℕ × List ℕ)) → n ≤ 10000000
-    → Refuses n e xs ys lines → GivesErr e (read_from n (sketch d) xs lines) ys
+    → Refuses n e xs ys lines → GivesErr e (read_from n d xs lines) ys
 refused_later n d (errors.Deck m fault) xs ys [] low h =
     let within : ltb 10000000 n ≡ false = le-ltb _ _ low in rw (within, h.0, h.1, h.2) refl
 refused_later n d (errors.Deck m fault) xs ys (line ∷ more) low h =
@@ -128,27 +129,27 @@ later_refused a b c n d e low told m =
 -- one line on
 line_on : (n : ℕ) (d : Draft) (text xs ys zs : List ℕ) → n ≤ 10000000 → length text ≤ 200 → ReadsOn n d xs ys
     → Taken text ys zs
-    → deck xs ≡ read_on n (judged_line (sketch d) text) zs (λ s. read_from (n + 1) s zs (lines_of zs))
+    → deck xs ≡ read_on n (judged_line d text) zs (λ s. read_from (n + 1) s zs (lines_of zs))
 line_on n d text xs ys zs low short p q =
     let within : ltb 10000000 n ≡ false = le-ltb _ _ low in
-    p ∙ ap (read_from n (sketch d) ys) q
+    p ∙ ap (read_from n d ys) q
     ∙ ap (λ b. cond b (Bad n faults.Lines ys)
-    (read_on n (judged_line (sketch d) text) (left_after ys (text, zs))
+    (read_on n (judged_line d text) (left_after ys (text, zs))
     (λ s. read_from (n + 1) s zs (lines_of zs)))) within
-    ∙ ap (λ rest. read_on n (judged_line (sketch d) text) rest (λ s. read_from (n + 1) s zs (lines_of zs)))
+    ∙ ap (λ rest. read_on n (judged_line d text) rest (λ s. read_from (n + 1) s zs (lines_of zs)))
     (left_short text ys zs short)
 
 pub later_err : (a b c : Option (List ℕ)) (n : ℕ) (d : Draft) (text : List ℕ) (e : DeckError) → n ≤ 10000000
     → length text ≤ 200 → Moves a b (ReadsOn n d) → Moves b c (Taken text)
-    → FollowsErr n e (judged_line (sketch d) text) → Moves a c (λ xs ys. GivesErr e (deck xs) ys)
+    → FollowsErr n e (judged_line d text) → Moves a c (λ xs ys. GivesErr e (deck xs) ys)
 later_err a b c n d text e low short told m h =
     Moves-trans a b c (ReadsOn n d) (Taken text) (λ xs ys. GivesErr e (deck xs) ys)
     (λ xs ys zs p q. subst (λ r. GivesErr e r zs) (sym (line_on n d text xs ys zs low short p q))
-    (err_on n e (judged_line (sketch d) text) zs (λ s. read_from (n + 1) s zs (lines_of zs)) h)) told m
+    (err_on n e (judged_line d text) zs (λ s. read_from (n + 1) s zs (lines_of zs)) h)) told m
 
 pub later_goes : (a b c : Option (List ℕ)) (n : ℕ) (d : Draft) (text : List ℕ) (next : Draft) → n ≤ 10000000
     → length text ≤ 200 → Moves a b (ReadsOn n d) → Moves b c (Taken text)
-    → judged_line (sketch d) text ≡ Goes (sketch next) → Moves a c (ReadsOn (n + 1) next)
+    → judged_line d text ≡ goes_on next → Moves a c (ReadsOn (n + 1) next)
 later_goes a b c n d text next low short told m h =
     Moves-trans a b c (ReadsOn n d) (Taken text) (ReadsOn (n + 1) next)
     (λ xs ys zs p q. line_on n d text xs ys zs low short p q
@@ -156,14 +157,14 @@ later_goes a b c n d text next low short told m h =
 
 pub later_ends : (a b c : Option (List ℕ)) (n : ℕ) (d : Draft) (text : List ℕ) (whole : Deck) → n ≤ 10000000
     → length text ≤ 200 → Moves a b (ReadsOn n d) → Moves b c (Taken text)
-    → judged_line (sketch d) text ≡ Ends (plan whole) → Moves a c (λ xs ys. deck xs ≡ Good (plan whole) n ys)
+    → judged_line d text ≡ Ok (Ends whole) → Moves a c (λ xs ys. deck xs ≡ Good whole n ys)
 later_ends a b c n d text whole low short told m h =
-    Moves-trans a b c (ReadsOn n d) (Taken text) (λ xs ys. deck xs ≡ Good (plan whole) n ys)
+    Moves-trans a b c (ReadsOn n d) (Taken text) (λ xs ys. deck xs ≡ Good whole n ys)
     (λ xs ys zs p q. line_on n d text xs ys zs low short p q
     ∙ ap (λ j. read_on n j zs (λ s. read_from (n + 1) s zs (lines_of zs))) h) told m
 
 all_read : (n : ℕ) (d : Draft) (bytes : List ℕ) (lines : List (List ℕ × List ℕ)) → 10000000 < n
-    → read_from n (sketch d) bytes lines ≡ Bad n faults.Lines bytes
+    → read_from n d bytes lines ≡ Bad n faults.Lines bytes
 all_read n d bytes [] h = let past : ltb 10000000 n ≡ true = lt-ltb _ _ h in rw past refl
 all_read n d bytes (line ∷ more) h = let past : ltb 10000000 n ≡ true = lt-ltb _ _ h in rw past refl
 

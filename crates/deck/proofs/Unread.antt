@@ -1,17 +1,17 @@
 -- How many bytes are after a deck of which not all was read.
 use Rattle.std.proofs.Common.{◌≡◌, ◌≢◌, ℕ, suc, ◌+◌, ◌≤◌, true, false, cond, eqb, Bool, not, ltb, List, [], ◌∷◌}
-use Rattle.std.proofs.Common.{◌++◌, length, drop, codes, Option, Err, refl, sym, subst, arith}
+use Rattle.std.proofs.Common.{◌++◌, length, drop, codes, Option, Ok, Err, refl, sym, subst, arith}
 use Rattle.std.proofs.lemmas.Bool.{ne_eqb}
 use Rattle.std.proofs.lemmas.List.Elements.{All-head, All-tail}
-use Rattle.deck.specs.Deck.{Reading, Bad, Judged, Goes, Ends, Faulty, Sketch, deck, read_all, read_from, read_on}
+use Rattle.deck.specs.Deck.{Reading, Bad, Judgement, deck, read_all, read_from, read_on}
 use Rattle.deck.specs.Deck.{begins_with, judged, judged_core, judged_line, refuse_if, said_in}
 use Rattle.device_text.specs.Device.{Moves}
 use Rattle.device_text.specs.Line.{IsText, ReadsPart, left_after, lines_of, onto}
 use Rattle.device_text.specs.Text.{fields_of}
 use Rattle.deck.specs.Reading.{EndsWithin, Refuses, is_cut, is_read}
-use Rattle.deck.specs.Views.{sketch}
 use Rattle.deck.specs.declared.deck.Deck.{Deck}
 use Rattle.deck.specs.declared.deck.Draft.{Draft}
+use Rattle.deck.specs.declared.deck.Step.TheVariants.{Goes, Ends}
 use Rattle.deck.specs.declared.deck.DeckError.{DeckError}
 use Rattle.deck.specs.declared.deck.DeckError.TheVariants as errors
 use Rattle.instructions.specs.declared.refusal.DeckFault.TheVariants as faults
@@ -46,20 +46,20 @@ after_part (b ∷ part) ys h =
     rw (ne_eqb b 10 (All-head (λ b. b ≢ 10) b part h))
     (after_onto (length ys) b (lines_of (part ++ ys)) (after_part part ys (All-tail (λ b. b ≢ 10) b part h)))
 
-on_within : (k n : ℕ) (j : Judged) (rest : List ℕ) (next : Sketch → Reading) → length rest ≤ k
-    → ((s : Sketch) → EndsWithin k (next s)) → EndsWithin k (read_on n j rest next)
-on_within k n (Goes s) rest next l h = h s
-on_within k n (Ends plan) rest next l h = l
-on_within k n (Faulty fault) rest next l h = tt
+on_within : (k n : ℕ) (j : Judgement) (rest : List ℕ) (next : Draft → Reading) → length rest ≤ k
+    → ((s : Draft) → EndsWithin k (next s)) → EndsWithin k (read_on n j rest next)
+on_within k n (Ok (Goes s)) rest next l h = h s
+on_within k n (Ok (Ends whole)) rest next l h = l
+on_within k n (Err fault) rest next l h = tt
 
 -- the same of a line that may be too long
-line_within : (k n : ℕ) (long : Bool) (j : Judged) (bytes rest : List ℕ) (next : Sketch → Reading) → length rest ≤ k
-    → ((s : Sketch) → EndsWithin k (next s))
+line_within : (k n : ℕ) (long : Bool) (j : Judgement) (bytes rest : List ℕ) (next : Draft → Reading) → length rest ≤ k
+    → ((s : Draft) → EndsWithin k (next s))
     → EndsWithin k (read_on n (refuse_if long faults.Long j) (cond long (drop 201 bytes) rest) next)
 line_within k n true j bytes rest next l h = tt
 line_within k n false j bytes rest next l h = on_within k n j rest next l h
 
-from_within : (k n : ℕ) (s : Sketch) (bytes : List ℕ) (lines : List (List ℕ × List ℕ)) → Behind k lines
+from_within : (k n : ℕ) (s : Draft) (bytes : List ℕ) (lines : List (List ℕ × List ℕ)) → Behind k lines
     → EndsWithin k (read_from n s bytes lines)
 from_within k n s bytes [] h = tt
 from_within k n s bytes (line ∷ lines) h =
@@ -112,12 +112,12 @@ later_cut a b c n d errors.OutOfMemory told refused part h =
 later_cut a b c n d errors.Read told refused part h =
     Moves-trans a b c (ReadsOn n d) ReadsPart Unread (λ xs ys zs p q.
     subst (EndsWithin (length zs)) (sym p)
-    (from_within (length zs) n (sketch d) ys (lines_of ys) (rw q.2 (after_part q.0 zs q.1)))) told (part refl)
+    (from_within (length zs) n d ys (lines_of ys) (rw q.2 (after_part q.0 zs q.1)))) told (part refl)
 
 pub later_taken : (a b c : Option (List ℕ)) (n : ℕ) (d : Draft) (text : List ℕ) → Moves a b (ReadsOn n d)
     → Moves b c (Taken text) → Moves a c Unread
 later_taken a b c n d text told taken =
     Moves-trans a b c (ReadsOn n d) (Taken text) Unread (λ xs ys zs p q.
     subst (EndsWithin (length zs)) (sym p)
-    (from_within (length zs) n (sketch d) ys (lines_of ys)
+    (from_within (length zs) n d ys (lines_of ys)
     (subst (Behind (length zs)) (sym q) (omega arith, after_lines zs)))) told taken

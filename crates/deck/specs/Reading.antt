@@ -1,11 +1,11 @@
 -- What reading a deck answers.
 -- Source: ours.
 use Rattle.std.specs.Prelude.{◌≡◌, ℕ, ◌<◌, ◌≤◌, List, [], ◌∷◌, length, drop, Bool, true, false, Result, Ok, Err, ⊤}
-use Rattle.deck.specs.Deck.{Reading, Good, Bad, Judged, Goes, Ends, Faulty}
-use Rattle.deck.specs.Views.{plan, sketch}
+use Rattle.deck.specs.Deck.{Judgement, Reading, Good, Bad}
 use Rattle.deck.specs.declared.deck.Deck.{Deck}
 use Rattle.deck.specs.declared.deck.Step.{Step}
-use Rattle.deck.specs.declared.deck.Step.TheVariants as steps
+use Rattle.deck.specs.declared.deck.LineError.{LineError}
+use Rattle.deck.specs.declared.deck.LineError.TheVariants as line_errors
 use Rattle.instructions.specs.declared.refusal.DeckFault.TheVariants as faults
 use Rattle.instructions.specs.declared.refusal.Refusal.{Refusal}
 use Rattle.instructions.specs.declared.refusal.Refusal.TheVariants as refusals
@@ -20,12 +20,12 @@ GivesErr errors.Read reading rest = ⊤
 
 -- an `Ok` is the deck, with the number of its `end` line, and leaves the bytes after it
 abbrev pub Gives : Result (Deck × ℕ) DeckError → Reading → List ℕ → Type 0
-Gives (Ok found) reading rest = reading ≡ Good (plan found.0) found.1 rest
+Gives (Ok found) reading rest = reading ≡ Good found.0 found.1 rest
 Gives (Err e) reading rest = GivesErr e reading rest
 
 -- the same with a refusal in place of the error; of the refusals only these three come
 abbrev pub GivesDeck : Result Deck Refusal → Reading → List ℕ → Type 0
-GivesDeck (Ok deck) reading rest = (n : ℕ) × (reading ≡ Good (plan deck) n rest)
+GivesDeck (Ok deck) reading rest = (n : ℕ) × (reading ≡ Good deck n rest)
 GivesDeck (Err (refusals.Deck n fault)) reading rest = reading ≡ Bad n fault rest
 GivesDeck (Err refusals.OutOfMemory) reading rest = ⊤
 GivesDeck (Err refusals.Read) reading rest = ⊤
@@ -40,16 +40,25 @@ Refuses n (errors.Deck m fault) xs ys (line ∷ more) =
 Refuses n errors.OutOfMemory xs ys lines = ⊥
 Refuses n errors.Read xs ys lines = ⊤
 
+-- a fault is the one that the line has; nothing is claimed where memory ran out
+abbrev pub AnswersErr : LineError → Judgement → Type 0
+AnswersErr (line_errors.Faulty fault) judged = judged ≡ Err fault
+AnswersErr line_errors.OutOfMemory judged = ⊤
+
+-- the answer for a line is what the line does to a deck, unless memory ran out
+abbrev pub Answers : Result Step LineError → Judgement → Type 0
+Answers (Ok step) judged = judged ≡ Ok step
+Answers (Err e) judged = AnswersErr e judged
+
 -- what line n does to a deck, unless memory ran out
-abbrev pub FollowsErr : ℕ → DeckError → Judged → Type 0
-FollowsErr n (errors.Deck m fault) judged = (m ≡ n) × (judged ≡ Faulty fault)
+abbrev pub FollowsErr : ℕ → DeckError → Judgement → Type 0
+FollowsErr n (errors.Deck m fault) judged = (m ≡ n) × (judged ≡ Err fault)
 FollowsErr n errors.OutOfMemory judged = ⊤
 FollowsErr n errors.Read judged = ⊥
 
 -- the answer for line n is what the line does to a deck, unless memory ran out
-abbrev pub Follows : ℕ → Result Step DeckError → Judged → Type 0
-Follows n (Ok (steps.Goes d)) judged = judged ≡ Goes (sketch d)
-Follows n (Ok (steps.Ends d)) judged = judged ≡ Ends (plan d)
+abbrev pub Follows : ℕ → Result Step DeckError → Judgement → Type 0
+Follows n (Ok step) judged = judged ≡ Ok step
 Follows n (Err e) judged = FollowsErr n e judged
 
 -- the refusal says the same as the error
@@ -60,7 +69,7 @@ GivesRefusal errors.Read refusal = refusal ≡ refusals.Read
 
 -- the bytes after the deck, where it has an end, are at most so many
 abbrev pub EndsWithin : ℕ → Reading → Type 0
-EndsWithin k (Good plan n after) = length after ≤ k
+EndsWithin k (Good deck n after) = length after ≤ k
 EndsWithin k (Bad n fault rest) = ⊤
 
 -- whether neither the deck nor a fault of it was found

@@ -1,4 +1,5 @@
 use crate::Image;
+use crate::listed::Listed;
 use instruction_table::DeckFault;
 use word60::Word18;
 
@@ -24,9 +25,9 @@ pub struct Ask {
 pub struct Deck {
     pub image: Image,
     pub start: u32,
-    pub asks: Vec<Ask>,
-    pub free: Vec<u32>,
-    pub shows: Vec<Show>,
+    pub asks: Listed<Ask>,
+    pub free: Listed<u32>,
+    pub shows: Listed<Show>,
 }
 
 /// A deck whose `end` line hasn't come.
@@ -36,9 +37,9 @@ pub struct Draft {
     /// Where the next word goes.
     pub place: u32,
     pub start: Option<u32>,
-    pub asks: Vec<Ask>,
-    pub free: Vec<u32>,
-    pub shows: Vec<Show>,
+    pub asks: Listed<Ask>,
+    pub free: Listed<u32>,
+    pub shows: Listed<Show>,
 }
 
 /// How a deck goes on after a line.

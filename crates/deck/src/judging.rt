@@ -1,13 +1,14 @@
-ghost use Rattle.std.specs.Prelude.{◌≡◌, ◌≤◌, ℕ, List, [], length, vec_len, MatchOption};
-ghost use Rattle.deck.specs.Deck.{judged, judged_core, judged_first, judged_line, SaysCore, SaysAt, SaysWord, SaysCode};
-ghost use Rattle.deck.specs.Deck.{SaysStart, SaysShow, SaysAsk, SaysFree, SaysEnd};
-ghost use Rattle.deck.specs.Deck.{Sketch, Goes, Faulty, with_request};
+ghost use Rattle.std.specs.Prelude.{◌≡◌, ◌≤◌, ℕ, List, Err, length, MatchOption};
+ghost use Rattle.deck.specs.Deck.{goes_on, judged, judged_core, judged_first, judged_line, with_request};
+ghost use Rattle.deck.specs.declared.deck.Draft.{Draft as SomeDraft};
+ghost use Rattle.deck.specs.declared.parsing.Line.TheVariants as says;
 ghost use Rattle.deck.specs.inner.Said.{said};
-ghost use Rattle.deck.specs.Views.{sketch, Answers};
+ghost use Rattle.deck.specs.Reading.{Answers};
 
 use crate::Image;
 use crate::coding::{parcels_in, word_of};
 use crate::deck::{Ask, Deck, Draft, LineError, Show, Step};
+use crate::listed::Listed;
 use crate::parsing::{Line, parse_line};
 use device_text::{first_field, number};
 use instruction_table::DeckFault;
@@ -28,7 +29,7 @@ const MOST_ISSUES: u64 = 10_000_000;
 const PARCELS: usize = 4;
 
 /// A `core` line as the first line.
-fn core_line(alloc: Global, line: Line<'_>) -> Result<Step, LineError>
+fn core_line(alloc: Global, line: Line<&[u8]>) -> Result<Step, LineError>
     ensures { Answers result (judged_core (said line.entry)) }
 {
     let Line::Core(size) = line else {
@@ -48,15 +49,15 @@ fn core_line(alloc: Global, line: Line<'_>) -> Result<Step, LineError>
         image,
         place: 0,
         start: None,
-        asks: Vec::new(alloc),
-        free: Vec::new(alloc),
-        shows: Vec::new(alloc),
+        asks: Listed::new(alloc),
+        free: Listed::new(alloc),
+        shows: Listed::new(alloc),
     }))
 }
 
 /// Another `core` line.
 fn core_again(draft: Draft, size: &[u8]) -> Result<Step, LineError>
-    ensures { Answers result (judged (sketch draft) (SaysCore size.now)) }
+    ensures { Answers result (judged draft (says.Core size.now)) }
 {
     Err(LineError::Faulty(match number(10, 6, size) {
         None => DeckFault::Number,
@@ -67,7 +68,7 @@ fn core_again(draft: Draft, size: &[u8]) -> Result<Step, LineError>
 
 /// An `at` line.
 fn at_line(mut draft: Draft, address: &[u8]) -> Result<Step, LineError>
-    ensures { Answers result (judged (sketch draft) (SaysAt address.now)) }
+    ensures { Answers result (judged draft (says.At address.now)) }
 {
     let Some(address) = number(8, 6, address) else {
         return Err(LineError::Faulty(DeckFault::Number));
@@ -82,7 +83,7 @@ fn at_line(mut draft: Draft, address: &[u8]) -> Result<Step, LineError>
 
 /// A `word` line.
 fn word_line(mut draft: Draft, value: &[u8]) -> Result<Step, LineError>
-    ensures { Answers result (judged (sketch draft) (SaysWord value.now)) }
+    ensures { Answers result (judged draft (says.Word value.now)) }
 {
     let Some(word) = Word60::from_octal(value) else {
         return Err(LineError::Faulty(DeckFault::Number));
@@ -98,7 +99,7 @@ fn word_line(mut draft: Draft, value: &[u8]) -> Result<Step, LineError>
 /// A `code` line.
 fn code_line(mut draft: Draft, texts: &[u8]) -> Result<Step, LineError>
     requires { length texts.now ≤ 200 }
-    ensures { Answers result (judged (sketch draft) (SaysCode texts.now)) }
+    ensures { Answers result (judged draft (says.Code texts.now)) }
 {
     if draft.place >= draft.image.size() {
         return Err(LineError::Faulty(DeckFault::Range));
@@ -116,7 +117,7 @@ fn code_line(mut draft: Draft, texts: &[u8]) -> Result<Step, LineError>
 
 /// A `start` line.
 fn start_line(mut draft: Draft, address: &[u8]) -> Result<Step, LineError>
-    ensures { Answers result (judged (sketch draft) (SaysStart address.now)) }
+    ensures { Answers result (judged draft (says.Start address.now)) }
 {
     let Some(address) = number(8, 6, address) else {
         return Err(LineError::Faulty(DeckFault::Number));
@@ -134,7 +135,7 @@ fn start_line(mut draft: Draft, address: &[u8]) -> Result<Step, LineError>
 
 /// A `show` line.
 fn show_line(mut draft: Draft, first: &[u8], last: &[u8]) -> Result<Step, LineError>
-    ensures { Answers result (judged (sketch draft) (SaysShow first.now last.now)) }
+    ensures { Answers result (judged draft (says.Show first.now last.now)) }
 {
     let Some(first) = number(8, 6, first) else {
         return Err(LineError::Faulty(DeckFault::Number));
@@ -160,10 +161,10 @@ fn show_line(mut draft: Draft, first: &[u8], last: &[u8]) -> Result<Step, LineEr
 
 /// Why a deck can't have one more request, for the package at an absolute address.
 fn request_fault(draft: &Draft, at: u32) -> Option<DeckFault>
-    ensures { MatchOption result ((next : Sketch) → with_request (sketch draft.now) at next ≡ Goes next)
-        (λ fault. (next : Sketch) → with_request (sketch draft.now) at next ≡ Faulty fault) }
+    ensures { MatchOption result ((next : SomeDraft) → with_request draft.now at next ≡ goes_on next)
+        (λ fault. (next : SomeDraft) → with_request draft.now at next ≡ Err fault) }
 {
-    if draft.asks.len() + draft.free.len() >= ASKS {
+    if draft.asks.len().saturating_add(draft.free.len()) >= ASKS {
         return Some(DeckFault::Many);
     }
     if !package_fits(at, draft.image.size()) {
@@ -174,7 +175,7 @@ fn request_fault(draft: &Draft, at: u32) -> Option<DeckFault>
 
 /// A line `ask N after K`.
 fn ask_line(mut draft: Draft, address: &[u8], count: &[u8]) -> Result<Step, LineError>
-    ensures { Answers result (judged (sketch draft) (SaysAsk address.now count.now)) }
+    ensures { Answers result (judged draft (says.Ask address.now count.now)) }
 {
     let Some(address) = number(8, 6, address) else {
         return Err(LineError::Faulty(DeckFault::Number));
@@ -201,7 +202,7 @@ fn ask_line(mut draft: Draft, address: &[u8], count: &[u8]) -> Result<Step, Line
 
 /// A line `ask N free`.
 fn free_line(mut draft: Draft, address: &[u8]) -> Result<Step, LineError>
-    ensures { Answers result (judged (sketch draft) (SaysFree address.now)) }
+    ensures { Answers result (judged draft (says.AskFree address.now)) }
 {
     let Some(address) = number(8, 6, address) else {
         return Err(LineError::Faulty(DeckFault::Number));
@@ -218,7 +219,7 @@ fn free_line(mut draft: Draft, address: &[u8]) -> Result<Step, LineError>
 
 /// An `end` line.
 fn end_line(draft: Draft) -> Result<Step, LineError>
-    ensures { Answers result (judged (sketch draft) SaysEnd) }
+    ensures { Answers result (judged draft says.End) }
 {
     let Draft {
         image,
@@ -243,7 +244,7 @@ fn end_line(draft: Draft) -> Result<Step, LineError>
 /// What a later line of at most 200 bytes does to a deck.
 pub fn judge(draft: Draft, text: &[u8]) -> Result<Step, LineError>
     requires { length text.now ≤ 200 }
-    ensures { Answers result (judged_line (sketch draft) text.now) }
+    ensures { Answers result (judged_line draft text.now) }
 {
     match parse_line(text) {
         Line::Core(size) => core_again(draft, size),

@@ -6,9 +6,11 @@ mod coding;
 mod deck;
 mod image;
 mod judging;
+mod listed;
 mod parsing;
 mod reading;
 
 pub use deck::{Ask, Deck, DeckError, Show};
 pub use image::Image;
+pub use listed::Listed;
 pub use reading::{read_deck, read_deck_from, refusal};

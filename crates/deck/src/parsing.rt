@@ -6,26 +6,33 @@ ghost use Rattle.deck.specs.inner.Said.{said};
 
 use device_text::{first_field, place_of};
 
-/// A line by its fields.
+/// A line by its fields, which are slices of the line; definitions have lists of bytes in their place.
 #[derive(Clone, Copy)]
-pub enum Line<'a> {
-    Core(&'a [u8]),
-    At(&'a [u8]),
-    Word(&'a [u8]),
-    /// What follows the word `code`: instruction texts, each with the space before it.
-    Code(&'a [u8]),
-    Start(&'a [u8]),
-    Show(&'a [u8], &'a [u8]),
-    /// The address of the package, and how many instructions are issued before it is asked for.
-    Ask(&'a [u8], &'a [u8]),
-    /// The address of the package that is asked for at any time.
-    AskFree(&'a [u8]),
+pub enum Line<Field> {
+    /// `core W`.
+    Core(Field),
+    /// `at A`.
+    At(Field),
+    /// `word V`.
+    Word(Field),
+    /// `code T; T`: what follows the word `code`, which is instruction texts, each with the space before it.
+    Code(Field),
+    /// `start N`.
+    Start(Field),
+    /// `show A B`.
+    Show(Field, Field),
+    /// `ask N after K`: the address of the package, and how many instructions are issued before it is asked for.
+    Ask(Field, Field),
+    /// `ask N free`: the address of the package that is asked for at any time.
+    AskFree(Field),
+    /// `end`.
     End,
+    /// Any other line.
     Unknown,
 }
 
 /// What a line says that begins with the word `code`.
-fn code_line(text: &[u8]) -> Line<'_>
+fn code_line(text: &[u8]) -> Line<&[u8]>
     ensures { said result ≡ said_code (from_space text.now) }
 {
     match place_of(text, b' ') {
@@ -36,7 +43,7 @@ fn code_line(text: &[u8]) -> Line<'_>
 
 /// What a line of four fields or more says.
 #[tactic(auto, using(crate::proofs::Fields::too_many))]
-fn line_of_four<'a>(word: &[u8], first: &'a [u8], second: &[u8], rest: &'a [u8]) -> Line<'a>
+fn line_of_four<'a>(word: &[u8], first: &'a [u8], second: &[u8], rest: &'a [u8]) -> Line<&'a [u8]>
     ensures { said result ≡ said_of (word.now ∷ first.now ∷ second.now ∷ fields_of rest.now) }
 {
     let (third, rest) = first_field(rest);
@@ -51,7 +58,7 @@ fn line_of_four<'a>(word: &[u8], first: &'a [u8], second: &[u8], rest: &'a [u8])
 }
 
 /// What a line says that begins with another word.
-fn line_of_fields<'a>(word: &[u8], rest: Option<&'a [u8]>) -> Line<'a>
+fn line_of_fields<'a>(word: &[u8], rest: Option<&'a [u8]>) -> Line<&'a [u8]>
     ensures { said result ≡ said_of (word.now ∷ other_parts 32 rest.entry) }
 {
     let Some(rest) = rest else {
@@ -89,7 +96,7 @@ fn line_of_fields<'a>(word: &[u8], rest: Option<&'a [u8]>) -> Line<'a>
 }
 
 /// What a line says.
-pub fn parse_line(text: &[u8]) -> Line<'_>
+pub fn parse_line(text: &[u8]) -> Line<&[u8]>
     ensures { said result ≡ said_in text.now }
 {
     let (word, rest) = first_field(text);

@@ -1,9 +1,9 @@
 ghost use Rattle.std.specs.Prelude.{◌≡◌, ◌||◌, ◌≤◌, ◌∷◌, ℕ, List, length, false, true, OnOk, IfOk, IfErr};
 ghost use Rattle.device_text.specs.Device.{Moves};
-ghost use Rattle.deck.specs.Deck.{deck, Judged};
+ghost use Rattle.deck.specs.Deck.{deck, Judgement};
 ghost use Rattle.device_text.specs.Line.{ReadsPart, lines_of};
-ghost use Rattle.deck.specs.Views.{Answers};
-ghost use Rattle.deck.specs.Reading.{EndsWithin, Gives, GivesDeck, GivesRefusal, Refuses, Follows, is_cut, is_read};
+ghost use Rattle.deck.specs.Reading.{Answers, EndsWithin, Follows, Gives, GivesDeck, GivesRefusal, Refuses};
+ghost use Rattle.deck.specs.Reading.{is_cut, is_read};
 
 use crate::deck::{Deck, DeckError, LineError, Step};
 use crate::judging::{judge, judge_first};
@@ -44,7 +44,7 @@ fn next_line<I: Input>(
 
 /// The step, or the error of line `number`.
 fn located(number: u32, step: Result<Step, LineError>) -> Result<Step, DeckError>
-    ensures follows { (judged : Judged) → Answers step judged → Follows number result judged }
+    ensures follows { (judged : Judgement) → Answers step judged → Follows number result judged }
     ensures read { is_read result ≡ false }
 {
     match step {

@@ -12,6 +12,7 @@ use Rattle.sequential.specs.declared.log.Entry.TheVariants as entries
 use Rattle.sequential.specs.declared.place.Place.{Place}
 use Rattle.sequential.specs.declared.state.State.{State}
 use Rattle.device_text.specs.Pieces.{reason_text, trimmed}
+use Rattle.deck.specs.declared.deck.Show.{Show}
 
 -- the held word in twenty digits, or `none` where it isn't fetched yet
 abbrev pub held_text : Option ℕ → List ℕ
@@ -73,8 +74,8 @@ word_line memory a =
     concat (codes "M " ∷ octal_text 6 a ∷ codes " " ∷ octal_text 20 (slice_index_or memory a 0) ∷ codes "\n" ∷ [])
 
 -- the words from the first to the last, both shown
-abbrev pub show_lines : List ℕ → ℕ × ℕ → List ℕ
-show_lines memory show = flat_map (word_line memory) (addresses (show.1 + 1 - show.0) show.0)
+abbrev pub show_lines : List ℕ → Show → List ℕ
+show_lines memory show = flat_map (word_line memory) (addresses (show.last + 1 - show.first) show.first)
 
 -- an entry of the log with a space before it: `E` and octal digits, or `I` and decimal digits
 abbrev pub spaced_entry : Entry → List ℕ
@@ -91,6 +92,6 @@ abbrev pub log_line : List Entry → List ℕ
 log_line log = concat (codes "LOG" ∷ log_text log ∷ codes "\n" ∷ [])
 
 -- the state, the words of each `show` line, and the log
-unfoldable pub dump_text : State → List Entry → List (ℕ × ℕ) → List ℕ
+unfoldable pub dump_text : State → List Entry → List Show → List ℕ
 dump_text s log shows =
     concat (state_lines s ∷ register_lines s.registers ∷ flat_map (show_lines s.memory) shows ∷ log_line log ∷ [])

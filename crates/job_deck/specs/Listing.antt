@@ -67,12 +67,12 @@ listing image = flat_map (listed image) (addresses (length image.memory) 0)
 
 -- what listing a deck answers, reads and writes: its listing, or at a failed write a beginning of it; else nothing
 abbrev pub Lists : Result (Unit {0}) Refusal → Reading → List ℕ → Option (List ℕ) → Option (List ℕ) → Type 0
-Lists (Ok x) (Good plan n after) rest old new = (rest ≡ after) × Appends old new (listing plan.image)
+Lists (Ok x) (Good deck n after) rest old new = (rest ≡ after) × Appends old new (listing deck.image)
 Lists (Ok x) (Bad n fault after) rest old new = ⊥
 Lists (Err (refusals.Deck m fault)) reading rest old new = (reading ≡ Bad m fault rest) × Keeps old new
 Lists (Err refusals.OutOfMemory) reading rest old new = Keeps old new
 Lists (Err refusals.Read) reading rest old new = Keeps old new
-Lists (Err refusals.Write) (Good plan n after) rest old new = (rest ≡ after) × WritesFront old new (listing plan.image)
+Lists (Err refusals.Write) (Good deck n after) rest old new = (rest ≡ after) × WritesFront old new (listing deck.image)
 Lists (Err refusals.Write) (Bad n fault after) rest old new = ⊥
 Lists (Err other) reading rest old new = ⊥
 

@@ -7,7 +7,9 @@ use Rattle.instructions.specs.declared.refusal.Refusal.TheVariants as refusals
 use Rattle.sequential.specs.declared.state.State.{State}
 use Rattle.sequential.specs.Log.{entries_of}
 use Rattle.sequential.specs.Replay.{LogStep, boot, replay}
-use Rattle.deck.specs.Deck.{Plan, Reading, Good, Bad}
+use Rattle.deck.specs.Deck.{Reading, Good, Bad}
+use Rattle.deck.specs.declared.deck.Deck.{Deck}
+use Rattle.deck.specs.declared.deck.Show.{Show}
 use Rattle.device_text.specs.Device.{WritesFront}
 use Rattle.job_deck.specs.Dump.{dump_text}
 use Rattle.job_deck.specs.LogText.{log_in}
@@ -32,11 +34,11 @@ replayed_steps memory None = BadLog
 replayed_steps memory (Some steps) = reached steps (replay (boot memory) steps)
 
 -- the machine that was booted with the deck's memory goes through the log of this text
-abbrev pub replayed : Plan → List ℕ → Replayed
-replayed plan text = replayed_steps plan.image.memory (log_in text)
+abbrev pub replayed : Deck → List ℕ → Replayed
+replayed deck text = replayed_steps deck.image.memory (log_in text)
 
 -- the dump of the state that is reached, or at a failed write a beginning of it; else nothing
-abbrev pub Prints : Result (Option State) Refusal → Replayed → List (ℕ × ℕ) → Option (List ℕ) → Option (List ℕ) → Type 0
+abbrev pub Prints : Result (Option State) Refusal → Replayed → List Show → Option (List ℕ) → Option (List ℕ) → Type 0
 Prints (Ok None) BadLog shows old new = Keeps old new
 Prints (Ok (Some s)) (Reaches state steps) shows old new =
     (s ≡ state) × Appends old new (dump_text state (entries_of steps) shows)
@@ -52,6 +54,6 @@ abbrev pub Replays : Result (Option State) Refusal → Reading → List ℕ → 
 Replays (Err (refusals.Deck m fault)) reading rest text old new = (reading ≡ Bad m fault rest) × Keeps old new
 Replays (Err refusals.Read) reading rest text old new = Keeps old new
 Replays (Err refusals.OutOfMemory) reading rest text old new = Keeps old new
-Replays result (Good plan n after) rest text old new =
-    (rest ≡ after) × Prints result (replayed plan text) plan.shows old new
+Replays result (Good deck n after) rest text old new =
+    (rest ≡ after) × Prints result (replayed deck text) deck.shows old new
 Replays result (Bad n fault after) rest text old new = ⊥

@@ -11,6 +11,7 @@ use Rattle.program_order.specs.Run.{IsAnswer, IsAnswered, settled_all}
 use Rattle.in_flight.specs.Lookup.{is_pending}
 use Rattle.program_order.specs.Processor.{Processor, replayed}
 use Rattle.program_order.specs.Working.{Works}
+use Rattle.deck.specs.declared.deck.Show.{Show}
 use Rattle.job_deck.specs.AnswerText.{answer_line}
 use Rattle.job_deck.specs.Dump.{dump_text, log_line}
 use Rattle.job_deck.specs.Schedule.{heard}
@@ -49,7 +50,7 @@ pub record Session (IsLed : List Event → List (Result Done Refusal) → Proces
   pub written : text ≡ flat_map answer_line answers
 
 -- the dump of a drained machine, whose state is the replay of its log
-pub record IsDump (w : Processor) (shows : List (ℕ × ℕ)) (text : List ℕ) : Type 0 where
+pub record IsDump (w : Processor) (shows : List Show) (text : List ℕ) : Type 0 where
   -- no issued instruction has an effect still to come
   pub drained : is_pending w.pending ≡ false
   -- the machine that does one instruction at a time comes from boot to this state by the log
@@ -64,7 +65,7 @@ not_drained_text w = concat (codes "NOT DRAINED\n" ∷ log_line (entries_of w.lo
 -- what may be written for what a line says: an answer's line; at `end` the dump, or that the machine isn't drained; at
 -- `drain` the dump of the machine to which at most forty accepted events lead, none of them an issue, a request or an
 -- exchange, and to which so many such events more lead from wherever the first machine was reached
-abbrev pub IsReply : Spoken → Processor → List (ℕ × ℕ) → List ℕ → Type 0
+abbrev pub IsReply : Spoken → Processor → List Show → List ℕ → Type 0
 IsReply (Makes e) w shows text = (answer : Result Done Refusal) × IsAnswer w e answer × (text ≡ answer_line answer)
 IsReply Ends w shows text = IsDump w shows text ⊎ ((is_pending w.pending ≡ true) × (text ≡ not_drained_text w))
 IsReply Drains w shows text =

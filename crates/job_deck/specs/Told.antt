@@ -8,7 +8,9 @@ use Rattle.program_order.specs.declared.event.Done.{Done}
 use Rattle.program_order.specs.declared.event.Event.{Event}
 use Rattle.program_order.specs.Reached.{IsReached}
 use Rattle.program_order.specs.Processor.{Processor, boot_processor}
-use Rattle.deck.specs.Deck.{Plan, Reading, Good, Bad}
+use Rattle.deck.specs.Deck.{Reading, Good, Bad}
+use Rattle.deck.specs.declared.deck.Deck.{Deck}
+use Rattle.deck.specs.declared.deck.Show.{Show}
 use Rattle.device_text.specs.Line.{IsText, lines_of}
 use Rattle.job_deck.specs.Schedule.{heard, left_heard}
 use Rattle.job_deck.specs.Session.{IsLast, IsReply, Session}
@@ -38,7 +40,7 @@ WritesCut old new text last =
 -- answers and the machine so far
 abbrev pub Tells : Result (Unit {0}) SessionError → (List Event → List (Result Done Refusal) → Processor → Type 0)
     → Processor
-    → ℕ → List (ℕ × ℕ) → List ℕ → List ℕ → Option (List ℕ) → Option (List ℕ) → Type 0
+    → ℕ → List Show → List ℕ → List ℕ → Option (List ℕ) → Option (List ℕ) → Type 0
 Tells (Ok x) IsLed w n shows xs rest old new =
     (s : Session IsLed w n (lines_of xs)) × (text : List ℕ) × IsLast (heard s.number s.left)
     × IsReply (heard s.number s.left) s.machine shows text × IsTaken s.left rest × Appends old new (s.text ++ text)
@@ -61,28 +63,28 @@ HasNotBegun after rest old new = (length after ≤ length rest) × Keeps old new
 
 -- the session of the machine that was booted with the deck's memory, from the line after the deck on: the events that
 -- its lines said, with the answers that were printed, lead from boot to its machine
-abbrev pub TellsFromBoot : Result (Unit {0}) SessionError → ℕ → Plan → ℕ → List ℕ → List ℕ → Option (List ℕ)
+abbrev pub TellsFromBoot : Result (Unit {0}) SessionError → ℕ → Deck → ℕ → List ℕ → List ℕ → Option (List ℕ)
     → Option (List ℕ) → Type 0
-TellsFromBoot result budget plan n after rest old new =
-    Tells result (IsReached plan.image.memory budget) (boot_processor plan.image.memory budget) (n + 1) plan.shows
+TellsFromBoot result budget deck n after rest old new =
+    Tells result (IsReached deck.image.memory budget) (boot_processor deck.image.memory budget) (n + 1) deck.shows
     after rest
     old new
 
 -- the same of a deck with its schedule; memory may run out and a read may fail before the session begins
 abbrev pub Performs : Result (Unit {0}) Refusal → ℕ → Reading → List ℕ → Option (List ℕ) → Option (List ℕ) → Type 0
-Performs (Ok x) budget (Good plan n after) rest old new = TellsFromBoot (Ok x) budget plan n after rest old new
+Performs (Ok x) budget (Good deck n after) rest old new = TellsFromBoot (Ok x) budget deck n after rest old new
 Performs (Ok x) budget (Bad n fault after) rest old new = ⊥
-Performs (Err (refusals.Deck m fault)) budget (Good plan n after) rest old new =
-    TellsFromBoot (Err (errors.Line m fault)) budget plan n after rest old new
+Performs (Err (refusals.Deck m fault)) budget (Good deck n after) rest old new =
+    TellsFromBoot (Err (errors.Line m fault)) budget deck n after rest old new
 Performs (Err (refusals.Deck m fault)) budget (Bad n other after) rest old new =
     (m ≡ n) × (fault ≡ other) × (rest ≡ after) × Keeps old new
-Performs (Err refusals.OutOfMemory) budget (Good plan n after) rest old new =
-    HasNotBegun after rest old new ⊎ TellsFromBoot (Err errors.OutOfMemory) budget plan n after rest old new
+Performs (Err refusals.OutOfMemory) budget (Good deck n after) rest old new =
+    HasNotBegun after rest old new ⊎ TellsFromBoot (Err errors.OutOfMemory) budget deck n after rest old new
 Performs (Err refusals.OutOfMemory) budget (Bad n fault after) rest old new = Keeps old new
-Performs (Err refusals.Read) budget (Good plan n after) rest old new =
-    HasNotBegun after rest old new ⊎ TellsFromBoot (Err errors.Read) budget plan n after rest old new
+Performs (Err refusals.Read) budget (Good deck n after) rest old new =
+    HasNotBegun after rest old new ⊎ TellsFromBoot (Err errors.Read) budget deck n after rest old new
 Performs (Err refusals.Read) budget (Bad n fault after) rest old new = Keeps old new
-Performs (Err refusals.Write) budget (Good plan n after) rest old new =
-    TellsFromBoot (Err errors.Write) budget plan n after rest old new
+Performs (Err refusals.Write) budget (Good deck n after) rest old new =
+    TellsFromBoot (Err errors.Write) budget deck n after rest old new
 Performs (Err refusals.Write) budget (Bad n fault after) rest old new = ⊥
 Performs (Err other) budget reading rest old new = ⊥

@@ -1,11 +1,10 @@
-ghost use Rattle.std.specs.Prelude.{◌≡◌, ◌<◌, ◌≤◌, ◌∷◌, List, map, length, slice_index_or, OnOk, OnErr, Err, false};
+ghost use Rattle.std.specs.Prelude.{◌≡◌, ◌<◌, ◌≤◌, ◌∷◌, List, length, slice_index_or, OnOk, OnErr, Err, false};
 ghost use Rattle.std.specs.List.{flat_map};
 ghost use Rattle.device_text.specs.Device.{Writes, failed_after};
 ghost use Rattle.job_deck.specs.Dump.{held_text, place_line, halt_text, fault_text, area_line, spaced_index};
 ghost use Rattle.job_deck.specs.Dump.{index_line, x_line, x_lines, state_lines, register_lines, word_line, show_lines};
 ghost use Rattle.job_deck.specs.Dump.{log_text, log_line, spaced_entry, dump_text};
 ghost use Rattle.device_text.specs.Pieces.{text_of, text_of_all};
-ghost use Rattle.deck.specs.Views.{shown_of, shown};
 ghost use Rattle.instructions.specs.declared.refusal.Refusal.TheVariants.{Write as WriteRefusal};
 ghost use Rattle.sequential.specs.Log.{entries_of};
 
@@ -191,7 +190,7 @@ fn word_line(memory: &Storage, address: Word18) -> [Piece<'static>; 5]
 /// Writes the words of a `show` line.
 fn put_show<O: Output>(output: &mut O, memory: &Storage, show: Show) -> Result<(), WriteFailed>
     ensures written { Writes result (O.contents output.old) (O.contents output.new)
-        (show_lines memory.now (shown_of show)) }
+        (show_lines memory.now show) }
     ensures failure { O.has_failed output.new ≡ failed_after (O.has_failed output.old) result }
     ensures same { O.lender output.new ≡ O.lender output.old }
 {
@@ -204,7 +203,7 @@ fn put_show<O: Output>(output: &mut O, memory: &Storage, show: Show) -> Result<(
 /// Writes the words of all `show` lines.
 fn put_shows<O: Output>(output: &mut O, memory: &Storage, shows: &[Show]) -> Result<(), WriteFailed>
     ensures written { Writes result (O.contents output.old) (O.contents output.new)
-        (flat_map (λ show. show_lines memory.now (shown_of show)) shows.now) }
+        (flat_map (show_lines memory.now) shows.now) }
     ensures failure { O.has_failed output.new ≡ failed_after (O.has_failed output.old) result }
     ensures same { O.lender output.new ≡ O.lender output.old }
 {
@@ -268,7 +267,7 @@ fn put_dump<O: Output>(
     shows: &[Show],
 ) -> Result<(), WriteFailed>
     ensures written { Writes result (O.contents output.old) (O.contents output.new)
-        (dump_text state.now entries.now (map shown_of shows.now)) }
+        (dump_text state.now entries.now shows.now) }
     ensures failure { O.has_failed output.new ≡ failed_after (O.has_failed output.old) result }
     ensures same { O.lender output.new ≡ O.lender output.old }
 {
@@ -289,7 +288,7 @@ pub fn dump_to<O: Output>(
     deck: &Deck,
 ) -> Result<(), WriteFailed>
     ensures written { Writes result (O.contents output.old) (O.contents output.new)
-        (dump_text state.now (entries_of log.now.steps) (shown deck.now.shows.items)) }
+        (dump_text state.now (entries_of log.now.steps) deck.now.shows) }
     ensures failure { O.has_failed output.new ≡ failed_after (O.has_failed output.old) result }
     ensures handed_on { OnOk result (O.waits output.new ≡ false) }
     ensures same { O.lender output.new ≡ O.lender output.old }
@@ -304,7 +303,7 @@ pub fn dump_to<O: Output>(
 /// `Write` where a write or the flush fails; a beginning of the text is then written.
 pub fn dump<W: Write>(state: &State, log: &Log, deck: &Deck, writer: &mut W) -> Result<(), Refusal>
     ensures written { Writes result (W.contents writer.old) (W.contents writer.new)
-        (dump_text state.now (entries_of log.now.steps) (shown deck.now.shows.items)) }
+        (dump_text state.now (entries_of log.now.steps) deck.now.shows) }
     ensures refusal { OnErr result (result ≡ Err WriteRefusal) }
 {
     let mut output = Tracked::new(writer);

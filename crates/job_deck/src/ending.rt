@@ -5,7 +5,6 @@ ghost use Rattle.device_text.specs.Device.{NothingWaits, Writes, failed_after};
 ghost use Rattle.job_deck.specs.Dump.{log_line};
 ghost use Rattle.job_deck.specs.Session.{IsReply, not_drained_text};
 ghost use Rattle.job_deck.specs.inner.Holding.{Closes, Dumps, is_write_error, last_said};
-ghost use Rattle.deck.specs.Views.{shown};
 
 use crate::dumping::{dump_to, put_log_line};
 use crate::session::SessionError;
@@ -23,7 +22,7 @@ fn put_drained<O: Output>(
     deck: &Deck,
 ) -> Result<(), SessionError>
     requires { is_pending machine.now.pending ≡ false }
-    ensures closed { Dumps result machine.now (shown deck.now.shows.items) (O.contents output.old)
+    ensures closed { Dumps result machine.now deck.now.shows (O.contents output.old)
         (O.contents output.new) }
     ensures write { O.has_failed output.new ≡ (O.has_failed output.old || is_write_error result) }
     ensures handed_on { OnOk result (O.waits output.new ≡ false) }
@@ -65,7 +64,7 @@ fn print_not_drained<O: Output>(output: &mut O, machine: &Machine) -> Result<(),
 /// # Errors
 /// As `put_drained`.
 fn put_end<O: Output>(output: &mut O, machine: &Machine, deck: &Deck) -> Result<(), SessionError>
-    ensures closed { Closes result (last_said false) machine.now (shown deck.now.shows.items) (O.contents output.old)
+    ensures closed { Closes result (last_said false) machine.now deck.now.shows (O.contents output.old)
         (O.contents output.new) }
     ensures write { O.has_failed output.new ≡ (O.has_failed output.old || is_write_error result) }
     ensures handed_on { OnOk result (O.waits output.new ≡ false) }
@@ -91,7 +90,7 @@ pub fn finish<O: Output>(
     deck: &Deck,
     drains: bool,
 ) -> Result<(), SessionError>
-    ensures closed { Closes result (last_said drains) machine.old (shown deck.now.shows.items) (O.contents output.old)
+    ensures closed { Closes result (last_said drains) machine.old deck.now.shows (O.contents output.old)
         (O.contents output.new) }
     ensures write { O.has_failed output.new ≡ (O.has_failed output.old || is_write_error result) }
     ensures handed_on { OnOk result (O.waits output.new ≡ false) }

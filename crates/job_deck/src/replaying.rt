@@ -3,7 +3,6 @@ ghost use Rattle.deck.specs.Deck.{deck};
 ghost use Rattle.device_text.specs.Device.{Moves, NothingWaits, failed_after};
 ghost use Rattle.job_deck.specs.Listing.{is_read_refusal, is_write_refusal};
 ghost use Rattle.job_deck.specs.Replaying.{replayed, Prints, Replays};
-ghost use Rattle.deck.specs.Views.{plan, shown};
 
 use crate::dumping::dump_to;
 use crate::logs::read_log;
@@ -26,7 +25,7 @@ fn print_replay<O: Output>(
     deck: &Deck,
     text: &str,
 ) -> Result<Option<State>, Refusal>
-    ensures printed { Prints result (replayed (plan deck.now) text.now) (shown deck.now.shows.items)
+    ensures printed { Prints result (replayed deck.now text.now) deck.now.shows
         (O.contents output.old) (O.contents output.new) }
     ensures failure { O.has_failed output.new ≡ (O.has_failed output.old || is_write_refusal result) }
     ensures handed_on { IfOk result (λ state. IsSome state → O.waits output.new ≡ false) }

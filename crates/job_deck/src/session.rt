@@ -7,7 +7,6 @@ ghost use Rattle.device_text.specs.Device.{Moves, NothingWaits, failed_after};
 ghost use Rattle.job_deck.specs.Listing.{is_read_refusal, is_write_refusal};
 ghost use Rattle.job_deck.specs.inner.Holding.{Converses, IsMade, is_read_error, is_write_error, refusal_of};
 ghost use Rattle.job_deck.specs.Told.{Performs, Tells};
-ghost use Rattle.deck.specs.Views.{shown};
 
 use crate::answering::put_answer;
 use crate::ending::finish;
@@ -102,7 +101,7 @@ fn hold<I: Input, O: Output>(
 ) -> Result<(), SessionError>
     requires { before ≤ 10000000 }
     ensures told { Moves (I.remaining input.old) (I.remaining input.new)
-        (λ xs ys. Tells result (GoesOn machine.old) machine.old (before + 1) (shown deck.now.shows.items) xs ys
+        (λ xs ys. Tells result (GoesOn machine.old) machine.old (before + 1) deck.now.shows xs ys
         (O.contents output.old) (O.contents output.new)) }
     ensures read { I.has_failed input.new ≡ (I.has_failed input.old || is_read_error result) }
     ensures write { O.has_failed output.new ≡ (O.has_failed output.old || is_write_error result) }

@@ -1,10 +1,9 @@
 //! A run of a deck by threads: a worker for each unit, one for memory, and this thread, which issues.
-ghost use Rattle.std.specs.Prelude.{◌≡◌, true, Some, IfOk, MatchResult};
+ghost use Rattle.std.specs.Prelude.{◌≡◌, map, true, Some, IfOk, MatchResult};
 ghost use Rattle.instructions.specs.declared.refusal.Refusal.TheVariants.{OutOfMemory};
 ghost use Rattle.sequential.specs.Replay.{boot, replay};
 ghost use Rattle.program_order.specs.Headline.{IsFaultedRun};
 ghost use Rattle.program_order.specs.Processor.{boot_processor};
-ghost use Rattle.deck.specs.Views.{asked};
 
 use super::budget::Budget;
 use instruction_table::Refusal;
@@ -23,11 +22,12 @@ use unit_workers::{Gates, Open, Orders, run_threads};
 #[tactic(auto, using(std::proofs::lemmas::List::map_more))]
 fn orders(alloc: Global, deck: &Deck) -> Result<Orders, AllocError>
     ensures start { IfOk result (λ orders. orders.start ≡ deck.now.start) }
-    ensures after { IfOk result (λ orders. orders.after.items ≡ asked deck.now.asks.items) }
-    ensures free { IfOk result (λ orders. orders.free.items ≡ deck.now.free.items) }
+    ensures after { IfOk result (λ orders. orders.after.items
+        ≡ map (λ ask. (ask.at, ask.after)) deck.now.asks) }
+    ensures free { IfOk result (λ orders. orders.free.items ≡ deck.now.free) }
 {
     let mut after = Vec::new(alloc);
-    for ask in &deck.asks {
+    for ask in deck.asks.as_slice() {
         after.push((ask.at, u64::from(ask.after)))?;
     }
     Ok(Orders {

@@ -9,7 +9,8 @@ ghost use Rattle.program_order.specs.declared.event.Event.{Event as SomeEvent};
 ghost use Rattle.program_order.specs.Headline.{IsFaithful};
 ghost use Rattle.program_order.specs.Processor.{Processor};
 ghost use Rattle.job_deck.specs.AnswerText.{answer_line};
-ghost use Rattle.deck.specs.Deck.{Good, Plan, deck};
+ghost use Rattle.deck.specs.Deck.{Good, deck};
+ghost use Rattle.deck.specs.declared.deck.Deck.{Deck};
 ghost use Rattle.device_text.specs.Device.{Moves};
 ghost use Rattle.device_text.specs.Line.{lines_of};
 ghost use Rattle.job_deck.specs.Session.{Says};
@@ -31,11 +32,11 @@ fn held<R: Read, W: Write>(
 ) -> Result<(), Refusal>
     requires { budget ≤ 10000000 }
     ensures { OnOk result (Moves (R.remaining reader.old) (R.remaining reader.new)
-        (λ xs rest. (plan : Plan) → (n : ℕ) → (after : List ℕ) → deck xs ≡ Good plan n after
+        (λ xs rest. (whole : Deck) → (n : ℕ) → (after : List ℕ) → deck xs ≡ Good whole n after
         → (events : List SomeEvent) × ((answers : List (Result SomeDone SomeRefusal)) × ((w : Processor)
         × ((left : List (List ℕ × List ℕ)) × ((text : List ℕ) × (Says (n + 1) events (lines_of after) left
         × (Appends (W.contents writer.old) (W.contents writer.new) (flat_map answer_line answers ++ text)
-        × IsFaithful plan.image.memory events answers w)))))))) }
+        × IsFaithful whole.image.memory events answers w)))))))) }
 {
     if let Err(refusal) = events(alloc, reader, writer, budget) {
         return Err(refusal);

@@ -1,19 +1,19 @@
 -- What a deck's line says, as the program has taken it apart.
 -- Source: ours.
-use Rattle.deck.specs.Deck.{Said, SaysCore, SaysAt, SaysWord, SaysCode, SaysStart, SaysShow, SaysAsk, SaysFree}
-use Rattle.deck.specs.Deck.{SaysEnd, SaysNothing}
+use Rattle.std.specs.Prelude.{ℕ, List}
+use Rattle.std.specs.Borrow.{Bor}
 use Rattle.deck.specs.declared.parsing.Line.{Line}
-use Rattle.deck.specs.declared.parsing.Line.TheVariants as lines
+use Rattle.deck.specs.declared.parsing.Line.TheVariants as says
 
--- what the line says by its fields
-abbrev pub said : Line → Said
-said (lines.Core w) = SaysCore w.now
-said (lines.At a) = SaysAt a.now
-said (lines.Word v) = SaysWord v.now
-said (lines.Code texts) = SaysCode texts.now
-said (lines.Start n) = SaysStart n.now
-said (lines.Show a b) = SaysShow a.now b.now
-said (lines.Ask a k) = SaysAsk a.now k.now
-said (lines.AskFree a) = SaysFree a.now
-said lines.End = SaysEnd
-said lines.Unknown = SaysNothing
+-- the line with the bytes of its fields in place of what refers to them
+abbrev pub said : Line (Bor (List ℕ)) → Line (List ℕ)
+said (says.Core w) = says.Core w.now
+said (says.At a) = says.At a.now
+said (says.Word v) = says.Word v.now
+said (says.Code texts) = says.Code texts.now
+said (says.Start n) = says.Start n.now
+said (says.Show a b) = says.Show a.now b.now
+said (says.Ask a k) = says.Ask a.now k.now
+said (says.AskFree a) = says.AskFree a.now
+said says.End = says.End
+said says.Unknown = says.Unknown

@@ -11,7 +11,7 @@ use Rattle.program_order.specs.Working.{Works}
 use Rattle.program_order.specs.Processor.{Processor, boot_processor, replayed}
 use Rattle.instructions.specs.declared.refusal.Refusal.{Refusal}
 use Rattle.deck.specs.Deck.{Good, deck}
-use Rattle.deck.specs.Views.{plan, shown}
+use Rattle.deck.specs.declared.deck.Show.{Show}
 use Rattle.deck.specs.declared.deck.Deck.{Deck}
 use Rattle.job_deck.specs.AnswerText.{answer_line}
 use Rattle.device_text.specs.Device.{Moves}
@@ -27,7 +27,7 @@ use Rattle.job_deck.specs.declared.session.SessionError.TheVariants as errors
 use Rattle.device_text.proofs.Moving.{Moves-trans, Moves-weaker}
 
 -- the dump of what a snapshot shows
-pub is_dump : (w : Processor) (s state : State) (l log : List LogStep) (m : List ℕ) (shows : List (ℕ × ℕ))
+pub is_dump : (w : Processor) (s state : State) (l log : List LogStep) (m : List ℕ) (shows : List Show)
     → is_pending w.pending ≡ false → s ≡ w.state → l ≡ w.log → m ≡ w.boot_memory → replay (boot m) l ≡ Some s
     → state ≡ s → log ≡ l → IsDump w shows (dump_text state (entries_of log) shows)
 unfolding replayed
@@ -42,7 +42,7 @@ is_dump w s state l log m shows drained same_state same_log same_memory r e f =
 
 -- what is dumped of a drained machine closes a session that says `drain`
 pub drain_closes : (r : Result (Unit {0}) SessionError) (drains : Bool) (w v : Processor) (count : ℕ)
-    (shows : List (ℕ × ℕ)) (old new : Option (List ℕ)) → drains ≡ true → Works w v count → GoesOnByWork w count v
+    (shows : List Show) (old new : Option (List ℕ)) → drains ≡ true → Works w v count → GoesOnByWork w count v
     → Dumps r v shows old new → Closes r (last_said drains) w shows old new
 drain_closes r drains w v count shows old new d a b h =
     subst (λ x. Closes r (last_said x) w shows old new) (sym d) (closes r h)
@@ -59,12 +59,12 @@ is_last true = tt
 is_last false = tt
 
 -- the reply to the last line, by what the next line of a session says
-reply_there : (said told : Spoken) (w v : Processor) (shows : List (ℕ × ℕ)) (text : List ℕ) → told ≡ said → w ≡ v
+reply_there : (said told : Spoken) (w v : Processor) (shows : List Show) (text : List ℕ) → told ≡ said → w ≡ v
     → IsReply said v shows text → IsReply told w shows text
 reply_there said told w v shows text e f h =
     subst (λ x. IsReply told x shows text) (sym f) (subst (λ x. IsReply x v shows text) (sym e) h)
 
-closed_there : (r : Result (Unit {0}) SessionError) (drains : Bool) (w v : Processor) (n : ℕ) (shows : List (ℕ × ℕ))
+closed_there : (r : Result (Unit {0}) SessionError) (drains : Bool) (w v : Processor) (n : ℕ) (shows : List Show)
     (xs ys : List ℕ) (old mid new : Option (List ℕ)) → Converses (Ok drains) w v n xs ys old mid
     → Closes r (last_said drains) v shows mid new → Tells r (GoesOn w) w n shows xs ys old new
 closed_there (Ok x) drains w v n shows xs ys old mid new h k = (
@@ -89,7 +89,7 @@ closed_there (Err errors.Write) drains w v n shows xs ys old mid new h k =
     )
 
 pub session_closed : (a b : Option (List ℕ)) (r : Result (Unit {0}) SessionError) (drains : Bool) (w v : Processor)
-    (n : ℕ) (shows : List (ℕ × ℕ)) (old mid new : Option (List ℕ))
+    (n : ℕ) (shows : List Show) (old mid new : Option (List ℕ))
     → Moves a b (λ xs ys. Converses (Ok drains) w v n xs ys old mid) → Closes r (last_said drains) v shows mid new
     → Moves a b (λ xs ys. Tells r (GoesOn w) w n shows xs ys old new)
 session_closed a b r drains w v n shows old mid new told closed =
@@ -97,7 +97,7 @@ session_closed a b r drains w v n shows old mid new told closed =
     (λ xs ys. Tells r (GoesOn w) w n shows xs ys old new)
     (λ xs ys h. closed_there r drains w v n shows xs ys old mid new h closed) told
 
-stopped_there : (e : SessionError) (w v : Processor) (n : ℕ) (shows : List (ℕ × ℕ)) (xs ys : List ℕ)
+stopped_there : (e : SessionError) (w v : Processor) (n : ℕ) (shows : List Show) (xs ys : List ℕ)
     (old new : Option (List ℕ)) → Converses (Err e) w v n xs ys old new
     → Tells (Err e) (GoesOn w) w n shows xs ys old new
 stopped_there (errors.Line m fault) w v n shows xs ys old new h = h
@@ -111,7 +111,7 @@ stopped_there errors.Write w v n shows xs ys old new h = (
   h.6,
 )
 
-pub session_stopped : (a b : Option (List ℕ)) (e : SessionError) (w v : Processor) (n : ℕ) (shows : List (ℕ × ℕ))
+pub session_stopped : (a b : Option (List ℕ)) (e : SessionError) (w v : Processor) (n : ℕ) (shows : List Show)
     (old new : Option (List ℕ)) → Moves a b (λ xs ys. Converses (Err e) w v n xs ys old new)
     → Moves a b (λ xs ys. Tells (Err e) (GoesOn w) w n shows xs ys old new)
 session_stopped a b e w v n shows old new told =
@@ -146,7 +146,7 @@ session_from_boot memory budget n w lines booted s =
     }
 
 told_from_boot : (r : Result (Unit {0}) SessionError) (memory : List ℕ) (budget n : ℕ) (w : Processor)
-    (shows : List (ℕ × ℕ)) (xs ys : List ℕ) (old new : Option (List ℕ)) → IsReached memory budget [] [] w
+    (shows : List Show) (xs ys : List ℕ) (old new : Option (List ℕ)) → IsReached memory budget [] [] w
     → Tells r (GoesOn w) w n shows xs ys old new → Tells r (IsReached memory budget) w n shows xs ys old new
 unfolding session_from_boot
 told_from_boot (Ok x) memory budget n w shows xs ys old new booted h =
@@ -161,8 +161,8 @@ told_from_boot (Err errors.Write) memory budget n w shows xs ys old new booted h
     (session_from_boot memory budget n w (lines_of xs) booted h.0, h.1, h.2, h.3, h.4)
 
 performed_there : (r : Result (Unit {0}) SessionError) (budget n : ℕ) (d : Deck) (ys zs : List ℕ)
-    (old new : Option (List ℕ)) → TellsFromBoot r budget (plan d) n ys zs old new
-    → Performs (refused r) budget (Good (plan d) n ys) zs old new
+    (old new : Option (List ℕ)) → TellsFromBoot r budget d n ys zs old new
+    → Performs (refused r) budget (Good d n ys) zs old new
 performed_there (Ok x) budget n d ys zs old new h = h
 performed_there (Err (errors.Line m fault)) budget n d ys zs old new h = h
 performed_there (Err errors.OutOfMemory) budget n d ys zs old new h = inr h
@@ -171,15 +171,15 @@ performed_there (Err errors.Write) budget n d ys zs old new h = h
 
 pub performed : (a b c : Option (List ℕ)) (r : Result (Unit {0}) SessionError) (budget n : ℕ) (d : Deck)
     (w : Processor) (old new : Option (List ℕ)) → w ≡ boot_processor d.image.memory budget
-    → IsReached d.image.memory budget [] [] w → Moves a b (λ xs ys. deck xs ≡ Good (plan d) n ys)
-    → Moves b c (λ ys zs. Tells r (GoesOn w) w (n + 1) (shown d.shows.items) ys zs old new)
+    → IsReached d.image.memory budget [] [] w → Moves a b (λ xs ys. deck xs ≡ Good d n ys)
+    → Moves b c (λ ys zs. Tells r (GoesOn w) w (n + 1) d.shows ys zs old new)
     → Moves a c (λ xs zs. Performs (refused r) budget (deck xs) zs old new)
 performed a b c r budget n d w old new booted reached read told =
-    Moves-trans a b c (λ xs ys. deck xs ≡ Good (plan d) n ys)
-    (λ ys zs. Tells r (GoesOn w) w (n + 1) (shown d.shows.items) ys zs old new)
+    Moves-trans a b c (λ xs ys. deck xs ≡ Good d n ys)
+    (λ ys zs. Tells r (GoesOn w) w (n + 1) d.shows ys zs old new)
     (λ xs zs. Performs (refused r) budget (deck xs) zs old new) (λ xs ys zs h k.
-    let from_boot = told_from_boot r d.image.memory budget (n + 1) w (shown d.shows.items) ys zs old new reached k in
+    let from_boot = told_from_boot r d.image.memory budget (n + 1) w d.shows ys zs old new reached k in
     subst (λ x. Performs (refused r) budget x zs old new) (sym h)
     (performed_there r budget n d ys zs old new
-    (subst (λ x. Tells r (IsReached d.image.memory budget) x (n + 1) (shown d.shows.items) ys zs old new) booted
+    (subst (λ x. Tells r (IsReached d.image.memory budget) x (n + 1) d.shows ys zs old new) booted
     from_boot))) read told

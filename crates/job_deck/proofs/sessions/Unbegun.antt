@@ -7,7 +7,6 @@ use Rattle.device_text.specs.Device.{Moves}
 use Rattle.device_text.proofs.Moving.{Moves-weaker}
 use Rattle.deck.specs.Deck.{Bad, Good, Reading, deck}
 use Rattle.deck.specs.Reading.{EndsWithin, GivesErr, GivesRefusal, is_cut}
-use Rattle.deck.specs.Views.{plan}
 use Rattle.deck.specs.declared.deck.Deck.{Deck}
 use Rattle.deck.specs.declared.deck.DeckError.{DeckError}
 use Rattle.deck.specs.declared.deck.DeckError.TheVariants as errors
@@ -48,12 +47,12 @@ replays_refused a b e r text old k m =
 
 memory_there : (budget : ℕ) (reading : Reading) (rest : List ℕ) (old : Option (List ℕ))
     → EndsWithin (length rest) reading → Performs (Err refusals.OutOfMemory) budget reading rest old old
-memory_there budget (Good plan n after) rest old h = inl (h, Keeps-refl old)
+memory_there budget (Good deck n after) rest old h = inl (h, Keeps-refl old)
 memory_there budget (Bad n fault after) rest old h = Keeps-refl old
 
 read_there : (budget : ℕ) (reading : Reading) (rest : List ℕ) (old : Option (List ℕ))
     → EndsWithin (length rest) reading → Performs (Err refusals.Read) budget reading rest old old
-read_there budget (Good plan n after) rest old h = inl (h, Keeps-refl old)
+read_there budget (Good deck n after) rest old h = inl (h, Keeps-refl old)
 read_there budget (Bad n fault after) rest old h = Keeps-refl old
 
 fault_there : (budget n : ℕ) (fault : _) (reading : Reading) (rest : List ℕ) (old : Option (List ℕ))
@@ -78,13 +77,13 @@ performs_refused a b errors.Read r budget old k m unread = rw k
     (λ xs ys h. read_there budget (deck xs) ys old h) (unread refl))
 
 not_booted : (budget n : ℕ) (d : Deck) (reading : Reading) (rest : List ℕ) (old : Option (List ℕ))
-    → reading ≡ Good (plan d) n rest → Performs (Err refusals.OutOfMemory) budget reading rest old old
+    → reading ≡ Good d n rest → Performs (Err refusals.OutOfMemory) budget reading rest old old
 not_booted budget n d reading rest old h = rw h (inl (omega arith, Keeps-refl old))
 
 pub performs_unbooted : (a b : Option (List ℕ)) (budget n : ℕ) (d : Deck) (old : Option (List ℕ))
-    → Moves a b (λ xs ys. deck xs ≡ Good (plan d) n ys)
+    → Moves a b (λ xs ys. deck xs ≡ Good d n ys)
     → Moves a b (λ xs ys. Performs (Err refusals.OutOfMemory) budget (deck xs) ys old old)
 performs_unbooted a b budget n d old m =
-    Moves-weaker a b (λ xs ys. deck xs ≡ Good (plan d) n ys)
+    Moves-weaker a b (λ xs ys. deck xs ≡ Good d n ys)
     (λ xs ys. Performs (Err refusals.OutOfMemory) budget (deck xs) ys old old)
     (λ xs ys h. not_booted budget n d (deck xs) ys old h) m

@@ -10,6 +10,7 @@ use Rattle.program_order.specs.Reached.{GoesOn}
 use Rattle.program_order.specs.Run.{IsAnswer, settled}
 use Rattle.program_order.specs.Processor.{Processor}
 use Rattle.job_deck.specs.AnswerText.{answer_line}
+use Rattle.deck.specs.declared.deck.Show.{Show}
 use Rattle.device_text.specs.Device.{Writes, WritesFront}
 use Rattle.device_text.specs.Line.{IsText, lines_of}
 use Rattle.job_deck.specs.Schedule.{heard, left_heard}
@@ -81,7 +82,7 @@ Converses (Err errors.Write) w v n xs rest old new =
     × WritesCut old new s.text (answer_line answer)
 
 -- the dump of a drained machine; where its state couldn't be copied nothing
-abbrev pub Dumps : Result (Unit {0}) SessionError → Processor → List (ℕ × ℕ) → Option (List ℕ) → Option (List ℕ)
+abbrev pub Dumps : Result (Unit {0}) SessionError → Processor → List Show → Option (List ℕ) → Option (List ℕ)
     → Type 0
 Dumps (Ok x) w shows old new = (text : List ℕ) × IsDump w shows text × Appends old new text
 Dumps (Err (errors.Line m fault)) w shows old new = ⊥
@@ -90,7 +91,7 @@ Dumps (Err errors.Read) w shows old new = ⊥
 Dumps (Err errors.Write) w shows old new = (text : List ℕ) × IsDump w shows text × WritesFront old new text
 
 -- what the last line writes
-abbrev pub Closes : Result (Unit {0}) SessionError → Spoken → Processor → List (ℕ × ℕ) → Option (List ℕ)
+abbrev pub Closes : Result (Unit {0}) SessionError → Spoken → Processor → List Show → Option (List ℕ)
     → Option (List ℕ) → Type 0
 Closes (Ok x) said w shows old new = (text : List ℕ) × IsReply said w shows text × Appends old new text
 Closes (Err (errors.Line m fault)) said w shows old new = ⊥

@@ -2,7 +2,6 @@ use Rattle.std.proofs.Common.{arith, rules}
 use Rattle.std.proofs.Math.Bool.{or-false}
 use Rattle.std.proofs.lemmas.Result.{err_from_is_err_and}
 use Rattle.deck.specs.Deck.{judged_first, judged_line}
-use Rattle.deck.specs.Views.{sketch}
 use Rattle.deck.proofs.DeckLines.{first_refused, first_err, first_goes, first_ends, later_refused, later_err}
 use Rattle.deck.proofs.DeckLines.{later_goes, later_ends, lines_over}
 use Rattle.deck.proofs.Unread.{first_cut, first_taken, later_cut, later_taken}
@@ -57,7 +56,7 @@ returns-in_err-next-clause-deck g c =
     let text = c.next_line-in-loop-number.new.line.items in
     let draft = c.loop-number.draft in
     let judged = rw c.as_slice-in-loop-number.ensures.value at c.judge.ensures in
-    let follows = c.in_err-next.ensures.follows (judged_line (sketch draft) text) judged in
+    let follows = c.in_err-next.ensures.follows (judged_line draft text) judged in
     let rest = later_err _ _ (g.I.Input.remaining c.next_line-in-loop-number.new.input) c.loop-number.number draft text
     _ (omega arith) c.in_ok-next_line-2.ensures.text c.loop-number.invariant.told c.in_ok-next_line-2.ensures.ok
     follows in
@@ -69,7 +68,7 @@ returns-in-Ends-2-clause-deck g c =
     let text = c.next_line-in-loop-number.new.line.items in
     let draft = c.loop-number.draft in
     let judged = rw c.as_slice-in-loop-number.ensures.value at c.judge.ensures in
-    let follows = rw c.in-Ends-2.is at c.in_ok-next.ensures.follows (judged_line (sketch draft) text) judged in
+    let follows = rw c.in-Ends-2.is at c.in_ok-next.ensures.follows (judged_line draft text) judged in
     later_ends _ _ (g.I.Input.remaining c.next_line-in-loop-number.new.input) c.loop-number.number draft text
     c.in-Ends-2.deck (omega arith) c.in_ok-next_line-2.ensures.text c.loop-number.invariant.told
     c.in_ok-next_line-2.ensures.ok follows
@@ -83,7 +82,7 @@ loop-number-preserved g c =
     let text = c.next_line-in-loop-number.new.line.items in
     let draft = c.loop-number.draft in
     let judged = rw c.as_slice-in-loop-number.ensures.value at c.judge.ensures in
-    let follows = rw c.in-Goes-2.is at c.in_ok-next.ensures.follows (judged_line (sketch draft) text) judged in
+    let follows = rw c.in-Goes-2.is at c.in_ok-next.ensures.follows (judged_line draft text) judged in
     record {
       told = later_goes _ _ (g.I.Input.remaining c.next_line-in-loop-number.new.input) c.loop-number.number draft text
           c.in-Goes-2.next (omega arith) c.in_ok-next_line-2.ensures.text c.loop-number.invariant.told

@@ -1,12 +1,7 @@
-use Rattle.std.proofs.Common.{map, sym, subst}
 use Rattle.std.specs.List.{flat_map}
-use Rattle.std.specs.Io.KnownBytes.{Appends}
 use Rattle.std.proofs.lemmas.Result.{err_from_is_err_and}
-use Rattle.std.proofs.lemmas.List.Folds.{flat_map-map}
-use Rattle.device_text.specs.Device.{WritesFront}
 use Rattle.device_text.proofs.Moving.{cut_in, cut_after, writes_after, writes_last}
 use Rattle.job_deck.specs.Dump.{dump_text, state_lines, register_lines, show_lines, log_line}
-use Rattle.deck.specs.Views.{shown_of}
 use Rattle.job_deck.proofs.dumping.put_dump.Goals as goal
 
 pub returns-in_err-put_state-clause-written : goal.returns-in_err-put_state-clause-written
@@ -27,23 +22,17 @@ pub returns-in_err-put_shows-clause-written : goal.returns-in_err-put_shows-clau
 unfolding dump_text
 returns-in_err-put_shows-clause-written g c =
     let p = err_from_is_err_and c.from_residual-in_err-put_shows.result c.from_residual-in_err-put_shows.ensures.1 in
-    let shows = flat_map (show_lines c.args.state.now.memory) (map shown_of c.args.shows.now) in
-    let same = sym (flat_map-map (show_lines c.args.state.now.memory) shown_of c.args.shows.now) in
-    let cut = subst (WritesFront (g.O.Output.contents c.put_registers.new.output)
-    (g.O.Output.contents c.put_shows.new.output)) same c.in_err-put_shows.ensures.written in
+    let shows = flat_map (show_lines c.args.state.now.memory) c.args.shows.now in
     rw p.1 (cut_after _ _ _ (state_lines c.args.state.now) _ c.in_ok-put_state.ensures.written
     (cut_after _ _ _ (register_lines c.args.state.now.registers) _ c.in_ok-put_registers.ensures.written
-    (cut_in _ _ shows _ cut)))
+    (cut_in _ _ shows _ c.in_err-put_shows.ensures.written)))
 
 pub returns-clause-written : goal.returns-clause-written
 unfolding dump_text
 returns-clause-written g c =
-    let shows = flat_map (show_lines c.args.state.now.memory) (map shown_of c.args.shows.now) in
-    let same = sym (flat_map-map (show_lines c.args.state.now.memory) shown_of c.args.shows.now) in
-    let all = subst (Appends (g.O.Output.contents c.put_registers.new.output)
-    (g.O.Output.contents c.put_shows.new.output)) same c.in_ok-put_shows.ensures.written in
+    let shows = flat_map (show_lines c.args.state.now.memory) c.args.shows.now in
     writes_after c.put_log_line.result _ _ _ (state_lines c.args.state.now) _ c.in_ok-put_state.ensures.written
     (writes_after c.put_log_line.result _ _ _ (register_lines c.args.state.now.registers) _
     c.in_ok-put_registers.ensures.written
-    (writes_after c.put_log_line.result _ _ _ shows _ all
+    (writes_after c.put_log_line.result _ _ _ shows _ c.in_ok-put_shows.ensures.written
     (writes_last c.put_log_line.result _ _ (log_line c.args.entries.now) c.put_log_line.ensures.written)))

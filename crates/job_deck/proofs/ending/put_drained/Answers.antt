@@ -1,4 +1,3 @@
-use Rattle.deck.specs.Views.{shown}
 use Rattle.job_deck.proofs.sessions.Endings.{is_dump}
 use Rattle.job_deck.proofs.ending.put_drained.Goals as goal
 
@@ -7,7 +6,7 @@ returns-in-Ok-dump_to-clause-closed g c =
     let taken = c.in-Ok.ensures.taken in (
       _,
       is_dump c.args.machine.now c.in-Ok.snapshot.state c.state.result.now c.in-Ok.snapshot.log
-          c.log.result.now.steps c.in-Ok.snapshot.boot_memory (shown c.args.deck.now.shows.items) taken.0 taken.1
+          c.log.result.now.steps c.in-Ok.snapshot.boot_memory c.args.deck.now.shows taken.0 taken.1
           taken.2 taken.3 c.in-Ok.ensures.replay c.state.ensures.value c.log.ensures,
       c.in-Ok-dump_to.ensures.written,
     )
@@ -17,7 +16,7 @@ returns-in-Ok-clause-closed g c =
     let taken = c.in-Ok.ensures.taken in (
       _,
       is_dump c.args.machine.now c.in-Ok.snapshot.state c.state.result.now c.in-Ok.snapshot.log
-          c.log.result.now.steps c.in-Ok.snapshot.boot_memory (shown c.args.deck.now.shows.items) taken.0 taken.1
+          c.log.result.now.steps c.in-Ok.snapshot.boot_memory c.args.deck.now.shows taken.0 taken.1
           taken.2 taken.3 c.in-Ok.ensures.replay c.state.ensures.value c.log.ensures,
       c.in-Err-dump_to.ensures.written,
     )

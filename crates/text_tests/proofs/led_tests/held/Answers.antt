@@ -9,7 +9,8 @@ use Rattle.program_order.specs.Headline.{IsFaithful}
 use Rattle.program_order.specs.Reached.{IsReached}
 use Rattle.program_order.specs.Processor.{Processor}
 use Rattle.job_deck.specs.AnswerText.{answer_line}
-use Rattle.deck.specs.Deck.{Good, Plan, Reading, deck}
+use Rattle.deck.specs.Deck.{Good, Reading, deck}
+use Rattle.deck.specs.declared.deck.Deck.{Deck}
 use Rattle.device_text.specs.Line.{lines_of}
 use Rattle.job_deck.specs.Session.{Says}
 use Rattle.job_deck.specs.Told.{Performs, TellsFromBoot}
@@ -17,21 +18,21 @@ use Rattle.device_text.proofs.Moving.{Moves-weaker}
 use Rattle.text_tests.proofs.led_tests.held.Goals as goal
 
 -- what is said of a session that was held to its last line
-abbrev IsHeld : Plan → ℕ → List ℕ → Option (List ℕ) → Option (List ℕ) → Type 0
-IsHeld plan n after old new =
+abbrev IsHeld : Deck → ℕ → List ℕ → Option (List ℕ) → Option (List ℕ) → Type 0
+IsHeld whole n after old new =
     (events : List Event) × ((answers : List (Result Done Refusal))
     × ((w : Processor) × ((left : List (List ℕ × List ℕ)) × ((text : List ℕ)
     × (Says (n + 1) events (lines_of after) left
-    × (Appends old new (flat_map answer_line answers ++ text) × IsFaithful plan.image.memory events answers w))))))
+    × (Appends old new (flat_map answer_line answers ++ text) × IsFaithful whole.image.memory events answers w))))))
 
 -- the theorem of what is reached from boot
 abbrev Law : Type 0
 Law = (memory : List ℕ) → (budget : ℕ) → (events : List Event) → (answers : List (Result Done Refusal))
     → (w : Processor) → IsReached memory budget events answers w → IsFaithful memory events answers w
 
-is_held : (law : Law) (x : Unit {0}) (budget : ℕ) (plan : Plan) (n : ℕ) (after rest : List ℕ)
-    (old new : Option (List ℕ)) → TellsFromBoot (Ok x) budget plan n after rest old new → IsHeld plan n after old new
-is_held law x budget plan n after rest old new h =
+is_held : (law : Law) (x : Unit {0}) (budget : ℕ) (whole : Deck) (n : ℕ) (after rest : List ℕ)
+    (old new : Option (List ℕ)) → TellsFromBoot (Ok x) budget whole n after rest old new → IsHeld whole n after old new
+is_held law x budget whole n after rest old new h =
     let s = h.0 in (
       s.events,
       (
@@ -46,7 +47,7 @@ is_held law x budget plan n after rest old new h =
                 s.said,
                 (
                   subst (λ t. Appends old new (t ++ h.1)) s.written h.5,
-                  law plan.image.memory budget s.events s.answers s.machine s.led,
+                  law whole.image.memory budget s.events s.answers s.machine s.led,
                 ),
               ),
             ),
@@ -56,10 +57,10 @@ is_held law x budget plan n after rest old new h =
     )
 
 held_there : (law : Law) (r : Result (Unit {0}) Refusal) (x : Unit {0}) (budget : ℕ) (reading : Reading)
-    (rest : List ℕ) (old new : Option (List ℕ)) → r ≡ Ok x → Performs r budget reading rest old new → (plan : Plan)
-    → (n : ℕ) → (after : List ℕ) → reading ≡ Good plan n after → IsHeld plan n after old new
-held_there law r x budget reading rest old new ok told plan n after e =
-    is_held law x budget plan n after rest old new
+    (rest : List ℕ) (old new : Option (List ℕ)) → r ≡ Ok x → Performs r budget reading rest old new → (whole : Deck)
+    → (n : ℕ) → (after : List ℕ) → reading ≡ Good whole n after → IsHeld whole n after old new
+held_there law r x budget reading rest old new ok told whole n after e =
+    is_held law x budget whole n after rest old new
     (subst (λ k. Performs (Ok x) budget k rest old new) e
     (subst (λ k. Performs k budget reading rest old new) ok told))
 
@@ -69,7 +70,8 @@ returns g c =
     let new = g.W.Write.contents c.events.new.writer in
     Moves-weaker (g.R.Read.remaining c.args.reader.now) (g.R.Read.remaining c.events.new.reader)
     (λ xs rest. Performs c.events.result c.args.budget (deck xs) rest old new)
-    (λ xs rest. (plan : Plan) → (n : ℕ) → (after : List ℕ) → deck xs ≡ Good plan n after → IsHeld plan n after old new)
+    (λ xs rest. (whole : Deck) → (n : ℕ) → (after : List ℕ) → deck xs ≡ Good whole n after
+    → IsHeld whole n after old new)
     (λ xs rest told. held_there c.what_is_reached_is_faithful.ensures c.events.result c.in_default.field-0
     c.args.budget (deck xs) rest old new c.in_default.is told)
     c.events.ensures
