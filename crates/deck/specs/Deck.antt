@@ -4,7 +4,7 @@
 use Rattle.std.specs.Prelude.{ℕ, ◌+◌, Bool, false, not, List, [], ◌∷◌, ◌++◌, length, Option, Some, None, is_some}
 use Rattle.std.specs.Prelude.{Result, Ok, Err, nat_lt, nat_le, ◌&&◌, ◌||◌, if◌then◌else◌, codes}
 use Rattle.std.specs.Str.{bytes_eq}
-use Rattle.deck.specs.Image.{Placed, blank, placed_at}
+use Rattle.deck.specs.Image.{blank, placed_at}
 use Rattle.device_text.specs.Line.{left_after, lines_of}
 use Rattle.relocation.specs.Relocation.{package_fits}
 use Rattle.word60.specs.Words.{from_octal}

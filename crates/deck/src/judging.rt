@@ -1,4 +1,4 @@
-ghost use Rattle.std.specs.Prelude.{◌≡◌, ◌≤◌, ℕ, List, Err, length, MatchOption};
+ghost use Rattle.std.specs.Prelude.{◌≡◌, ◌≤◌, Err, length, MatchOption};
 ghost use Rattle.deck.specs.Deck.{goes_on, judged, judged_core, judged_first, judged_line, with_request};
 ghost use Rattle.deck.specs.declared.deck.Draft.{Draft as SomeDraft};
 ghost use Rattle.deck.specs.declared.parsing.Line.TheVariants as says;
