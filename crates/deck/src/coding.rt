@@ -1,5 +1,4 @@
-ghost use Rattle.std.specs.Prelude.{◌≡◌, ◌<◌, ◌≤◌, ◌+◌, ◌++◌, ◌^◌, length, All, IfSome, MatchOption, Some, None, true};
-ghost use Rattle.instruction_table.specs.Table.{parcels_of};
+ghost use Rattle.std.specs.Prelude.{◌≡◌, ◌<◌, ◌≤◌, ◌+◌, ◌^◌, length, All, IfSome, MatchOption, Some, None, true};
 ghost use Rattle.deck.specs.Code.{items_of, instr_in, put_before, item_parcels, parcels_in, word_of, parcel_or_pass};
 ghost use Rattle.deck.specs.Code.{OptionalItems};
 

@@ -1,4 +1,4 @@
-ghost use Rattle.std.specs.Prelude.{◌≡◌, ◌<◌, ◌≤◌, ◌+◌, ◌++◌, length, replicate, slice_index_or, slice_set, false};
+ghost use Rattle.std.specs.Prelude.{◌≡◌, ◌<◌, length, slice_index_or, false};
 ghost use Rattle.std.specs.Prelude.{true, MatchResult, if◌then◌else◌};
 ghost use Rattle.instructions.specs.declared.refusal.Refusal.TheVariants.{OutOfMemory, MemorySize};
 ghost use Rattle.relocation.specs.Relocation.{IsMemorySize, is_memory_size};

@@ -1,5 +1,4 @@
-ghost use Rattle.std.specs.Prelude.{◌≡◌, ◌==◌, ◌<◌, ◌≤◌, ◌+◌, position, ◌∷◌, [], List, ℕ, length, IfSome};
-ghost use Rattle.std.specs.List.{slice_split};
+ghost use Rattle.std.specs.Prelude.{◌≡◌, ◌==◌, ◌<◌, ◌∷◌, []};
 ghost use Rattle.device_text.specs.Text.{fields_of, other_parts, from_space};
 ghost use Rattle.deck.specs.Deck.{said_of, said_in, said_code};
 ghost use Rattle.deck.specs.inner.Said.{said};

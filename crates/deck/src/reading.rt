@@ -1,4 +1,4 @@
-ghost use Rattle.std.specs.Prelude.{◌≡◌, ◌||◌, ◌≤◌, ◌∷◌, ℕ, List, length, false, true, OnOk, IfOk, IfErr};
+ghost use Rattle.std.specs.Prelude.{◌≡◌, ◌||◌, ◌≤◌, ◌∷◌, length, false, true, OnOk, IfOk, IfErr};
 ghost use Rattle.device_text.specs.Device.{Moves};
 ghost use Rattle.deck.specs.Deck.{deck, Judgement};
 ghost use Rattle.device_text.specs.Line.{ReadsPart, lines_of};

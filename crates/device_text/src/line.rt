@@ -1,4 +1,4 @@
-ghost use Rattle.std.specs.Prelude.{◌≡◌, ℕ, List, IfOk, OnErr, OnOk, IsErr, ◌++◌};
+ghost use Rattle.std.specs.Prelude.{◌≡◌, IfOk, OnErr, ◌++◌};
 ghost use Rattle.device_text.specs.Device.{Moves, failed_after};
 ghost use Rattle.device_text.specs.Line.{IsText, LineTaken, LineText};
 

@@ -1,4 +1,4 @@
-ghost use Rattle.std.specs.Prelude.{◌≡◌, ◌<◌, ◌^◌};
+ghost use Rattle.std.specs.Prelude.{◌≡◌, ◌<◌};
 ghost use Rattle.device_text.specs.Device.{Writes, failed_after};
 ghost use Rattle.device_text.specs.Names.{register_text};
 ghost use Rattle.device_text.specs.Pieces.{code_text, reason_text, text_of, text_of_all};

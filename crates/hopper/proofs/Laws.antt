@@ -124,7 +124,7 @@ unfoldable pub found_at : List (Option Waiting) → ℕ → Waiting → Found En
 found_at os p w =
     record {
       earlier = map entered_in (before_seat before os p w);
-      member = w.entered;
+      item = w.entered;
       answer = w.entered.reference;
       later = map entered_in (after_seat before os p w);
     }

@@ -13,12 +13,12 @@ unfoldable pub entering : Unit {0}
 unfolding entered_at queue_with enter_answer
 entering = tt
 
--- the member that leaves a unit, and what is left of it
+-- the pending instruction that leaves a unit, and what is left of it
 unfoldable pub leaving : Unit {0}
 unfolding sought enters outstanding_of seek
 leaving = tt
 
--- a register that is a result still to come, by the member's phase
+-- a register that is a result still to come, by the instruction's phase
 unfoldable pub coming : Unit {0}
 unfolding comes board.comes to_come board.to_come reservation_of board.to_come_in progress_of returning returning_to
 coming = tt

@@ -47,7 +47,7 @@ arrival_at c m = arrival_in c m.phase
 -- what is known of the one that was found
 unfoldable pub sought : {K : Type 0} → Option (Found Pending K) → Option (Sought K)
 sought None = None
-sought (Some f) = Some (record { member = f.member; answer = f.answer })
+sought (Some f) = Some (record { pending = f.item; answer = f.answer })
 
 -- the oldest of the pending instructions
 unfoldable pub first_of : List Pending → Option Pending

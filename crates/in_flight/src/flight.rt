@@ -91,11 +91,11 @@ fn waiting_rest(hopper: &mut Hopper, rest: &Option<Rest>) -> Option<Outstanding>
 }
 
 /// The instruction as it waited, and what it reads.
-fn reading(member: &Pending, registers: &RegisterFile) -> (Pending, Operands)
-    ensures member { result.0 ≡ member.now }
-    ensures operands { result.1 ≡ operands member.now.instr member.now.at registers.now }
+fn reading(pending: &Pending, registers: &RegisterFile) -> (Pending, Operands)
+    ensures pending { result.0 ≡ pending.now }
+    ensures operands { result.1 ≡ operands pending.now.instr pending.now.at registers.now }
 {
-    (*member, member.operands(registers))
+    (*pending, pending.operands(registers))
 }
 
 /// What is left of a reference that its bank took.
@@ -205,9 +205,9 @@ impl InFlight {
         registers: &RegisterFile,
     ) -> Result<(Pending, Operands), Refusal>
         ensures answer { refusal_of (tests_found (seek (stage_at unit) self.old.pending)
-            (λ f. read_tests f.answer f.earlier f.member.instr)) ≡ refusal_in result }
-        ensures member { IfOk result (λ read. sought (seek (stage_at unit) self.old.pending)
-            ≡ Some (record { member = read.0; answer = Waiting })) }
+            (λ f. read_tests f.answer f.earlier f.item.instr)) ≡ refusal_in result }
+        ensures pending { IfOk result (λ read. sought (seek (stage_at unit) self.old.pending)
+            ≡ Some (record { pending = read.0; answer = Waiting })) }
         ensures operands { IfOk result (λ read. read.1 ≡ operands read.0.instr read.0.at registers.now) }
         ensures after { MatchResult result
             (λ read. self.new ≡ with_pending self.old
@@ -224,7 +224,7 @@ impl InFlight {
         if let Err(refusal) = self.board.may_read(unit) {
             return Err(refusal);
         }
-        let read = reading(&found.member, registers);
+        let read = reading(&found.pending, registers);
         self.slots.set_stage(unit, Stage::Read(read.1));
         self.board.mark_read(unit);
         Ok(read)
@@ -246,7 +246,7 @@ impl InFlight {
     /// `ResultHeld`, `HopperFull`, `OutOfTurn`.
     pub fn may_store(&self, unit: Unit, enters: bool) -> Result<(), Refusal>
         ensures { (f : Found Pending SomeStage) → seek (stage_at unit) self.now.pending ≡ Some f
-            → refusal_of (store_conflicts self.now.pending f.earlier f.member.instr enters) ≡ refusal_in result }
+            → refusal_of (store_conflicts self.now.pending f.earlier f.item.instr enters) ≡ refusal_in result }
     {
         if let Err(refusal) = self.board.may_store(unit) {
             return Err(refusal);
@@ -261,7 +261,7 @@ impl InFlight {
     pub fn leave(&mut self, unit: Unit, rest: &Option<Rest>)
         requires apart { Pairs IsApart self.old.pending }
         requires rest { IfSome (sought (seek (stage_at unit) self.old.pending))
-            (λ s. IsRestOf (shape_of s.member.instr) rest.now) }
+            (λ s. IsRestOf (shape_of s.pending.instr) rest.now) }
         requires room { enters (outstanding_of 0 rest.now) ≡ true → is_none (place_for self.old.pending) ≡ false }
         ensures { self.new ≡ with_pending self.old
             (replaced (seek (stage_at unit) self.old.pending) self.old.pending

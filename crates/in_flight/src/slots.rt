@@ -16,7 +16,7 @@ use std::marker::Model;
 /// A pending instruction that was sought, with its answer to what was asked.
 #[derive(Clone, Copy, Drop)]
 pub struct Sought<K> {
-    pub member: Pending,
+    pub pending: Pending,
     pub answer: K,
 }
 
@@ -65,23 +65,23 @@ impl Pending {
 fn put_rest(
     places: &mut [Option<Pending>],
     channels: &mut [Option<Pending>],
-    member: &Pending,
+    pending: &Pending,
     later: &Option<Outstanding>,
 )
     requires places { length places.old ≡ 4 }
     requires channels { length channels.old ≡ 8 }
     requires room { HasRoom later.now [] }
-    ensures places { places.new ≡ places_with places.old member.now later.now }
-    ensures channels { channels.new ≡ channels_with channels.old member.now later.now }
+    ensures places { places.new ≡ places_with places.old pending.now later.now }
+    ensures channels { channels.new ≡ channels_with channels.old pending.now later.now }
 {
     match *later {
         None => {}
         Some(Outstanding::Entered(place, address, access)) => {
-            let rest = member.in_phase(Phase::After(Outstanding::Entered(place, address, access)));
+            let rest = pending.in_phase(Phase::After(Outstanding::Entered(place, address, access)));
             places[usize::from(place)] = Some(rest);
         }
         Some(Outstanding::Accepted(n, word)) => {
-            let rest = member.in_phase(Phase::After(Outstanding::Accepted(n, word)));
+            let rest = pending.in_phase(Phase::After(Outstanding::Accepted(n, word)));
             channels[usize::from(n.get())] = Some(rest);
         }
     }
@@ -174,11 +174,11 @@ impl Slots {
     {
         let index = index_of(unit);
         let seat = self.units[index];
-        let Some(member) = seat else {
+        let Some(pending) = seat else {
             return None;
         };
-        match member.stage_in(unit) {
-            Some(answer) => Some(Sought { member, answer }),
+        match pending.stage_in(unit) {
+            Some(answer) => Some(Sought { pending, answer }),
             None => None,
         }
     }
@@ -188,8 +188,8 @@ impl Slots {
         ensures { self.new ≡ replaced (seek (stage_at unit) self.old) self.old (λ m. in_phase m (Before stage) ∷ []) }
     {
         let index = index_of(unit);
-        if let Some(member) = &mut self.units[index] {
-            member.phase = Phase::Before(stage);
+        if let Some(pending) = &mut self.units[index] {
+            pending.phase = Phase::Before(stage);
         }
     }
 
@@ -200,11 +200,11 @@ impl Slots {
     {
         let index = index_of(unit);
         let seat = self.units[index];
-        let Some(member) = seat else {
+        let Some(pending) = seat else {
             return;
         };
         self.units[index] = None;
-        put_rest(&mut self.places, &mut self.channels, &member, later);
+        put_rest(&mut self.places, &mut self.channels, &pending, later);
     }
 
     /// The instruction that stands in a place of the hopper, with its reference.
@@ -213,11 +213,11 @@ impl Slots {
         ensures { result ≡ sought (seek (entry_at place) self.now) }
     {
         let seat = self.places[usize::from(place)];
-        let Some(member) = seat else {
+        let Some(pending) = seat else {
             return None;
         };
-        match member.entry_in(place) {
-            Some(answer) => Some(Sought { member, answer }),
+        match pending.entry_in(place) {
+            Some(answer) => Some(Sought { pending, answer }),
             None => None,
         }
     }
@@ -230,11 +230,11 @@ impl Slots {
     {
         let index = usize::from(place);
         let seat = self.places[index];
-        let Some(member) = seat else {
+        let Some(pending) = seat else {
             return;
         };
         self.places[index] = None;
-        put_rest(&mut self.places, &mut self.channels, &member, later);
+        put_rest(&mut self.places, &mut self.channels, &pending, later);
     }
 
     /// The instruction that waits in a channel, with its word.
@@ -243,11 +243,11 @@ impl Slots {
         ensures range { IfSome result (λ s. channel < 8) }
     {
         let seat = seat_at(&self.channels, usize::from(channel));
-        let Some(member) = seat else {
+        let Some(pending) = seat else {
             return None;
         };
-        match member.arrival_in(channel) {
-            Some(answer) => Some(Sought { member, answer }),
+        match pending.arrival_in(channel) {
+            Some(answer) => Some(Sought { pending, answer }),
             None => None,
         }
     }
@@ -266,13 +266,13 @@ impl Slots {
     }
 
     /// A new instruction, with a number above all, goes to its unit, which is free.
-    pub fn push(&mut self, member: Pending)
-        requires waits { member.phase ≡ Before Waiting }
-        requires free { seek (stage_at member.unit) self.old ≡ None }
-        requires last { Each (λ m. m.number < member.number) self.old }
-        ensures { self.new ≡ self.old ++ member ∷ [] }
+    pub fn push(&mut self, pending: Pending)
+        requires waits { pending.phase ≡ Before Waiting }
+        requires free { seek (stage_at pending.unit) self.old ≡ None }
+        requires last { Each (λ m. m.number < pending.number) self.old }
+        ensures { self.new ≡ self.old ++ pending ∷ [] }
     {
-        let index = index_of(member.unit);
-        self.units[index] = Some(member);
+        let index = index_of(pending.unit);
+        self.units[index] = Some(pending);
     }
 }

@@ -186,7 +186,7 @@ fn finish(flight: &mut InFlight, unit: Unit) -> Answer
 /// The stage of the unit's instruction.
 fn find(flight: &InFlight, unit: Unit) -> Answer {
     match flight.find(unit) {
-        Some(found) => Answer::At(found.member.number, found.answer),
+        Some(found) => Answer::At(found.pending.number, found.answer),
         None => Answer::Free,
     }
 }
@@ -194,7 +194,7 @@ fn find(flight: &InFlight, unit: Unit) -> Answer {
 /// The number of the oldest reservation.
 fn oldest(flight: &InFlight) -> Answer {
     match flight.oldest() {
-        Some(member) => Answer::Number(member.number),
+        Some(pending) => Answer::Number(pending.number),
         None => Answer::Free,
     }
 }

@@ -1,7 +1,7 @@
 ghost use Rattle.instruction_table.specs.Table.{parcels_of, IsInstr, StandsAt};
 ghost use Rattle.std.specs.Prelude.{ℕ, length, ◌≡◌, ◌<◌, ◌≤◌, ◌+◌, ◌*◌, ◌^◌};
 ghost use Rattle.instruction_table.specs.Pattern.{IsByTable, IsReadAs, parcels_from};
-ghost use Rattle.instruction_table.specs.Decoding.{branches, logicals, shifts, additions, others, increments, rows};
+ghost use Rattle.instruction_table.specs.Decoding.{branches, logicals, shifts, additions, others, increments};
 ghost use Rattle.instruction_table.specs.Decoding.{x_test_at, extended_at, entry, entry_of, following_at, digits_at};
 ghost use Rattle.instruction_table.specs.Decoding.{reading_at, GoesOn};
 

@@ -8,7 +8,7 @@ some_inj x y e = cc
 
 -- what was found is one of the list, the answer is about it, and none before it answers
 abbrev pub Splits : {M K : Type 0} → (M → Option K) → List M → Found M K → Type 0
-Splits f ms x = (ms ≡ x.earlier ++ x.member ∷ x.later) × (f x.member ≡ Some x.answer) × Each (λ e. f e ≡ None) x.earlier
+Splits f ms x = (ms ≡ x.earlier ++ x.item ∷ x.later) × (f x.item ≡ Some x.answer) × Each (λ e. f e ≡ None) x.earlier
 
 pub seek_splits : {M K : Type 0} (f : M → Option K) (ms : List M) (x : Found M K) → seek f ms ≡ Some x → Splits f ms x
 unfolding seek found_here found_further
@@ -26,7 +26,7 @@ seek_splits {M} {K} f (m ∷ ms) x h = here (seek_splits f ms) (f m) refl (seek 
 -- one is found where none before it answers
 pub seek_around : {M K : Type 0} (f : M → Option K) (es : List M) (m : M) (x : K) (ls : List M)
     → Each (λ e. f e ≡ None) es → f m ≡ Some x
-    → seek f (es ++ m ∷ ls) ≡ Some (record { earlier = es; member = m; answer = x; later = ls })
+    → seek f (es ++ m ∷ ls) ≡ Some (record { earlier = es; item = m; answer = x; later = ls })
 unfolding seek found_here found_further
 seek_around f [] m x ls h e = ap (λ o. found_here o m ls (seek f ls)) e
 seek_around f (y ∷ es) m x ls h e = ap (λ o. found_here o y (es ++ m ∷ ls) (seek f (es ++ m ∷ ls))) h.0

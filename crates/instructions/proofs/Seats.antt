@@ -228,7 +228,7 @@ pub found_there : {K W : Type 0} (key : K → ℕ) (f : K → Option W) (os : Li
     → get_or os i None ≡ Some m → HasOwnKeys key (somes os) → f m ≡ Some answer
     → Each (λ y. f y ≡ None) (somes (set os i None))
     → seek f (sort_by key (somes os))
-    ≡ Some (record { earlier = before_seat key os i m; member = m; answer = answer; later = after_seat key os i m })
+    ≡ Some (record { earlier = before_seat key os i m; item = m; answer = answer; later = after_seat key os i m })
 found_there key f os i m answer h own e s =
     ap (seek f) (taken_with key os i m h own)
     ∙ seek_around f (before_seat key os i m) m answer (after_seat key os i m)

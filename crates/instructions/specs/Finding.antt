@@ -7,7 +7,7 @@ pub record Found (M K : Type 0) : Type 0 where
   -- those of the list before it
   pub earlier : List M
   -- the one itself
-  pub member : M
+  pub item : M
   -- its answer to what was asked
   pub answer : K
   -- those of the list after it
@@ -20,7 +20,7 @@ found_further m (Some f) = Some (record f { earlier = m ∷ f.earlier })
 
 -- the one at hand where it answers, and else what was found among those after it
 unfoldable pub found_here : {M K : Type 0} → Option K → M → List M → Option (Found M K) → Option (Found M K)
-found_here (Some x) m ms rest = Some (record { earlier = []; member = m; answer = x; later = ms })
+found_here (Some x) m ms rest = Some (record { earlier = []; item = m; answer = x; later = ms })
 found_here None m ms rest = found_further m rest
 
 -- the first of a list that answers, if one does
@@ -35,4 +35,4 @@ put_back f ms = f.earlier ++ (ms ++ f.later)
 -- the list with others in the place of the one that was found
 unfoldable pub replaced : {M K : Type 0} → Option (Found M K) → List M → (M → List M) → List M
 replaced None ms g = ms
-replaced (Some f) ms g = put_back f (g f.member)
+replaced (Some f) ms g = put_back f (g f.item)

@@ -1,4 +1,4 @@
-ghost use Rattle.std.specs.Prelude.{◌≡◌, ◌<◌, ◌≤◌, ◌∷◌, List, length, slice_index_or, OnOk, OnErr, Err, false};
+ghost use Rattle.std.specs.Prelude.{◌≡◌, ◌<◌, slice_index_or, OnOk, OnErr, Err, false};
 ghost use Rattle.std.specs.List.{flat_map};
 ghost use Rattle.device_text.specs.Device.{Writes, failed_after};
 ghost use Rattle.job_deck.specs.Dump.{held_text, place_line, halt_text, fault_text, area_line, spaced_index};

@@ -1,9 +1,7 @@
-ghost use Rattle.std.specs.Prelude.{◌≡◌, ◌||◌, OnOk, true, false};
+ghost use Rattle.std.specs.Prelude.{◌≡◌, ◌||◌, OnOk, false};
 ghost use Rattle.in_flight.specs.Lookup.{is_pending};
-ghost use Rattle.sequential.specs.Log.{entries_of};
 ghost use Rattle.device_text.specs.Device.{NothingWaits, Writes, failed_after};
-ghost use Rattle.job_deck.specs.Dump.{log_line};
-ghost use Rattle.job_deck.specs.Session.{IsReply, not_drained_text};
+ghost use Rattle.job_deck.specs.Session.{not_drained_text};
 ghost use Rattle.job_deck.specs.inner.Holding.{Closes, Dumps, is_write_error, last_said};
 
 use crate::dumping::{dump_to, put_log_line};

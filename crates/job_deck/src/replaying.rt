@@ -1,6 +1,6 @@
 ghost use Rattle.std.specs.Prelude.{◌≡◌, ◌||◌, IfOk, IsSome, false};
 ghost use Rattle.deck.specs.Deck.{deck};
-ghost use Rattle.device_text.specs.Device.{Moves, NothingWaits, failed_after};
+ghost use Rattle.device_text.specs.Device.{Moves, NothingWaits};
 ghost use Rattle.job_deck.specs.Listing.{is_read_refusal, is_write_refusal};
 ghost use Rattle.job_deck.specs.Replaying.{replayed, Prints, Replays};
 

@@ -50,8 +50,8 @@ struct ScanningMachine {
 // ---- what is asked of a pending instruction, and of a list of them ----
 
 /// What the scoreboard sees of it.
-fn reservation(member: &Pending) -> Reservation {
-    let progress = match member.phase {
+fn reservation(pending: &Pending) -> Reservation {
+    let progress = match pending.phase {
         Phase::Before(Stage::Waiting) => Progress::Reserved { has_read: false },
         Phase::Before(_) => Progress::Reserved { has_read: true },
         Phase::After(Outstanding::Entered(_, _, Access::Store(_))) => Progress::Left {
@@ -63,26 +63,26 @@ fn reservation(member: &Pending) -> Reservation {
         Phase::After(Outstanding::Accepted(n, _)) => Progress::Left { returning: Some(n) },
     };
     Reservation {
-        instr: member.instr,
-        unit: member.unit,
+        instr: pending.instr,
+        unit: pending.unit,
         progress,
     }
 }
 
 /// Its stage, if it holds the unit.
-fn stage_in(member: &Pending, unit: Unit) -> Option<Stage> {
-    if !is_same_unit(member.unit, unit) {
+fn stage_in(pending: &Pending, unit: Unit) -> Option<Stage> {
+    if !is_same_unit(pending.unit, unit) {
         return None;
     }
-    match member.phase {
+    match pending.phase {
         Phase::Before(stage) => Some(stage),
         Phase::After(_) => None,
     }
 }
 
 /// Its reference, if it stands in the place of the hopper.
-fn entry_in(member: &Pending, place: u8) -> Option<HopperEntry> {
-    match member.phase {
+fn entry_in(pending: &Pending, place: u8) -> Option<HopperEntry> {
+    match pending.phase {
         Phase::After(Outstanding::Entered(taken, a, access)) => if taken == place {
             Some(HopperEntry { a, access })
         } else {
@@ -93,8 +93,8 @@ fn entry_in(member: &Pending, place: u8) -> Option<HopperEntry> {
 }
 
 /// Its word, if it waits in the channel.
-fn arrival_in(member: &Pending, given: u8) -> Option<Arrival> {
-    match member.phase {
+fn arrival_in(pending: &Pending, given: u8) -> Option<Arrival> {
+    match pending.phase {
         Phase::After(Outstanding::Accepted(channel, word)) => if channel.get() == given {
             Some(Arrival { channel, word })
         } else {
@@ -105,37 +105,37 @@ fn arrival_in(member: &Pending, given: u8) -> Option<Arrival> {
 }
 
 /// Whether it waits in the hopper for the bank.
-fn is_in_bank(member: &Pending, bank: u8) -> bool {
-    match member.phase {
+fn is_in_bank(pending: &Pending, bank: u8) -> bool {
+    match pending.phase {
         Phase::After(Outstanding::Entered(_, address, _)) => bank_of(address) == bank,
         _ => false,
     }
 }
 
 /// Whether a fetch of the word at the absolute address waits for it.
-fn delays_fetch(member: &Pending, address: u32) -> bool {
-    match member.phase {
-        Phase::Before(_) => reservation(member).has_store_turn(),
+fn delays_fetch(pending: &Pending, address: u32) -> bool {
+    match pending.phase {
+        Phase::Before(_) => reservation(pending).has_store_turn(),
         Phase::After(Outstanding::Entered(_, at, Access::Store(_))) => at == address,
         Phase::After(_) => false,
     }
 }
 
 /// Those before the one in this place of the list.
-fn before(members: &[Pending], index: usize) -> &[Pending] {
-    if index < members.len() {
-        &members[..index]
+fn before(in_flight: &[Pending], index: usize) -> &[Pending] {
+    if index < in_flight.len() {
+        &in_flight[..index]
     } else {
-        members
+        in_flight
     }
 }
 
 /// The first of the registers that is a result still to come of one of them.
-fn first_awaited(members: &[Pending], registers: &[Reg]) -> Option<Reg> {
+fn first_awaited(in_flight: &[Pending], registers: &[Reg]) -> Option<Reg> {
     for register in registers {
-        if members
+        if in_flight
             .iter()
-            .any(|member| reservation(member).has_to_come(register))
+            .any(|pending| reservation(pending).has_to_come(register))
         {
             return Some(*register);
         }
@@ -144,11 +144,11 @@ fn first_awaited(members: &[Pending], registers: &[Reg]) -> Option<Reg> {
 }
 
 /// The first of the registers that one of them has still to read.
-fn first_to_be_read(members: &[Pending], registers: &[Reg]) -> Option<Reg> {
+fn first_to_be_read(in_flight: &[Pending], registers: &[Reg]) -> Option<Reg> {
     for register in registers {
-        if members
+        if in_flight
             .iter()
-            .any(|member| reservation(member).has_to_read(register))
+            .any(|pending| reservation(pending).has_to_read(register))
         {
             return Some(*register);
         }
@@ -157,8 +157,10 @@ fn first_to_be_read(members: &[Pending], registers: &[Reg]) -> Option<Reg> {
 }
 
 /// Whether one of them holds the unit.
-fn is_held(members: &[Pending], unit: Unit) -> bool {
-    members.iter().any(|member| reservation(member).holds(unit))
+fn is_held(in_flight: &[Pending], unit: Unit) -> bool {
+    in_flight
+        .iter()
+        .any(|pending| reservation(pending).holds(unit))
 }
 
 /// The lower-numbered unit of an instruction's kind.
@@ -175,23 +177,23 @@ fn first_unit(instr: &Instr) -> Unit {
 }
 
 /// The unit that an instruction takes: the lower-numbered free one of its kind.
-fn unit_for(members: &[Pending], instr: &Instr) -> Result<Unit, Refusal> {
+fn unit_for(in_flight: &[Pending], instr: &Instr) -> Result<Unit, Refusal> {
     let first = first_unit(instr);
-    if !is_held(members, first) {
+    if !is_held(in_flight, first) {
         return Ok(first);
     }
-    if is_same_unit(first, Unit::Increment1) && !is_held(members, Unit::Increment2) {
+    if is_same_unit(first, Unit::Increment1) && !is_held(in_flight, Unit::Increment2) {
         return Ok(Unit::Increment2);
     }
     Err(Refusal::UnitBusy(first))
 }
 
 /// The lowest-numbered free place of the hopper.
-fn place_for(members: &[Pending]) -> Option<u8> {
+fn place_for(in_flight: &[Pending]) -> Option<u8> {
     for place in 0..4u8 {
-        if !members
+        if !in_flight
             .iter()
-            .any(|member| entry_in(member, place).is_some())
+            .any(|pending| entry_in(pending, place).is_some())
         {
             return Some(place);
         }
@@ -200,19 +202,19 @@ fn place_for(members: &[Pending]) -> Option<u8> {
 }
 
 /// The one that holds the unit, with its place in the list and its stage.
-fn find_stage(members: &[Pending], unit: Unit) -> Option<(usize, Pending, Stage)> {
-    for index in 0..members.len() {
-        if let Some(stage) = stage_in(&members[index], unit) {
-            return Some((index, members[index], stage));
+fn find_stage(in_flight: &[Pending], unit: Unit) -> Option<(usize, Pending, Stage)> {
+    for index in 0..in_flight.len() {
+        if let Some(stage) = stage_in(&in_flight[index], unit) {
+            return Some((index, in_flight[index], stage));
         }
     }
     None
 }
 
 /// The one in the place of the hopper, with its place in the list and its reference.
-fn find_entry(members: &[Pending], place: u8) -> Option<(usize, HopperEntry)> {
-    for index in 0..members.len() {
-        if let Some(entry) = entry_in(&members[index], place) {
+fn find_entry(in_flight: &[Pending], place: u8) -> Option<(usize, HopperEntry)> {
+    for index in 0..in_flight.len() {
+        if let Some(entry) = entry_in(&in_flight[index], place) {
             return Some((index, entry));
         }
     }
@@ -220,9 +222,9 @@ fn find_entry(members: &[Pending], place: u8) -> Option<(usize, HopperEntry)> {
 }
 
 /// The one in the channel, with its place in the list and its word.
-fn find_arrival(members: &[Pending], channel: u8) -> Option<(usize, Arrival)> {
-    for index in 0..members.len() {
-        if let Some(arrival) = arrival_in(&members[index], channel) {
+fn find_arrival(in_flight: &[Pending], channel: u8) -> Option<(usize, Arrival)> {
+    for index in 0..in_flight.len() {
+        if let Some(arrival) = arrival_in(&in_flight[index], channel) {
             return Some((index, arrival));
         }
     }
@@ -296,7 +298,7 @@ impl ScanningMachine {
             Some(address) => self
                 .pending
                 .iter()
-                .any(|member| delays_fetch(member, address)),
+                .any(|pending| delays_fetch(pending, address)),
             None => false,
         }
     }
@@ -315,7 +317,7 @@ impl ScanningMachine {
         if self
             .pending
             .iter()
-            .any(|member| reservation(member).is_branch())
+            .any(|pending| reservation(pending).is_branch())
         {
             return Err(Refusal::BranchPending);
         }
@@ -335,7 +337,7 @@ impl ScanningMachine {
             return Err(Refusal::ResultReserved(register));
         }
         self.last = self.last.saturating_add(1);
-        let member = Pending {
+        let pending = Pending {
             instr,
             at: self.state.place.p,
             number: self.last,
@@ -343,7 +345,7 @@ impl ScanningMachine {
             phase: Phase::Before(Stage::Waiting),
         };
         if self.pending.len() < 16 {
-            self.pending.push(member);
+            self.pending.push(pending);
         }
         Ok(Note {
             unit,
@@ -385,33 +387,33 @@ impl ScanningMachine {
     }
 
     fn read(&mut self, unit: Unit) -> Answer {
-        let Some((index, member, stage)) = find_stage(self.pending.as_slice(), unit) else {
+        let Some((index, pending, stage)) = find_stage(self.pending.as_slice(), unit) else {
             return Err(Refusal::Nothing);
         };
         let Stage::Waiting = stage else {
             return Err(Refusal::Nothing);
         };
         let earlier = before(self.pending.as_slice(), index);
-        if let Some(register) = first_awaited(earlier, sources(&member.instr).as_slice()) {
+        if let Some(register) = first_awaited(earlier, sources(&pending.instr).as_slice()) {
             return Err(Refusal::OperandAwaited(register));
         }
-        let operands = operands(&member.instr, member.at, &self.state.registers);
+        let operands = operands(&pending.instr, pending.at, &self.state.registers);
         self.put(index, Some(Phase::Before(Stage::Read(operands))));
         Ok(Done::Made)
     }
 
     fn finish(&mut self, unit: Unit) -> Answer {
-        let Some((index, member, stage)) = find_stage(self.pending.as_slice(), unit) else {
+        let Some((index, pending, stage)) = find_stage(self.pending.as_slice(), unit) else {
             return Err(Refusal::Nothing);
         };
         let Stage::Read(operands) = stage else {
             return Err(Refusal::Nothing);
         };
         // Each instruction that was issued to a unit has a kind of unit.
-        if unit_kind(&member.instr).is_none() {
+        if unit_kind(&pending.instr).is_none() {
             return Err(Refusal::Nothing);
         }
-        let value = value(&member.instr, &operands);
+        let value = value(&pending.instr, &operands);
         self.put(index, Some(Phase::Before(Stage::Finished(value))));
         Ok(Done::Made)
     }
@@ -451,7 +453,11 @@ impl ScanningMachine {
         if self.finds_no_place(instr, value) {
             return Err(Refusal::HopperFull);
         }
-        if instr.has_reference() && earlier.iter().any(|member| reservation(member).has_turn()) {
+        if instr.has_reference()
+            && earlier
+                .iter()
+                .any(|pending| reservation(pending).has_turn())
+        {
             return Err(Refusal::OutOfTurn);
         }
         Ok(())
@@ -470,17 +476,17 @@ impl ScanningMachine {
     }
 
     fn store(&mut self, unit: Unit) -> Answer {
-        let Some((index, member, stage)) = find_stage(self.pending.as_slice(), unit) else {
+        let Some((index, pending, stage)) = find_stage(self.pending.as_slice(), unit) else {
             return Err(Refusal::Nothing);
         };
         let Stage::Finished(value) = stage else {
             return Err(Refusal::Nothing);
         };
-        if let Err(refusal) = self.judge_store(index, &member.instr, &value) {
+        if let Err(refusal) = self.judge_store(index, &pending.instr, &value) {
             return Err(refusal);
         }
-        let rest = self.rest_of(&member.instr, &value);
-        self.carry_out(&member.instr, &value);
+        let rest = self.rest_of(&pending.instr, &value);
+        self.carry_out(&pending.instr, &value);
         self.put(index, rest);
         Ok(Done::Made)
     }
@@ -524,7 +530,7 @@ impl ScanningMachine {
         }
         if before(self.pending.as_slice(), index)
             .iter()
-            .any(|member| is_in_bank(member, bank))
+            .any(|pending| is_in_bank(pending, bank))
         {
             return Err(Refusal::OlderInBank);
         }
@@ -542,7 +548,7 @@ impl ScanningMachine {
         let earlier = before(self.pending.as_slice(), index);
         if earlier
             .iter()
-            .any(|member| reservation(member).has_to_read(&register))
+            .any(|pending| reservation(pending).has_to_read(&register))
         {
             return Err(Refusal::ResultHeld(register));
         }

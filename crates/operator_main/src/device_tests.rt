@@ -1,4 +1,4 @@
-ghost use Rattle.std.specs.Prelude.{Some, vec_items};
+ghost use Rattle.std.specs.Prelude.{Some};
 
 use super::program::program;
 use super::test_program::{TWO_ADDS, TWO_ADDS_DUMP, words};

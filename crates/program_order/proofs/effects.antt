@@ -1,4 +1,4 @@
 -- Changes of the state that touch nothing of one another, up to all that is still to come.
 pub mod Effects
-pub mod Members
+pub mod OnePending
 pub mod Completing

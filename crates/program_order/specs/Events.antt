@@ -23,10 +23,10 @@ use Rattle.program_order.specs.Exchange.{ask_tests, exchange_tests, after_exchan
 -- what an event may be refused for, in the order in which it is asked
 unfoldable pub tests_of : Processor → Event → List Test
 tests_of w Issue = issue_tests w.state w.pending w.request w.budget (issued w.log)
-tests_of w (Read u) = tests_found (seek (stage_at u) w.pending) (λ f. read_tests f.answer f.earlier f.member.instr)
+tests_of w (Read u) = tests_found (seek (stage_at u) w.pending) (λ f. read_tests f.answer f.earlier f.item.instr)
 tests_of w (Finish u) = tests_found (seek (stage_at u) w.pending) (λ f. finish_tests f.answer)
 tests_of w (Store u) = tests_found (seek (stage_at u) w.pending)
-    (λ f. store_tests (bounds_of w.state) w.pending f.answer f.earlier f.member.instr)
+    (λ f. store_tests (bounds_of w.state) w.pending f.answer f.earlier f.item.instr)
 tests_of w (Accept p) = tests_found (seek (entry_at p) w.pending) (λ f. accept_tests w.busy f.earlier f.answer)
 tests_of w (Return c) = tests_found (seek (arrival_at c) w.pending) (λ f. return_tests f.earlier f.answer)
 tests_of w (BankFree k) = free_tests w.busy k

@@ -19,7 +19,7 @@ use Rattle.program_order.specs.Processor.{Processor}
 -- the reference leaves its place and its bank is busy: a load has its word in its channel, a store has written memory
 unfoldable pub after_accept : Processor → Found Pending HopperEntry → ℕ → Access → Processor
 after_accept w f a (Load n) = record w {
-  pending = put_back f (in_phase f.member (After (Accepted n (slice_index_or w.state.memory a 0))) ∷ []);
+  pending = put_back f (in_phase f.item (After (Accepted n (slice_index_or w.state.memory a 0))) ∷ []);
   busy = slice_set w.busy (bank_of a) true;
 }
 after_accept w f a (StoreWord v) =

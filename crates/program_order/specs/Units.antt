@@ -66,24 +66,24 @@ stage_after_finish i (Finished v) = Finished v
 unfoldable pub after_read : Processor → Found Pending Stage → Processor
 after_read w f = record w {
   pending = put_back f
-      (in_phase f.member (Before (stage_after_read w.state.registers f.member.instr f.member.at f.answer)) ∷ []);
+      (in_phase f.item (Before (stage_after_read w.state.registers f.item.instr f.item.at f.answer)) ∷ []);
 }
 
 -- the unit has its value, that of the operands that were read
 unfoldable pub after_finish : Processor → Found Pending Stage → Processor
 after_finish w f =
-    record w { pending = put_back f (in_phase f.member (Before (stage_after_finish f.member.instr f.answer)) ∷ []) }
+    record w { pending = put_back f (in_phase f.item (Before (stage_after_finish f.item.instr f.answer)) ∷ []) }
 
 -- the result is written and the jump made, a reference in range enters the hopper, and the unit is released; a
 -- reference out of range may set the fault flag
 unfoldable pub after_work : Processor → Found Pending Stage → Work → Processor
 after_work w f work = record w {
   state = do_now (bounds_of w.state) w.state work;
-  pending = put_back f (kept f.member (rest_of (bounds_of w.state) (unwrap_or (place_for w.pending) 0) work.reference));
+  pending = put_back f (kept f.item (rest_of (bounds_of w.state) (unwrap_or (place_for w.pending) 0) work.reference));
 }
 
 -- the store event, which only an instruction that has its value comes to
 unfoldable pub after_store : Processor → Found Pending Stage → Stage → Processor
 after_store w f Waiting = w
 after_store w f (HasRead os) = w
-after_store w f (Finished v) = after_work w f (work_of (shape_of f.member.instr) v)
+after_store w f (Finished v) = after_work w f (work_of (shape_of f.item.instr) v)

@@ -1,4 +1,4 @@
-ghost use Rattle.std.specs.Prelude.{ℕ, List, ◌++◌, Result, ◌≡◌, ◌≤◌, ◌<◌, ◌&&◌, ◌||◌, true, false, not, is_none};
+ghost use Rattle.std.specs.Prelude.{ℕ, List, ◌++◌, Result, ◌≡◌, ◌<◌, ◌&&◌, ◌||◌, true, false, not, is_none};
 ghost use Rattle.std.specs.Prelude.{is_some, Some, None};
 ghost use Rattle.instructions.specs.declared.refusal.Refusal.{Refusal};
 ghost use Rattle.program_order.specs.declared.event.Event.{Event as SomeEvent};

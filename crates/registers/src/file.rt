@@ -1,4 +1,4 @@
-ghost use Rattle.std.specs.Prelude.{◌≡◌, ◌<◌, ◌%◌, ◌^◌, length, slice_index_or, slice_set};
+ghost use Rattle.std.specs.Prelude.{◌≡◌};
 ghost use Rattle.registers.specs.Registers.{get, put};
 
 use instructions::Reg;

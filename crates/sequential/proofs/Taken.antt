@@ -1,5 +1,5 @@
 -- The instructions of a log that go to a unit are counted step by step.
-use Rattle.std.proofs.Common.{◌≡◌, ◌+◌, ℕ, List, [], ◌∷◌, ◌++◌, Option, Some, None, refl, ap, arith}
+use Rattle.std.proofs.Common.{◌≡◌, ◌+◌, List, [], ◌∷◌, ◌++◌, Option, Some, None, refl, ap, arith}
 use Rattle.sequential.specs.declared.state.State.{State}
 use Rattle.sequential.specs.Replay.{LogStep, do_log_step, replay, then_replay}
 use Rattle.sequential.specs.Taken.{taken_at, then_taken, taken}

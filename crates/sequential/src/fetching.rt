@@ -1,6 +1,6 @@
-ghost use Rattle.std.specs.Prelude.{◌≡◌, ◌<◌, length};
+ghost use Rattle.std.specs.Prelude.{◌≡◌, ◌<◌};
 ghost use Rattle.sequential.specs.State.{bounds_of};
-ghost use Rattle.sequential.specs.Step.{met, here, fetched_by, word_seen, word_at, fetch};
+ghost use Rattle.sequential.specs.Step.{met, here, fetched_by, word_seen, fetch};
 
 use crate::{Place, State};
 use instruction_table::{Decoded, Halt, Instr, decode};

@@ -1,4 +1,4 @@
-ghost use Rattle.std.specs.Prelude.{◌≡◌, Some, None, replicate, length, false, IfErr, OnOk, MatchResult, [], ◌∷◌};
+ghost use Rattle.std.specs.Prelude.{◌≡◌, Some, None, replicate, IfErr, OnOk, MatchResult, [], ◌∷◌};
 ghost use Rattle.instructions.specs.declared.refusal.Refusal.TheVariants.{PackageRange};
 ghost use Rattle.sequential.specs.Log.{steps_of};
 ghost use Rattle.sequential.specs.Replay.{Issued, replay, IsRefusedAt};

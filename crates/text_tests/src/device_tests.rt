@@ -1,6 +1,6 @@
 //! Numbers, fields, lines and pieces, by devices that fail too.
 
-ghost use Rattle.std.specs.Prelude.{Some, vec_items};
+ghost use Rattle.std.specs.Prelude.{Some};
 
 use arrayvec::ArrayVec;
 use device_text::{

@@ -1,6 +1,6 @@
 //! What the tests share: devices that fail, texts and decks.
 
-ghost use Rattle.std.specs.Prelude.{Some, vec_items};
+ghost use Rattle.std.specs.Prelude.{Some};
 
 use std::alloc::{AllocError, Global};
 use std::io;

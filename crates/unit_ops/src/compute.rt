@@ -1,4 +1,4 @@
-ghost use Rattle.std.specs.Prelude.{◌≡◌, ◌+◌, ◌%◌, ◌^◌, ◌==◌, IsSome};
+ghost use Rattle.std.specs.Prelude.{◌≡◌, ◌+◌, ◌%◌, ◌==◌, IsSome};
 ghost use Rattle.instructions.specs.Operands.{uses};
 ghost use Rattle.unit_ops.specs.Values.{x_holds, is_zero, is_out_of_range, is_indefinite, b_holds, rank, logic};
 ghost use Rattle.unit_ops.specs.Values.{is_negative, magnitude, shifted_out, shifted_nominally, shifted, added};

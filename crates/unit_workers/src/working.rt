@@ -1,7 +1,7 @@
 //! The worker of a unit, and its tally.
-ghost use Rattle.std.specs.Prelude.{◌≡◌, ◌+◌, ◌++◌, true};
+ghost use Rattle.std.specs.Prelude.{◌≡◌, ◌+◌, true};
 ghost use Rattle.unit_queue.specs.Lanes.{is_closed};
-ghost use Rattle.unit_workers.specs.Tallies.{notes_in, Served};
+ghost use Rattle.unit_workers.specs.Tallies.{Served};
 
 use crate::gate::Gate;
 use crate::serving::serve;

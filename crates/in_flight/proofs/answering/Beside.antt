@@ -25,7 +25,7 @@ use Rattle.scoreboard.specs.declared.issued.Issued.{Issued}
 use Rattle.scoreboard.specs.declared.reservation.Progress.TheVariants.{Left}
 use Rattle.scoreboard.specs.declared.reservation.Reservation.{Reservation}
 use Rattle.scoreboard.specs.Reservations as board
-use Rattle.scoreboard.specs.Reservations.{is_reserved, returning_to, has_store_turn}
+use Rattle.scoreboard.specs.Reservations.{is_reserved, has_store_turn}
 use Rattle.scoreboard.specs.Conflicts as conflict
 use Rattle.scoreboard.specs.Units.{first_unit, same_unit, units_of}
 use Rattle.scoreboard.specs.Conflicts.{first_free, free_unit, is_held}
@@ -50,7 +50,7 @@ use Rattle.in_flight.specs.Tests.{refusal_in, store_conflicts, Test, refusal_of,
 use Rattle.in_flight.specs.Tests.{return_tests, free_tests, reservation_tests, unit_for}
 use Rattle.in_flight.specs.Flight.{Flight, flight_of, waiting_in, waiting, reserved_in, with_pending}
 use Rattle.in_flight.specs.inner.Board.{IsTied}
-use Rattle.in_flight.specs.Pending.{has_read, reservation_of, progress_of, returning, to_come, awaited, is_branch}
+use Rattle.in_flight.specs.Pending.{has_read, reservation_of, progress_of, to_come, awaited, is_branch}
 use Rattle.in_flight.specs.Pending.{has_turn}
 use Rattle.in_flight.specs.Pending.{stores_in, delays_fetch}
 use Rattle.in_flight.proofs.asking.Asked.{comes}
@@ -72,10 +72,10 @@ some_inj : {K : Type 0} (x y : K) → Some x ≡ Some y → x ≡ y
 some_inj x y e = cc
 
 pub there : {K : Type 0} (o : Option (Found Pending K)) (s : Sought K) → sought o ≡ Some s → (f : Found Pending K)
-    × (o ≡ Some f) × (f.member ≡ s.member) × (f.answer ≡ s.answer)
+    × (o ≡ Some f) × (f.item ≡ s.pending) × (f.answer ≡ s.answer)
 unfolding sought
 there None s h = cc
-there (Some f) s h = (f, refl, ap (λ x. x.member) (some_inj _ s h), ap (λ x. x.answer) (some_inj _ s h))
+there (Some f) s h = (f, refl, ap (λ x. x.pending) (some_inj _ s h), ap (λ x. x.answer) (some_inj _ s h))
 
 pub nothing_there : {K : Type 0} (o : Option (Found Pending K)) (g : Found Pending K → List Test) → sought o ≡ None
     → refusal_of (tests_found o g) ≡ Some Nothing
@@ -195,9 +195,9 @@ waiting_put f xs =
     waiting-append f.earlier (xs ++ f.later) ∙ ap (λ l. waiting f.earlier ++ l) (waiting-append xs f.later)
 
 pub waiting_around : {K : Type 0} (g : Pending → Option K) (ms : List Pending) (f : Found Pending K)
-    → seek g ms ≡ Some f → waiting ms ≡ waiting f.earlier ++ (waiting_in f.member.phase ++ waiting f.later)
+    → seek g ms ≡ Some f → waiting ms ≡ waiting f.earlier ++ (waiting_in f.item.phase ++ waiting f.later)
 unfolding waiting
-waiting_around g ms f h = ap waiting (seek_splits g ms f h).0 ∙ waiting-append f.earlier (f.member ∷ f.later)
+waiting_around g ms f h = ap waiting (seek_splits g ms f h).0 ∙ waiting-append f.earlier (f.item ∷ f.later)
 
 pub append-nil : {K : Type 0} (xs : List K) → xs ++ [] ≡ xs
 append-nil [] = refl
@@ -209,26 +209,26 @@ waiting_one m = append-nil (waiting_in m.phase)
 
 -- an instruction put back that waits for as much as before
 pub waiting_same : {K : Type 0} (g : Pending → Option K) (ms : List Pending) (f : Found Pending K) (xs : List Pending)
-    → seek g ms ≡ Some f → waiting xs ≡ waiting_in f.member.phase → waiting (put_back f xs) ≡ waiting ms
+    → seek g ms ≡ Some f → waiting xs ≡ waiting_in f.item.phase → waiting (put_back f xs) ≡ waiting ms
 waiting_same g ms f xs h e =
     waiting_put f xs ∙ ap (λ l. waiting f.earlier ++ (l ++ waiting f.later)) e ∙ sym (waiting_around g ms f h)
 
 staged_waits : (u : FunctionalUnit) (ms : List Pending) (f : Found Pending Stage) (t : Stage)
-    → seek (stage_at u) ms ≡ Some f → waiting (put_back f (in_phase f.member (Before t) ∷ [])) ≡ waiting ms
+    → seek (stage_at u) ms ≡ Some f → waiting (put_back f (in_phase f.item (Before t) ∷ [])) ≡ waiting ms
 unfolding waiting_in in_phase
 staged_waits u ms f t h =
-    let q = stage_found u f.member f.answer (seek_splits (stage_at u) ms f h).1 in
-    waiting_same (stage_at u) ms f (in_phase f.member (Before t) ∷ []) h
-    (waiting_one (in_phase f.member (Before t)) ∙ sym (ap waiting_in q))
+    let q = stage_found u f.item f.answer (seek_splits (stage_at u) ms f h).1 in
+    waiting_same (stage_at u) ms f (in_phase f.item (Before t) ∷ []) h
+    (waiting_one (in_phase f.item (Before t)) ∙ sym (ap waiting_in q))
 
 -- numbers
 pub each_put : {K : Type 0} (P : Pending → Type 0) (g : Pending → Option K) (ms : List Pending) (f : Found Pending K)
-    (xs : List Pending) → seek g ms ≡ Some f → (P f.member → Each P xs) → Each P ms → Each P (put_back f xs)
+    (xs : List Pending) → seek g ms ≡ Some f → (P f.item → Each P xs) → Each P ms → Each P (put_back f xs)
 unfolding put_back
 each_put P g ms f xs h step k =
     let all = subst (Each P) (seek_splits g ms f h).0 k in
-    let rest = each_right P f.earlier (f.member ∷ f.later) all in
-    each_append P f.earlier (xs ++ f.later) (each_left P f.earlier (f.member ∷ f.later) all)
+    let rest = each_right P f.earlier (f.item ∷ f.later) all in
+    each_append P f.earlier (xs ++ f.later) (each_left P f.earlier (f.item ∷ f.later) all)
     (each_append P xs f.later (step rest.0) rest.1)
 
 -- ---- places ----
@@ -288,14 +288,14 @@ next_passes a k ts h = ap (λ b. cond b (Some k) (refusal_of ts)) h
 pub store_refused : (u : FunctionalUnit) (ms : List Pending) (xs : List Issued) (f : Found Pending Stage)
     (enters : Bool) (r : Refusal) → xs ≡ on_board ms → seek (stage_at u) ms ≡ Some f
     → Err r ≡ store_answer (seek (held_in u) xs)
-    → refusal_of (store_conflicts ms f.earlier f.member.instr enters) ≡ Some r
+    → refusal_of (store_conflicts ms f.earlier f.item.instr enters) ≡ Some r
 store_refused u ms xs f enters r e h k =
     test_fails _ _ r _ (sym (k ∙ ap (λ l. store_answer (seek (held_in u) l)) e ∙ store_of_all u ms f h))
 
 pub store_unroomed : (u : FunctionalUnit) (ms : List Pending) (xs : List Issued) (f : Found Pending Stage)
     (enters : Bool) (x : Unit {0}) → xs ≡ on_board ms → seek (stage_at u) ms ≡ Some f
     → Ok x ≡ store_answer (seek (held_in u) xs) → (enters && is_none (place_for ms)) ≡ true
-    → refusal_of (store_conflicts ms f.earlier f.member.instr enters) ≡ Some HopperFull
+    → refusal_of (store_conflicts ms f.earlier f.item.instr enters) ≡ Some HopperFull
 store_unroomed u ms xs f enters x e h k full =
     test_passes _ _ x _ (sym (k ∙ ap (λ l. store_answer (seek (held_in u) l)) e ∙ store_of_all u ms f h))
     ∙ next_fails (enters && is_none (place_for ms)) HopperFull _ full
@@ -304,7 +304,7 @@ pub store_turned : (u : FunctionalUnit) (ms : List Pending) (xs : List Issued) (
     (enters : Bool) (x : Unit {0}) (r : Result (Unit {0}) Refusal) → xs ≡ on_board ms → seek (stage_at u) ms ≡ Some f
     → Ok x ≡ store_answer (seek (held_in u) xs) → (enters && is_none (place_for ms)) ≡ false
     → r ≡ turn_answer (seek (held_in u) xs)
-    → refusal_of (store_conflicts ms f.earlier f.member.instr enters) ≡ refusal_in r
+    → refusal_of (store_conflicts ms f.earlier f.item.instr enters) ≡ refusal_in r
 unfolding has_turn
 store_turned u ms xs f enters x r e h k room t =
     test_passes _ _ x _ (sym (k ∙ ap (λ l. store_answer (seek (held_in u) l)) e ∙ store_of_all u ms f h))
@@ -315,7 +315,7 @@ store_turned u ms xs f enters x r e h k room t =
 -- ---- a unit that reads ----
 
 abbrev pub read_refused : Option (Found Pending Stage) → Option Refusal
-read_refused o = refusal_of (tests_found o (λ f. read_tests f.answer f.earlier f.member.instr))
+read_refused o = refusal_of (tests_found o (λ f. read_tests f.answer f.earlier f.item.instr))
 
 pub not_waiting : (o : Option (Found Pending Stage)) (s : Sought Stage) → sought o ≡ Some s → (s.answer ≡ Waiting → ⊥)
     → read_refused o ≡ Some Nothing
@@ -325,10 +325,10 @@ not_waiting o s h k =
     ap read_refused p.1 ∙ by_stage p.0 p.0.answer refl (λ e. k (sym p.3 ∙ e))
   where
     by_stage : (f : Found Pending Stage) (t : Stage) → f.answer ≡ t → (t ≡ Waiting → ⊥)
-        → refusal_of (read_tests f.answer f.earlier f.member.instr) ≡ Some Nothing
+        → refusal_of (read_tests f.answer f.earlier f.item.instr) ≡ Some Nothing
     by_stage f Waiting e n = absurd (n refl)
-    by_stage f (Read os) e n = ap (λ t. refusal_of (read_tests t f.earlier f.member.instr)) e
-    by_stage f (Finished v) e n = ap (λ t. refusal_of (read_tests t f.earlier f.member.instr)) e
+    by_stage f (Read os) e n = ap (λ t. refusal_of (read_tests t f.earlier f.item.instr)) e
+    by_stage f (Finished v) e n = ap (λ t. refusal_of (read_tests t f.earlier f.item.instr)) e
 
 pub read_answered : (u : FunctionalUnit) (ms : List Pending) (xs : List Issued) (s : Sought Stage)
     (r : Result (Unit {0}) Refusal) → xs ≡ on_board ms → sought (seek (stage_at u) ms) ≡ Some s → s.answer ≡ Waiting
@@ -337,7 +337,7 @@ unfolding tests_found read_tests
 read_answered u ms xs s r e h w k =
     let p = there (seek (stage_at u) ms) s h in
     ap read_refused p.1
-    ∙ ap (λ t. refusal_of (read_tests t p.0.earlier p.0.member.instr)) (p.3 ∙ w)
+    ∙ ap (λ t. refusal_of (read_tests t p.0.earlier p.0.item.instr)) (p.3 ∙ w)
     ∙ test_is _ _
     ∙ ap refusal_in (sym (k ∙ ap (λ l. read_answer (seek (held_in u) l)) e ∙ read_of_all u ms p.0 p.1))
 
@@ -348,7 +348,7 @@ pub read_tied : (u : FunctionalUnit) (ms ns : List Pending) (queue : Queue) (b c
 unfolding replaced with_issued in_phase
 read_tied u ms ns queue b c s os h tied en ec =
     let p = there (seek (stage_at u) ms) s h in
-    let made : ns ≡ put_back p.0 (in_phase p.0.member (Before (Read os)) ∷ []) =
+    let made : ns ≡ put_back p.0 (in_phase p.0.item (Before (Read os)) ∷ []) =
     en ∙ ap (λ o. replaced o ms (λ m. in_phase m (Before (Read os)) ∷ [])) p.1 in
     record {
       boarded = ap (λ (x : Standing). x.issued) ec ∙ ap (λ l. replaced (seek (held_in u) l) l read) tied.boarded
@@ -356,7 +356,7 @@ read_tied u ms ns queue b c s os h tied en ec =
       entered = tied.entered ∙ sym (staged_waits u ms p.0 (Read os) p.1) ∙ ap waiting (sym made);
       counted = subst (λ l. Each (λ m. m.number ≤ l) ns) (sym (ap (λ (x : Standing). x.last) ec))
           (subst (Each (λ m. m.number ≤ b.last)) (sym made)
-          (each_put (λ m. m.number ≤ b.last) (stage_at u) ms p.0 (in_phase p.0.member (Before (Read os)) ∷ []) p.1
+          (each_put (λ m. m.number ≤ b.last) (stage_at u) ms p.0 (in_phase p.0.item (Before (Read os)) ∷ []) p.1
           (λ k. (k, tt)) tied.counted));
     }
 
@@ -368,12 +368,12 @@ pub finish_tied : (u : FunctionalUnit) (ms ns : List Pending) (queue : Queue) (b
 unfolding replaced sought in_phase
 finish_tied u ms ns queue b v None h k tied en = subst (λ l. IsTied l queue b) (sym en) tied
 finish_tied u ms ns queue b v (Some f) h k tied en =
-    let made : ns ≡ put_back f (in_phase f.member (Before (Finished v)) ∷ []) = en in
+    let made : ns ≡ put_back f (in_phase f.item (Before (Finished v)) ∷ []) = en in
     record {
       boarded = tied.boarded ∙ sym (stage_follows u ms f v h k) ∙ ap on_board (sym made);
       entered = tied.entered ∙ sym (staged_waits u ms f (Finished v) h) ∙ ap waiting (sym made);
       counted = subst (Each (λ m. m.number ≤ b.last)) (sym made)
-          (each_put (λ m. m.number ≤ b.last) (stage_at u) ms f (in_phase f.member (Before (Finished v)) ∷ []) h
+          (each_put (λ m. m.number ≤ b.last) (stage_at u) ms f (in_phase f.item (Before (Finished v)) ∷ []) h
           (λ k. (k, tt)) tied.counted);
     }
 
@@ -417,8 +417,8 @@ pub free_load : (n : ℕ) (ms : List Pending) (f : Found Pending Arrival) → se
     → Pairs IsApart ms → conflict.awaited reservation_of f.earlier (X n) ≡ false
 free_load n ms f h apart =
     let p = seek_splits (arrival_at n) ms f h in
-    none_awaits n f.answer.word f.earlier f.member (arrival_phase n f.member f.answer p.1)
-    (pairs_before IsApart f.earlier f.member f.later (subst (Pairs IsApart) p.0 apart))
+    none_awaits n f.answer.word f.earlier f.item (arrival_phase n f.item f.answer p.1)
+    (pairs_before IsApart f.earlier f.item f.later (subst (Pairs IsApart) p.0 apart))
 
 -- ---- nothing in flight ----
 
@@ -464,7 +464,7 @@ return_answered n ms xs s r e apart h k =
       refusal = ResultHeld
           (X c);
     }
-    ∷ [])) (arrival_channel n p.0.member p.0.answer q.1)
+    ∷ [])) (arrival_channel n p.0.item p.0.answer q.1)
     ∙ test_is (conflict.to_be_read reservation_of p.0.earlier (X n)) (ResultHeld (X n))
     ∙ ap refusal_in (sym (k ∙ ap (λ l. return_answer n (seek (returning_by n) l)) e
     ∙ return_of_all n ms p.0 p.1 (free_load n ms p.0 p.1 apart)))
@@ -482,7 +482,7 @@ return_tied n ms ns queue b c s apart h tied en ec =
       boarded = ap (λ (x : Standing). x.issued) ec ∙ ap (λ l. replaced (seek (returning_by n) l) l gone) tied.boarded
           ∙ sym (return_follows n ms p.0 p.1 (free_load n ms p.0 p.1 apart)) ∙ ap on_board (sym made);
       entered = tied.entered ∙ sym (waiting_same (arrival_at n) ms p.0 [] p.1
-          (sym (ap waiting_in (arrival_phase n p.0.member p.0.answer q.1)))) ∙ ap waiting (sym made);
+          (sym (ap waiting_in (arrival_phase n p.0.item p.0.answer q.1)))) ∙ ap waiting (sym made);
       counted = subst (λ l. Each (λ m. m.number ≤ l) ns) (sym (ap (λ (x : Standing). x.last) ec))
           (subst (Each (λ m. m.number ≤ b.last)) (sym made)
           (each_put (λ m. m.number ≤ b.last) (arrival_at n) ms p.0 [] p.1 (λ k. tt) tied.counted));

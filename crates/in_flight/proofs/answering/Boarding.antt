@@ -53,8 +53,8 @@ found_on_board None = None
 found_on_board (Some f) = Some
     (record {
       earlier = on_board f.earlier;
-      member = issued_of f.member;
-      answer = f.member.instr;
+      item = issued_of f.item;
+      answer = f.item.instr;
       later = on_board f.later;
     })
 
@@ -153,7 +153,7 @@ after_off : {K : Type 0} (m : Pending) (o : Option (Found Pending K)) → (reser
 unfolding found_on_board found_further on_board
 after_off m None e = refl
 after_off m (Some f) e = ap (λ l. Some
-    (record { earlier = l; member = issued_of f.member; answer = f.member.instr; later = on_board f.later })) (ap
+    (record { earlier = l; item = issued_of f.item; answer = f.item.instr; later = on_board f.later })) (ap
     (λ p. kept_on p (on_board f.earlier) (issued_of m)) e ∙ kept_nothing (on_board f.earlier) (issued_of m))
 
 kept_here : (p : Progress) (l : List Issued) (x : Issued) → (p ≡ Left None → ⊥) → kept_on p l x ≡ x ∷ l
@@ -169,8 +169,8 @@ after_on m None h = refl
 after_on m (Some f) h = ap (λ l. Some
     (record {
       earlier = l;
-      member = issued_of f.member;
-      answer = f.member.instr;
+      item = issued_of f.item;
+      answer = f.item.instr;
       later = on_board f.later;
     })) (kept_here (reservation_of m).progress (on_board f.earlier) (issued_of m) h)
 
@@ -261,32 +261,32 @@ unless_same f g rs k h = ap (λ b. unless b (k (first_such f rs))) (any_same f g
 
 pub read_of_all : (u : FunctionalUnit) (ms : List Pending) (f : Found Pending Stage) → seek (stage_at u) ms ≡ Some f
     → read_answer (seek (held_in u) (on_board ms))
-    ≡ unless (list_any (awaited reservation_of f.earlier) (sources_of f.member.instr))
-    (OperandAwaited (first_such (awaited reservation_of f.earlier) (sources_of f.member.instr)))
+    ≡ unless (list_any (awaited reservation_of f.earlier) (sources_of f.item.instr))
+    (OperandAwaited (first_such (awaited reservation_of f.earlier) (sources_of f.item.instr)))
 unfolding read_answer found_on_board issued_of reservation_of
 read_of_all u ms f h =
     ap read_answer (unit_found u ms ∙ ap found_on_board h)
     ∙ unless_same (awaited reservation_of_issued (on_board f.earlier)) (awaited reservation_of f.earlier) (sources_of
-    f.member.instr)
+    f.item.instr)
     OperandAwaited (same_awaited f.earlier)
 
 pub store_of_all : (u : FunctionalUnit) (ms : List Pending) (f : Found Pending Stage) → seek (stage_at u) ms ≡ Some f
     → store_answer (seek (held_in u) (on_board ms))
-    ≡ unless (list_any (to_be_read reservation_of f.earlier) (puts_of (shape_of f.member.instr)))
-    (ResultHeld (first_such (to_be_read reservation_of f.earlier) (puts_of (shape_of f.member.instr))))
+    ≡ unless (list_any (to_be_read reservation_of f.earlier) (puts_of (shape_of f.item.instr)))
+    (ResultHeld (first_such (to_be_read reservation_of f.earlier) (puts_of (shape_of f.item.instr))))
 unfolding store_answer found_on_board issued_of reservation_of
 store_of_all u ms f h =
     ap store_answer (unit_found u ms ∙ ap found_on_board h)
     ∙ unless_same (to_be_read reservation_of_issued (on_board f.earlier)) (to_be_read reservation_of f.earlier)
-    (puts_of (shape_of f.member.instr)) ResultHeld (same_to_be_read f.earlier)
+    (puts_of (shape_of f.item.instr)) ResultHeld (same_to_be_read f.earlier)
 
 pub turn_of_all : (u : FunctionalUnit) (ms : List Pending) (f : Found Pending Stage) → seek (stage_at u) ms ≡ Some f
     → turn_answer (seek (held_in u) (on_board ms))
-    ≡ unless (has_reference (shape_of f.member.instr) && out_of_turn reservation_of f.earlier) OutOfTurn
+    ≡ unless (has_reference (shape_of f.item.instr) && out_of_turn reservation_of f.earlier) OutOfTurn
 unfolding turn_answer found_on_board issued_of reservation_of
 turn_of_all u ms f h =
     ap turn_answer (unit_found u ms ∙ ap found_on_board h)
-    ∙ ap (λ b. unless (has_reference (shape_of f.member.instr) && b) OutOfTurn) (same_turn f.earlier)
+    ∙ ap (λ b. unless (has_reference (shape_of f.item.instr) && b) OutOfTurn) (same_turn f.earlier)
 
 -- ---- a load that returns ----
 
@@ -360,11 +360,11 @@ pub return_found : (n : ℕ) (ms : List Pending) (f : Found Pending Arrival) →
 unfolding found_on_board
 return_found n ms f h k =
     let p = seek_splits (arrival_at n) ms f h in
-    let q = arrival_progress n f.member f.answer p.1 in
+    let q = arrival_progress n f.item f.answer p.1 in
     ap (seek (returning_by n)) (ap on_board p.0
-    ∙ board_around f.earlier f.member f.later (λ z. let y : Left (Some n) ≡ Left None = sym q ∙ z in cc))
-    ∙ seek_around (returning_by n) (on_board f.earlier) (issued_of f.member) f.member.instr (on_board f.later)
-    (silent_returns n f.earlier k) (returning_here n f.member f.answer p.1)
+    ∙ board_around f.earlier f.item f.later (λ z. let y : Left (Some n) ≡ Left None = sym q ∙ z in cc))
+    ∙ seek_around (returning_by n) (on_board f.earlier) (issued_of f.item) f.item.instr (on_board f.later)
+    (silent_returns n f.earlier k) (returning_here n f.item f.answer p.1)
 
 pub return_of_all : (n : ℕ) (ms : List Pending) (f : Found Pending Arrival) → seek (arrival_at n) ms ≡ Some f
     → awaited reservation_of f.earlier (X n) ≡ false
@@ -384,7 +384,7 @@ board_put f xs = board-append f.earlier (xs ++ f.later) ∙ ap (λ l. on_board f
 
 unit_changed : (u : FunctionalUnit) (ms : List Pending) (f : Found Pending Stage) (g : Issued → List Issued)
     → seek (stage_at u) ms ≡ Some f → replaced (seek (held_in u) (on_board ms)) (on_board ms) g ≡ on_board f.earlier
-    ++ (g (issued_of f.member) ++ on_board f.later)
+    ++ (g (issued_of f.item) ++ on_board f.later)
 unfolding replaced put_back found_on_board
 unit_changed u ms f g h = ap (λ o. replaced o (on_board ms) g) (unit_found u ms ∙ ap found_on_board h)
 
@@ -394,21 +394,21 @@ read_put m os = refl
 
 pub read_follows : (u : FunctionalUnit) (ms : List Pending) (f : Found Pending Stage) (os : Operands)
     → seek (stage_at u) ms ≡ Some f
-    → on_board (put_back f (in_phase f.member (Before (Read os)) ∷ []))
+    → on_board (put_back f (in_phase f.item (Before (Read os)) ∷ []))
     ≡ replaced (seek (held_in u) (on_board ms)) (on_board ms) read
 read_follows u ms f os h =
-    board_put f (in_phase f.member (Before (Read os)) ∷ [])
-    ∙ ap (λ l. on_board f.earlier ++ (l ++ on_board f.later)) (read_put f.member os)
+    board_put f (in_phase f.item (Before (Read os)) ∷ [])
+    ∙ ap (λ l. on_board f.earlier ++ (l ++ on_board f.later)) (read_put f.item os)
     ∙ sym (unit_changed u ms f read h)
 
 -- a list whose changed instruction is seen as before
 same_put : {K : Type 0} (g : Pending → Option K) (ms : List Pending) (f : Found Pending K) (xs : List Pending)
-    → seek g ms ≡ Some f → on_board xs ≡ on_board (f.member ∷ []) → on_board (put_back f xs) ≡ on_board ms
+    → seek g ms ≡ Some f → on_board xs ≡ on_board (f.item ∷ []) → on_board (put_back f xs) ≡ on_board ms
 same_put g ms f xs h e =
     board_put f xs
     ∙ ap (λ l. on_board f.earlier ++ (l ++ on_board f.later)) e
-    ∙ sym (ap on_board (seek_splits g ms f h).0 ∙ board-append f.earlier (f.member ∷ f.later)
-    ∙ ap (λ l. on_board f.earlier ++ l) (board-append (f.member ∷ []) f.later))
+    ∙ sym (ap on_board (seek_splits g ms f h).0 ∙ board-append f.earlier (f.item ∷ f.later)
+    ∙ ap (λ l. on_board f.earlier ++ l) (board-append (f.item ∷ []) f.later))
 
 seen_alike : (m n : Pending) → issued_of m ≡ issued_of n → on_board (m ∷ []) ≡ on_board (n ∷ [])
 unfolding on_board issued_of
@@ -417,17 +417,17 @@ seen_alike m n e = ap (λ (x : Issued). kept_on x.reservation.progress [] x) e
 -- an instruction that has read comes to another stage in which it has
 pub stage_follows : (u : FunctionalUnit) (ms : List Pending) (f : Found Pending Stage) (v : UnitValue)
     → seek (stage_at u) ms ≡ Some f → has_read f.answer ≡ true
-    → on_board (put_back f (in_phase f.member (Before (Finished v)) ∷ [])) ≡ on_board ms
+    → on_board (put_back f (in_phase f.item (Before (Finished v)) ∷ [])) ≡ on_board ms
 unfolding issued_of reservation_of in_phase progress_of has_read
 stage_follows u ms f v h e =
     let p = seek_splits (stage_at u) ms f h in
-    let q : progress_of f.member.phase ≡ Reserved true =
-    ap progress_of (stage_found u f.member f.answer p.1) ∙ ap Reserved e in
-    same_put (stage_at u) ms f (in_phase f.member (Before (Finished v)) ∷ []) h
-    (seen_alike (in_phase f.member (Before (Finished v))) f.member
+    let q : progress_of f.item.phase ≡ Reserved true =
+    ap progress_of (stage_found u f.item f.answer p.1) ∙ ap Reserved e in
+    same_put (stage_at u) ms f (in_phase f.item (Before (Finished v)) ∷ []) h
+    (seen_alike (in_phase f.item (Before (Finished v))) f.item
     (sym (ap (λ z. record {
-      number = f.member.number;
-      reservation = record { instr = f.member.instr; unit = f.member.unit; progress = z };
+      number = f.item.number;
+      reservation = record { instr = f.item.instr; unit = f.item.unit; progress = z };
     }) q)))
 
 kept_put : (m : Pending) (l : Option Outstanding) → on_board (kept m l) ≡ left_with (issued_of m) (left_to_return l)
@@ -442,28 +442,28 @@ kept_put m (Some l) = by_register (returning l)
     by_register (Some n) = refl
 
 pub store_follows : (u : FunctionalUnit) (ms : List Pending) (f : Found Pending Stage) (l : Option Outstanding)
-    → seek (stage_at u) ms ≡ Some f → left_to_return l ≡ channel_of (shape_of f.member.instr)
-    → on_board (put_back f (kept f.member l)) ≡ replaced (seek (held_in u) (on_board ms)) (on_board ms) left
+    → seek (stage_at u) ms ≡ Some f → left_to_return l ≡ channel_of (shape_of f.item.instr)
+    → on_board (put_back f (kept f.item l)) ≡ replaced (seek (held_in u) (on_board ms)) (on_board ms) left
 unfolding left issued_of reservation_of
 store_follows u ms f l h e =
-    board_put f (kept f.member l)
+    board_put f (kept f.item l)
     ∙ ap (λ k. on_board f.earlier ++ (k ++ on_board f.later))
-    (kept_put f.member l ∙ ap (left_with (issued_of f.member)) e)
+    (kept_put f.item l ∙ ap (left_with (issued_of f.item)) e)
     ∙ sym (unit_changed u ms f left h)
 
 pub load_follows : (p : ℕ) (ms : List Pending) (f : Found Pending HopperEntry) (n w : ℕ)
     → seek (entry_at p) ms ≡ Some f → f.answer.access ≡ Load n
-    → on_board (put_back f (in_phase f.member (After (Accepted n w)) ∷ [])) ≡ on_board ms
+    → on_board (put_back f (in_phase f.item (After (Accepted n w)) ∷ [])) ≡ on_board ms
 unfolding entry_at issued_of reservation_of in_phase progress_of returning
 load_follows p ms f n w h e =
-    let q = entry_in_found p f.member.phase f.answer (seek_splits (entry_at p) ms f h).1 in
-    same_put (entry_at p) ms f (in_phase f.member (After (Accepted n w)) ∷ []) h
-    (seen_alike (in_phase f.member (After (Accepted n w))) f.member
+    let q = entry_in_found p f.item.phase f.answer (seek_splits (entry_at p) ms f h).1 in
+    same_put (entry_at p) ms f (in_phase f.item (After (Accepted n w)) ∷ []) h
+    (seen_alike (in_phase f.item (After (Accepted n w))) f.item
     (sym (ap (λ z. record {
-      number = f.member.number;
+      number = f.item.number;
       reservation = record {
-        instr = f.member.instr;
-        unit = f.member.unit;
+        instr = f.item.instr;
+        unit = f.item.unit;
         progress = progress_of z;
       };
     }) (q.1 ∙ ap (λ x. After (Entered q.0 f.answer.a x)) e))))
@@ -476,9 +476,9 @@ pub stored_follows : (p : ℕ) (ms : List Pending) (f : Found Pending HopperEntr
     → seek (entry_at p) ms ≡ Some f → f.answer.access ≡ Store w → on_board (put_back f []) ≡ on_board ms
 unfolding entry_at reservation_of progress_of returning on_board
 stored_follows p ms f w h e =
-    let q = entry_in_found p f.member.phase f.answer (seek_splits (entry_at p) ms f h).1 in
+    let q = entry_in_found p f.item.phase f.answer (seek_splits (entry_at p) ms f h).1 in
     same_put (entry_at p) ms f [] h
-    (unseen f.member (ap progress_of (q.1 ∙ ap (λ x. After (Entered q.0 f.answer.a x)) e)))
+    (unseen f.item (ap progress_of (q.1 ∙ ap (λ x. After (Entered q.0 f.answer.a x)) e)))
 
 pub return_follows : (n : ℕ) (ms : List Pending) (f : Found Pending Arrival) → seek (arrival_at n) ms ≡ Some f
     → awaited reservation_of f.earlier (X n) ≡ false

@@ -122,7 +122,7 @@ seek_silent {K} g (m ∷ ms) h = by_head (g m) refl (seek g ms) refl h (seek_sil
 abbrev pub in_queue : ℕ → Found Pending HopperEntry → FoundIn Entered Reference
 in_queue p f = record {
   earlier = waiting f.earlier;
-  member = record { place = p; reference = reference_of f.answer };
+  item = record { place = p; reference = reference_of f.answer };
   answer = reference_of f.answer;
   later = waiting f.later;
 }
@@ -141,7 +141,7 @@ queue_found p ms f h =
     let q = seek_splits (entry_at p) ms f h in
     ap (seek_in (reference_at p))
     (waiting_around (entry_at p) ms f h
-    ∙ ap (λ x. waiting f.earlier ++ (waiting_in x ++ waiting f.later)) (entry_phase p f.member f.answer q.1))
+    ∙ ap (λ x. waiting f.earlier ++ (waiting_in x ++ waiting f.later)) (entry_phase p f.item f.answer q.1))
     ∙ seek_around (reference_at p) (waiting f.earlier) (record { place = p; reference = reference_of f.answer })
     (reference_of f.answer) (waiting f.later) (none_waiting p f.earlier q.2)
     (stands_there p (reference_of f.answer))
@@ -250,11 +250,11 @@ entry_answered p ms f r h e =
 
 -- its place, its address and its channel
 pub entry_placed : (size p : ℕ) (ms : List Pending) (f : Found Pending HopperEntry) → IsSlotted size ms
-    → seek (entry_at p) ms ≡ Some f → IsPlaced size f.member.unit (After (HasEntered p f.answer.a f.answer.access))
+    → seek (entry_at p) ms ≡ Some f → IsPlaced size f.item.unit (After (HasEntered p f.answer.a f.answer.access))
 entry_placed size p ms f slotted h =
     let q = seek_splits (entry_at p) ms f h in
-    placed_in size f.member (After (HasEntered p f.answer.a f.answer.access)) (entry_phase p f.member f.answer q.1)
-    (proper_there size f.earlier f.member f.later (subst (IsSlotted size) q.0 slotted))
+    placed_in size f.item (After (HasEntered p f.answer.a f.answer.access)) (entry_phase p f.item f.answer q.1)
+    (proper_there size f.earlier f.item f.later (subst (IsSlotted size) q.0 slotted))
 
 -- ---- the channel of a load ----
 
@@ -308,17 +308,17 @@ room_by : (memory : List ℕ) (p : ℕ) (ms : List Pending) (f : Found Pending H
 room_by memory p ms f (Store w) apart slotted h e = tt
 room_by memory p ms f (Load n) apart slotted h e =
     let q = seek_splits (entry_at p) ms f h in
-    let placed : IsPlaced (length memory) f.member.unit (After (HasEntered p f.answer.a (Load n))) =
-    subst (λ (x : Access). IsPlaced (length memory) f.member.unit (After (HasEntered p f.answer.a x))) e
+    let placed : IsPlaced (length memory) f.item.unit (After (HasEntered p f.answer.a (Load n))) =
+    subst (λ (x : Access). IsPlaced (length memory) f.item.unit (After (HasEntered p f.answer.a x))) e
     (entry_placed (length memory) p ms f slotted h) in
-    let here : f.member.phase ≡ After (HasEntered p f.answer.a (Load n)) =
-    entry_phase p f.member f.answer q.1 ∙ ap (λ x. After (HasEntered p f.answer.a x)) e in
+    let here : f.item.phase ≡ After (HasEntered p f.answer.a (Load n)) =
+    entry_phase p f.item f.answer q.1 ∙ ap (λ x. After (HasEntered p f.answer.a x)) e in
     let b : n < 8 = (let l : n < 6 = placed.2.1 in omega (arith, l)) in (
       b,
       subst (AreElsewhere (14 + n)) (sym q.0)
-          (channel_free n [] f.earlier f.member f.later (subst (Pairs IsApart) q.0 apart)
-          (referring_comes n p f.answer.a f.member here) b
-          (referring_away n p f.answer.a (Load n) f.member placed.0 here)),
+          (channel_free n [] f.earlier f.item f.later (subst (Pairs IsApart) q.0 apart)
+          (referring_comes n p f.answer.a f.item here) b
+          (referring_away n p f.answer.a (Load n) f.item placed.0 here)),
     )
 
 pub room_for_word : (memory : List ℕ) (p : ℕ) (ms : List Pending) (f : Found Pending HopperEntry) (r : Reference)
@@ -335,7 +335,7 @@ taken_waits memory a (Store w) m = refl
 
 taken_boarded : (memory : List ℕ) (p : ℕ) (ms : List Pending) (f : Found Pending HopperEntry) (x : Access)
     → seek (entry_at p) ms ≡ Some f → f.answer.access ≡ x
-    → on_board (put_back f (kept f.member (left_by memory f.answer.a x))) ≡ on_board ms
+    → on_board (put_back f (kept f.item (left_by memory f.answer.a x))) ≡ on_board ms
 unfolding kept
 taken_boarded memory p ms f (Load n) h e = load_follows p ms f n (get_or memory f.answer.a 0) h e
 taken_boarded memory p ms f (Store w) h e = stored_follows p ms f w h e
@@ -359,11 +359,11 @@ taken_from p memory r ms = replaced (seek (entry_at p) ms) ms (λ m. kept m (lef
 accept_made : (memory : List ℕ) (p : ℕ) (ms ns : List Pending) (f : Found Pending HopperEntry) (r : Reference)
     (l : Option Outstanding) → seek (entry_at p) ms ≡ Some f → reference_of f.answer ≡ r
     → l ≡ left_by memory r.address r.access → ns ≡ replaced (seek (entry_at p) ms) ms (λ m. kept m l)
-    → ns ≡ put_back f (kept f.member (left_by memory f.answer.a f.answer.access))
+    → ns ≡ put_back f (kept f.item (left_by memory f.answer.a f.answer.access))
 unfolding replaced
 accept_made memory p ms ns f r l h e el en =
     en ∙ ap (λ o. replaced o ms (λ m. kept m l)) h
-    ∙ ap (λ z. put_back f (kept f.member z)) (el ∙ sym (ap (λ (z : Reference). left_by memory z.address z.access) e))
+    ∙ ap (λ z. put_back f (kept f.item z)) (el ∙ sym (ap (λ (z : Reference). left_by memory z.address z.access) e))
 
 pub accept_tied : (memory : List ℕ) (p : ℕ) (ms ns : List Pending) (queue after : Queue) (b : Standing)
     (f : Found Pending HopperEntry) (r : Reference) (l : Option Outstanding) → IsTied ms queue b
@@ -375,13 +375,13 @@ accept_tied memory p ms ns queue after b f r l tied h e el en eq =
     record {
       boarded = tied.boarded ∙ sym (taken_boarded memory p ms f f.answer.access h refl) ∙ ap on_board (sym made);
       entered = ap (λ (q : Queue). q.entered) (eq ∙ queue_taken queue ms p f tied.entered h)
-          ∙ sym (waiting_put f (kept f.member (left_by memory f.answer.a f.answer.access))
+          ∙ sym (waiting_put f (kept f.item (left_by memory f.answer.a f.answer.access))
           ∙ ap (λ w. waiting f.earlier ++ (w ++ waiting f.later))
-          (taken_waits memory f.answer.a f.answer.access f.member)) ∙ ap waiting (sym made);
+          (taken_waits memory f.answer.a f.answer.access f.item)) ∙ ap waiting (sym made);
       counted = subst (Each (λ m. m.number ≤ b.last)) (sym made)
           (each_put (λ m. m.number ≤ b.last) (entry_at p) ms f
-          (kept f.member (left_by memory f.answer.a f.answer.access)) h
-          (λ k. each_kept b.last f.member (left_by memory f.answer.a f.answer.access) k) tied.counted);
+          (kept f.item (left_by memory f.answer.a f.answer.access)) h
+          (λ k. each_kept b.last f.item (left_by memory f.answer.a f.answer.access) k) tied.counted);
     }
 
 pub accept_flight : (memory : List ℕ) (p : ℕ) (ms ns : List Pending) (queue after : Queue) (b : Standing)
@@ -457,7 +457,7 @@ unfolding in_place
 place_away p y b h k = let q = entry_is p y b k in let r : true ≡ false = sym (ap is_some q.1) ∙ h in cc
 
 room_left : (u : FunctionalUnit) (ms : List Pending) (f : Found Pending Stage) (rest : Option Rest) (o : Option ℕ)
-    → Pairs IsApart ms → seek (stage_at u) ms ≡ Some f → IsRestOf (shape_of f.member.instr) rest → place_for ms ≡ o
+    → Pairs IsApart ms → seek (stage_at u) ms ≡ Some f → IsRestOf (shape_of f.item.instr) rest → place_for ms ≡ o
     → HasRoom (rest_at o rest) ms
 unfolding rest_at entered_at left_to_return outstanding_of returning
 room_left u ms f None o apart h is e = tt
@@ -467,34 +467,34 @@ room_left u ms f (Some (Enters r)) (Some p) apart h is e =
     (q.1, each_of_any (in_place p) (λ y. seat_of y ≢ 10 + p) (λ y k. place_away p y q.1 k) ms q.0)
 room_left u ms f (Some (Arrives n)) o apart h is e =
     let q = seek_splits (stage_at u) ms f h in
-    let t = stage_found u f.member f.answer q.1 in
-    let k = loads_through (shape_of f.member.instr) n is.returns in
-    let c : IsChannel n = loads_channel f.member.instr n k in
+    let t = stage_found u f.item f.answer q.1 in
+    let k = loads_through (shape_of f.item.instr) n is.returns in
+    let c : IsChannel n = loads_channel f.item.instr n k in
     let b : n < 8 = (let l : n < 6 = c.1 in omega (arith, l)) in (
       b,
       subst (AreElsewhere (14 + n)) (sym q.0)
-          (channel_free n (A n ∷ []) f.earlier f.member f.later (subst (Pairs IsApart) q.0 apart)
-          (load_comes f.member f.answer n t k) b (unit_away f.member f.answer n t)),
+          (channel_free n (A n ∷ []) f.earlier f.item f.later (subst (Pairs IsApart) q.0 apart)
+          (load_comes f.item f.answer n t k) b (unit_away f.item f.answer n t)),
     )
 
 rest_of_found : (u : FunctionalUnit) (ms : List Pending) (f : Found Pending Stage) (rest : Option Rest)
     → seek (stage_at u) ms ≡ Some f
-    → IfSome (sought (seek (stage_at u) ms)) (λ s. IsRestOf (shape_of s.member.instr) rest)
-    → IsRestOf (shape_of f.member.instr) rest
+    → IfSome (sought (seek (stage_at u) ms)) (λ s. IsRestOf (shape_of s.pending.instr) rest)
+    → IsRestOf (shape_of f.item.instr) rest
 unfolding sought
-rest_of_found u ms f rest h is = subst (λ o. IfSome (sought o) (λ s. IsRestOf (shape_of s.member.instr) rest)) h is
+rest_of_found u ms f rest h is = subst (λ o. IfSome (sought o) (λ s. IsRestOf (shape_of s.pending.instr) rest)) h is
 
 around : (u : FunctionalUnit) (ms : List Pending) (f : Found Pending Stage) → seek (stage_at u) ms ≡ Some f
     → waiting ms ≡ waiting f.earlier ++ waiting f.later
 unfolding waiting_in
 around u ms f h = waiting_around (stage_at u) ms f h
     ∙ ap (λ p. waiting f.earlier ++ (waiting_in p ++ waiting f.later))
-    (stage_found u f.member f.answer (seek_splits (stage_at u) ms f h).1)
+    (stage_found u f.item f.answer (seek_splits (stage_at u) ms f h).1)
 
 pub room_for_rest : (u : FunctionalUnit) (ms : List Pending) (queue : Queue) (f : Found Pending Stage)
     (rest : Option Rest) (l : Option Outstanding) → queue.entered ≡ waiting ms → Pairs IsApart ms
     → seek (stage_at u) ms ≡ Some f
-    → IfSome (sought (seek (stage_at u) ms)) (λ s. IsRestOf (shape_of s.member.instr) rest)
+    → IfSome (sought (seek (stage_at u) ms)) (λ s. IsRestOf (shape_of s.pending.instr) rest)
     → l ≡ rest_at (free_in queue.entered) rest → HasRoom l ms
 room_for_rest u ms queue f rest l e apart h is el =
     subst (λ z. HasRoom z ms) (sym (el ∙ ap (λ o. rest_at o rest) (ap free_in e ∙ same_place ms)))
@@ -526,25 +526,25 @@ unfolding has_turn board.has_turn reservation_of is_reserved progress_of
 turn_there m t h e = ap (λ p. is_reserved (progress_of p) && has_reference (shape_of m.instr)) h ∙ e
 
 queue_left : (u : FunctionalUnit) (ms : List Pending) (queue : Queue) (f : Found Pending Stage) (rest : Option Rest)
-    (o : Option ℕ) → Pairs IsApart ms → seek (stage_at u) ms ≡ Some f → IsRestOf (shape_of f.member.instr) rest
+    (o : Option ℕ) → Pairs IsApart ms → seek (stage_at u) ms ≡ Some f → IsRestOf (shape_of f.item.instr) rest
     → queue.entered ≡ waiting ms → (queue_after queue o rest).entered
-    ≡ waiting (put_back f (kept f.member (rest_at o rest)))
+    ≡ waiting (put_back f (kept f.item (rest_at o rest)))
 unfolding queue_after queue_with rest_at entered_at kept waiting_in in_phase outstanding_of enters waiting
 queue_left u ms queue f None o apart h is e =
     e ∙ around u ms f h ∙ sym (waiting_put f [])
 queue_left u ms queue f (Some (Arrives n)) o apart h is e =
-    e ∙ around u ms f h ∙ sym (waiting_put f (in_phase f.member (After (Accepted n 0)) ∷ [])
+    e ∙ around u ms f h ∙ sym (waiting_put f (in_phase f.item (After (Accepted n 0)) ∷ [])
     ∙ ap (λ w. waiting f.earlier ++ (w ++ waiting f.later))
-    (waiting_one (in_phase f.member (After (Accepted n 0)))))
+    (waiting_one (in_phase f.item (After (Accepted n 0)))))
 queue_left u ms queue f (Some (Enters r)) None apart h is e =
     e ∙ around u ms f h ∙ sym (waiting_put f [])
 queue_left u ms queue f (Some (Enters r)) (Some p) apart h is e =
     let q = seek_splits (stage_at u) ms f h in
-    let m : Pending = in_phase f.member (After (HasEntered p r.address r.access)) in
+    let m : Pending = in_phase f.item (After (HasEntered p r.address r.access)) in
     let none : waiting f.later ≡ [] =
-    none_entered f.member f.later
-    (turn_there f.member f.answer (stage_found u f.member f.answer q.1) (is.refers refl))
-    (pairs_right IsApart f.earlier (f.member ∷ f.later) (subst (Pairs IsApart) q.0 apart)).0 in
+    none_entered f.item f.later
+    (turn_there f.item f.answer (stage_found u f.item f.answer q.1) (is.refers refl))
+    (pairs_right IsApart f.earlier (f.item ∷ f.later) (subst (Pairs IsApart) q.0 apart)).0 in
     let x : Entered = record { place = p; reference = r } in
     ap (λ es. es ++ x ∷ []) (e ∙ around u ms f h ∙ ap (λ w. waiting f.earlier ++ w) none
     ∙ append-nil (waiting f.earlier))
@@ -561,7 +561,7 @@ queue_busy queue (Some p) (Some (Enters r)) = refl
 pub leave_tied : (u : FunctionalUnit) (ms ns : List Pending) (queue after : Queue) (b c : Standing)
     (f : Found Pending Stage) (rest : Option Rest) (l : Option Outstanding) → IsTied ms queue b → Pairs IsApart ms
     → seek (stage_at u) ms ≡ Some f
-    → IfSome (sought (seek (stage_at u) ms)) (λ s. IsRestOf (shape_of s.member.instr) rest)
+    → IfSome (sought (seek (stage_at u) ms)) (λ s. IsRestOf (shape_of s.pending.instr) rest)
     → (enters (outstanding_of 0 rest) ≡ true → is_none (place_for ms) ≡ false)
     → l ≡ rest_at (free_in queue.entered) rest → ns ≡ replaced (seek (stage_at u) ms) ms (λ m. kept m l)
     → after ≡ queue_after queue (free_in queue.entered) rest
@@ -569,8 +569,8 @@ pub leave_tied : (u : FunctionalUnit) (ms ns : List Pending) (queue after : Queu
 unfolding replaced with_issued
 leave_tied u ms ns queue after b c f rest l tied apart h is room el en eq ec =
     let of = rest_of_found u ms f rest h is in
-    let made : ns ≡ put_back f (kept f.member l) = en ∙ ap (λ o. replaced o ms (λ m. kept m l)) h in
-    let returns : left_to_return l ≡ channel_of (shape_of f.member.instr) =
+    let made : ns ≡ put_back f (kept f.item l) = en ∙ ap (λ o. replaced o ms (λ m. kept m l)) h in
+    let returns : left_to_return l ≡ channel_of (shape_of f.item.instr) =
     ap left_to_return (later_is ms queue rest l tied.entered room el)
     ∙ returns_alike (unwrap_or (place_for ms) 0) rest ∙ of.returns in
     record {
@@ -578,10 +578,10 @@ leave_tied u ms ns queue after b c f rest l tied apart h is room el en eq ec =
           ∙ sym (store_follows u ms f l h returns) ∙ ap on_board (sym made);
       entered = ap (λ (q : Queue). q.entered) eq
           ∙ queue_left u ms queue f rest (free_in queue.entered) apart h of tied.entered
-          ∙ sym (ap (λ z. waiting (put_back f (kept f.member z))) el) ∙ ap waiting (sym made);
+          ∙ sym (ap (λ z. waiting (put_back f (kept f.item z))) el) ∙ ap waiting (sym made);
       counted = subst (λ k. Each (λ m. m.number ≤ k) ns) (sym (ap (λ (x : Standing). x.last) ec))
           (subst (Each (λ m. m.number ≤ b.last)) (sym made)
-          (each_put (λ m. m.number ≤ b.last) (stage_at u) ms f (kept f.member l) h (λ k. each_kept b.last f.member l k)
+          (each_put (λ m. m.number ≤ b.last) (stage_at u) ms f (kept f.item l) h (λ k. each_kept b.last f.item l k)
           tied.counted));
     }
 

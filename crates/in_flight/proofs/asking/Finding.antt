@@ -32,9 +32,9 @@ unfolding refusal_of nothing
 not_nothing h = cc
 
 -- the instruction that was sought is the one that was found
-pub sought_member : {K : Type 0} (f : Found Pending K) (s : Sought K) → sought (Some f) ≡ Some s → f.member ≡ s.member
+pub sought_pending : {K : Type 0} (f : Found Pending K) (s : Sought K) → sought (Some f) ≡ Some s → f.item ≡ s.pending
 unfolding sought
-sought_member {K} f s h = ap (λ (x : Sought K). x.member) (some_inj _ s h)
+sought_pending {K} f s h = ap (λ (x : Sought K). x.pending) (some_inj _ s h)
 
 pub sought_what : {K : Type 0} (f : Found Pending K) (s : Sought K) → sought (Some f) ≡ Some s → f.answer ≡ s.answer
 unfolding sought

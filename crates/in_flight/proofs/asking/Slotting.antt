@@ -25,7 +25,7 @@ use Rattle.instructions.proofs.Lists.{each_left, each_right, each_append, each_m
 use Rattle.instructions.proofs.Lists.{each_of_any, pairs_before, pairs_right}
 use Rattle.in_flight.proofs.asking.Phases.{to_come_in, slot_in, slot_of}
 use Rattle.std.proofs.lemmas.Bool.Decides.{nat_tests}
-use Rattle.std.specs.Prelude.{◌&&◌, nat_le, is_some}
+use Rattle.std.specs.Prelude.{nat_le, is_some}
 use Rattle.instructions.specs.declared.instr.Instr.{Instr}
 use Rattle.instructions.specs.declared.instr.Instr.TheVariants.{Stop, Pass, ReturnJump, Jump, BranchX, BranchB, Copy}
 use Rattle.instructions.specs.declared.instr.Instr.TheVariants.{Invert, Logical, ShiftBy, ShiftNominal}

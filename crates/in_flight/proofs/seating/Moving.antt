@@ -95,7 +95,7 @@ pub stage_found : (units places channels : List (Option Pending)) (u : Functiona
     × (seek (stage_at u) (in_order (seats units places channels))
     ≡ Some (record {
       earlier = before_seat number_of (seats units places channels) i m;
-      member = m;
+      item = m;
       answer = t;
       later = after_seat number_of (seats units places channels) i m;
     }))
@@ -123,14 +123,14 @@ stage_nobody units places channels u i right e h =
 
 pub found_answer : (units places channels : List (Option Pending)) (u : FunctionalUnit) (i : ℕ) (m : Pending)
     (t : Stage) → IsRight units places channels → i ≡ unit_number u → get_or units i None ≡ Some m
-    → stage_at u m ≡ Some t → Some (record { member = m; answer = t })
+    → stage_at u m ≡ Some t → Some (record { pending = m; answer = t })
     ≡ sought (seek (stage_at u) (in_order (seats units places channels)))
 unfolding sought
 found_answer units places channels u i m t right e h k =
     let p = stage_found units places channels u i m right e h in
     let q : Some t ≡ Some p.0 = sym k ∙ p.2 in
     let tp : t ≡ p.0 = cc in
-    ap (λ x. Some (record { member = m; answer = x })) tp ∙ ap sought (sym p.3)
+    ap (λ x. Some (record { pending = m; answer = x })) tp ∙ ap sought (sym p.3)
 
 pub found_must : (units places channels : List (Option Pending)) (u : FunctionalUnit) (i : ℕ) (m : Pending)
     → IsRight units places channels → i ≡ unit_number u → get_or units i None ≡ Some m → stage_at u m ≡ None → ⊥
@@ -434,7 +434,7 @@ pub entry_found : (units places channels : List (Option Pending)) (p : ℕ) (m :
     × (seek (entry_at p) (in_order (seats units places channels))
     ≡ Some (record {
       earlier = before_seat number_of (seats units places channels) (10 + p) m;
-      member = m;
+      item = m;
       answer = e;
       later = after_seat number_of (seats units places channels) (10 + p) m;
     }))
@@ -461,13 +461,13 @@ entry_nobody units places channels p right b h =
 
 pub entry_answer : (units places channels : List (Option Pending)) (p : ℕ) (m : Pending) (x : HopperEntry)
     → IsRight units places channels → p < 4 → get_or places p None ≡ Some m → entry_at p m ≡ Some x
-    → Some (record { member = m; answer = x }) ≡ sought (seek (entry_at p) (in_order (seats units places channels)))
+    → Some (record { pending = m; answer = x }) ≡ sought (seek (entry_at p) (in_order (seats units places channels)))
 unfolding sought
 entry_answer units places channels p m x right b h k =
     let f = entry_found units places channels p m right b h in
     let q : Some x ≡ Some f.0 = sym k ∙ f.1 in
     let xe : x ≡ f.0 = cc in
-    ap (λ z. Some (record { member = m; answer = z })) xe ∙ ap sought (sym f.2)
+    ap (λ z. Some (record { pending = m; answer = z })) xe ∙ ap sought (sym f.2)
 
 pub entry_must : (units places channels : List (Option Pending)) (p : ℕ) (m : Pending) → IsRight units places channels
     → p < 4 → get_or places p None ≡ Some m → entry_at p m ≡ None → ⊥
@@ -570,7 +570,7 @@ pub arrival_found : (units places channels : List (Option Pending)) (n : ℕ) (m
     × (seek (arrival_at n) (in_order (seats units places channels))
     ≡ Some (record {
       earlier = before_seat number_of (seats units places channels) (14 + n) m;
-      member = m;
+      item = m;
       answer = e;
       later = after_seat number_of (seats units places channels) (14 + n) m;
     }))
@@ -634,13 +634,13 @@ channel_below units places channels n m right h = let w = within channels n m h 
 
 pub arrival_answer : (units places channels : List (Option Pending)) (n : ℕ) (m : Pending) (x : Arrival)
     → IsRight units places channels → n < 8 → get_or channels n None ≡ Some m → arrival_at n m ≡ Some x
-    → Some (record { member = m; answer = x }) ≡ sought (seek (arrival_at n) (in_order (seats units places channels)))
+    → Some (record { pending = m; answer = x }) ≡ sought (seek (arrival_at n) (in_order (seats units places channels)))
 unfolding sought
 arrival_answer units places channels n m x right b h k =
     let f = arrival_found units places channels n m right b h in
     let q : Some x ≡ Some f.0 = sym k ∙ f.1 in
     let xe : x ≡ f.0 = cc in
-    ap (λ z. Some (record { member = m; answer = z })) xe ∙ ap sought (sym f.2)
+    ap (λ z. Some (record { pending = m; answer = z })) xe ∙ ap sought (sym f.2)
 
 pub arrival_must : (units places channels : List (Option Pending)) (n : ℕ) (m : Pending)
     → IsRight units places channels → n < 8 → get_or channels n None ≡ Some m → arrival_at n m ≡ None → ⊥

@@ -1,5 +1,5 @@
 -- What the board and the hopper have of the pending instructions. Source: ours.
-use Rattle.std.specs.Prelude.{◌≡◌, ◌≤◌, ℕ, List, [], ◌∷◌, Option, Some, None}
+use Rattle.std.specs.Prelude.{◌≡◌, ◌≤◌, List, [], ◌∷◌, Some, None}
 use Rattle.instructions.specs.Each.{Each}
 use Rattle.scoreboard.specs.Answers.{Standing}
 use Rattle.hopper.specs.Queue.{Queue}

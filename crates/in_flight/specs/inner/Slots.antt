@@ -2,7 +2,7 @@
 -- five channels. That no two are in one channel comes from Apart.antt: they would have a result still to come in
 -- common.
 -- Source: ours.
-use Rattle.std.specs.Prelude.{◌≡◌, ◌<◌, ◌+◌, ◌==◌, ℕ, Bool, true, false, List, Option, Some, None}
+use Rattle.std.specs.Prelude.{◌≡◌, ◌<◌, ◌==◌, ℕ, Bool, true, false, List}
 use Rattle.instructions.specs.declared.instr.Unit.{Unit as FunctionalUnit}
 use Rattle.instructions.specs.declared.instr.Unit.TheVariants.{Branch, Boolean, Shift, Add, LongAdd, Multiply1}
 use Rattle.instructions.specs.declared.instr.Unit.TheVariants.{Multiply2, Divide, Increment1, Increment2}

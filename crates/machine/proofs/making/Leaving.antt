@@ -24,7 +24,7 @@ use Rattle.program_order.specs.Processor.{Processor}
 use Rattle.program_order.specs.Events.{allowed, tests_of}
 use Rattle.program_order.specs.Units.{entering, rest_of, store_tests}
 use Rattle.in_flight.specs.Tests.{refusal_of, tests_found}
-use Rattle.in_flight.proofs.asking.Finding.{no_sought, refusal_none, sought_member, sought_what}
+use Rattle.in_flight.proofs.asking.Finding.{no_sought, refusal_none, sought_pending, sought_what}
 use Rattle.machine.proofs.making.Making.{bounds_at}
 
 load_returns : (o : Option ℕ) (n : ℕ) → left_to_return (entering 0 o (LoadInto n)) ≡ Some n
@@ -67,17 +67,17 @@ is_rest b h v rest e = record {
 -- what is left is what an instruction of that shape may leave
 pub store_rest : (w : Processor) (u : FunctionalUnit) (m : Pending) (v : UnitValue) (b : Bounds)
     (q : Option ProgramReference) (rest : Option Rest)
-    → sought (seek (stage_at u) w.pending) ≡ Some (record { member = m; answer = Finished v })
+    → sought (seek (stage_at u) w.pending) ≡ Some (record { pending = m; answer = Finished v })
     → q ≡ reference_for (shape_of m.instr) v → ((p : ℕ) → outstanding_of p rest ≡ rest_of b p q)
-    → IfSome (sought (seek (stage_at u) w.pending)) (λ s. IsRestOf (shape_of s.member.instr) rest)
+    → IfSome (sought (seek (stage_at u) w.pending)) (λ s. IsRestOf (shape_of s.pending.instr) rest)
 store_rest w u m v b q rest h eq el =
-    subst (λ o. IfSome o (λ s. IsRestOf (shape_of s.member.instr) rest)) (sym h)
+    subst (λ o. IfSome o (λ s. IsRestOf (shape_of s.pending.instr) rest)) (sym h)
     (is_rest b (shape_of m.instr) v rest (el 0 ∙ ap (rest_of b 0) eq))
 
 -- where what is left enters the hopper, there is a place
 pub store_room : (w : Processor) (u : FunctionalUnit) (size : ℕ) (m : Pending) (v : UnitValue)
     (q : Option ProgramReference) (rest : Option Rest) → allowed w (StoreResult u) ≡ None
-    → sought (seek (stage_at u) w.pending) ≡ Some (record { member = m; answer = Finished v })
+    → sought (seek (stage_at u) w.pending) ≡ Some (record { pending = m; answer = Finished v })
     → size ≡ length w.state.memory → q ≡ reference_for (shape_of m.instr) v
     → ((p : ℕ) → outstanding_of p rest ≡ rest_of (record { area = w.state.area; size = size }) p q)
     → enters (outstanding_of 0 rest) ≡ true → is_none (place_for w.pending) ≡ false
@@ -92,14 +92,14 @@ store_room w u size m v q rest a h ez eq el e = found (seek (stage_at u) w.pendi
     other true y k i = k
     other false y k i = cc
 
-    stored : (f : Found Pending Stage) (t : Stage) → t ≡ Finished v → f.member ≡ m
-        → refusal_of (store_tests (bounds_of w.state) w.pending t f.earlier f.member.instr) ≡ None
+    stored : (f : Found Pending Stage) (t : Stage) → t ≡ Finished v → f.item ≡ m
+        → refusal_of (store_tests (bounds_of w.state) w.pending t f.earlier f.item.instr) ≡ None
         → is_none (place_for w.pending) ≡ false
     stored f t et em k =
         let r = refusal_none (store_tests (bounds_of w.state) w.pending (Finished v) f.earlier m.instr)
         (ap (λ (x : Pending). refusal_of
         (store_tests (bounds_of w.state) w.pending (Finished v) f.earlier x.instr)) (sym em) ∙ ap (λ x. refusal_of
-        (store_tests (bounds_of w.state) w.pending x f.earlier f.member.instr)) (sym et) ∙ k) in
+        (store_tests (bounds_of w.state) w.pending x f.earlier f.item.instr)) (sym et) ∙ k) in
         full_test f r
       where
         full_test : (f : Found Pending Stage)
@@ -109,8 +109,8 @@ store_room w u size m v q rest a h ez eq el e = found (seek (stage_at u) w.pendi
             (is_none (place_for w.pending)) r.1.0 is_left
 
     found : (o : Option (Found Pending Stage))
-        → refusal_of (tests_found o (λ f. store_tests (bounds_of w.state) w.pending f.answer f.earlier f.member.instr))
-        ≡ None → sought o ≡ Some (record { member = m; answer = Finished v }) → is_none (place_for w.pending) ≡ false
-    found None k i = absurd (no_sought (record { member = m; answer = Finished v }) i)
-    found (Some f) k i = stored f f.answer (sought_what f (record { member = m; answer = Finished v }) i)
-        (sought_member f (record { member = m; answer = Finished v }) i) k
+        → refusal_of (tests_found o (λ f. store_tests (bounds_of w.state) w.pending f.answer f.earlier f.item.instr))
+        ≡ None → sought o ≡ Some (record { pending = m; answer = Finished v }) → is_none (place_for w.pending) ≡ false
+    found None k i = absurd (no_sought (record { pending = m; answer = Finished v }) i)
+    found (Some f) k i = stored f f.answer (sought_what f (record { pending = m; answer = Finished v }) i)
+        (sought_pending f (record { pending = m; answer = Finished v }) i) k

@@ -32,7 +32,7 @@ use Rattle.sequential.specs.Log.{Logged, ends_issuing, issued}
 use Rattle.in_flight.specs.declared.flight.Rest.{Rest}
 use Rattle.program_order.specs.declared.event.Note.{Note}
 use Rattle.hopper.specs.declared.reference.Reference.{Reference}
-use Rattle.in_flight.proofs.asking.Finding.{not_nothing, no_sought, sought_member, sought_what}
+use Rattle.in_flight.proofs.asking.Finding.{not_nothing, no_sought, sought_pending, sought_what}
 use Rattle.program_order.specs.declared.event.Done.{Done}
 use Rattle.program_order.specs.declared.event.Done.TheVariants.{Issued as DoneIssue}
 use Rattle.program_order.specs.declared.event.Event.{Event}
@@ -130,7 +130,7 @@ issue_judged w count g o n h k =
     ap (λ c. refusal_of (issue_tests w.state w.pending w.request w.budget c)) (sym n) ∙ h ∙ k
 
 pub read_judged : (w : Processor) (u : FunctionalUnit) (r o : Option Refusal)
-    → refusal_of (tests_found (seek (stage_at u) w.pending) (λ f. read_tests f.answer f.earlier f.member.instr)) ≡ r
+    → refusal_of (tests_found (seek (stage_at u) w.pending) (λ f. read_tests f.answer f.earlier f.item.instr)) ≡ r
     → r ≡ o → allowed w (Read u) ≡ o
 unfolding allowed tests_of
 read_judged w u r o h k = h ∙ k
@@ -145,12 +145,12 @@ pub store_judged : (w : Processor) (u : FunctionalUnit) (size : ℕ) (r o : Opti
     → size ≡ length w.state.memory
     → refusal_of (tests_found (seek (stage_at u) w.pending)
     (λ f. store_tests (record { area = w.state.area; size = size }) w.pending f.answer f.earlier
-    f.member.instr)) ≡ r → r ≡ o → allowed w (StoreResult u) ≡ o
+    f.item.instr)) ≡ r → r ≡ o → allowed w (StoreResult u) ≡ o
 unfolding allowed tests_of bounds_of
 store_judged w u size r o n h k =
     ap (λ z. refusal_of (tests_found (seek (stage_at u) w.pending)
     (λ f. store_tests (record { area = w.state.area; size = z }) w.pending f.answer f.earlier
-    f.member.instr))) (sym n)
+    f.item.instr))) (sym n)
     ∙ h ∙ k
 
 pub accept_judged : (w : Processor) (p : ℕ) (r o : Option Refusal)
@@ -184,7 +184,7 @@ exchange_judged w r o h k = h ∙ k
 -- ---- the machines that are made ----
 
 pub read_made : (w : Processor) (u : FunctionalUnit) (m : Pending) (os : Operands) (g : Flight)
-    → sought (seek (stage_at u) w.pending) ≡ Some (record { member = m; answer = Waiting })
+    → sought (seek (stage_at u) w.pending) ≡ Some (record { pending = m; answer = Waiting })
     → os ≡ operands m.instr m.at w.state.registers
     → g ≡ with_pending (flight w)
     (replaced (seek (stage_at u) w.pending) w.pending (λ x. in_phase x (Before (HasRead os)) ∷ []))
@@ -192,41 +192,41 @@ pub read_made : (w : Processor) (u : FunctionalUnit) (m : Pending) (os : Operand
 unfolding after replaced after_found after_read stage_after_read
 read_made w u m os g h o e = ap (with_flight w) e ∙ found (seek (stage_at u) w.pending) h
   where
-    found : (q : Option (Found Pending Stage)) → sought q ≡ Some (record { member = m; answer = Waiting })
+    found : (q : Option (Found Pending Stage)) → sought q ≡ Some (record { pending = m; answer = Waiting })
         → record w { pending = replaced q w.pending (λ x. in_phase x (Before (HasRead os)) ∷ []) }
         ≡ after_found w q (after_read w)
-    found None k = absurd (no_sought (record { member = m; answer = Waiting }) k)
+    found None k = absurd (no_sought (record { pending = m; answer = Waiting }) k)
     found (Some f) k =
-        ap (λ x. record w { pending = put_back f (in_phase f.member (Before (HasRead x)) ∷ []) })
+        ap (λ x. record w { pending = put_back f (in_phase f.item (Before (HasRead x)) ∷ []) })
         (o ∙ ap (λ (x : Pending). operands x.instr x.at w.state.registers)
-        (sym (sought_member f (record { member = m; answer = Waiting }) k)))
+        (sym (sought_pending f (record { pending = m; answer = Waiting }) k)))
         ∙ ap (λ t. record w {
           pending = put_back f
-              (in_phase f.member (Before (stage_after_read w.state.registers f.member.instr f.member.at t))
+              (in_phase f.item (Before (stage_after_read w.state.registers f.item.instr f.item.at t))
               ∷ []);
-        }) (sym (sought_what f (record { member = m; answer = Waiting }) k))
+        }) (sym (sought_what f (record { pending = m; answer = Waiting }) k))
 
 pub finish_made : (w : Processor) (u : FunctionalUnit) (m : Pending) (os : Operands) (v : UnitValue) (g : Flight)
-    → sought (seek (stage_at u) w.pending) ≡ Some (record { member = m; answer = HasRead os })
+    → sought (seek (stage_at u) w.pending) ≡ Some (record { pending = m; answer = HasRead os })
     → v ≡ value_of m.instr os → g
     ≡ with_pending (flight w) (replaced (seek (stage_at u) w.pending) w.pending
     (λ x. in_phase x (Before (Finished v)) ∷ [])) → with_flight w g ≡ after w (Finish u)
 unfolding after replaced after_found after_finish stage_after_finish
 finish_made w u m os v g h o e = ap (with_flight w) e ∙ found (seek (stage_at u) w.pending) h
   where
-    found : (q : Option (Found Pending Stage)) → sought q ≡ Some (record { member = m; answer = HasRead os })
+    found : (q : Option (Found Pending Stage)) → sought q ≡ Some (record { pending = m; answer = HasRead os })
         → record w { pending = replaced q w.pending (λ x. in_phase x (Before (Finished v)) ∷ []) }
         ≡ after_found w q (after_finish w)
-    found None k = absurd (no_sought (record { member = m; answer = HasRead os }) k)
+    found None k = absurd (no_sought (record { pending = m; answer = HasRead os }) k)
     found (Some f) k =
-        ap (λ x. record w { pending = put_back f (in_phase f.member (Before (Finished x)) ∷ []) })
+        ap (λ x. record w { pending = put_back f (in_phase f.item (Before (Finished x)) ∷ []) })
         (o ∙ ap (λ (x : Pending). value_of x.instr os)
-        (sym (sought_member f (record { member = m; answer = HasRead os }) k)))
+        (sym (sought_pending f (record { pending = m; answer = HasRead os }) k)))
         ∙ ap (λ t. record w {
           pending = put_back f
-              (in_phase f.member (Before (stage_after_finish f.member.instr t)) ∷ []);
+              (in_phase f.item (Before (stage_after_finish f.item.instr t)) ∷ []);
         }) (sym (sought_what f
-        (record { member = m; answer = HasRead os }) k))
+        (record { pending = m; answer = HasRead os }) k))
 
 pub return_made : (w : Processor) (n : ℕ) (x : Arrival) (r : RegisterFile) (g : Flight) → allowed w (Return n) ≡ None
     → IfSome (seek (arrival_at n) w.pending) (λ f. f.answer ≡ x) → r ≡ put w.state.registers (X x.channel) x.word
@@ -247,7 +247,7 @@ return_made w n x r g a h o e = ap (with_flight (record w { state = record w.sta
 by_access : (w : Processor) (f : Found Pending HopperEntry) (a : ℕ) (x : Access)
     → record w {
       state = record w.state { memory = (access_at w.state a x).memory };
-      pending = put_back f (kept f.member (left_by w.state.memory a x));
+      pending = put_back f (kept f.item (left_by w.state.memory a x));
       busy =
           set w.busy (bank_of a) true;
     } ≡ after_accept w f a x
@@ -289,7 +289,7 @@ accept_made w p r s g a h es e = ap (with_flight (record w { state = s })) e
 
 pub store_made : (w : Processor) (u : FunctionalUnit) (m : Pending) (v : UnitValue) (s : State) (place : Place)
     (fault : Bool) (left : Option Outstanding) (g : Flight)
-    → sought (seek (stage_at u) w.pending) ≡ Some (record { member = m; answer = Finished v })
+    → sought (seek (stage_at u) w.pending) ≡ Some (record { pending = m; answer = Finished v })
     → s ≡ write_all w.state (same_for (number_in v) (puts_of (shape_of m.instr)))
     → place ≡ gone s.place (jump_for (shape_of m.instr) v)
     → fault ≡ (s.fault || fault_of (bounds_of w.state) (reference_for (shape_of m.instr) v))
@@ -320,26 +320,26 @@ store_made w u m v s place fault left g h es ep ef el e =
     )
     ∙ found (seek (stage_at u) w.pending) h
   where
-    found : (q : Option (Found Pending Stage)) → sought q ≡ Some (record { member = m; answer = Finished v })
+    found : (q : Option (Found Pending Stage)) → sought q ≡ Some (record { pending = m; answer = Finished v })
         → record w {
           state = do_now (bounds_of w.state) w.state (work_of (shape_of m.instr) v);
           pending = replaced q w.pending
               (λ x. kept x (rest_of (bounds_of w.state) (unwrap_or (place_for w.pending) 0)
               (reference_for (shape_of m.instr) v)));
         } ≡ after_found w q (λ f. after_store w f f.answer)
-    found None k = absurd (no_sought (record { member = m; answer = Finished v }) k)
+    found None k = absurd (no_sought (record { pending = m; answer = Finished v }) k)
     found (Some f) k =
         ap (λ (y : Pending). record w {
           state = do_now (bounds_of w.state) w.state (work_of (shape_of y.instr) v);
-          pending = put_back f (kept f.member
+          pending = put_back f (kept f.item
               (rest_of (bounds_of w.state) (unwrap_or (place_for w.pending) 0)
               (reference_for (shape_of y.instr) v)));
-        }) (sym (sought_member f (record {
-          member =
+        }) (sym (sought_pending f (record {
+          pending =
               m;
           answer = Finished v;
         }) k))
-        ∙ ap (λ t. after_store w f t) (sym (sought_what f (record { member = m; answer = Finished v }) k))
+        ∙ ap (λ t. after_store w f t) (sym (sought_what f (record { pending = m; answer = Finished v }) k))
 
 pub bank_made : (w : Processor) (k : ℕ) (g : Flight) → g ≡ record (flight w) { busy = set w.busy k false }
     → with_flight w g ≡ after w (BankFree k)
@@ -488,7 +488,7 @@ bounds_at w size e = ap (λ n. record { area = w.state.area; size = n }) e
 pub store_parts : (w : Processor) (u : FunctionalUnit) (size : ℕ) (m : Pending) (v : UnitValue)
     (q : Option ProgramReference) (written rs : List Reg) (number : ℕ) (jump : Option ℕ) (s : State) (place : Place)
     (fault : Bool) (rest : Option Rest) (g : Flight)
-    → sought (seek (stage_at u) w.pending) ≡ Some (record { member = m; answer = Finished v })
+    → sought (seek (stage_at u) w.pending) ≡ Some (record { pending = m; answer = Finished v })
     → size ≡ length w.state.memory
     → q ≡ reference_for (shape_of m.instr) v
     → ((p : ℕ) → outstanding_of p rest ≡ rest_of (record { area = w.state.area; size = size }) p q)

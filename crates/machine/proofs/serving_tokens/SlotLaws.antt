@@ -31,7 +31,7 @@ use Rattle.program_order.specs.Processor.{Processor}
 use Rattle.program_order.specs.Events.{after, allowed, tests_of}
 use Rattle.program_order.specs.Units.{finish_tests}
 use Rattle.in_flight.specs.Tests.{refusal_of, tests_found}
-use Rattle.in_flight.proofs.asking.Finding.{no_sought, sought_member, sought_what}
+use Rattle.in_flight.proofs.asking.Finding.{no_sought, sought_pending, sought_what}
 use Rattle.instructions.proofs.Finding.{seek_around, seek_splits}
 use Rattle.machine.proofs.making.Making.{finish_made, flight, with_flight}
 use Rattle.program_order.proofs.keeping.Naming.{answered_err}
@@ -58,7 +58,7 @@ seek_before {K} f (m ∷ ms) x h = here (seek_before f ms) (f m) refl (seek f ms
 put_found : {K : Type 0} (f : Pending → Option K) (ms : List Pending) (x : Found Pending K) (m : Pending) (answer : K)
     → seek f ms ≡ Some x → f m ≡ Some answer
     → seek f (x.earlier ++ m ∷ x.later)
-    ≡ Some (record { earlier = x.earlier; member = m; answer = answer; later = x.later })
+    ≡ Some (record { earlier = x.earlier; item = m; answer = answer; later = x.later })
 put_found f ms x m answer h e = seek_around f x.earlier m answer x.later (seek_before f ms x h) e
 
 -- an instruction that holds the unit holds it in each of its stages
@@ -72,40 +72,40 @@ still_at u m t s h = by_test (same_unit m.unit u) h
     by_test false k = cc
 
 -- a slot whose unit has read holds what was read
-pub slot_read : (u : FunctionalUnit) (members ms : List Pending) (m : Pending) (os : Operands)
-    → sought (seek (stage_at u) members) ≡ Some (record { member = m; answer = Waiting })
-    → ms ≡ replaced (seek (stage_at u) members) members (λ x. in_phase x (Before (HasRead os)) ∷ [])
+pub slot_read : (u : FunctionalUnit) (pending ms : List Pending) (m : Pending) (os : Operands)
+    → sought (seek (stage_at u) pending) ≡ Some (record { pending = m; answer = Waiting })
+    → ms ≡ replaced (seek (stage_at u) pending) pending (λ x. in_phase x (Before (HasRead os)) ∷ [])
     → (seat : Seating) → reading_in seat (seek (stage_at u) ms)
     ≡ Some (record { seat = seat; number = m.number; instr = m.instr; operands = os })
 unfolding replaced put_back reading_in reading_at in_phase
-slot_read u members ms m os h e seat =
-    ap (λ l. reading_in seat (seek (stage_at u) l)) e ∙ found (seek (stage_at u) members) refl h
+slot_read u pending ms m os h e seat =
+    ap (λ l. reading_in seat (seek (stage_at u) l)) e ∙ found (seek (stage_at u) pending) refl h
   where
-    found : (q : Option (Found Pending Stage)) → seek (stage_at u) members ≡ q
-        → sought q ≡ Some (record { member = m; answer = Waiting })
-        → reading_in seat (seek (stage_at u) (replaced q members (λ x. in_phase x (Before (HasRead os)) ∷ [])))
+    found : (q : Option (Found Pending Stage)) → seek (stage_at u) pending ≡ q
+        → sought q ≡ Some (record { pending = m; answer = Waiting })
+        → reading_in seat (seek (stage_at u) (replaced q pending (λ x. in_phase x (Before (HasRead os)) ∷ [])))
         ≡ Some (record { seat = seat; number = m.number; instr = m.instr; operands = os })
-    found None i k = absurd (no_sought (record { member = m; answer = Waiting }) k)
+    found None i k = absurd (no_sought (record { pending = m; answer = Waiting }) k)
     found (Some f) i k =
-        ap (reading_in seat) (put_found (stage_at u) members f (in_phase f.member (Before (HasRead os))) (HasRead os) i
-        (still_at u f.member f.answer (HasRead os) (seek_splits (stage_at u) members f i).1))
+        ap (reading_in seat) (put_found (stage_at u) pending f (in_phase f.item (Before (HasRead os))) (HasRead os) i
+        (still_at u f.item f.answer (HasRead os) (seek_splits (stage_at u) pending f i).1))
         ∙ ap (λ (x : Pending). Some (record { seat = seat; number = x.number; instr = x.instr; operands = os }))
-        (sought_member f (record { member = m; answer = Waiting }) k)
+        (sought_pending f (record { pending = m; answer = Waiting }) k)
 
 -- the slot of a waiting instruction waits with its number
-pub slot_waits : (u : FunctionalUnit) (members : List Pending) (m : Pending)
-    → sought (seek (stage_at u) members) ≡ Some (record { member = m; answer = Waiting })
-    → waits_in m.number (seek (stage_at u) members) ≡ true
+pub slot_waits : (u : FunctionalUnit) (pending : List Pending) (m : Pending)
+    → sought (seek (stage_at u) pending) ≡ Some (record { pending = m; answer = Waiting })
+    → waits_in m.number (seek (stage_at u) pending) ≡ true
 unfolding waits_in is_waiting
-slot_waits u members m h = found (seek (stage_at u) members) h
+slot_waits u pending m h = found (seek (stage_at u) pending) h
   where
-    found : (q : Option (Found Pending Stage)) → sought q ≡ Some (record { member = m; answer = Waiting })
+    found : (q : Option (Found Pending Stage)) → sought q ≡ Some (record { pending = m; answer = Waiting })
         → waits_in m.number q ≡ true
-    found None k = absurd (no_sought (record { member = m; answer = Waiting }) k)
+    found None k = absurd (no_sought (record { pending = m; answer = Waiting }) k)
     found (Some f) k =
         ap (λ (x : Pending). is_waiting f.answer && eqb x.number m.number)
-        (sought_member f (record { member = m; answer = Waiting }) k)
-        ∙ ap (λ t. is_waiting t && eqb m.number m.number) (sought_what f (record { member = m; answer = Waiting }) k)
+        (sought_pending f (record { pending = m; answer = Waiting }) k)
+        ∙ ap (λ t. is_waiting t && eqb m.number m.number) (sought_what f (record { pending = m; answer = Waiting }) k)
         ∙ eq-eqb m.number m.number refl
 
 -- a slot waits with one number
@@ -114,20 +114,20 @@ unfolding waits_in
 one_number m n None h k = cc
 one_number m n (Some f) h k = by_test (is_waiting f.answer) h k
   where
-    by_test : (b : Bool) → (b && eqb f.member.number m) ≡ true → (b && eqb f.member.number n) ≡ true → m ≡ n
-    by_test true i j = sym (eqb-true f.member.number m i) ∙ eqb-true f.member.number n j
+    by_test : (b : Bool) → (b && eqb f.item.number m) ≡ true → (b && eqb f.item.number n) ≡ true → m ≡ n
+    by_test true i j = sym (eqb-true f.item.number m i) ∙ eqb-true f.item.number n j
     by_test false i j = cc
 
 -- a token whose number waits is loaded with its own number
-pub loaded_as : (w v : Processor) (t : Reservation) (k : Note) (m : Pending) (os : Operands) (members : List Pending)
-    (b : Bool) → k ≡ record { unit = t.seat.unit; number = t.number } → members ≡ w.pending
-    → b ≡ waits_in k.number (seek (stage_at k.unit) members) → b ≡ true
+pub loaded_as : (w v : Processor) (t : Reservation) (k : Note) (m : Pending) (os : Operands) (pending : List Pending)
+    (b : Bool) → k ≡ record { unit = t.seat.unit; number = t.number } → pending ≡ w.pending
+    → b ≡ waits_in k.number (seek (stage_at k.unit) pending) → b ≡ true
     → waits_in m.number (slot w k.unit) ≡ true
     → ((seat : Seating) → reading_in seat (slot v k.unit)
     ≡ Some (record { seat = seat; number = m.number; instr = m.instr; operands = os }))
     → reading_in t.seat (slot v t.seat.unit)
     ≡ Some (record { seat = t.seat; number = t.number; instr = m.instr; operands = os })
-loaded_as w v t k m os members b ek em eb et h i =
+loaded_as w v t k m os pending b ek em eb et h i =
     ap (λ (x : Note). reading_in t.seat (slot v x.unit)) (sym ek)
     ∙ i t.seat
     ∙ ap (λ n. Some (record { seat = t.seat; number = n; instr = m.instr; operands = os }))
@@ -142,7 +142,7 @@ unfolding reading_in reading_at
 value_in None seat r v h e = cc
 value_in (Some f) seat r v h e = at_stage f.answer h
   where
-    at_stage : (t : Stage) → reading_at seat f.member.number f.member.instr t ≡ Some r → IsValueAt v f.member.instr t
+    at_stage : (t : Stage) → reading_at seat f.item.number f.item.instr t ≡ Some r → IsValueAt v f.item.instr t
     at_stage Waiting k = cc
     at_stage (HasRead os) k = e ∙ ap (λ (x : Reading). value_of x.instr x.operands) (sym (some_inj _ r k))
     at_stage (Finished w) k = cc
@@ -154,7 +154,7 @@ unfolding sought has_read
 has_read_in v None h = absurd h
 has_read_in v (Some f) h = at_stage f.answer refl h
   where
-    at_stage : (t : Stage) → f.answer ≡ t → IsValueAt v f.member.instr t
+    at_stage : (t : Stage) → f.answer ≡ t → IsValueAt v f.item.instr t
         → IfSome (sought (Some f)) (λ s. has_read s.answer ≡ true)
     at_stage Waiting e k = absurd k
     at_stage (HasRead os) e k = ap has_read e ∙ read_is os
@@ -181,13 +181,13 @@ value_put w u v g i e = found (slot w u) refl i
             ∙ ap (λ t. refusal_of (finish_tests t)) et
 
         sought_as : (os : Operands) → f.answer ≡ HasRead os
-            → sought (seek (stage_at u) w.pending) ≡ Some (record { member = f.member; answer = HasRead os })
-        sought_as os et = ap sought k ∙ ap (λ t. Some (record { member = f.member; answer = t })) et
+            → sought (seek (stage_at u) w.pending) ≡ Some (record { pending = f.item; answer = HasRead os })
+        sought_as os et = ap sought k ∙ ap (λ t. Some (record { pending = f.item; answer = t })) et
 
-        at_stage : (t : Stage) → f.answer ≡ t → IsValueAt v f.member.instr t → (with_flight w g ≡ after w (Finish u))
+        at_stage : (t : Stage) → f.answer ≡ t → IsValueAt v f.item.instr t → (with_flight w g ≡ after w (Finish u))
             × (allowed w (Finish u) ≡ None)
         at_stage Waiting et q = absurd q
-        at_stage (HasRead os) et q = (finish_made w u f.member os v g (sought_as os et) q e, finishes os et)
+        at_stage (HasRead os) et q = (finish_made w u f.item os v g (sought_as os et) q e, finishes os et)
         at_stage (Finished x) et q = absurd q
 
 -- ---- the answers of a store ----
@@ -198,30 +198,30 @@ answered_ok d given None e = refl
 answered_ok d given (Some x) e = cc
 
 -- the token's own slot is asked, and it has a value
-store_asks : (w : Processor) (t : Reservation) (n : Note) (members : List Pending) (b : Bool) (o : Option Refusal)
-    → n ≡ record { unit = t.seat.unit; number = t.number } → members ≡ w.pending
-    → b ≡ finished_in n.number (seek (stage_at n.unit) members) → b ≡ true → allowed w (StoreResult n.unit) ≡ o
+store_asks : (w : Processor) (t : Reservation) (n : Note) (pending : List Pending) (b : Bool) (o : Option Refusal)
+    → n ≡ record { unit = t.seat.unit; number = t.number } → pending ≡ w.pending
+    → b ≡ finished_in n.number (seek (stage_at n.unit) pending) → b ≡ true → allowed w (StoreResult n.unit) ≡ o
     → refusal_to (finished_in t.number (slot w t.seat.unit)) (allowed w (StoreResult t.seat.unit)) ≡ o
-store_asks w t n members b o en em eb et h =
+store_asks w t n pending b o en em eb et h =
     ap (λ (x : Note). refusal_to (finished_in x.number (slot w x.unit)) (allowed w (StoreResult x.unit))) (sym en)
     ∙ ap (λ l. refusal_to (finished_in n.number (seek (stage_at n.unit) l)) (allowed w (StoreResult n.unit))) (sym em)
     ∙ ap (λ x. refusal_to x (allowed w (StoreResult n.unit))) (sym eb ∙ et)
     ∙ h
 
-pub store_refused : (w : Processor) (t : Reservation) (n : Note) (members : List Pending) (b : Bool) (k : Refusal)
-    → n ≡ record { unit = t.seat.unit; number = t.number } → members ≡ w.pending
-    → b ≡ finished_in n.number (seek (stage_at n.unit) members) → b ≡ true → Err k ≡ answer_of w (StoreResult n.unit)
+pub store_refused : (w : Processor) (t : Reservation) (n : Note) (pending : List Pending) (b : Bool) (k : Refusal)
+    → n ≡ record { unit = t.seat.unit; number = t.number } → pending ≡ w.pending
+    → b ≡ finished_in n.number (seek (stage_at n.unit) pending) → b ≡ true → Err k ≡ answer_of w (StoreResult n.unit)
     → refusal_to (finished_in t.number (slot w t.seat.unit)) (allowed w (StoreResult t.seat.unit)) ≡ Some k
 unfolding answer_of
-store_refused w t n members b k en em eb et h = store_asks w t n members b (Some k) en em eb et (answered_err _ _ k h)
+store_refused w t n pending b k en em eb et h = store_asks w t n pending b (Some k) en em eb et (answered_err _ _ k h)
 
-pub store_allowed : (w : Processor) (t : Reservation) (n : Note) (members : List Pending) (b : Bool) (given : Done)
-    → n ≡ record { unit = t.seat.unit; number = t.number } → members ≡ w.pending
-    → b ≡ finished_in n.number (seek (stage_at n.unit) members) → b ≡ true → Ok given ≡ answer_of w (StoreResult n.unit)
+pub store_allowed : (w : Processor) (t : Reservation) (n : Note) (pending : List Pending) (b : Bool) (given : Done)
+    → n ≡ record { unit = t.seat.unit; number = t.number } → pending ≡ w.pending
+    → b ≡ finished_in n.number (seek (stage_at n.unit) pending) → b ≡ true → Ok given ≡ answer_of w (StoreResult n.unit)
     → refusal_to (finished_in t.number (slot w t.seat.unit)) (allowed w (StoreResult t.seat.unit)) ≡ None
 unfolding answer_of
-store_allowed w t n members b given en em eb et h =
-    store_asks w t n members b None en em eb et (answered_ok _ given _ h)
+store_allowed w t n pending b given en em eb et h =
+    store_asks w t n pending b None en em eb et (answered_ok _ given _ h)
 
 -- ---- what a token was computed from ----
 
@@ -238,19 +238,19 @@ is_same c number instr operands false en eo h k = λ e. search (rules, k (ap (λ
 -- ---- what the instruction that was sought says of its slot ----
 
 pub waits_then : (n : ℕ) (o : Option (Found Pending Stage)) (r : Option (Sought Stage)) (s : Sought Stage) (b : Bool)
-    → r ≡ sought o → r ≡ Some s → b ≡ is_waiting s.answer → b ≡ true → eqb s.member.number n ≡ waits_in n o
+    → r ≡ sought o → r ≡ Some s → b ≡ is_waiting s.answer → b ≡ true → eqb s.pending.number n ≡ waits_in n o
 unfolding waits_in
 waits_then n None r s b e i w t = absurd (no_sought s (sym e ∙ i))
 waits_then n (Some f) r s b e i w t =
-    ap (λ x. x && eqb s.member.number n) (sym t ∙ w ∙ ap is_waiting (sym (sought_what f s (sym e ∙ i))))
-    ∙ ap (λ (m : Pending). is_waiting f.answer && eqb m.number n) (sym (sought_member f s (sym e ∙ i)))
+    ap (λ x. x && eqb s.pending.number n) (sym t ∙ w ∙ ap is_waiting (sym (sought_what f s (sym e ∙ i))))
+    ∙ ap (λ (m : Pending). is_waiting f.answer && eqb m.number n) (sym (sought_pending f s (sym e ∙ i)))
 
 pub waits_else : (n : ℕ) (o : Option (Found Pending Stage)) (r : Option (Sought Stage)) (s : Sought Stage) (b : Bool)
     → r ≡ sought o → r ≡ Some s → b ≡ is_waiting s.answer → b ≡ false → b ≡ waits_in n o
 unfolding waits_in
 waits_else n None r s b e i w t = absurd (no_sought s (sym e ∙ i))
 waits_else n (Some f) r s b e i w t =
-    t ∙ ap (λ x. x && eqb f.member.number n) (sym t ∙ w ∙ ap is_waiting (sym (sought_what f s (sym e ∙ i))))
+    t ∙ ap (λ x. x && eqb f.item.number n) (sym t ∙ w ∙ ap is_waiting (sym (sought_what f s (sym e ∙ i))))
 
 pub waits_none : (n : ℕ) (o : Option (Found Pending Stage)) (r : Option (Sought Stage)) → r ≡ sought o → r ≡ None
     → false ≡ waits_in n o
@@ -263,19 +263,19 @@ waits_none n (Some f) r e i = absurd (some_none _ (sym e ∙ i))
 
 pub finished_then : (n : ℕ) (o : Option (Found Pending Stage)) (r : Option (Sought Stage)) (s : Sought Stage)
     (b : Bool) → r ≡ sought o → r ≡ Some s → b ≡ is_finished s.answer → b ≡ true
-    → eqb s.member.number n ≡ finished_in n o
+    → eqb s.pending.number n ≡ finished_in n o
 unfolding finished_in
 finished_then n None r s b e i w t = absurd (no_sought s (sym e ∙ i))
 finished_then n (Some f) r s b e i w t =
-    ap (λ x. x && eqb s.member.number n) (sym t ∙ w ∙ ap is_finished (sym (sought_what f s (sym e ∙ i))))
-    ∙ ap (λ (m : Pending). is_finished f.answer && eqb m.number n) (sym (sought_member f s (sym e ∙ i)))
+    ap (λ x. x && eqb s.pending.number n) (sym t ∙ w ∙ ap is_finished (sym (sought_what f s (sym e ∙ i))))
+    ∙ ap (λ (m : Pending). is_finished f.answer && eqb m.number n) (sym (sought_pending f s (sym e ∙ i)))
 
 pub finished_else : (n : ℕ) (o : Option (Found Pending Stage)) (r : Option (Sought Stage)) (s : Sought Stage)
     (b : Bool) → r ≡ sought o → r ≡ Some s → b ≡ is_finished s.answer → b ≡ false → b ≡ finished_in n o
 unfolding finished_in
 finished_else n None r s b e i w t = absurd (no_sought s (sym e ∙ i))
 finished_else n (Some f) r s b e i w t =
-    t ∙ ap (λ x. x && eqb f.member.number n) (sym t ∙ w ∙ ap is_finished (sym (sought_what f s (sym e ∙ i))))
+    t ∙ ap (λ x. x && eqb f.item.number n) (sym t ∙ w ∙ ap is_finished (sym (sought_what f s (sym e ∙ i))))
 
 pub finished_none : (n : ℕ) (o : Option (Found Pending Stage)) (r : Option (Sought Stage)) → r ≡ sought o → r ≡ None
     → false ≡ finished_in n o
@@ -287,47 +287,47 @@ finished_none n (Some f) r e i = absurd (some_none _ (sym e ∙ i))
     some_none s k = cc
 
 reads_as : (seat : Seating) (o : Option (Found Pending Stage)) (s : Sought Stage) → sought o ≡ Some s
-    → reading_in seat o ≡ reading_at seat s.member.number s.member.instr s.answer
+    → reading_in seat o ≡ reading_at seat s.pending.number s.pending.instr s.answer
 unfolding reading_in
 reads_as seat None s h = absurd (no_sought s h)
 reads_as seat (Some f) s h =
-    ap (λ (m : Pending). reading_at seat m.number m.instr f.answer) (sought_member f s h)
-    ∙ ap (reading_at seat s.member.number s.member.instr) (sought_what f s h)
+    ap (λ (m : Pending). reading_at seat m.number m.instr f.answer) (sought_pending f s h)
+    ∙ ap (reading_at seat s.pending.number s.pending.instr) (sought_what f s h)
 
 pub reads_nothing : (seat : Seating) (o : Option (Found Pending Stage)) (x : Reading)
     → ((s : Sought Stage) → sought o ≡ Some s → ⊥) → reading_in seat o ≡ Some x → ⊥
 unfolding reading_in sought
 reads_nothing seat None x h k = cc
-reads_nothing seat (Some f) x h k = h (record { member = f.member; answer = f.answer }) refl
+reads_nothing seat (Some f) x h k = h (record { pending = f.item; answer = f.answer }) refl
 
 pub reads_waiting : (seat : Seating) (o : Option (Found Pending Stage)) (m : Pending) (x : Reading)
-    → sought o ≡ Some (record { member = m; answer = Waiting }) → reading_in seat o ≡ Some x → ⊥
+    → sought o ≡ Some (record { pending = m; answer = Waiting }) → reading_in seat o ≡ Some x → ⊥
 unfolding reading_at
 reads_waiting seat o m x h k =
-    let e : None ≡ Some x = sym (reads_as seat o (record { member = m; answer = Waiting }) h) ∙ k in cc
+    let e : None ≡ Some x = sym (reads_as seat o (record { pending = m; answer = Waiting }) h) ∙ k in cc
 
 pub reads_finished : (seat : Seating) (o : Option (Found Pending Stage)) (m : Pending) (v : UnitValue) (x : Reading)
-    → sought o ≡ Some (record { member = m; answer = Finished v }) → reading_in seat o ≡ Some x → ⊥
+    → sought o ≡ Some (record { pending = m; answer = Finished v }) → reading_in seat o ≡ Some x → ⊥
 unfolding reading_at
 reads_finished seat o m v x h k =
-    let e : None ≡ Some x = sym (reads_as seat o (record { member = m; answer = Finished v }) h) ∙ k in cc
+    let e : None ≡ Some x = sym (reads_as seat o (record { pending = m; answer = Finished v }) h) ∙ k in cc
 
 -- a token is of the slot where it says what the slot has read
 pub reads_same : (b : Bool) (t : Computation) (o : Option (Found Pending Stage)) (m : Pending) (os : Operands)
-    → sought o ≡ Some (record { member = m; answer = HasRead os })
+    → sought o ≡ Some (record { pending = m; answer = HasRead os })
     → MatchBool b (read_of t ≡ record { seat = t.seat; number = m.number; instr = m.instr; operands = os })
     (read_of t ≢ record { seat = t.seat; number = m.number; instr = m.instr; operands = os })
     → MatchBool b (reading_in t.seat o ≡ Some (read_of t)) (reading_in t.seat o ≢ Some (read_of t))
 unfolding reading_at
-reads_same true t o m os h e = reads_as t.seat o (record { member = m; answer = HasRead os }) h ∙ ap Some (sym e)
+reads_same true t o m os h e = reads_as t.seat o (record { pending = m; answer = HasRead os }) h ∙ ap Some (sym e)
 reads_same false t o m os h e =
-    λ k. e (some_inj _ _ (sym k ∙ reads_as t.seat o (record { member = m; answer = HasRead os }) h))
+    λ k. e (some_inj _ _ (sym k ∙ reads_as t.seat o (record { pending = m; answer = HasRead os }) h))
 
 -- the value of what was read is the value that the slot is to have
 pub value_of_sought : (o : Option (Found Pending Stage)) (m : Pending) (os : Operands) (v : UnitValue)
-    → sought o ≡ Some (record { member = m; answer = HasRead os }) → v ≡ value_of m.instr os → IsValueIn v o
-value_of_sought None m os v h e = absurd (no_sought (record { member = m; answer = HasRead os }) h)
+    → sought o ≡ Some (record { pending = m; answer = HasRead os }) → v ≡ value_of m.instr os → IsValueIn v o
+value_of_sought None m os v h e = absurd (no_sought (record { pending = m; answer = HasRead os }) h)
 value_of_sought (Some f) m os v h e =
-    subst (λ t. IsValueAt v f.member.instr t) (sym (sought_what f (record { member = m; answer = HasRead os }) h))
+    subst (λ t. IsValueAt v f.item.instr t) (sym (sought_what f (record { pending = m; answer = HasRead os }) h))
     (e ∙ ap (λ (x : Pending). value_of x.instr os)
-    (sym (sought_member f (record { member = m; answer = HasRead os }) h)))
+    (sym (sought_pending f (record { pending = m; answer = HasRead os }) h)))

@@ -28,14 +28,14 @@ unfolding allowed tests_of tests_found read_tests waits_in is_waiting is_read_re
 waiting_named w u n k h e = in_slot (slot w u) h e
   where
     in_slot : (o : Option (Found Pending Stage)) → waits_in n o ≡ true
-        → refusal_of (tests_found o (λ f. read_tests f.answer f.earlier f.member.instr)) ≡ Some k
+        → refusal_of (tests_found o (λ f. read_tests f.answer f.earlier f.item.instr)) ≡ Some k
         → is_read_refusal k ≡ true
     in_slot None i j = cc
     in_slot (Some f) i j = at_stage f.answer i j
       where
-        at_stage : (t : Stage) → (is_waiting t && eqb f.member.number n) ≡ true
-            → refusal_of (read_tests t f.earlier f.member.instr) ≡ Some k → is_read_refusal k ≡ true
-        at_stage Waiting a b = one_of is_read_refusal (read_tests Waiting f.earlier f.member.instr) k (refl, tt) b
+        at_stage : (t : Stage) → (is_waiting t && eqb f.item.number n) ≡ true
+            → refusal_of (read_tests t f.earlier f.item.instr) ≡ Some k → is_read_refusal k ≡ true
+        at_stage Waiting a b = one_of is_read_refusal (read_tests Waiting f.earlier f.item.instr) k (refl, tt) b
         at_stage (HasRead os) a b = cc
         at_stage (Finished v) a b = cc
 
@@ -45,37 +45,37 @@ unfolding allowed tests_of tests_found store_tests finished_in is_finished is_st
 finished_named w u n k h e = in_slot (slot w u) h e
   where
     in_slot : (o : Option (Found Pending Stage)) → finished_in n o ≡ true
-        → refusal_of (tests_found o (λ f. store_tests (bounds_of w.state) w.pending f.answer f.earlier f.member.instr))
+        → refusal_of (tests_found o (λ f. store_tests (bounds_of w.state) w.pending f.answer f.earlier f.item.instr))
         ≡ Some k → is_store_refusal k ≡ true
     in_slot None i j = cc
     in_slot (Some f) i j = at_stage f.answer i j
       where
-        at_stage : (t : Stage) → (is_finished t && eqb f.member.number n) ≡ true
-            → refusal_of (store_tests (bounds_of w.state) w.pending t f.earlier f.member.instr) ≡ Some k
+        at_stage : (t : Stage) → (is_finished t && eqb f.item.number n) ≡ true
+            → refusal_of (store_tests (bounds_of w.state) w.pending t f.earlier f.item.instr) ≡ Some k
             → is_store_refusal k ≡ true
         at_stage Waiting a b = cc
         at_stage (HasRead os) a b = cc
         at_stage (Finished v) a b = one_of is_store_refusal
-            (store_tests (bounds_of w.state) w.pending (Finished v) f.earlier f.member.instr) k
+            (store_tests (bounds_of w.state) w.pending (Finished v) f.earlier f.item.instr) k
             (refl, (refl, (refl, tt))) b
 
 or_second : (p q : Bool) → q ≡ true → (p || q) ≡ true
 or_second true q h = refl
 or_second false q h = h
 
-pub read_named_to : (w : Processor) (note : Note) (members : List Pending) (b : Bool) (k : Refusal)
-    → members ≡ w.pending → b ≡ waits_in note.number (seek (stage_at note.unit) members) → b ≡ true
+pub read_named_to : (w : Processor) (note : Note) (pending : List Pending) (b : Bool) (k : Refusal)
+    → pending ≡ w.pending → b ≡ waits_in note.number (seek (stage_at note.unit) pending) → b ≡ true
     → allowed w (Read note.unit) ≡ Some k → (is_stranger k || is_read_refusal k) ≡ true
-read_named_to w note members b k em eb et h =
+read_named_to w note pending b k em eb et h =
     or_second (is_stranger k) (is_read_refusal k)
     (waiting_named w note.unit note.number k
     (ap (λ l. waits_in note.number (seek (stage_at note.unit) l)) (sym em) ∙ sym eb ∙ et) h)
 
-pub store_named_to : (w : Processor) (note : Note) (members : List Pending) (b : Bool) (k : Refusal)
-    → members ≡ w.pending → b ≡ finished_in note.number (seek (stage_at note.unit) members) → b ≡ true
+pub store_named_to : (w : Processor) (note : Note) (pending : List Pending) (b : Bool) (k : Refusal)
+    → pending ≡ w.pending → b ≡ finished_in note.number (seek (stage_at note.unit) pending) → b ≡ true
     → Err k ≡ answer_of w (Store note.unit) → (is_stranger k || is_store_refusal k) ≡ true
 unfolding answer_of
-store_named_to w note members b k em eb et h =
+store_named_to w note pending b k em eb et h =
     or_second (is_stranger k) (is_store_refusal k)
     (finished_named w note.unit note.number k
     (ap (λ l. finished_in note.number (seek (stage_at note.unit) l)) (sym em) ∙ sym eb ∙ et) (answered_err _ _ k h))

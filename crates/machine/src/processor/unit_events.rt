@@ -27,11 +27,11 @@ impl Machine {
             → reading_in seat (slot self.new unit)
             ≡ Some (record { seat = seat; number = read.0.number; instr = read.0.instr; operands = read.1 })) }
     {
-        let (member, operands) = match self.in_flight.read(unit, &self.state.registers) {
+        let (pending, operands) = match self.in_flight.read(unit, &self.state.registers) {
             Ok(read) => read,
             Err(refusal) => return Err(refusal),
         };
-        Ok((member, operands))
+        Ok((pending, operands))
     }
 
     /// A unit reads its operands.
@@ -52,8 +52,8 @@ impl Machine {
     {
         match judge_finish(&self.in_flight, unit) {
             Err(refusal) => Err(refusal),
-            Ok((member, operands)) => {
-                self.put_value(unit, value(&member.instr, &operands));
+            Ok((pending, operands)) => {
+                self.put_value(unit, value(&pending.instr, &operands));
                 Ok(Done::Made)
             }
         }
@@ -75,11 +75,11 @@ impl Machine {
     {
         let area = self.state.area;
         let size = self.state.memory.size();
-        let (member, value) = match judge_store(&self.in_flight, &area, size, unit) {
+        let (pending, value) = match judge_store(&self.in_flight, &area, size, unit) {
             Ok(found) => found,
             Err(refusal) => return Err(refusal),
         };
-        let instr = member.instr;
+        let instr = pending.instr;
         let reference = reference(&instr, &value);
         let written = instr.puts();
         write_registers(&mut self.state, written.as_slice(), number(&value));

@@ -161,17 +161,17 @@ phase_bound h (After (Entered place a (LoadInto n))) = omega arith
 phase_bound h (After (Entered place a (StoreWord word))) = omega arith
 phase_bound h (After (Accepted n word)) = omega arith
 
-member_bound : (m : Pending) → cost m ≤ 3 * one_if (in_unit m) + 2 * (one_if (has_turn m) + one_if (is_entered m))
+pending_bound : (m : Pending) → cost m ≤ 3 * one_if (in_unit m) + 2 * (one_if (has_turn m) + one_if (is_entered m))
     + one_if (has_load m)
 unfolding cost in_unit has_turn board.has_turn reservation_of before_and is_entered has_load
-member_bound m = phase_bound (shape_of m.instr) m.phase
+pending_bound m = phase_bound (shape_of m.instr) m.phase
 
 work_bound : (ms : List Pending)
     → work_left ms ≤ 3 * count_of in_unit ms + 2 * (count_of has_turn ms + count_of is_entered ms)
     + count_of has_load ms
 unfolding work_left count_of
 work_bound [] = omega arith
-work_bound (m ∷ ms) = let k = member_bound m in let r = work_bound ms in omega (arith, k, r)
+work_bound (m ∷ ms) = let k = pending_bound m in let r = work_bound ms in omega (arith, k, r)
 
 -- ---- seven units ----
 

@@ -58,7 +58,7 @@ any_none f h [] = refl
 any_none f h (x ∷ xs) = or_from (f x) (list_any f xs) (h x) (any_none f h xs)
 
 seek_first : {K : Type 0} (f : Pending → Option K) (ms ls : List Pending) (m : Pending) (x : K) → ms ≡ m ∷ ls
-    → f m ≡ Some x → seek f ms ≡ Some (record { earlier = []; member = m; answer = x; later = ls })
+    → f m ≡ Some x → seek f ms ≡ Some (record { earlier = []; item = m; answer = x; later = ls })
 seek_first f ms ls m x e h = ap (seek f) e ∙ seek_around f [] m x ls tt h
 
 same_self : (u : FunctionalUnit) → same_unit u u ≡ true
@@ -84,7 +84,7 @@ arrival_first m n word e =
 -- the tests of an event that finds the oldest
 first_allowed : {K : Type 0} (f : Pending → Option K) (tests : Found Pending K → List Test) (ms ls : List Pending)
     (m : Pending) (x : K) → ms ≡ m ∷ ls → f m ≡ Some x
-    → Each (λ t. t.fails ≡ false) (tests (record { earlier = []; member = m; answer = x; later = ls }))
+    → Each (λ t. t.fails ≡ false) (tests (record { earlier = []; item = m; answer = x; later = ls }))
     → refusal_of (tests_found (seek f ms) tests) ≡ None
 unfolding tests_found
 first_allowed f tests ms ls m x e h k =
@@ -258,7 +258,7 @@ kept_work m (Some l) ls = refl
 
 after_first : {K : Type 0} (w : Processor) (f : Pending → Option K) (g : Found Pending K → Processor)
     (ls : List Pending) (m : Pending) (x : K) → w.pending ≡ m ∷ ls → f m ≡ Some x
-    → after_found w (seek f w.pending) g ≡ g (record { earlier = []; member = m; answer = x; later = ls })
+    → after_found w (seek f w.pending) g ≡ g (record { earlier = []; item = m; answer = x; later = ls })
 unfolding after_found
 after_first w f g ls m x e h = ap (λ o. after_found w o g) (seek_first f w.pending ls m x e h)
 
@@ -306,7 +306,7 @@ less_return ls h n word k e = omega (arith, e)
 less_accept : (w : Processor) (m : Pending) (ls : List Pending) (place a : ℕ) (access : Access)
     → work_left (after_accept w (record {
       earlier = [];
-      member = m;
+      item = m;
       answer = record { a = a; access = access };
       later = ls;
     }) a access).pending + 2 ≤ outstanding_cost (Entered place a access) + work_left ls
@@ -332,7 +332,7 @@ entered_eases w m ls place a access true k e p =
     omega (arith, i, j)
 entered_eases w m ls place a access false k e p =
     eases w (after w (Accept place))
-    (after_accept w (record { earlier = []; member = m; answer = record { a = a; access = access }; later = ls }) a
+    (after_accept w (record { earlier = []; item = m; answer = record { a = a; access = access }; later = ls }) a
     access).pending 1
     (ap (λ (x : Processor). x.pending)
     (after_first w (entry_at place) (λ f. after_accept w f f.answer.a f.answer.access) ls m

@@ -1,16 +1,15 @@
 -- A change that no pending instruction touches is made before them all as well as after them all.
 use Rattle.scoreboard.specs.Reservations as board
-use Rattle.in_flight.specs.Pending.{progress_of, returning, reservation_of, is_branch, to_come}
+use Rattle.in_flight.specs.Pending.{is_branch, to_come}
 use Rattle.in_flight.proofs.asking.Asked.{comes, reads}
 use Rattle.program_order.proofs.Opened.{results_to_come}
 use Rattle.sequential.specs.Place.{gone}
-use Rattle.in_flight.proofs.asking.Phases.{to_come_in, may_store}
-use Rattle.scoreboard.specs.Reservations.{returning_to}
+use Rattle.in_flight.proofs.asking.Phases.{may_store}
 use Rattle.std.proofs.Common.{◌≡◌, ℕ, false, List, [], ◌∷◌, ◌++◌, Option, Some, None, refl, ap, ◌∙◌, get_or}
 use Rattle.std.proofs.lemmas.Bool.{or_parts}
 use Rattle.std.specs.List.{list_any}
-use Rattle.program_order.proofs.effects.Members.{run-write, run-move, run-halt, run-mark, touches, run-poke, run-get}
-use Rattle.program_order.proofs.effects.Members.{run-word, run-halted, run-bounds, run-place}
+use Rattle.program_order.proofs.effects.OnePending.{run-write, run-move, run-halt, run-mark, touches, run-poke, run-get}
+use Rattle.program_order.proofs.effects.OnePending.{run-word, run-halted, run-bounds, run-place}
 use Rattle.instructions.specs.RegisterLists.{is_in}
 use Rattle.instructions.specs.Shape.{Shape, puts_of}
 use Rattle.instructions.specs.declared.instr.Reg.{Reg}

@@ -60,7 +60,7 @@ reservation_named ms (Passing place) = tt
 reservation_named ms (Taking i place) = (refl, (refl, tt))
 
 read_named : (t : Stage) (x : Found Pending Stage)
-    → Each (λ t. (is_nothing t.refusal || is_read_refusal t.refusal) ≡ true) (read_tests t x.earlier x.member.instr)
+    → Each (λ t. (is_nothing t.refusal || is_read_refusal t.refusal) ≡ true) (read_tests t x.earlier x.item.instr)
 unfolding read_tests nothing is_nothing is_read_refusal
 read_named Waiting x = (refl, tt)
 read_named (HasRead os) x = (refl, tt)
@@ -74,7 +74,7 @@ finish_named (Finished v) = (refl, tt)
 
 store_named : (b : Bounds) (ms : List Pending) (t : Stage) (x : Found Pending Stage)
     → Each (λ t. (is_nothing t.refusal || is_store_refusal t.refusal) ≡ true)
-    (store_tests b ms t x.earlier x.member.instr)
+    (store_tests b ms t x.earlier x.item.instr)
 unfolding store_tests nothing is_nothing is_store_refusal
 store_named b ms Waiting x = (refl, tt)
 store_named b ms (HasRead os) x = (refl, tt)

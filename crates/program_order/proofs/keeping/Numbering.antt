@@ -4,9 +4,7 @@ use Rattle.std.proofs.Common.{ap, ◌∙◌, subst, arith, inl, inr}
 use Rattle.std.specs.Prelude.{unwrap_or, Result, Ok}
 use Rattle.std.specs.List.{list_any}
 use Rattle.instructions.specs.declared.instr.Instr.{Instr}
-use Rattle.instructions.specs.declared.instr.Unit.{Unit as FunctionalUnit}
 use Rattle.instructions.specs.declared.instr.Unit.TheVariants.{Branch}
-use Rattle.instructions.specs.declared.instr.UnitKind.{UnitKind}
 use Rattle.instructions.specs.declared.refusal.Refusal.{Refusal}
 use Rattle.instructions.specs.Each.{Each}
 use Rattle.instructions.specs.Finding.{Found}

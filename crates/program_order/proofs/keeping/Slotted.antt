@@ -168,8 +168,8 @@ unfolding after_found after_read put_back
 read_slotted w u None e h = h
 read_slotted w u (Some f) e h =
     let p = seek_splits (stage_at u) w.pending f e in
-    slotted_stage (length w.state.memory) f.earlier f.member f.later f.answer _ (stage_found u f.member f.answer p.1)
-    (split_slotted w f.earlier f.member f.later p.0 h)
+    slotted_stage (length w.state.memory) f.earlier f.item f.later f.answer _ (stage_found u f.item f.answer p.1)
+    (split_slotted w f.earlier f.item f.later p.0 h)
 
 finish_slotted : (w : Processor) (u : FunctionalUnit) (o : Option (Found Pending Stage))
     → seek (stage_at u) w.pending ≡ o → IsSlottedWhole w → IsSlottedWhole (after_found w o (after_finish w))
@@ -177,8 +177,8 @@ unfolding after_found after_finish put_back
 finish_slotted w u None e h = h
 finish_slotted w u (Some f) e h =
     let p = seek_splits (stage_at u) w.pending f e in
-    slotted_stage (length w.state.memory) f.earlier f.member f.later f.answer _ (stage_found u f.member f.answer p.1)
-    (split_slotted w f.earlier f.member f.later p.0 h)
+    slotted_stage (length w.state.memory) f.earlier f.item f.later f.answer _ (stage_found u f.item f.answer p.1)
+    (split_slotted w f.earlier f.item f.later p.0 h)
 
 kept_slotted : (b : Bounds) (es : List Pending) (m : Pending) (ls : List Pending) (p : ℕ) (r : Option ProgramReference)
     (o : Option Outstanding) → rest_of b p r ≡ o → ((x : ProgramReference) → r ≡ Some x → IsLoadable x.access)
@@ -190,8 +190,8 @@ kept_slotted b es m ls p r None e f g free h = slotted_without b.size es m ls h
 kept_slotted b es m ls p r (Some l) e f g free h =
     slotted_after b.size es m ls l (rest_placed b m.unit p r l f g e) (rest_free b p r l (es ++ m ∷ ls) free e) h
 
-store_at : (w : Processor) (f : Found Pending Stage) (t : Stage) → w.pending ≡ f.earlier ++ f.member ∷ f.later
-    → refusal_of (store_tests (bounds_of w.state) w.pending t f.earlier f.member.instr) ≡ None → IsSlottedWhole w
+store_at : (w : Processor) (f : Found Pending Stage) (t : Stage) → w.pending ≡ f.earlier ++ f.item ∷ f.later
+    → refusal_of (store_tests (bounds_of w.state) w.pending t f.earlier f.item.instr) ≡ None → IsSlottedWhole w
     → IsSlottedWhole (after_store w f t)
 unfolding store_tests after_store after_work put_back bounds_of work_of
 store_at w f Waiting s h k = k
@@ -200,36 +200,36 @@ store_at w f (Finished v) s h k =
     let test = (refusal_none _ h).1.0 in
     let b : Bounds = record { area = w.state.area; size = length w.state.memory } in
     from_size (length w.state.memory) _ _
-    (ap (λ (x : Bounds). x.size) (do_now-bounds b w.state (work_of (shape_of f.member.instr) v)))
-    (kept_slotted b f.earlier f.member f.later (unwrap_or (place_for w.pending) 0)
-    (reference_for (shape_of f.member.instr) v) _ refl
-    (λ x e. reference_loadable (shape_of f.member.instr) v x (λ n i. loads_channel f.member.instr n i) e)
+    (ap (λ (x : Bounds). x.size) (do_now-bounds b w.state (work_of (shape_of f.item.instr) v)))
+    (kept_slotted b f.earlier f.item f.later (unwrap_or (place_for w.pending) 0)
+    (reference_for (shape_of f.item.instr) v) _ refl
+    (λ x e. reference_loadable (shape_of f.item.instr) v x (λ n i. loads_channel f.item.instr n i) e)
     (λ e. (place_taken w.pending _ test e).1)
     (λ e. ap (list_any (in_place (unwrap_or (place_for w.pending) 0))) (sym s) ∙ (place_taken w.pending _ test e).0)
-    (split_slotted w f.earlier f.member f.later s k))
+    (split_slotted w f.earlier f.item f.later s k))
 
 store_slotted : (w : Processor) (u : FunctionalUnit) (o : Option (Found Pending Stage))
     → seek (stage_at u) w.pending ≡ o
-    → refusal_of (tests_found o (λ f. store_tests (bounds_of w.state) w.pending f.answer f.earlier f.member.instr))
+    → refusal_of (tests_found o (λ f. store_tests (bounds_of w.state) w.pending f.answer f.earlier f.item.instr))
     ≡ None → IsSlottedWhole w → IsSlottedWhole (after_found w o (λ f. after_store w f f.answer))
 unfolding tests_found after_found
 store_slotted w u None e h k = k
 store_slotted w u (Some f) e h k = store_at w f f.answer (seek_splits (stage_at u) w.pending f e).0 h k
 
 accept_at : (w : Processor) (f : Found Pending HopperEntry) (slot a : ℕ) (access : Access) → w.pending ≡ f.earlier
-    ++ f.member ∷ f.later → f.member.phase ≡ After (Entered slot a access) → IsSlottedWhole w
+    ++ f.item ∷ f.later → f.item.phase ≡ After (Entered slot a access) → IsSlottedWhole w
     → IsSlottedWhole (after_accept w f a access)
 unfolding after_accept put_back poke
 accept_at w f slot a (LoadInto n) s e h =
-    let k = split_slotted w f.earlier f.member f.later s h in
-    slotted_after (length w.state.memory) f.earlier f.member f.later (Accepted n (get_or w.state.memory a 0))
-    (placed_in (length w.state.memory) f.member (After (Entered slot a (LoadInto n))) e
-    (proper_there (length w.state.memory) f.earlier f.member f.later k)).2
-    (accepted_free n (get_or w.state.memory a 0) (f.earlier ++ f.member ∷ f.later)) k
+    let k = split_slotted w f.earlier f.item f.later s h in
+    slotted_after (length w.state.memory) f.earlier f.item f.later (Accepted n (get_or w.state.memory a 0))
+    (placed_in (length w.state.memory) f.item (After (Entered slot a (LoadInto n))) e
+    (proper_there (length w.state.memory) f.earlier f.item f.later k)).2
+    (accepted_free n (get_or w.state.memory a 0) (f.earlier ++ f.item ∷ f.later)) k
 accept_at w f slot a (StoreWord v) s e h =
     from_size (length w.state.memory) _ _ (length-set w.state.memory a v)
-    (slotted_without (length w.state.memory) f.earlier f.member f.later
-    (split_slotted w f.earlier f.member f.later s h))
+    (slotted_without (length w.state.memory) f.earlier f.item f.later
+    (split_slotted w f.earlier f.item f.later s h))
 
 accept_slotted : (w : Processor) (p : ℕ) (o : Option (Found Pending HopperEntry)) → seek (entry_at p) w.pending ≡ o
     → IsSlottedWhole w → IsSlottedWhole (after_found w o (λ f. after_accept w f f.answer.a f.answer.access))
@@ -237,7 +237,7 @@ unfolding after_found
 accept_slotted w p None e h = h
 accept_slotted w p (Some f) e h =
     let q = seek_splits (entry_at p) w.pending f e in
-    let k = entry_found p f.member f.answer q.1 in
+    let k = entry_found p f.item f.answer q.1 in
     accept_at w f k.0 f.answer.a f.answer.access q.0 k.1 h
 
 return_slotted : (w : Processor) (c : ℕ) (o : Option (Found Pending Arrival)) → seek (arrival_at c) w.pending ≡ o
@@ -246,8 +246,8 @@ unfolding after_found after_return put_back write
 return_slotted w c None e h = h
 return_slotted w c (Some f) e h =
     let q = seek_splits (arrival_at c) w.pending f e in
-    slotted_without (length w.state.memory) f.earlier f.member f.later
-    (split_slotted w f.earlier f.member f.later q.0 h)
+    slotted_without (length w.state.memory) f.earlier f.item f.later
+    (split_slotted w f.earlier f.item f.later q.0 h)
 
 -- ---- issue ----
 

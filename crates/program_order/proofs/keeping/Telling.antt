@@ -29,7 +29,7 @@ use Rattle.program_order.specs.Run.{IsAnswer, answer_of}
 use Rattle.program_order.specs.Telling.{IsWhy}
 use Rattle.program_order.proofs.Opened.{refusals_by_event}
 use Rattle.program_order.proofs.effects.Completing.{complete-change, complete-halted, each_all}
-use Rattle.program_order.proofs.effects.Members.{run-mark}
+use Rattle.program_order.proofs.effects.OnePending.{run-mark}
 use Rattle.program_order.proofs.keeping.Naming.{answered_err, one_of, refusal_named}
 use Rattle.program_order.proofs.theorem.Theorem.{drained_completed, not_pending}
 

@@ -18,14 +18,14 @@ use Rattle.program_order.specs.Processor.{Processor}
 use Rattle.program_order.specs.Events.{allowed, tests_of}
 use Rattle.in_flight.specs.Tests.{accept_tests, refusal_of, tests_found}
 use Rattle.instructions.proofs.Finding.{seek_splits}
-use Rattle.in_flight.proofs.asking.Finding.{entry_found, no_sought, not_nothing, sought_member}
+use Rattle.in_flight.proofs.asking.Finding.{entry_found, no_sought, not_nothing, sought_pending}
 use Rattle.in_flight.proofs.asking.Slotting.{proper_there, placed_in}
 
 found_proper : {K : Type 0} (size : ℕ) (ms : List Pending) (g : Pending → Option K) (f : Found Pending K)
-    → seek g ms ≡ Some f → IsSlotted size ms → IsProper size f.member
+    → seek g ms ≡ Some f → IsSlotted size ms → IsProper size f.item
 found_proper size ms g f p h =
     let q = seek_splits g ms f p in
-    proper_there size f.earlier f.member f.later (subst (IsSlotted size) q.0 h)
+    proper_there size f.earlier f.item f.later (subst (IsSlotted size) q.0 h)
 
 has_some : (o : Option UnitKind) (u : FunctionalUnit) → may_take o u ≡ true → IsSome o
 unfolding may_take
@@ -34,15 +34,15 @@ has_some (Some kind) u h = refl
 
 -- its instruction has a unit
 pub unit_there : {K : Type 0} (size : ℕ) (ms : List Pending) (g : Pending → Option K) (m : Pending) (k : K)
-    → sought (seek g ms) ≡ Some (record { member = m; answer = k }) → IsSlotted size ms → IsSome (uses m.instr).unit
+    → sought (seek g ms) ≡ Some (record { pending = m; answer = k }) → IsSlotted size ms → IsSome (uses m.instr).unit
 unit_there {K} size ms g m k h s = found (seek g ms) refl h
   where
-    found : (q : Option (Found Pending K)) → seek g ms ≡ q → sought q ≡ Some (record { member = m; answer = k })
+    found : (q : Option (Found Pending K)) → seek g ms ≡ q → sought q ≡ Some (record { pending = m; answer = k })
         → IsSome (uses m.instr).unit
-    found None e i = absurd (no_sought (record { member = m; answer = k }) i)
+    found None e i = absurd (no_sought (record { pending = m; answer = k }) i)
     found (Some f) e i = subst (λ (x : Pending). IsSome (uses x.instr).unit)
-        (sought_member f (record { member = m; answer = k }) i)
-        (has_some (uses f.member.instr).unit f.member.unit (found_proper size ms g f e s).of_kind)
+        (sought_pending f (record { pending = m; answer = k }) i)
+        (has_some (uses f.item.instr).unit f.item.unit (found_proper size ms g f e s).of_kind)
 
 -- its address lies in memory
 pub entry_within : (w : Processor) (place : ℕ) (r : Reference) → allowed w (Accept place) ≡ None
@@ -56,7 +56,7 @@ entry_within w place r a h s = found (seek (entry_at place) w.pending) refl a h
         → IfSome q (λ f. f.answer ≡ record { a = r.address; access = r.access }) → r.address < length w.state.memory
     found None e k i = absurd (not_nothing k)
     found (Some f) e k i =
-        let p = entry_found place f.member f.answer (seek_splits (entry_at place) w.pending f e).1 in
+        let p = entry_found place f.item f.answer (seek_splits (entry_at place) w.pending f e).1 in
         subst (λ (x : HopperEntry). x.a < length w.state.memory) i
-        (placed_in (length w.state.memory) f.member (After (Entered p.0 f.answer.a f.answer.access)) p.1
+        (placed_in (length w.state.memory) f.item (After (Entered p.0 f.answer.a f.answer.access)) p.1
         (found_proper (length w.state.memory) w.pending (entry_at place) f e s)).1

@@ -15,7 +15,7 @@ use Rattle.instructions.proofs.Lists.{any_left, any_right, each_of_any, any_of_e
 use Rattle.instructions.proofs.Lists.{pairs_with}
 use Rattle.program_order.proofs.Opened.{operands_to_read, results_to_come, turns_and_branches}
 use Rattle.program_order.proofs.effects.Effects.{later_touches, no_reference}
-use Rattle.program_order.proofs.effects.Members.{touches_in, touches}
+use Rattle.program_order.proofs.effects.OnePending.{touches_in, touches}
 use Rattle.program_order.proofs.effects.Completing.{IsFree, IsNoBranch}
 use Rattle.hopper.specs.Hopper.{bank_of}
 use Rattle.instructions.specs.RegisterLists.{is_in, overlap}

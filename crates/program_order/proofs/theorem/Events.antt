@@ -7,7 +7,7 @@ use Rattle.std.specs.List.{list_any}
 use Rattle.instructions.proofs.Lists.{each_map, pairs_before, pairs_without}
 use Rattle.program_order.proofs.effects.Effects.{rest_targets}
 use Rattle.in_flight.proofs.asking.Phases.{targets_left}
-use Rattle.program_order.proofs.effects.Members.{operands-agree}
+use Rattle.program_order.proofs.effects.OnePending.{operands-agree}
 use Rattle.program_order.proofs.effects.Completing.{complete-get, complete-now, complete-word, complete-poke}
 use Rattle.program_order.proofs.effects.Completing.{complete-write, each_all}
 use Rattle.program_order.proofs.theorem.Moves.{complete-put_back, run-read, run-finish, run-store, run-accept_load}

@@ -82,15 +82,15 @@ read_allowed (HasRead os) es i h = absurd (not_nothing h)
 read_allowed (Finished v) es i h = absurd (not_nothing h)
 
 read_kept : (w : Processor) (u : FunctionalUnit) (o : Option (Found Pending Stage)) → seek (stage_at u) w.pending ≡ o
-    → refusal_of (tests_found o (λ f. read_tests f.answer f.earlier f.member.instr)) ≡ None → IsRight w
+    → refusal_of (tests_found o (λ f. read_tests f.answer f.earlier f.item.instr)) ≡ None → IsRight w
     → IsRight (after_found w o (after_read w))
 unfolding tests_found after_found after_read put_back replayed
 read_kept w u None e h r = absurd (not_nothing h)
 read_kept w u (Some f) e h r =
     let p = seek_splits (stage_at u) w.pending f e in
     from_kept w _ _ p.0
-    (read_event (bounds_of w.state) w.state f.earlier f.member f.later f.answer (stage_found u f.member f.answer p.1)
-    (read_allowed f.answer f.earlier f.member.instr h) (subst (Pairs IsApart) p.0 r.0.apart))
+    (read_event (bounds_of w.state) w.state f.earlier f.item f.later f.answer (stage_found u f.item f.answer p.1)
+    (read_allowed f.answer f.earlier f.item.instr h) (subst (Pairs IsApart) p.0 r.0.apart))
     refl refl refl r
 
 -- ---- finish ----
@@ -103,14 +103,14 @@ finish_kept w u None e h r = absurd (not_nothing h)
 finish_kept w u (Some f) e h r =
     let p = seek_splits (stage_at u) w.pending f e in
     from_kept w _ _ p.0
-    (finish_event (bounds_of w.state) w.state f.earlier f.member f.later f.answer (stage_found u f.member f.answer p.1)
+    (finish_event (bounds_of w.state) w.state f.earlier f.item f.later f.answer (stage_found u f.item f.answer p.1)
     (subst (Pairs IsApart) p.0 r.0.apart))
     refl refl refl r
 
 -- ---- store ----
 
-store_at : (w : Processor) (f : Found Pending Stage) (t : Stage) → w.pending ≡ f.earlier ++ f.member ∷ f.later
-    → f.member.phase ≡ Before t → refusal_of (store_tests (bounds_of w.state) w.pending t f.earlier f.member.instr)
+store_at : (w : Processor) (f : Found Pending Stage) (t : Stage) → w.pending ≡ f.earlier ++ f.item ∷ f.later
+    → f.item.phase ≡ Before t → refusal_of (store_tests (bounds_of w.state) w.pending t f.earlier f.item.instr)
     ≡ None → IsRight w → IsRight (after_store w f t)
 unfolding has_turn store_tests after_store after_work put_back replayed
 store_at w f Waiting s e h r = absurd (not_nothing h)
@@ -118,18 +118,18 @@ store_at w f (HasRead os) s e h r = absurd (not_nothing h)
 store_at w f (Finished v) s e h r =
     let t = refusal_none _ h in
     from_kept w _ _ s
-    (store_event (bounds_of w.state) w.state f.earlier f.member f.later v _ e t.0 t.1.1.0
+    (store_event (bounds_of w.state) w.state f.earlier f.item f.later v _ e t.0 t.1.1.0
     (subst (Pairs IsApart) s r.0.apart))
-    (do_now-bounds (bounds_of w.state) w.state (work_of (shape_of f.member.instr) v)) refl refl r
+    (do_now-bounds (bounds_of w.state) w.state (work_of (shape_of f.item.instr) v)) refl refl r
 
 store_kept : (w : Processor) (u : FunctionalUnit) (o : Option (Found Pending Stage)) → seek (stage_at u) w.pending ≡ o
-    → refusal_of (tests_found o (λ f. store_tests (bounds_of w.state) w.pending f.answer f.earlier f.member.instr))
+    → refusal_of (tests_found o (λ f. store_tests (bounds_of w.state) w.pending f.answer f.earlier f.item.instr))
     ≡ None → IsRight w → IsRight (after_found w o (λ f. after_store w f f.answer))
 unfolding tests_found after_found
 store_kept w u None e h r = absurd (not_nothing h)
 store_kept w u (Some f) e h r =
     let p = seek_splits (stage_at u) w.pending f e in
-    store_at w f f.answer p.0 (stage_found u f.member f.answer p.1) h r
+    store_at w f f.answer p.0 (stage_found u f.item f.answer p.1) h r
 
 -- ---- accept ----
 
@@ -138,18 +138,18 @@ unfolding bounds_of poke
 poke-bounds s a v = ap (λ n. record { area = s.area; size = n }) (length-set s.memory a v)
 
 accept_at : (w : Processor) (f : Found Pending HopperEntry) (slot a : ℕ) (access : Access) (busy : List Bool)
-    → w.pending ≡ f.earlier ++ f.member ∷ f.later → f.member.phase ≡ After (Entered slot a access)
+    → w.pending ≡ f.earlier ++ f.item ∷ f.later → f.item.phase ≡ After (Entered slot a access)
     → refusal_of (accept_tests busy f.earlier (record { a = a; access = access })) ≡ None → IsRight w
     → IsRight (after_accept w f a access)
 unfolding accept_tests after_accept put_back replayed
 accept_at w f slot a (LoadInto n) busy s e h r =
     from_kept w _ _ s
-    (accept_load_event (bounds_of w.state) w.state f.earlier f.member f.later slot a n e (refusal_none _ h).1.0
+    (accept_load_event (bounds_of w.state) w.state f.earlier f.item f.later slot a n e (refusal_none _ h).1.0
     (subst (Pairs IsApart) s r.0.apart))
     refl refl refl r
 accept_at w f slot a (StoreWord v) busy s e h r =
     from_kept w _ _ s
-    (accept_store_event (bounds_of w.state) w.state f.earlier f.member f.later slot a v e (refusal_none _ h).1.0
+    (accept_store_event (bounds_of w.state) w.state f.earlier f.item f.later slot a v e (refusal_none _ h).1.0
     (subst (Pairs IsApart) s r.0.apart))
     (poke-bounds w.state a v) refl refl r
 
@@ -160,7 +160,7 @@ unfolding tests_found after_found
 accept_kept w p None e h r = absurd (not_nothing h)
 accept_kept w p (Some f) e h r =
     let q = seek_splits (entry_at p) w.pending f e in
-    let k = entry_found p f.member f.answer q.1 in
+    let k = entry_found p f.item f.answer q.1 in
     accept_at w f k.0 f.answer.a f.answer.access w.busy q.0 k.1 h r
 
 -- ---- return ----
@@ -173,8 +173,8 @@ return_kept w c None e h r = absurd (not_nothing h)
 return_kept w c (Some f) e h r =
     let q = seek_splits (arrival_at c) w.pending f e in
     from_kept w _ _ q.0
-    (return_event (bounds_of w.state) w.state f.earlier f.member f.later f.answer.channel f.answer.word
-    (arrival_found c f.member f.answer q.1) (refusal_none _ h).0 (subst (Pairs IsApart) q.0 r.0.apart))
+    (return_event (bounds_of w.state) w.state f.earlier f.item f.later f.answer.channel f.answer.word
+    (arrival_found c f.item f.answer q.1) (refusal_none _ h).0 (subst (Pairs IsApart) q.0 r.0.apart))
     refl refl refl r
 
 -- ---- issue ----

@@ -15,22 +15,22 @@ returns-in_default c = reads_nothing c.args.token.now.seat
 
 pub returns-in-Waiting : goal.returns-in-Waiting
 returns-in-Waiting c = reads_waiting c.args.token.now.seat
-    (seek (stage_at c.args.token.now.seat.unit) c.args.in_flight.now.pending) c.in-Some.field-0.member
+    (seek (stage_at c.args.token.now.seat.unit) c.args.in_flight.now.pending) c.in-Some.field-0.pending
     (read_of c.args.token.now) (ap (λ (n : Note). sought (seek (stage_at n.unit) c.args.in_flight.now.pending))
     (sym c.note.ensures) ∙ sym c.find.ensures ∙ c.in-Some.is
-    ∙ ap (λ t. Some (record { member = c.in-Some.field-0.member; answer = t })) c.in-Waiting.is)
+    ∙ ap (λ t. Some (record { pending = c.in-Some.field-0.pending; answer = t })) c.in-Waiting.is)
 
 pub returns-in-Read : goal.returns-in-Read
 returns-in-Read c = reads_same c.is_of.result c.args.token.now
-    (seek (stage_at c.args.token.now.seat.unit) c.args.in_flight.now.pending) c.in-Some.field-0.member
+    (seek (stage_at c.args.token.now.seat.unit) c.args.in_flight.now.pending) c.in-Some.field-0.pending
     c.in-Read.operands (ap (λ (n : Note). sought (seek (stage_at n.unit) c.args.in_flight.now.pending))
     (sym c.note.ensures) ∙ sym c.find.ensures ∙ c.in-Some.is
-    ∙ ap (λ t. Some (record { member = c.in-Some.field-0.member; answer = t })) c.in-Read.is) c.is_of.ensures
+    ∙ ap (λ t. Some (record { pending = c.in-Some.field-0.pending; answer = t })) c.in-Read.is) c.is_of.ensures
 
 pub returns-in-Finished : goal.returns-in-Finished
 returns-in-Finished c = reads_finished c.args.token.now.seat
-    (seek (stage_at c.args.token.now.seat.unit) c.args.in_flight.now.pending) c.in-Some.field-0.member
+    (seek (stage_at c.args.token.now.seat.unit) c.args.in_flight.now.pending) c.in-Some.field-0.pending
     c.in-Finished.field-0 (read_of c.args.token.now)
     (ap (λ (n : Note). sought (seek (stage_at n.unit) c.args.in_flight.now.pending)) (sym c.note.ensures)
     ∙ sym c.find.ensures ∙ c.in-Some.is
-    ∙ ap (λ t. Some (record { member = c.in-Some.field-0.member; answer = t })) c.in-Finished.is)
+    ∙ ap (λ t. Some (record { pending = c.in-Some.field-0.pending; answer = t })) c.in-Finished.is)

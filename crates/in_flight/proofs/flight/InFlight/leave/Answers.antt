@@ -24,7 +24,7 @@ leave-requires c =
     room_for_rest c.args.unit c.self.inside.slots c.self.inside.hopper p.0 c.args.rest.now c.waiting_rest-later.result
     c.self.invariant.entered (subst (λ (x : Flight). Pairs IsApart x.pending) (sym c.self.view_is)
     c.requires.apart) p.1 (subst (λ (x : Flight). IfSome (sought (seek (stage_at c.args.unit) x.pending))
-    (λ s. IsRestOf (shape_of s.member.instr) c.args.rest.now)) (sym
+    (λ s. IsRestOf (shape_of s.pending.instr) c.args.rest.now)) (sym
     c.self.view_is) c.requires.rest) c.waiting_rest-later.ensures.answer
 
 pub invariant_of-self : goal.invariant_of-self
@@ -35,7 +35,7 @@ invariant_of-self c =
     c.self.inside.board c.release.new.self p.0 c.args.rest.now c.waiting_rest-later.result c.self.invariant
     (subst (λ (x : Flight). Pairs IsApart x.pending) (sym c.self.view_is) c.requires.apart) p.1
     (subst (λ (x : Flight). IfSome (sought (seek (stage_at c.args.unit) x.pending))
-    (λ s. IsRestOf (shape_of s.member.instr) c.args.rest.now)) (sym
+    (λ s. IsRestOf (shape_of s.pending.instr) c.args.rest.now)) (sym
     c.self.view_is) c.requires.rest) (subst (λ (x : Flight). enters (outstanding_of 0 c.args.rest.now) ≡ true
     → is_none (place_for x.pending)
     ≡ false) (sym c.self.view_is) c.requires.room) c.waiting_rest-later.ensures.answer c.leave.ensures

@@ -11,7 +11,7 @@ use Rattle.in_flight.proofs.flight.InFlight.may_store.Goals.{else-enters-via-els
 
 pub returns-in-Err : goal.returns-in-Err
 returns-in-Err c f h =
-    sym (ap (λ (x : Flight). refusal_of (store_conflicts x.pending f.earlier f.member.instr c.args.enters))
+    sym (ap (λ (x : Flight). refusal_of (store_conflicts x.pending f.earlier f.item.instr c.args.enters))
     c.self.view_is)
     ∙ store_refused c.args.unit c.self.inside.slots c.self.inside.board.issued f c.args.enters c.in-Err.refusal
     c.self.invariant.boarded (ap (λ (x : Flight). seek (stage_at c.args.unit) x.pending) c.self.view_is ∙ h)
@@ -19,7 +19,7 @@ returns-in-Err c f h =
 
 pub returns-then-is_full : goal.returns-then-is_full
 returns-then-is_full c f h =
-    sym (ap (λ (x : Flight). refusal_of (store_conflicts x.pending f.earlier f.member.instr c.args.enters))
+    sym (ap (λ (x : Flight). refusal_of (store_conflicts x.pending f.earlier f.item.instr c.args.enters))
     c.self.view_is)
     ∙ store_unroomed c.args.unit c.self.inside.slots c.self.inside.board.issued f c.args.enters c.in_default.field-0
     c.self.invariant.boarded (ap (λ (x : Flight). seek (stage_at c.args.unit) x.pending) c.self.view_is ∙ h)
@@ -30,7 +30,7 @@ returns-then-is_full c f h =
 
 pub returns : goal.returns
 returns c f h =
-    sym (ap (λ (x : Flight). refusal_of (store_conflicts x.pending f.earlier f.member.instr c.args.enters))
+    sym (ap (λ (x : Flight). refusal_of (store_conflicts x.pending f.earlier f.item.instr c.args.enters))
     c.self.view_is)
     ∙ store_turned c.args.unit c.self.inside.slots c.self.inside.board.issued f c.args.enters c.in_default.field-0
     c.in_turn.result c.self.invariant.boarded

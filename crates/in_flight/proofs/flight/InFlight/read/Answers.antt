@@ -19,7 +19,7 @@ returns-in_default-answer c = record {
   answer = sym (ap (λ (f : Flight). read_refused (seek (stage_at c.args.unit) f.pending)) c.self.view_is)
       ∙ not_waiting (seek (stage_at c.args.unit) c.self.inside.slots) c.in-Some.found
       (sym c.find_stage.ensures ∙ c.in-Some.is) c.in_default-answer.not-Waiting;
-  member = tt;
+  pending = tt;
   operands = tt;
   after = refl;
 }

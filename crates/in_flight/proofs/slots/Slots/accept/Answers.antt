@@ -19,12 +19,12 @@ pub invariant_of-self : goal.invariant_of-self
 invariant_of-self c =
     subst (λ ps. IsRight c.self.inside.units ps c.put_rest.new.channels)
     (sym (c.put_rest.ensures.places
-    ∙ ap (λ k. places_with (set c.self.inside.places k None) c.in-Some.member c.args.later.now)
+    ∙ ap (λ k. places_with (set c.self.inside.places k None) c.in-Some.pending c.args.later.now)
     c.from-index.ensures))
     (subst (λ cs. IsRight c.self.inside.units
-    (places_with (set c.self.inside.places c.args.place None) c.in-Some.member c.args.later.now) cs) (sym
+    (places_with (set c.self.inside.places c.args.place None) c.in-Some.pending c.args.later.now) cs) (sym
     c.put_rest.ensures.channels)
-    (accepted_right c.self.inside.units c.self.inside.places c.self.inside.channels c.args.place c.in-Some.member
+    (accepted_right c.self.inside.units c.self.inside.places c.self.inside.channels c.args.place c.in-Some.pending
     c.args.later.now c.self.invariant
     (ap (λ k. get_or c.self.inside.places k None) (sym c.from-index.ensures)
     ∙ seat_any c.self.inside.places c.from-index.result c.index-self-index.result
@@ -35,11 +35,11 @@ pub returns : goal.returns
 returns c =
     ap (λ ps. in_order (seats c.self.inside.units ps c.put_rest.new.channels))
     (c.put_rest.ensures.places ∙ ap
-    (λ k. places_with (set c.self.inside.places k None) c.in-Some.member c.args.later.now) c.from-index.ensures)
+    (λ k. places_with (set c.self.inside.places k None) c.in-Some.pending c.args.later.now) c.from-index.ensures)
     ∙ ap (λ cs. in_order (seats c.self.inside.units
-    (places_with (set c.self.inside.places c.args.place None) c.in-Some.member c.args.later.now)
+    (places_with (set c.self.inside.places c.args.place None) c.in-Some.pending c.args.later.now)
     cs)) c.put_rest.ensures.channels
-    ∙ accepted_view c.self.inside.units c.self.inside.places c.self.inside.channels c.args.place c.in-Some.member
+    ∙ accepted_view c.self.inside.units c.self.inside.places c.self.inside.channels c.args.place c.in-Some.pending
     c.args.later.now c.self.invariant c.requires.place
     (ap (λ k. get_or c.self.inside.places k None) (sym c.from-index.ensures)
     ∙ seat_any c.self.inside.places c.from-index.result c.index-self-index.result

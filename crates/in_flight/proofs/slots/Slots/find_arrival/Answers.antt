@@ -14,27 +14,27 @@ returns-in_default-clause-found c =
 
 pub returns-in-Some-arrival_in-clause-found : goal.returns-in-Some-arrival_in-clause-found
 returns-in-Some-arrival_in-clause-found c =
-    let here : get_or c.self.inside.channels c.args.channel None ≡ Some c.in-Some.member =
+    let here : get_or c.self.inside.channels c.args.channel None ≡ Some c.in-Some.pending =
     ap (λ k. get_or c.self.inside.channels k None) (sym c.from.ensures) ∙ sym c.seat_at-seat.ensures
     ∙ c.in-Some.is in
-    arrival_answer c.self.inside.units c.self.inside.places c.self.inside.channels c.args.channel c.in-Some.member
+    arrival_answer c.self.inside.units c.self.inside.places c.self.inside.channels c.args.channel c.in-Some.pending
     c.in-Some-arrival_in.answer c.self.invariant
-    (channel_below c.self.inside.units c.self.inside.places c.self.inside.channels c.args.channel c.in-Some.member
+    (channel_below c.self.inside.units c.self.inside.places c.self.inside.channels c.args.channel c.in-Some.pending
     c.self.invariant here) here (sym c.arrival_in.ensures ∙ c.in-Some-arrival_in.is)
     ∙ ap (λ ms. sought (seek (arrival_at c.args.channel) ms)) c.self.view_is
 
 pub returns-in-Some-arrival_in-clause-range : goal.returns-in-Some-arrival_in-clause-range
 returns-in-Some-arrival_in-clause-range c =
-    channel_below c.self.inside.units c.self.inside.places c.self.inside.channels c.args.channel c.in-Some.member
+    channel_below c.self.inside.units c.self.inside.places c.self.inside.channels c.args.channel c.in-Some.pending
     c.self.invariant (ap (λ k. get_or c.self.inside.channels k None) (sym c.from.ensures)
     ∙ sym c.seat_at-seat.ensures ∙ c.in-Some.is)
 
 pub returns-in-None : goal.returns-in-None
 returns-in-None c =
-    let here : get_or c.self.inside.channels c.args.channel None ≡ Some c.in-Some.member =
+    let here : get_or c.self.inside.channels c.args.channel None ≡ Some c.in-Some.pending =
     ap (λ k. get_or c.self.inside.channels k None) (sym c.from.ensures) ∙ sym c.seat_at-seat.ensures
     ∙ c.in-Some.is in
     absurd (arrival_must c.self.inside.units c.self.inside.places c.self.inside.channels c.args.channel
-    c.in-Some.member c.self.invariant
-    (channel_below c.self.inside.units c.self.inside.places c.self.inside.channels c.args.channel c.in-Some.member
+    c.in-Some.pending c.self.invariant
+    (channel_below c.self.inside.units c.self.inside.places c.self.inside.channels c.args.channel c.in-Some.pending
     c.self.invariant here) here (sym c.arrival_in.ensures ∙ c.in-None.is))

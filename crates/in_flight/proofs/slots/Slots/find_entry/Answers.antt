@@ -15,7 +15,7 @@ returns-in_default c =
 
 pub returns-in-Some-entry_in : goal.returns-in-Some-entry_in
 returns-in-Some-entry_in c =
-    entry_answer c.self.inside.units c.self.inside.places c.self.inside.channels c.args.place c.in-Some.member
+    entry_answer c.self.inside.units c.self.inside.places c.self.inside.channels c.args.place c.in-Some.pending
     c.in-Some-entry_in.answer c.self.invariant c.requires
     (ap (λ k. get_or c.self.inside.places k None) (sym c.from.ensures)
     ∙ seat_any c.self.inside.places c.from.result c.index-self-from.result
@@ -25,7 +25,7 @@ returns-in-Some-entry_in c =
 
 pub returns-in-None : goal.returns-in-None
 returns-in-None c = absurd (entry_must c.self.inside.units c.self.inside.places c.self.inside.channels c.args.place
-    c.in-Some.member c.self.invariant c.requires
+    c.in-Some.pending c.self.invariant c.requires
     (ap (λ k. get_or c.self.inside.places k None) (sym c.from.ensures)
     ∙ seat_any c.self.inside.places c.from.result c.index-self-from.result
     (omega (arith, c.requires, c.from.ensures, c.self.invariant.all_places)) ∙ c.in-Some.is) (sym c.entry_in.ensures

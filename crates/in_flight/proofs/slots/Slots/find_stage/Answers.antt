@@ -16,7 +16,7 @@ returns-in_default c =
 pub returns-in-Some-stage_in : goal.returns-in-Some-stage_in
 returns-in-Some-stage_in c =
     found_answer c.self.inside.units c.self.inside.places c.self.inside.channels c.args.unit c.index_of-index.result
-    c.in-Some.member c.in-Some-stage_in.answer c.self.invariant c.index_of-index.ensures.value
+    c.in-Some.pending c.in-Some-stage_in.answer c.self.invariant c.index_of-index.ensures.value
     (seat_any c.self.inside.units c.index_of-index.result c.index-self-index.result
     (omega (arith, c.index_of-index.ensures.range, c.self.invariant.all_units))
     ∙ c.in-Some.is) (sym c.stage_in.ensures ∙ c.in-Some-stage_in.is)
@@ -24,7 +24,7 @@ returns-in-Some-stage_in c =
 
 pub returns-in-None : goal.returns-in-None
 returns-in-None c = absurd (found_must c.self.inside.units c.self.inside.places c.self.inside.channels c.args.unit
-    c.index_of-index.result c.in-Some.member c.self.invariant c.index_of-index.ensures.value
+    c.index_of-index.result c.in-Some.pending c.self.invariant c.index_of-index.ensures.value
     (seat_any c.self.inside.units c.index_of-index.result c.index-self-index.result
     (omega (arith, c.index_of-index.ensures.range, c.self.invariant.all_units)) ∙ c.in-Some.is) (sym c.stage_in.ensures
     ∙ c.in-None.is))

@@ -19,9 +19,9 @@ invariant_of-self c =
     subst (λ ps. IsRight (set c.self.inside.units c.index_of-index.result None) ps c.put_rest.new.channels)
     (sym c.put_rest.ensures.places)
     (subst (λ cs. IsRight (set c.self.inside.units c.index_of-index.result None)
-    (places_with c.self.inside.places c.in-Some.member c.args.later.now) cs) (sym c.put_rest.ensures.channels)
+    (places_with c.self.inside.places c.in-Some.pending c.args.later.now) cs) (sym c.put_rest.ensures.channels)
     (left_right c.self.inside.units c.self.inside.places c.self.inside.channels c.index_of-index.result
-    c.in-Some.member c.args.later.now c.self.invariant
+    c.in-Some.pending c.args.later.now c.self.invariant
     (seat_any c.self.inside.units c.index_of-index.result c.index-self-index.result
     (omega (arith, c.index_of-index.ensures.range, c.self.invariant.all_units))
     ∙ c.in-Some.is) (subst (HasRoom c.args.later.now) (sym c.self.view_is) c.requires)))
@@ -31,9 +31,9 @@ returns c =
     ap (λ ps. in_order (seats (set c.self.inside.units c.index_of-index.result None) ps c.put_rest.new.channels))
     c.put_rest.ensures.places
     ∙ ap (λ cs. in_order (seats (set c.self.inside.units c.index_of-index.result None)
-    (places_with c.self.inside.places c.in-Some.member c.args.later.now) cs)) c.put_rest.ensures.channels
+    (places_with c.self.inside.places c.in-Some.pending c.args.later.now) cs)) c.put_rest.ensures.channels
     ∙ left_view c.self.inside.units c.self.inside.places c.self.inside.channels c.args.unit c.index_of-index.result
-    c.in-Some.member c.args.later.now c.self.invariant c.index_of-index.ensures.value
+    c.in-Some.pending c.args.later.now c.self.invariant c.index_of-index.ensures.value
     (seat_any c.self.inside.units c.index_of-index.result c.index-self-index.result
     (omega (arith, c.index_of-index.ensures.range, c.self.invariant.all_units))
     ∙ c.in-Some.is) (subst (HasRoom c.args.later.now) (sym c.self.view_is) c.requires)

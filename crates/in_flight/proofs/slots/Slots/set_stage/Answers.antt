@@ -1,4 +1,4 @@
-use Rattle.std.proofs.Common.{◌≡◌, ap, sym, ◌∙◌, subst, Some, None, [], ◌∷◌, set, get_or, arith}
+use Rattle.std.proofs.Common.{ap, sym, ◌∙◌, subst, [], ◌∷◌, arith}
 use Rattle.std.proofs.lemmas.List.{set-get_or}
 use Rattle.in_flight.specs.declared.pending.Phase.TheVariants.{Before}
 use Rattle.in_flight.specs.declared.slots.Slots.TheInside.{Inside}
@@ -16,7 +16,7 @@ invariant_of-self c =
       | in-Some w ↦
           subst (λ (x : Inside). IsRight x.units x.places x.channels) (sym w.self-inside-is)
           (staged_right c.self.inside.units c.self.inside.places c.self.inside.channels c.args.unit
-          c.index_of-index.result w.in-Some.member c.args.stage c.self.invariant c.index_of-index.ensures.value
+          c.index_of-index.result w.in-Some.pending c.args.stage c.self.invariant c.index_of-index.ensures.value
           (seat_any c.self.inside.units c.index_of-index.result c.index-self-index.result
           (omega (arith, c.index_of-index.ensures.range, c.self.invariant.all_units)) ∙ w.in-Some.is))
       | in_default w ↦
@@ -32,7 +32,7 @@ returns c =
       | in-Some w ↦
           ap (λ (x : Inside). in_order (seats x.units x.places x.channels)) w.self-inside-is
           ∙ staged_view c.self.inside.units c.self.inside.places c.self.inside.channels c.args.unit
-          c.index_of-index.result w.in-Some.member c.args.stage c.self.invariant c.index_of-index.ensures.value
+          c.index_of-index.result w.in-Some.pending c.args.stage c.self.invariant c.index_of-index.ensures.value
           (seat_any c.self.inside.units c.index_of-index.result c.index-self-index.result
           (omega (arith, c.index_of-index.ensures.range, c.self.invariant.all_units)) ∙ w.in-Some.is)
           ∙ ap (λ ms. replaced (seek (stage_at c.args.unit) ms) ms (λ m. in_phase m (Before c.args.stage) ∷ []))
