@@ -41,29 +41,37 @@ pub struct Ended {
     pub tallies: [Tally; 7],
 }
 
-/// What a run ends with, after all of its threads. The two that asked for exchanges meet, so that the snapshot has
-/// whatever either of them has seen.
+/// The machine at a run's end, after all of its threads. The two that asked for exchanges meet, so that the snapshot
+/// has whatever either of them has seen.
 ///
 /// # Errors
-/// What was refused to either of them, and `OutOfMemory` where a thread couldn't be started.
+/// What was refused to either of them.
 fn closing<K: Naming, R: Wait>(
     rt: &R,
     shared: &Shared<K>,
     conducted: Result<(), Refusal>,
     asked: Result<Seen<K>, Refusal>,
-    tallies: Option<[Tally; 7]>,
     mut seen: Seen<K>,
-) -> Result<(Snapshot, [Tally; 7]), Refusal> {
-    if let Err(refusal) = conducted {
-        return Err(refusal);
-    }
+) -> Result<Snapshot, Refusal> {
+    conducted?;
     let mut other = asked?;
     shared.meet(&mut seen, &mut other);
+    shared.snapshot(rt, &mut seen)
+}
+
+/// What a run ends with.
+///
+/// # Errors
+/// What was refused, and `OutOfMemory` where a worker's thread couldn't be started.
+fn with_tallies(
+    snapshot: Result<Snapshot, Refusal>,
+    tallies: Option<[Tally; 7]>,
+) -> Result<Ended, Refusal> {
+    let snapshot = snapshot?;
     let Some(tallies) = tallies else {
         return Err(Refusal::OutOfMemory);
     };
-    let snapshot = shared.snapshot(rt, &mut seen)?;
-    Ok((snapshot, tallies))
+    Ok(Ended { snapshot, tallies })
 }
 
 /// Starts the threads, issues to the end, and waits for all of them. Where one couldn't be started nothing is issued.
@@ -81,7 +89,7 @@ fn run_in<'s, E, K: Naming + Send + Sync + 's, G: Gate + Send + 's, R: Threads +
     free: &'s FreeRequests<'s>,
     mut seen: Seen<K>,
     other: Seen<K>,
-) -> Result<(Snapshot, [Tally; 7]), Refusal> {
+) -> Result<Ended, Refusal> {
     let mut lines = Lines::start(scope, rt, shared, pairs, places, gates);
     let storing = scope.spawn(move || storage_worker(rt, shared)).ok();
     let asking = scope.spawn(move || ask_all(rt, shared, other, free)).ok();
@@ -100,7 +108,7 @@ fn run_in<'s, E, K: Naming + Send + Sync + 's, G: Gate + Send + 's, R: Threads +
         Some(asking) => asking.join(rt),
         None => Err(Refusal::OutOfMemory),
     };
-    closing(rt, shared, conducted, asked, tallies, seen)
+    with_tallies(closing(rt, shared, conducted, asked, seen), tallies)
 }
 
 /// Runs with these lanes.
@@ -117,7 +125,7 @@ fn run_scope<K: Naming + Send + Sync, G: Gate + Send, R: Threads + Wait + Sync>(
     free: &FreeRequests<'_>,
     seen: Seen<K>,
     other: Seen<K>,
-) -> Result<(Snapshot, [Tally; 7]), Refusal> {
+) -> Result<Ended, Refusal> {
     thread::scope(thread::scope_env(), rt, move |scope| {
         run_in(
             scope, rt, shared, pairs, places, gates, agenda, free, seen, other,
@@ -156,10 +164,7 @@ fn run_lanes<K: Naming + Send + Sync, G: Gate + Send, R: Threads + Wait + Sync>(
         increment1: Pair::of(&increment1, increment1_sender, increment1_taker),
         increment2: Pair::of(&increment2, increment2_sender, increment2_taker),
     };
-    let (snapshot, tallies) = run_scope(
-        rt, shared, pairs, places, gates, agenda, free, seen, other,
-    )?;
-    Ok(Ended { snapshot, tallies })
+    run_scope(rt, shared, pairs, places, gates, agenda, free, seen, other)
 }
 
 /// Makes the first exchange, and then runs. Each of the two threads that ask for exchanges has what it has seen.
