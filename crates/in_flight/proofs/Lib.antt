@@ -1,5 +1,4 @@
 pub mod Opened
-pub mod Alone
 pub mod asking
 pub mod seating
 pub mod answering

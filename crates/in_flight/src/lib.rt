@@ -5,10 +5,6 @@
 mod flight;
 mod pending;
 mod slots;
-#[cfg(test)]
-mod test_calls;
-#[cfg(test)]
-mod tests;
 
 pub use flight::{InFlight, Rest};
 pub use pending::{Arrival, HopperEntry, Outstanding, Pending, Phase, Stage};

@@ -6,6 +6,10 @@ mod event_tests;
 #[cfg(test)]
 mod fixtures;
 #[cfg(test)]
+mod flight_calls;
+#[cfg(test)]
+mod flight_tests;
+#[cfg(test)]
 mod reached_tests;
 #[cfg(test)]
 mod scanning;

@@ -4,8 +4,8 @@ ghost use Rattle.std.specs.Prelude.{◌≡◌};
 ghost use Rattle.instructions.specs.Shape.{shape_of};
 ghost use Rattle.in_flight.specs.Flight.{IsRestOf};
 
-use crate::{Arrival, InFlight, Pending, Phase, Rest, Stage};
 use hopper::Reference;
+use in_flight::{Arrival, InFlight, Pending, Phase, Rest, Stage};
 use instruction_table::{Addends, Digit, Instr, Pair, Refusal, Reg, Unit, read_text};
 use registers::RegisterFile;
 use relocation::Storage;
@@ -15,7 +15,7 @@ use word60::{Word18, Word60};
 
 /// A call. Instructions are given as texts.
 #[derive(Clone, Copy, Drop)]
-pub(crate) enum Call {
+pub enum Call {
     Reserve(&'static str),
     Read(Unit),
     /// The unit has the value 5, if its instruction has read its operands.
@@ -31,7 +31,7 @@ pub(crate) enum Call {
 }
 
 #[derive(Clone, Copy, Drop, PartialEq, Eq)]
-pub(crate) enum Answer {
+pub enum Answer {
     /// It may, or it is done.
     Fine,
     Reserved(Unit, u64),
@@ -47,27 +47,27 @@ pub(crate) enum Answer {
     NoText,
 }
 
-pub(crate) const FINE: Answer = Answer::Fine;
+pub const FINE: Answer = Answer::Fine;
 
-pub(crate) const YES: Answer = Answer::Truth(true);
+pub const YES: Answer = Answer::Truth(true);
 
-pub(crate) const NO: Answer = Answer::Truth(false);
+pub const NO: Answer = Answer::Truth(false);
 
 /// The instruction of this text is reserved a unit under a number.
-pub(crate) fn reserves(text: &'static str, unit: Unit, number: u64) -> (Call, Answer) {
+pub fn reserves(text: &'static str, unit: Unit, number: u64) -> (Call, Answer) {
     (Call::Reserve(text), Answer::Reserved(unit, number))
 }
 
-pub(crate) fn refused(call: Call, refusal: Refusal) -> (Call, Answer) {
+pub fn refused(call: Call, refusal: Refusal) -> (Call, Answer) {
     (call, Answer::Refused(refusal))
 }
 
-pub(crate) fn x(number: u16) -> Reg {
+pub fn x(number: u16) -> Reg {
     Reg::X(Digit::low(number))
 }
 
 /// B0+B0.
-pub(crate) fn no_addends() -> Addends {
+pub fn no_addends() -> Addends {
     Addends::Registers {
         pair: Pair::BPlusB,
         j: Digit::default(),
@@ -76,12 +76,12 @@ pub(crate) fn no_addends() -> Addends {
 }
 
 /// The value that every unit finishes with.
-pub(crate) fn five() -> UnitValue {
+pub fn five() -> UnitValue {
     UnitValue::Word(Word60::from_bits(5))
 }
 
 /// Registers of which X1 is 3 and X2 is 4, and the others are +0.
-pub(crate) fn registers() -> RegisterFile {
+pub fn registers() -> RegisterFile {
     let mut file = RegisterFile::default();
     file.set(x(1), Word60::from_bits(3));
     file.set(x(2), Word60::from_bits(4));
@@ -89,7 +89,7 @@ pub(crate) fn registers() -> RegisterFile {
 }
 
 /// What IX3 X1+X2 in the word at this address reads of those registers.
-pub(crate) fn three_and_four(at: Word18) -> Operands {
+pub fn three_and_four(at: Word18) -> Operands {
     Operands {
         first: Word60::from_bits(3),
         second: Word60::from_bits(4),
@@ -99,27 +99,27 @@ pub(crate) fn three_and_four(at: Word18) -> Operands {
 }
 
 /// The answer where nothing is in flight.
-pub(crate) fn accept_at_boot(place: u8, memory: &Storage) -> Result<Reference, Refusal> {
+pub fn accept_at_boot(place: u8, memory: &Storage) -> Result<Reference, Refusal> {
     let mut flight = InFlight::new();
     flight.accept(place, memory)
 }
 
 /// The answer where nothing is in flight.
-pub(crate) fn return_at_boot(channel: u8) -> Result<Arrival, Refusal> {
+pub fn return_at_boot(channel: u8) -> Result<Arrival, Refusal> {
     let mut flight = InFlight::new();
     flight.return_load(channel)
 }
 
 /// Whether nothing is in flight after a unit that is free was left.
-#[tactic(auto, unfolding(crate::proofs::Opened::leaving))]
-pub(crate) fn is_empty_after_leave(unit: Unit) -> bool {
+#[tactic(auto, unfolding(in_flight::proofs::Opened::leaving))]
+pub fn is_empty_after_leave(unit: Unit) -> bool {
     let mut flight = InFlight::new();
     flight.leave(unit, &None);
     flight.is_empty()
 }
 
 /// What is in flight after an instruction alone came to its store event and left this.
-pub(crate) fn left_alone(instr: &Instr, rest: &Option<Rest>) -> Option<InFlight>
+pub fn left_alone(instr: &Instr, rest: &Option<Rest>) -> Option<InFlight>
     requires { IsRestOf (shape_of instr.now) rest.now }
 {
     let mut flight = InFlight::new();
@@ -132,7 +132,7 @@ pub(crate) fn left_alone(instr: &Instr, rest: &Option<Rest>) -> Option<InFlight>
 }
 
 /// The first reservation after boot, of the instruction IX3 X1+X2 at this address.
-pub(crate) fn first_add(instr: Instr, at: Word18, stage: Stage) -> Pending {
+pub fn first_add(instr: Instr, at: Word18, stage: Stage) -> Pending {
     Pending {
         instr,
         at,
@@ -144,7 +144,7 @@ pub(crate) fn first_add(instr: Instr, at: Word18, stage: Stage) -> Pending {
 
 /// What is in flight, and a bound of the reservations that were made.
 #[derive(Drop)]
-pub(crate) struct Counted {
+pub struct Counted {
     flight: InFlight,
     bound: u64,
 }
@@ -169,7 +169,7 @@ fn judged(judgement: Result<(), Refusal>) -> Answer {
 }
 
 /// The unit has the value 5, if its instruction has read its operands.
-#[tactic(auto, unfolding(crate::specs::Pending::has_read))]
+#[tactic(auto, unfolding(in_flight::specs::Pending::has_read))]
 fn finish(flight: &mut InFlight, unit: Unit) -> Answer
     ensures { flight.new.last ≡ flight.old.last }
 {
@@ -251,7 +251,7 @@ impl Counted {
 }
 
 /// The index of the first call that isn't answered so where nothing was in flight, None if all are.
-pub(crate) fn first_wrong(calls: &[(Call, Answer)]) -> Option<usize> {
+pub fn first_wrong(calls: &[(Call, Answer)]) -> Option<usize> {
     let mut counted = Counted::new();
     for index in 0..calls.len() {
         let (call, wanted) = calls[index];

@@ -1,10 +1,10 @@
-use crate::test_calls::{
+use crate::flight_calls::{
     Answer, Call, FINE, NO, YES, accept_at_boot, first_add, first_wrong, five,
     is_empty_after_leave, left_alone, no_addends, refused, registers, reserves, return_at_boot,
     three_and_four, x,
 };
-use crate::{InFlight, Rest, Stage};
 use hopper::Reference;
+use in_flight::{InFlight, Rest, Stage};
 use instruction_table::{Digit, Instr, Refusal, Target, Unit, read_text};
 use relocation::{Access, Storage};
 use std::test::Fail;

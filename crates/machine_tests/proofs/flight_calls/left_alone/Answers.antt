@@ -1,5 +1,5 @@
-use Rattle.in_flight.proofs.Alone.{alone_room, alone_rest}
-use Rattle.in_flight.proofs.test_calls.left_alone.Goals as goal
+use Rattle.machine_tests.proofs.Alone.{alone_room, alone_rest}
+use Rattle.machine_tests.proofs.flight_calls.left_alone.Goals as goal
 
 pub leave-requires-clause-rest : goal.leave-requires-clause-rest
 leave-requires-clause-rest c =

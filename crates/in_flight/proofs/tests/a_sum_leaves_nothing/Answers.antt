@@ -1,5 +1,0 @@
-use Rattle.in_flight.proofs.Alone.{sum_rest}
-use Rattle.in_flight.proofs.tests.a_sum_leaves_nothing.Goals as goal
-
-pub left_alone-requires : goal.left_alone-requires
-left_alone-requires g c = sum_rest c.low.result c.no_addends.result
