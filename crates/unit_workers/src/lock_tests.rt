@@ -9,7 +9,6 @@ use machine_lock::{Ground, Naming, Seen, Shared};
 use sequential::Entry;
 use std::alloc::Global;
 use std::marker::Brand;
-use std::process::Abort;
 use std::sync::Wait;
 use std::test::Fail;
 use std::thread::{Threads, join};
@@ -21,7 +20,7 @@ const FIVE: &str = "71100000050000000000";
 const PASSES: &str = "46000460004600046000";
 
 /// What an issue answers for an instruction that has a unit.
-fn issued(unit: Unit, number: u64) -> Result<Option<Note>, Refusal> {
+fn issued(unit: Unit, number: u64) -> Issued {
     Ok(Some(note(unit, number)))
 }
 
@@ -258,15 +257,36 @@ fn strange_claims<K: Naming, R: Wait>(
 fn claims_of_strangers(rt: HostRuntime) -> Result<(), Fail> {
     let machine = booted(rt.alloc(), &[(0o100, FIRST), (0o101, SECOND)])?;
     let ground = Ground::new(rt.alloc())?;
-    claims_of_strangers_in::<Brand, _>(&rt, rt.alloc(), ground, machine)
+    let claimed = claims_of_strangers_in::<Brand, _>(&rt, rt.alloc(), ground, machine)?;
+    let notes = [issued(Unit::Increment1, 1), issued(Unit::Increment2, 2)];
+    let counts = [(Unit::Increment1, 1), (Unit::Increment2, 1)];
+    assert_eq!(rt;
+        claimed,
+        (Ok(()), notes, [3, 2], [true, true], counts, true)
+    );
+    Ok(())
 }
 
-fn claims_of_strangers_in<K: Naming, R: Wait + Abort>(
+/// What an issue answers.
+type Issued = Result<Option<Note>, Refusal>;
+
+/// What the start and the two issues answer, how many claims were a stranger's before and after the first was stored,
+/// which were stored, what the seats tell, and whether the snapshot shows both.
+type Claimed = (
+    Result<(), Refusal>,
+    [Issued; 2],
+    [u64; 2],
+    [bool; 2],
+    [(Unit, u64); 2],
+    bool,
+);
+
+fn claims_of_strangers_in<K: Naming, R: Wait>(
     rt: &R,
     alloc: Global,
     ground: Ground,
     machine: Machine,
-) -> Result<(), Fail>
+) -> Result<Claimed, Refusal>
     requires { ground ≡ K.table }
 {
     let (shared, seats, mut seen) = Shared::<K>::open(alloc, ground, machine)?;
@@ -286,12 +306,16 @@ fn claims_of_strangers_in<K: Naming, R: Wait + Abort>(
     let (increment1, stored) = strange_claims(rt, &shared, increment1, &[own, other]);
     let (increment2, is_second_stored) = serve(rt, &shared, increment2, other);
     let counts = [leave(increment1), leave(increment2)];
-    assert!(rt; started == Ok(()));
-    assert!(rt; first == issued(Unit::Increment1, 1) && second == issued(Unit::Increment2, 2));
-    assert!(rt; never == 3 && is_first_stored && stored == 2 && is_second_stored);
-    assert!(rt; counts == [(Unit::Increment1, 1), (Unit::Increment2, 1)]);
-    assert!(rt; shows(rt, &shared, &mut seen, "5", "3", 2));
-    Ok(())
+    let shown = shows(rt, &shared, &mut seen, "5", "3", 2);
+    let are_stored = [is_first_stored, is_second_stored];
+    Ok((
+        started,
+        [first, second],
+        [never, stored],
+        are_stored,
+        counts,
+        shown,
+    ))
 }
 
 /// The token, given back by a read that is a stranger's; the seat where that isn't so.
@@ -372,18 +396,35 @@ fn strangers(rt: HostRuntime) -> Result<(), Fail> {
     let idle = booted(rt.alloc(), &[(0o100, FIVE)])?;
     let ground = Ground::new(rt.alloc())?;
     let other_ground = Ground::new(rt.alloc())?;
-    strangers_of::<Brand, _>(&rt, rt.alloc(), ground, machine, other_ground, idle)
+    let strange = strangers_of::<Brand, _>(&rt, rt.alloc(), ground, machine, other_ground, idle)?;
+    let first = issued(Unit::Increment1, 1);
+    assert_eq!(rt;
+        strange,
+        (Ok(()), first, Some(Refusal::Stranger), true, 1, true)
+    );
+    Ok(())
 }
 
+/// What the start and the issue answer, why the claim is refused, whether the reservation was stored, what the seat
+/// counts, and whether the snapshot shows it.
+type Strange = (
+    Result<(), Refusal>,
+    Issued,
+    Option<Refusal>,
+    bool,
+    u64,
+    bool,
+);
+
 /// The first machine stands beside the word that K names.
-fn strangers_of<K: Naming, R: Wait + Abort>(
+fn strangers_of<K: Naming, R: Wait>(
     rt: &R,
     alloc: Global,
     ground: Ground,
     machine: Machine,
     other_ground: Ground,
     idle: Machine,
-) -> Result<(), Fail>
+) -> Result<Strange, Refusal>
     requires { ground ≡ K.table }
 {
     let (own, seats, seen) = Shared::<K>::open(alloc, ground, machine)?;
@@ -391,7 +432,7 @@ fn strangers_of<K: Naming, R: Wait + Abort>(
 }
 
 /// The second stands beside the word that J names.
-fn strangers_beside<K: Naming, J: Naming, R: Wait + Abort>(
+fn strangers_beside<K: Naming, J: Naming, R: Wait>(
     rt: &R,
     alloc: Global,
     own: &Shared<K>,
@@ -399,7 +440,7 @@ fn strangers_beside<K: Naming, J: Naming, R: Wait + Abort>(
     mut seen: Seen<K>,
     ground: Ground,
     idle: Machine,
-) -> Result<(), Fail>
+) -> Result<Strange, Refusal>
     requires { ground ≡ J.table }
 {
     let (increment1, increment2) = of_increments(seats);
@@ -408,7 +449,7 @@ fn strangers_beside<K: Naming, J: Naming, R: Wait + Abort>(
         Ok(other) => other,
         Err(refusal) => {
             increment1.leave();
-            return Err(refusal.into());
+            return Err(refusal);
         }
     };
     let started = start(rt, own, &mut seen);
@@ -418,11 +459,8 @@ fn strangers_beside<K: Naming, J: Naming, R: Wait + Abort>(
     let given = note(Unit::Increment1, 1);
     let (seat, is_stored) = serve_beside(rt, own, &other, seat, given);
     let stored = seat.leave();
-    assert!(rt; started == Ok(()) && first == issued(Unit::Increment1, 1));
-    assert!(rt; refusal == Some(Refusal::Stranger));
-    assert!(rt; is_stored && stored == 1);
-    assert!(rt; shows(rt, own, &mut seen, "5", "0", 1));
-    Ok(())
+    let shown = shows(rt, own, &mut seen, "5", "0", 1);
+    Ok((started, first, refusal, is_stored, stored, shown))
 }
 
 /// Its users are told to end by `end`, and not before.
@@ -430,22 +468,24 @@ fn strangers_beside<K: Naming, J: Naming, R: Wait + Abort>(
 fn ending(rt: HostRuntime) -> Result<(), Fail> {
     let machine = booted(rt.alloc(), &[])?;
     let ground = Ground::new(rt.alloc())?;
-    ending_of::<Brand, _>(&rt, rt.alloc(), ground, machine)
+    let ended = ending_of::<Brand, _>(&rt, rt.alloc(), ground, machine)?;
+    assert_eq!(rt; ended, [false, true]);
+    Ok(())
 }
 
-fn ending_of<K: Naming, R: Wait + Abort>(
+/// Whether they are told before and after.
+fn ending_of<K: Naming, R: Wait>(
     rt: &R,
     alloc: Global,
     ground: Ground,
     machine: Machine,
-) -> Result<(), Fail>
+) -> Result<[bool; 2], Refusal>
     requires { ground ≡ K.table }
 {
     let shared: Shared<K> = unserved(alloc, ground, machine)?;
-    assert!(rt; !shared.ended(rt));
+    let before = shared.ended(rt);
     shared.end(rt);
-    assert!(rt; shared.ended(rt));
-    Ok(())
+    Ok([before, shared.ended(rt)])
 }
 
 /// Takes the seat out of a place and serves a reservation with it. It answers how many were stored with
@@ -505,15 +545,28 @@ fn serve_both<K: Naming + Send + Sync, R: Threads + Wait + Sync>(
 fn two_threads(rt: HostRuntime) -> Result<(), Fail> {
     let machine = booted(rt.alloc(), &[(0o100, FIRST), (0o101, SECOND)])?;
     let ground = Ground::new(rt.alloc())?;
-    two_threads_of::<Brand, _>(&rt, rt.alloc(), ground, machine)
+    let served = two_threads_of::<Brand, _>(&rt, rt.alloc(), ground, machine)?;
+    let notes = [issued(Unit::Increment1, 1), issued(Unit::Increment2, 2)];
+    assert_eq!(rt; served, (Ok(()), notes, Some((1, 1)), [false, true], true));
+    Ok(())
 }
 
-fn two_threads_of<K: Naming + Send + Sync, R: Threads + Wait + Abort + Sync>(
+/// What the start and the two issues answer, how many were stored with each seat, whether the machine was drained before
+/// and after, and whether the snapshot shows both.
+type ServedByTwo = (
+    Result<(), Refusal>,
+    [Issued; 2],
+    Option<(u64, u64)>,
+    [bool; 2],
+    bool,
+);
+
+fn two_threads_of<K: Naming + Send + Sync, R: Threads + Wait + Sync>(
     rt: &R,
     alloc: Global,
     ground: Ground,
     machine: Machine,
-) -> Result<(), Fail>
+) -> Result<ServedByTwo, Refusal>
     requires { ground ≡ K.table }
 {
     let (shared, seats, mut seen) = Shared::<K>::open(alloc, ground, machine)?;
@@ -523,12 +576,9 @@ fn two_threads_of<K: Naming + Send + Sync, R: Threads + Wait + Abort + Sync>(
     let second = shared.issue(rt, &mut seen);
     let was_drained = shared.drained(rt);
     let stored = serve_both(rt, &shared, increment1, increment2);
-    assert!(rt; started == Ok(()) && !was_drained);
-    assert!(rt; first == issued(Unit::Increment1, 1) && second == issued(Unit::Increment2, 2));
-    assert!(rt; stored == Some((1, 1)));
-    assert!(rt; shared.drained(rt));
-    assert!(rt; shows(rt, &shared, &mut seen, "5", "3", 2));
-    Ok(())
+    let drained = [was_drained, shared.drained(rt)];
+    let shown = shows(rt, &shared, &mut seen, "5", "3", 2);
+    Ok((started, [first, second], stored, drained, shown))
 }
 
 /// The log of a snapshot that a holder takes has the exchange with so many instructions after it.
@@ -552,15 +602,32 @@ fn has_log<K: Naming, R: Wait>(
 fn meeting(rt: HostRuntime) -> Result<(), Fail> {
     let machine = booted(rt.alloc(), &[(0o100, PASSES), (0o101, FIVE)])?;
     let ground = Ground::new(rt.alloc())?;
-    meeting_of::<Brand, _>(&rt, rt.alloc(), ground, machine)
+    let met = meeting_of::<Brand, _>(&rt, rt.alloc(), ground, machine)?;
+    let passes = [Ok(None), Ok(None), Ok(None), Ok(None)];
+    let fifth = issued(Unit::Increment1, 1);
+    assert_eq!(rt;
+        met,
+        (Ok(()), passes, true, fifth, Some(Refusal::NotDrained))
+    );
+    Ok(())
 }
 
-fn meeting_of<K: Naming, R: Wait + Abort>(
+/// What the start and the four issues answer, whether the second holder's snapshot has them, what its own issue answers,
+/// and why there is no snapshot then.
+type Met = (
+    Result<(), Refusal>,
+    [Issued; 4],
+    bool,
+    Issued,
+    Option<Refusal>,
+);
+
+fn meeting_of<K: Naming, R: Wait>(
     rt: &R,
     alloc: Global,
     ground: Ground,
     machine: Machine,
-) -> Result<(), Fail>
+) -> Result<Met, Refusal>
     requires { ground ≡ K.table }
 {
     let (shared, seats, mut seen) = Shared::<K>::open(alloc, ground, machine)?;
@@ -574,13 +641,9 @@ fn meeting_of<K: Naming, R: Wait + Abort>(
         shared.issue(rt, &mut seen),
     ];
     shared.meet(&mut seen, &mut other);
-    assert!(rt; started == Ok(()));
-    assert!(rt; issues == [Ok(None), Ok(None), Ok(None), Ok(None)]);
-    assert!(rt; has_log(rt, &shared, &mut other, 4));
+    let is_known = has_log(rt, &shared, &mut other, 4);
     let fifth = shared.issue(rt, &mut other);
     shared.meet(&mut other, &mut seen);
     let pending = shared.snapshot(rt, &mut seen).err();
-    assert!(rt; fifth == issued(Unit::Increment1, 1));
-    assert!(rt; pending == Some(Refusal::NotDrained));
-    Ok(())
+    Ok((started, issues, is_known, fifth, pending))
 }

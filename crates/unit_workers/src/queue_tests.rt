@@ -28,25 +28,83 @@ fn empty_at_first(rt: HostRuntime) -> Result<(), Fail> {
     Ok(())
 }
 
+/// A lane with both of its ends.
+#[derive(Drop)]
+struct Ends<'a> {
+    lane: &'a Lane,
+    sender: SendPass,
+    taker: TakePass,
+    ghost sends: { sender.id ≡ lane.now.id },
+    ghost takes: { taker.id ≡ lane.now.id },
+}
+
+/// A call of a lane.
+#[derive(Clone, Copy, Debug, Drop)]
+enum Call {
+    /// Sends the note of this number.
+    Send(u64),
+    Close,
+    Take,
+}
+
+/// What a call answers.
+#[derive(Clone, Copy, Debug, Drop, PartialEq, Eq)]
+enum Answer {
+    /// It was sent, or the lane is closed.
+    Done,
+    /// The note comes back.
+    Back(Note),
+    /// There is no room to close.
+    Full,
+    Taken(Item),
+    Nothing,
+}
+
+impl Ends<'_> {
+    fn make<R: Wait>(&mut self, rt: &R, call: Call) -> Answer {
+        match call {
+            Call::Send(number) => match self.lane.send(rt, &mut self.sender, note(number)) {
+                Ok(()) => Answer::Done,
+                Err(back) => Answer::Back(back),
+            },
+            Call::Close if self.lane.close(rt, &mut self.sender) => Answer::Done,
+            Call::Close => Answer::Full,
+            Call::Take => match self.lane.take(rt, &mut self.taker) {
+                Some(item) => Answer::Taken(item),
+                None => Answer::Nothing,
+            },
+        }
+    }
+}
+
 /// Two items fill a lane: a third one is given back, and there is room again after one was taken. After it was
 /// closed no note gets in, and after `Closed` none comes out.
 #[test]
 fn full_then_room_then_closed(rt: HostRuntime) -> Result<(), Fail> {
-    let (lane, mut sender, mut taker) = lane(rt.alloc(), Unit::Shift)?;
-    assert!(rt; lane.send(&rt, &mut sender, note(1)) == Ok(()));
-    assert!(rt; lane.send(&rt, &mut sender, note(2)) == Ok(()));
-    assert!(rt; lane.send(&rt, &mut sender, note(3)) == Err(note(3)));
-    assert!(rt; !lane.close(&rt, &mut sender));
-    assert!(rt; lane.take(&rt, &mut taker) == Some(Item::Work(note(1))));
-    assert!(rt; lane.send(&rt, &mut sender, note(3)) == Ok(()));
-    assert!(rt; lane.take(&rt, &mut taker) == Some(Item::Work(note(2))));
-    assert!(rt; lane.close(&rt, &mut sender));
-    assert!(rt; lane.send(&rt, &mut sender, note(4)) == Err(note(4)));
-    assert!(rt; lane.take(&rt, &mut taker) == Some(Item::Work(note(3))));
-    assert!(rt; lane.send(&rt, &mut sender, note(4)) == Err(note(4)));
-    assert!(rt; lane.close(&rt, &mut sender));
-    assert!(rt; lane.take(&rt, &mut taker) == Some(Item::Closed));
-    assert!(rt; lane.take(&rt, &mut taker).is_none());
+    let (lane, sender, taker) = lane(rt.alloc(), Unit::Shift)?;
+    let mut ends = Ends {
+        lane: &lane,
+        sender,
+        taker,
+    };
+    for (call, answer) in [
+        (Call::Send(1), Answer::Done),
+        (Call::Send(2), Answer::Done),
+        (Call::Send(3), Answer::Back(note(3))),
+        (Call::Close, Answer::Full),
+        (Call::Take, Answer::Taken(Item::Work(note(1)))),
+        (Call::Send(3), Answer::Done),
+        (Call::Take, Answer::Taken(Item::Work(note(2)))),
+        (Call::Close, Answer::Done),
+        (Call::Send(4), Answer::Back(note(4))),
+        (Call::Take, Answer::Taken(Item::Work(note(3)))),
+        (Call::Send(4), Answer::Back(note(4))),
+        (Call::Close, Answer::Done),
+        (Call::Take, Answer::Taken(Item::Closed)),
+        (Call::Take, Answer::Nothing),
+    ] {
+        assert_eq!(rt; ends.make(&rt, call), answer, "{call:?}");
+    }
     Ok(())
 }
 

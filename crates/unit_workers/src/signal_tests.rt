@@ -7,13 +7,12 @@ use machine::{Machine, Note, Seat};
 use machine_lock::{Ground, Naming, Seen, Shared, Signal};
 use std::alloc::Global;
 use std::marker::Brand;
-use std::process::Abort;
 use std::sync::Wait;
 use std::test::Fail;
 use std::thread::{Threads, join};
 
-/// How often it was told of changes and of references.
-fn told<K: Naming>(shared: &Shared<K>) -> (u64, u64) {
+/// What was told so far.
+fn told<K: Naming>(shared: &Shared<K>) -> Counts {
     let signals = shared.signals();
     (signals.changes.count(), signals.references.count())
 }
@@ -39,7 +38,7 @@ fn served<K: Naming, R: Wait>(
     shared: &Shared<K>,
     seat: Seat,
     note: Note,
-) -> (Seat, Option<[(u64, u64); 4]>) {
+) -> (Seat, Option<[Counts; 4]>) {
     let reserved = match shared.claim(rt, seat, note) {
         Ok(reserved) => reserved,
         Err((_, seat)) => return (seat, None),
@@ -94,15 +93,35 @@ fn opened<K: Naming>(
 fn stores_are_told(rt: HostRuntime) -> Result<(), Fail> {
     let machine = booted(rt.alloc(), &[(0o100, FIRST)])?;
     let ground = Ground::new(rt.alloc())?;
-    stores_told::<Brand, _>(&rt, rt.alloc(), ground, machine)
+    let stored = stores_told::<Brand, _>(&rt, rt.alloc(), ground, machine)?;
+    let after = Some([(2, 0), (2, 0), (2, 0), (3, 1)]);
+    let refused = Err(Refusal::Nothing);
+    assert_eq!(rt;
+        stored,
+        (true, (Unit::Increment1, 1), after, refused, (3, 1))
+    );
+    Ok(())
 }
 
-fn stores_told<K: Naming, R: Wait + Abort>(
+/// How often it was told of changes and of references.
+type Counts = (u64, u64);
+
+/// Whether the exchange and the issue were made, what the seat tells, what was told at each step of the reservation, what
+/// an accept answers, and what was told then.
+type Stored = (
+    bool,
+    (Unit, u64),
+    Option<[Counts; 4]>,
+    Result<(), Refusal>,
+    Counts,
+);
+
+fn stores_told<K: Naming, R: Wait>(
     rt: &R,
     alloc: Global,
     ground: Ground,
     machine: Machine,
-) -> Result<(), Fail>
+) -> Result<Stored, Refusal>
     requires { ground ≡ K.table }
 {
     let (shared, seat, mut seen) = opened::<K>(alloc, ground, machine)?;
@@ -111,12 +130,8 @@ fn stores_told<K: Naming, R: Wait + Abort>(
     let issued = shared.issue(rt, &mut seen);
     let (seat, after) = served(rt, &shared, seat, note(Unit::Increment1, 1));
     let refused = shared.accept(rt, 0);
-    assert!(rt; leave(seat) == (Unit::Increment1, 1));
-    assert!(rt; asked.is_ok() && exchanged.is_ok() && issued.is_ok());
-    assert!(rt; after == Some([(2, 0), (2, 0), (2, 0), (3, 1)]));
-    assert!(rt; refused == Err(Refusal::Nothing));
-    assert!(rt; told(&shared) == (3, 1));
-    Ok(())
+    let is_made = asked.is_ok() && exchanged.is_ok() && issued.is_ok();
+    Ok((is_made, leave(seat), after, refused, told(&shared)))
 }
 
 /// What was sent to one unit is told to its worker alone, and the end to all.
@@ -124,26 +139,28 @@ fn stores_told<K: Naming, R: Wait + Abort>(
 fn the_end_is_told_to_all(rt: HostRuntime) -> Result<(), Fail> {
     let machine = booted(rt.alloc(), &[])?;
     let ground = Ground::new(rt.alloc())?;
-    end_told::<Brand, _>(&rt, rt.alloc(), ground, machine)
+    let counts = end_told::<Brand, _>(&rt, rt.alloc(), ground, machine)?;
+    let before = ([0, 0, 1, 0, 0, 0, 0], (0, 0));
+    let after = ([1, 1, 2, 1, 1, 1, 1], (1, 1));
+    assert_eq!(rt; counts, [before, after]);
+    Ok(())
 }
 
-fn end_told<K: Naming, R: Wait + Abort>(
+/// What was told to each worker and to the others before the end and after it.
+fn end_told<K: Naming, R: Wait>(
     rt: &R,
     alloc: Global,
     ground: Ground,
     machine: Machine,
-) -> Result<(), Fail>
+) -> Result<[([u64; 7], Counts); 2], Refusal>
     requires { ground ≡ K.table }
 {
     let (shared, seat, _) = opened::<K>(alloc, ground, machine)?;
     seat.leave();
     shared.signals().sent(Unit::Shift).raise();
-    assert!(rt; sent(&shared) == [0, 0, 1, 0, 0, 0, 0]);
-    assert!(rt; told(&shared) == (0, 0));
+    let before = (sent(&shared), told(&shared));
     shared.end(rt);
-    assert!(rt; sent(&shared) == [1, 1, 2, 1, 1, 1, 1]);
-    assert!(rt; told(&shared) == (1, 1));
-    Ok(())
+    Ok([before, (sent(&shared), told(&shared))])
 }
 
 /// Sleeps until a signal was raised, and answers how often it was.
@@ -163,15 +180,20 @@ fn woken<R: Wait>(rt: &R, signal: &Signal) -> u64 {
 fn sleeps_end(rt: HostRuntime) -> Result<(), Fail> {
     let machine = booted(rt.alloc(), &[])?;
     let ground = Ground::new(rt.alloc())?;
-    sleep_and_wake::<Brand, _>(&rt, rt.alloc(), ground, machine)
+    assert_eq!(rt;
+        sleep_and_wake::<Brand, _>(&rt, rt.alloc(), ground, machine)?,
+        1
+    );
+    Ok(())
 }
 
-fn sleep_and_wake<K: Naming, R: Threads + Wait + Sync + Abort>(
+/// How often the signal was raised that ended the second sleep.
+fn sleep_and_wake<K: Naming, R: Threads + Wait + Sync>(
     rt: &R,
     alloc: Global,
     ground: Ground,
     machine: Machine,
-) -> Result<(), Fail>
+) -> Result<u64, Refusal>
     requires { ground ≡ K.table }
 {
     let (shared, seat, _) = opened::<K>(alloc, ground, machine)?;
@@ -179,6 +201,5 @@ fn sleep_and_wake<K: Naming, R: Threads + Wait + Sync + Abort>(
     let changes = &shared.signals().changes;
     changes.sleep(rt, 0);
     let (count, ()) = join(rt, || woken(rt, changes), || changes.raise());
-    assert!(rt; count == 1);
-    Ok(())
+    Ok(count)
 }

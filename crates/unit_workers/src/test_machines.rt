@@ -28,16 +28,27 @@ fn place_all(memory: &mut Storage, words: Words<'_>) {
     }
 }
 
-/// A machine with 256 words of memory: a package at 40 that has RA 100 and FL 20, and over that these words.
-pub(crate) fn booted(alloc: Global, words: Words<'_>) -> Result<Machine, Refusal> {
+/// A machine with 256 words of memory: a package at 40 that has RA 100 and FL 20, over that the first words, and over
+/// those the others.
+pub(crate) fn booted_over(
+    alloc: Global,
+    first: Words<'_>,
+    others: Words<'_>,
+) -> Result<Machine, Refusal> {
     let area = [
         (0o41, "00000100000000000000"),
         (0o42, "00000020000000000000"),
     ];
     let mut memory = Storage::new(alloc, 256)?;
     place_all(&mut memory, &area);
-    place_all(&mut memory, words);
+    place_all(&mut memory, first);
+    place_all(&mut memory, others);
     Machine::boot(alloc, memory, 1_000_000)
+}
+
+/// A machine with such a package, and over that these words.
+pub(crate) fn booted(alloc: Global, words: Words<'_>) -> Result<Machine, Refusal> {
+    booted_over(alloc, &[], words)
 }
 
 pub(crate) fn x(number: u16) -> Reg {

@@ -1,16 +1,19 @@
+//! Runs by threads, a worker at work, and the order of requests.
+
 ghost use Rattle.std.specs.Prelude.{◌≡◌};
 
 use crate::lines::{Line, Pair};
+use crate::lock_tests::leave_all;
 use crate::requests::Requests;
-use crate::test_machines::{Words, booted, word, x};
+use crate::test_machines::{Words, booted, booted_over, note, word, x};
 use crate::{Ended, Gate, Gates, Open, Orders, Tally, run_threads, serve, worker};
 use instruction_table::{Digit, Halt, Refusal, Reg, Unit};
 use machine::{Machine, Note, Seat};
 use machine_lock::{Ground, Naming, Seen, Shared};
+use registers::RegisterFile;
 use sequential::Entry;
-use std::alloc::Global;
+use std::alloc::{AllocError, Global};
 use std::marker::Brand;
-use std::process::Abort;
 use std::sync::Wait;
 use std::sync::atomic::{AtomicU64, Ordering};
 use std::test::Fail;
@@ -38,111 +41,218 @@ fn open_gates() -> Gates<Open> {
     }
 }
 
-/// A run over these words that asks for no exchange but the first.
-fn ran<R: Threads + Wait + Sync>(
-    rt: &R,
-    alloc: Global,
-    words: Words<'_>,
-) -> Result<Ended, Refusal> {
-    let machine = booted(alloc, words)?;
-    run_threads(rt, alloc, machine, &orders(alloc), open_gates())
+/// What registers of the package at 40 hold, X1, X2, X3 and X7, and a word of the program's memory.
+const REGISTERS: [(u32, &str); 5] = [
+    (0o51, "7"),
+    (0o52, "6"),
+    (0o53, "4"),
+    (0o57, "3"),
+    (0o110, "5"),
+];
+
+/// A reservation: its unit and number.
+type Numbered = (Unit, u64);
+
+/// A run that asks for no exchange but the first, and its end.
+#[derive(Clone, Copy, Drop)]
+struct Run<'a> {
+    /// What it shows.
+    name: &'a str,
+    /// The words that stand over `REGISTERS`.
+    words: Words<'a>,
+    /// Reservations that aren't computed before another is stored: so both are in their units at the same time, in two
+    /// threads, and no lock is held while a unit computes.
+    holds: &'a [(Numbered, Numbered)],
+    /// How many instructions are issued, the last of which stops.
+    issues: u64,
+    /// How many reservations are stored: of Branch, Boolean, Shift, LongAdd, Divide, and both Increment units.
+    stored: [u64; 6],
+    /// Numbers of X registers, and what they hold at the end.
+    x: &'a [(u16, &'a str)],
+    /// The same of A registers.
+    a: &'a [(u16, &'a str)],
 }
 
-/// Whether these registers hold these words.
-fn shows(ended: &Ended, registers: &[(Reg, &str)]) -> bool {
-    for (register, octal) in registers {
-        if ended.snapshot.state().registers.get(*register) != word(octal) {
+const RUNS: [Run<'static>; 11] = [
+    Run {
+        name: "SX1 B0+5, SX2 B0+3, IX3 X1+X2, IX4 X2-X1, NO, PS",
+        words: &[
+            (0o100, "71100000057120000003"),
+            (0o101, "36312374214600000000"),
+        ],
+        holds: &[],
+        issues: 6,
+        stored: [0, 0, 0, 2, 0, 2],
+        x: &[(3, "10"), (4, "77777777777777777775")],
+        a: &[],
+    },
+    Run {
+        name: "SA1 B0+17, which loads the word at 117, and SA2 B0+20, which is out of range",
+        words: &[
+            (0o100, "51100000175120000020"),
+            (0o101, "46000460004600000000"),
+            (0o117, "123"),
+        ],
+        holds: &[],
+        issues: 6,
+        stored: [0, 0, 0, 0, 0, 2],
+        x: &[(1, "123"), (2, "0")],
+        a: &[(1, "17"), (2, "20")],
+    },
+    Run {
+        name: "two stores, to the word that is held and to the one that is fetched next",
+        words: &[
+            (0o41, "00000100000000000001"),
+            (0o56, "76211000000000000000"),
+            (0o100, "56610567007611046000"),
+        ],
+        holds: &[],
+        issues: 6,
+        stored: [0, 0, 0, 0, 0, 4],
+        x: &[(1, "1"), (2, "2")],
+        a: &[],
+    },
+    Run {
+        name: "BX1 X2 is held until LX3 1 is stored",
+        words: &[(0o100, "10120203014600000000")],
+        holds: &[((Unit::Boolean, 1), (Unit::Shift, 2))],
+        issues: 4,
+        stored: [0, 1, 1, 0, 0, 0],
+        x: &[(1, "6"), (3, "10")],
+        a: &[],
+    },
+    Run {
+        name: "BX1 X2 is held until JP 1 is stored",
+        words: &[(0o100, "10120460000200000001")],
+        holds: &[((Unit::Boolean, 1), (Unit::Branch, 2))],
+        issues: 4,
+        stored: [1, 1, 0, 0, 0, 0],
+        x: &[(1, "6")],
+        a: &[],
+    },
+    Run {
+        name: "LX3 1 is held until JP 1 is stored",
+        words: &[(0o100, "20301460000200000001")],
+        holds: &[((Unit::Shift, 1), (Unit::Branch, 2))],
+        issues: 4,
+        stored: [1, 0, 1, 0, 0, 0],
+        x: &[(3, "10")],
+        a: &[],
+    },
+    Run {
+        name: "IX4 X2+X3 is held until JP 1 is stored",
+        words: &[(0o100, "36423460000200000001")],
+        holds: &[((Unit::LongAdd, 1), (Unit::Branch, 2))],
+        issues: 4,
+        stored: [1, 0, 0, 1, 0, 0],
+        x: &[(4, "12")],
+        a: &[],
+    },
+    Run {
+        name: "CX5 X2 is held until JP 1 is stored",
+        words: &[(0o100, "47502460000200000001")],
+        holds: &[((Unit::Divide, 1), (Unit::Branch, 2))],
+        issues: 4,
+        stored: [1, 0, 0, 0, 1, 0],
+        x: &[(5, "2")],
+        a: &[],
+    },
+    Run {
+        name: "SX1 B0+B0 is held until JP 1 is stored",
+        words: &[(0o100, "76100460000200000001")],
+        holds: &[((Unit::Increment1, 1), (Unit::Branch, 2))],
+        issues: 4,
+        stored: [1, 0, 0, 0, 0, 1],
+        x: &[(1, "0")],
+        a: &[],
+    },
+    Run {
+        name: "SX1 B0+B0 is held until SX7 B0+B0 is stored, and that until JP 1 is",
+        words: &[(0o100, "76100767000200000001")],
+        holds: &[
+            ((Unit::Increment1, 1), (Unit::Increment2, 2)),
+            ((Unit::Increment2, 2), (Unit::Branch, 3)),
+        ],
+        issues: 4,
+        stored: [1, 0, 0, 0, 0, 2],
+        x: &[(1, "0"), (7, "0")],
+        a: &[],
+    },
+    Run {
+        name: "BX1 X2 is held until LX3 1 is stored, which needs what SA3 B0+10 loads",
+        words: &[(0o100, "10120513000001020301")],
+        holds: &[((Unit::Boolean, 1), (Unit::Shift, 3))],
+        issues: 4,
+        stored: [0, 1, 1, 0, 0, 1],
+        x: &[(1, "6"), (3, "12")],
+        a: &[(3, "10")],
+    },
+];
+
+/// The units in the order of their tallies.
+const UNITS: [Unit; 7] = [
+    Unit::Branch,
+    Unit::Boolean,
+    Unit::Shift,
+    Unit::LongAdd,
+    Unit::Divide,
+    Unit::Increment1,
+    Unit::Increment2,
+];
+
+/// How many reservations were stored, as in a `Run`. None where a note was strange or a tally isn't at its place.
+fn stored(tallies: &[Tally; 7]) -> Option<[u64; 6]> {
+    let mut counts = [0u64; 6];
+    for index in 0..7usize {
+        let tally = &tallies[index];
+        if tally.unit() != UNITS[index] || tally.strange() != 0 {
+            return None;
+        }
+        let kind = index.min(5);
+        counts[kind] = counts[kind].saturating_add(tally.stored());
+    }
+    Some(counts)
+}
+
+/// Whether the registers that a run names hold what it says.
+fn shows(registers: &RegisterFile, run: &Run<'_>) -> bool {
+    for (number, octal) in run.x {
+        if registers.get(x(*number)) != word(octal) {
+            return false;
+        }
+    }
+    for (number, octal) in run.a {
+        if registers.get(Reg::A(Digit::low(*number))) != word(octal) {
             return false;
         }
     }
     true
 }
 
-/// Whether the log is the exchange with the package at 40 and so many instructions, the last of which stopped.
-fn stopped(ended: &Ended, issues: u64) -> bool {
-    ended.snapshot.log().entries() == [Entry::Exchange(0o40), Entry::Issued(issues)].as_slice()
-        && ended.snapshot.state().halt == Some(Halt::Stop)
+/// Whether a run ended as it is to.
+fn is_end_of(ended: &Ended, run: &Run<'_>) -> bool {
+    let log = [FIRST, Entry::Issued(run.issues)];
+    let state = ended.snapshot.state();
+    entries(ended) == log.as_slice()
+        && state.halt == Some(Halt::Stop)
+        && shows(&state.registers, run)
+        && stored(&ended.tallies) == Some(run.stored)
 }
 
-/// How many notes each worker stored, where none was strange.
-fn stored(ended: &Ended) -> [Option<u64>; 7] {
-    let [
-        branch,
-        boolean,
-        shift,
-        long_add,
-        divide,
-        increment1,
-        increment2,
-    ] = &ended.tallies;
-    [
-        stored_by(branch, Unit::Branch),
-        stored_by(boolean, Unit::Boolean),
-        stored_by(shift, Unit::Shift),
-        stored_by(long_add, Unit::LongAdd),
-        stored_by(divide, Unit::Divide),
-        stored_by(increment1, Unit::Increment1),
-        stored_by(increment2, Unit::Increment2),
-    ]
-}
-
-fn stored_by(tally: &Tally, unit: Unit) -> Option<u64> {
-    if tally.unit() == unit && tally.strange() == 0 {
-        Some(tally.stored())
-    } else {
-        None
+/// Whether a run with these gates ends as it is to.
+fn ends<G: Gate + Send, R: Threads + Wait + Sync>(
+    rt: &R,
+    alloc: Global,
+    run: &Run<'_>,
+    gates: Gates<G>,
+) -> bool {
+    let Ok(machine) = booted_over(alloc, &REGISTERS, run.words) else {
+        return false;
+    };
+    match run_threads(rt, alloc, machine, &orders(alloc), gates) {
+        Ok(ended) => is_end_of(&ended, run),
+        Err(_) => false,
     }
-}
-
-/// SX1 B0+5, SX2 B0+3, IX3 X1+X2, IX4 X2-X1, NO, PS.
-#[test]
-fn two_adds(rt: HostRuntime) -> Result<(), Fail> {
-    let words = [
-        (0o100, "71100000057120000003"),
-        (0o101, "36312374214600000000"),
-    ];
-    let ended = ran(&rt, rt.alloc(), &words)?;
-    assert!(rt; shows(&ended, &[(x(3), "10"), (x(4), "77777777777777777775")]));
-    assert!(rt; stopped(&ended, 6));
-    let [_, _, _, long_add, _, first, second] = stored(&ended);
-    assert!(rt; long_add == Some(2));
-    assert!(rt; first.unwrap_or(0).saturating_add(second.unwrap_or(0)) == 2);
-    Ok(())
-}
-
-/// SA1 B0+17, which loads the word at 117, and SA2 B0+20, which is out of range.
-#[test]
-fn loads(rt: HostRuntime) -> Result<(), Fail> {
-    let words = [
-        (0o100, "51100000175120000020"),
-        (0o101, "46000460004600000000"),
-        (0o117, "123"),
-    ];
-    let ended = ran(&rt, rt.alloc(), &words)?;
-    let first = Reg::A(Digit::low(1));
-    let second = Reg::A(Digit::low(2));
-    assert!(rt;
-        shows(
-            &ended,
-            &[(first, "17"), (second, "20"), (x(1), "123"), (x(2), "0")]
-        )
-    );
-    assert!(rt; stopped(&ended, 6));
-    Ok(())
-}
-
-/// Two stores change the word that is held, and the one that is fetched next.
-#[test]
-fn stores_to_code(rt: HostRuntime) -> Result<(), Fail> {
-    let words = [
-        (0o41, "00000100000000000001"),
-        (0o56, "76211000000000000000"),
-        (0o100, "56610567007611046000"),
-    ];
-    let ended = ran(&rt, rt.alloc(), &words)?;
-    assert!(rt; shows(&ended, &[(x(1), "1"), (x(2), "2")]));
-    assert!(rt; stopped(&ended, 6));
-    Ok(())
 }
 
 /// One reservation that isn't computed until another is stored.
@@ -209,22 +319,22 @@ impl Gate for Holding<'_> {
     }
 }
 
-/// A run of this word, with a stop in the next one, in which these are held. The package has X1, X2, X3 and X7.
-fn held_run<R: Threads + Wait + Sync>(
+/// The reservations that a run holds.
+fn holds_of(alloc: Global, run: &Run<'_>) -> Result<Vec<Hold>, AllocError> {
+    let mut holds = Vec::new(alloc);
+    for (held, until) in run.holds {
+        holds.push(Hold::new(note(held.0, held.1), note(until.0, until.1)))?;
+    }
+    Ok(holds)
+}
+
+/// Whether a run in which these are held ends as it is to, and they went on when the others were stored.
+fn ends_held<R: Threads + Wait + Sync>(
     rt: &R,
     alloc: Global,
-    code: &str,
+    run: &Run<'_>,
     holds: &[Hold],
-) -> Result<Ended, Refusal> {
-    let words = [
-        (0o51, "7"),
-        (0o52, "6"),
-        (0o53, "4"),
-        (0o57, "3"),
-        (0o100, code),
-        (0o110, "5"),
-    ];
-    let machine = booted(alloc, &words)?;
+) -> bool {
     let gates = Gates {
         branch: Holding(holds),
         boolean: Holding(holds),
@@ -234,105 +344,19 @@ fn held_run<R: Threads + Wait + Sync>(
         increment1: Holding(holds),
         increment2: Holding(holds),
     };
-    run_threads(rt, alloc, machine, &orders(alloc), gates)
+    ends(rt, alloc, run, gates) && are_released(holds)
 }
 
-/// BX1 X2 isn't computed before LX3 1, which is issued later, is stored: so the two are in their units at the same
-/// time, in two threads, and no lock is held while a unit computes.
 #[test]
-fn held_boolean(rt: HostRuntime) -> Result<(), Fail> {
-    let holds = [Hold::new(note(Unit::Boolean, 1), note(Unit::Shift, 2))];
-    let ended = held_run(&rt, rt.alloc(), "10120203014600000000", &holds)?;
-    assert!(rt; are_released(&holds));
-    assert!(rt; shows(&ended, &[(x(1), "6"), (x(3), "10")]));
-    assert!(rt; stopped(&ended, 4));
-    assert!(rt;
-        stored(&ended)
-            == [
-                Some(0),
-                Some(1),
-                Some(1),
-                Some(0),
-                Some(0),
-                Some(0),
-                Some(0)
-            ]
-    );
-    Ok(())
-}
-
-/// How many notes all workers stored, where none was strange.
-fn stored_by_all(ended: &Ended) -> Option<u64> {
-    let mut total = 0u64;
-    for count in stored(ended) {
-        total = total.saturating_add(count?);
+fn runs(rt: HostRuntime) -> Result<(), Fail> {
+    for run in &RUNS {
+        let holds = holds_of(rt.alloc(), run)?;
+        assert!(rt;
+            ends_held(&rt, rt.alloc(), run, holds.as_slice()),
+            "{}",
+            run.name
+        );
     }
-    Some(total)
-}
-
-/// Whether the word's run of four instructions, with so many reservations, ends with all released and these registers.
-fn goes_on<R: Threads + Wait + Sync>(
-    rt: &R,
-    alloc: Global,
-    code: &str,
-    holds: &[Hold],
-    reservations: u64,
-    registers: &[(Reg, &str)],
-) -> bool {
-    match held_run(rt, alloc, code, holds) {
-        Ok(ended) => {
-            stored_by_all(&ended) == Some(reservations)
-                && stopped(&ended, 4)
-                && shows(&ended, registers)
-                && are_released(holds)
-        }
-        Err(_) => false,
-    }
-}
-
-/// BX1 X2, LX3 1, IX4 X2+X3, CX5 X2 and SX1 B0+B0, each with NO and JP 1 after it: the unit and its result.
-fn beside_a_jump() -> [(&'static str, Unit, Reg, &'static str); 5] {
-    [
-        ("10120460000200000001", Unit::Boolean, x(1), "6"),
-        ("20301460000200000001", Unit::Shift, x(3), "10"),
-        ("36423460000200000001", Unit::LongAdd, x(4), "12"),
-        ("47502460000200000001", Unit::Divide, x(5), "2"),
-        ("76100460000200000001", Unit::Increment1, x(1), "0"),
-    ]
-}
-
-/// Each unit is held until Branch has stored the jump, which is issued later.
-#[test]
-fn held_beside_branch(rt: HostRuntime) -> Result<(), Fail> {
-    for (code, unit, register, octal) in beside_a_jump() {
-        let holds = [Hold::new(note(unit, 1), note(Unit::Branch, 2))];
-        let went_on = goes_on(&rt, rt.alloc(), code, &holds, 2, &[(register, octal)]);
-        assert!(rt; went_on, "{code}");
-    }
-    Ok(())
-}
-
-/// SX1 B0+B0, SX7 B0+B0 and JP 1: Increment1 is held until Increment2 has stored, and that until Branch has.
-#[test]
-fn held_one_by_another(rt: HostRuntime) -> Result<(), Fail> {
-    let second = note(Unit::Increment2, 2);
-    let holds = [
-        Hold::new(note(Unit::Increment1, 1), second),
-        Hold::new(second, note(Unit::Branch, 3)),
-    ];
-    let registers = [(x(1), "0"), (x(7), "0")];
-    let code = "76100767000200000001";
-    assert!(rt; goes_on(&rt, rt.alloc(), code, &holds, 3, &registers));
-    Ok(())
-}
-
-/// BX1 X2, SA3 B0+10 and LX3 1: while Boolean is held the load is returned, which the shift needs.
-#[test]
-fn held_beside_a_load(rt: HostRuntime) -> Result<(), Fail> {
-    let holds = [Hold::new(note(Unit::Boolean, 1), note(Unit::Shift, 3))];
-    let registers = [(x(1), "6"), (Reg::A(Digit::low(3)), "10"), (x(3), "12")];
-    let code = "10120513000001020301";
-    assert!(rt; goes_on(&rt, rt.alloc(), code, &holds, 3, &registers));
     Ok(())
 }
 
@@ -350,14 +374,23 @@ impl Gate for Slow {
     fn stored(&mut self, _unit: Unit, _number: u64) {}
 }
 
-/// SX1 B0+5, SX2 B0+3, IX3 X1+X2, IX4 X2-X1, NO, SA1 B0+17: whoever sleeps meanwhile is woken or wakes by itself.
-#[test]
-fn sleepers_get_on(rt: HostRuntime) -> Result<(), Fail> {
-    let words = [
+/// SX1 B0+5, SX2 B0+3, IX3 X1+X2, IX4 X2-X1, SA1 B0+17 and a stop.
+const SLOW_RUN: Run<'static> = Run {
+    name: "whoever sleeps is woken or wakes by itself",
+    words: &[
         (0o100, "71100000057120000003"),
         (0o101, "36312374215110000017"),
         (0o117, "123"),
-    ];
+    ],
+    holds: &[],
+    issues: 6,
+    stored: [0, 0, 0, 2, 0, 3],
+    x: &[(1, "123"), (3, "10"), (4, "77777777777777777775")],
+    a: &[(1, "17")],
+};
+
+#[test]
+fn sleepers_get_on(rt: HostRuntime) -> Result<(), Fail> {
     let gates = Gates {
         branch: Slow,
         boolean: Slow,
@@ -367,15 +400,11 @@ fn sleepers_get_on(rt: HostRuntime) -> Result<(), Fail> {
         increment1: Slow,
         increment2: Slow,
     };
-    let machine = booted(rt.alloc(), &words)?;
-    let ended = run_threads(&rt, rt.alloc(), machine, &orders(rt.alloc()), gates)?;
     assert!(rt;
-        shows(
-            &ended,
-            &[(x(3), "10"), (x(4), "77777777777777777775"), (x(1), "123")]
-        )
+        ends(&rt, rt.alloc(), &SLOW_RUN, gates),
+        "{}",
+        SLOW_RUN.name
     );
-    assert!(rt; stopped(&ended, 6));
     Ok(())
 }
 
@@ -412,26 +441,42 @@ const FIRST: Entry = Entry::Exchange(0o40);
 
 const SECOND: Entry = Entry::Exchange(0o60);
 
-#[test]
-fn exchanges_after_instructions(rt: HostRuntime) -> Result<(), Fail> {
-    let one = exchanging(&rt, rt.alloc(), Some(1))?;
-    let five = exchanging(&rt, rt.alloc(), Some(5))?;
-    let seven = exchanging(&rt, rt.alloc(), Some(7))?;
-    let last = Entry::Issued(1);
-    assert!(rt; entries(&one) == [FIRST, Entry::Issued(4), SECOND, last].as_slice());
-    assert!(rt; entries(&five) == [FIRST, Entry::Issued(5), SECOND, last].as_slice());
-    assert!(rt; entries(&seven) == [FIRST, Entry::Issued(5)].as_slice());
-    Ok(())
+const LAST: Entry = Entry::Issued(1);
+
+/// After how many instructions, if not at any time, and the logs that the run may have.
+const EXCHANGES: [(Option<u64>, &[&[Entry]]); 4] = [
+    (Some(1), &[&[FIRST, Entry::Issued(4), SECOND, LAST]]),
+    (Some(5), &[&[FIRST, Entry::Issued(5), SECOND, LAST]]),
+    (Some(7), &[&[FIRST, Entry::Issued(5)]]),
+    (
+        None,
+        &[
+            &[FIRST, SECOND, LAST],
+            &[FIRST, Entry::Issued(4), SECOND, LAST],
+            &[FIRST, Entry::Issued(5), SECOND, LAST],
+        ],
+    ),
+];
+
+/// Whether the run ended, with one of these logs.
+fn has_log_of(ran: Result<Ended, Refusal>, logs: &[&[Entry]]) -> bool {
+    let Ok(ended) = ran else {
+        return false;
+    };
+    for log in logs {
+        if entries(&ended) == *log {
+            return true;
+        }
+    }
+    false
 }
 
 #[test]
-fn exchange_at_any_time(rt: HostRuntime) -> Result<(), Fail> {
-    let ended = exchanging(&rt, rt.alloc(), None)?;
-    let last = Entry::Issued(1);
-    let at_once = entries(&ended) == [FIRST, SECOND, last].as_slice();
-    let in_word = entries(&ended) == [FIRST, Entry::Issued(4), SECOND, last].as_slice();
-    let at_the_stop = entries(&ended) == [FIRST, Entry::Issued(5), SECOND, last].as_slice();
-    assert!(rt; at_once || in_word || at_the_stop);
+fn exchanges(rt: HostRuntime) -> Result<(), Fail> {
+    for (after, logs) in &EXCHANGES {
+        let ran = exchanging(&rt, rt.alloc(), *after);
+        assert!(rt; has_log_of(ran, logs), "{after:?}");
+    }
     Ok(())
 }
 
@@ -440,41 +485,24 @@ fn refusal(ran: Result<Ended, Refusal>) -> Option<Refusal> {
     ran.err()
 }
 
-fn leave_all(seats: [Seat; 7]) {
-    let [
-        branch,
-        boolean,
-        shift,
-        long_add,
-        divide,
-        increment1,
-        increment2,
-    ] = seats;
-    branch.leave();
-    boolean.leave();
-    shift.leave();
-    long_add.leave();
-    divide.leave();
-    increment1.leave();
-    increment2.leave();
-}
-
 /// The first package has to lie in memory, and the seats have to be there. All threads have ended then, or the test
 /// wouldn't.
 #[test]
 fn refused_runs(rt: HostRuntime) -> Result<(), Fail> {
     let alloc = rt.alloc();
-    let machine = booted(alloc, &[])?;
     let mut outside = orders(alloc);
     outside.start = 241;
-    let ran = run_threads(&rt, alloc, machine, &outside, open_gates());
-    assert!(rt; refusal(ran) == Some(Refusal::PackageRange));
+    let machine = booted(alloc, &[])?;
+    let range = refusal(run_threads(&rt, alloc, machine, &outside, open_gates()));
     let mut machine = booted(alloc, &[])?;
     if let Some(seats) = machine.seats() {
         leave_all(seats);
     }
-    let ran = run_threads(&rt, alloc, machine, &orders(alloc), open_gates());
-    assert!(rt; refusal(ran) == Some(Refusal::Nothing));
+    let seats = refusal(run_threads(&rt, alloc, machine, &orders(alloc), open_gates()));
+    assert_eq!(rt;
+        (range, seats),
+        (Some(Refusal::PackageRange), Some(Refusal::Nothing))
+    );
     Ok(())
 }
 
@@ -495,16 +523,11 @@ impl Gate for Count {
     }
 }
 
-fn note(unit: Unit, number: u64) -> Note {
-    Note { unit, number }
-}
+/// What two issues answer.
+type Started = Result<[Option<Note>; 2], Refusal>;
 
 /// Makes the exchange with the package at 40, and issues twice.
-fn start<K: Naming, R: Wait>(
-    rt: &R,
-    shared: &Shared<K>,
-    seen: &mut Seen<K>,
-) -> Result<[Option<Note>; 2], Refusal> {
+fn start<K: Naming, R: Wait>(rt: &R, shared: &Shared<K>, seen: &mut Seen<K>) -> Started {
     shared.ask(rt, seen, 0o40)?;
     shared.exchange(rt, seen)?;
     let first = shared.issue(rt, seen)?;
@@ -536,7 +559,7 @@ fn of_boolean(seats: [Seat; 7]) -> Seat {
 const BOTH: [(u32, &str); 1] = [(0o100, "10120203014600000000")];
 
 /// What `start` answers over these words.
-const NOTES: Result<[Option<Note>; 2], Refusal> = Ok([
+const NOTES: Started = Ok([
     Some(Note {
         unit: Unit::Boolean,
         number: 1,
@@ -553,15 +576,18 @@ const NOTES: Result<[Option<Note>; 2], Refusal> = Ok([
 fn serves_its_own_note_once(rt: HostRuntime) -> Result<(), Fail> {
     let machine = booted(rt.alloc(), &BOTH)?;
     let ground = Ground::new(rt.alloc())?;
-    serves_once::<Brand, _>(&rt, rt.alloc(), ground, machine)
+    let served = serves_once::<Brand, _>(&rt, rt.alloc(), ground, machine)?;
+    assert_eq!(rt; served, (NOTES, [false, false, true, false], [1, 1, 1]));
+    Ok(())
 }
 
-fn serves_once<K: Naming, R: Wait + Abort>(
+/// What `start` answers, which notes are served, and how many the seat, and the gate before and after, counted.
+fn serves_once<K: Naming, R: Wait>(
     rt: &R,
     alloc: Global,
     ground: Ground,
     machine: Machine,
-) -> Result<(), Fail>
+) -> Result<(Started, [bool; 4], [u64; 3]), Refusal>
     requires { ground ≡ K.table }
 {
     let (shared, seats, mut seen) = Shared::<K>::open(alloc, ground, machine)?;
@@ -575,11 +601,8 @@ fn serves_once<K: Naming, R: Wait + Abort>(
     let (boolean, is_other) = serve(rt, &shared, note(Unit::Shift, 2), boolean, &mut gate);
     let (boolean, is_own) = serve(rt, &shared, note(Unit::Boolean, 1), boolean, &mut gate);
     let (boolean, is_again) = serve(rt, &shared, note(Unit::Boolean, 1), boolean, &mut gate);
-    let stored = boolean.leave();
-    assert!(rt; started == NOTES);
-    assert!(rt; !is_never && !is_other && is_own && !is_again);
-    assert!(rt; stored == 1 && gate.before == 1 && gate.stored == 1);
-    Ok(())
+    let counts = [boolean.leave(), gate.before, gate.stored];
+    Ok((started, [is_never, is_other, is_own, is_again], counts))
 }
 
 /// A worker serves what its lane has, until it is closed, and its tally settles.
@@ -587,48 +610,56 @@ fn serves_once<K: Naming, R: Wait + Abort>(
 fn works_until_closed(rt: HostRuntime) -> Result<(), Fail> {
     let machine = booted(rt.alloc(), &BOTH)?;
     let ground = Ground::new(rt.alloc())?;
-    works_until_closed_beside::<Brand, _>(&rt, rt.alloc(), ground, machine)
+    let worked = works_until_closed_beside::<Brand, _>(&rt, rt.alloc(), ground, machine)?;
+    assert_eq!(rt; worked, (true, NOTES, Unit::Boolean, 1, 0));
+    Ok(())
 }
 
-fn works_until_closed_beside<K: Naming, R: Wait + Abort>(
+/// Whether the lane took the note and was closed, what `start` answers, and the tally.
+fn works_until_closed_beside<K: Naming, R: Wait>(
     rt: &R,
     alloc: Global,
     ground: Ground,
     machine: Machine,
-) -> Result<(), Fail>
+) -> Result<(bool, Started, Unit, u64, u64), Refusal>
     requires { ground ≡ K.table }
 {
-    let (lane, mut sender, taker) = lane(alloc, Unit::Boolean)?;
-    let sent = lane.send(rt, &mut sender, note(Unit::Boolean, 1));
-    let is_closed = lane.close(rt, &mut sender);
-    assert!(rt; sent == Ok(()) && is_closed);
     let (shared, seats, mut seen) = Shared::<K>::open(alloc, ground, machine)?;
     let boolean = of_boolean(seats);
     let started = start(rt, &shared, &mut seen);
+    let (lane, mut sender, taker) = match lane(alloc, Unit::Boolean) {
+        Ok(made) => made,
+        Err(refusal) => {
+            boolean.leave();
+            return Err(refusal);
+        }
+    };
+    let is_sent = lane.send(rt, &mut sender, note(Unit::Boolean, 1)).is_ok();
+    let is_closed = lane.close(rt, &mut sender);
     let mut tally = worker(rt, &shared, &lane, taker, boolean, &mut Open);
     tally.settle(rt, &lane, sender);
-    assert!(rt; started == NOTES);
-    assert!(rt; tally.unit() == Unit::Boolean && tally.stored() == 1 && tally.strange() == 0);
-    Ok(())
+    let (unit, stored, strange) = (tally.unit(), tally.stored(), tally.strange());
+    Ok((is_sent && is_closed, started, unit, stored, strange))
 }
 
-/// Sends Boolean's note twice and then Shift's on one lane, and ends it.
-fn send_strangers<R: Threads + Wait>(rt: &R, line: Line<'_>) -> Option<Tally> {
+/// Sends Boolean's note twice and then Shift's on one lane, and ends it: how many were stored, and how many strange.
+fn send_strangers<R: Threads + Wait>(rt: &R, line: Line<'_>) -> Option<(u64, u64)> {
     let mut line = line;
     line.send(rt, note(Unit::Boolean, 1));
     line.send(rt, note(Unit::Boolean, 1));
     line.send(rt, note(Unit::Shift, 2));
     line.close(rt);
-    line.end(rt)
+    let tally = line.end(rt)?;
+    Some((tally.stored(), tally.strange()))
 }
 
-/// The tally of a worker to which strangers' notes come too.
+/// The same of a worker to which strangers' notes come too.
 fn strange_tally<K: Naming + Send + Sync, R: Threads + Wait + Sync>(
     rt: &R,
     shared: &Shared<K>,
     pair: Pair<'_>,
     place: &mut Option<Seat>,
-) -> Option<Tally> {
+) -> Option<(u64, u64)> {
     thread::scope(thread::scope_env(), rt, move |scope| {
         send_strangers(rt, pair.start(scope, rt, shared, place, Open))
     })
@@ -650,15 +681,18 @@ fn is_empty(place: Option<Seat>) -> bool {
 fn counts_strangers(rt: HostRuntime) -> Result<(), Fail> {
     let machine = booted(rt.alloc(), &BOTH)?;
     let ground = Ground::new(rt.alloc())?;
-    counts_strangers_beside::<Brand, _>(&rt, rt.alloc(), ground, machine)
+    let counted = counts_strangers_beside::<Brand, _>(&rt, rt.alloc(), ground, machine)?;
+    assert_eq!(rt; counted, (NOTES, true, Some((1, 2))));
+    Ok(())
 }
 
-fn counts_strangers_beside<K: Naming + Send + Sync, R: Threads + Wait + Abort + Sync>(
+/// What `start` answers, whether the worker took its seat, and how many notes it stored and how many were strange.
+fn counts_strangers_beside<K: Naming + Send + Sync, R: Threads + Wait + Sync>(
     rt: &R,
     alloc: Global,
     ground: Ground,
     machine: Machine,
-) -> Result<(), Fail>
+) -> Result<(Started, bool, Option<(u64, u64)>), Refusal>
     requires { ground ≡ K.table }
 {
     let (lane, sender, taker) = lane(alloc, Unit::Boolean)?;
@@ -666,12 +700,8 @@ fn counts_strangers_beside<K: Naming + Send + Sync, R: Threads + Wait + Abort + 
     let mut place = Some(of_boolean(seats));
     let started = start(rt, &shared, &mut seen);
     let pair = Pair::of(&lane, sender, taker);
-    let tally = strange_tally(rt, &shared, pair, &mut place);
-    let was_taken = is_empty(place);
-    assert!(rt; started == NOTES && was_taken);
-    let tally = tally.ok_or("a thread")?;
-    assert!(rt; tally.stored() == 1 && tally.strange() == 2);
-    Ok(())
+    let counts = strange_tally(rt, &shared, pair, &mut place);
+    Ok((started, is_empty(place), counts))
 }
 
 /// The requests that are due before each of eight instructions, where each exchange is made at once: of those that are
