@@ -1,3 +1,4 @@
--- How the program ends.
+-- What the program prints, and how it ends.
 -- Source: ours.
+pub mod Running
 pub mod Status

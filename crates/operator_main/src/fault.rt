@@ -2,7 +2,6 @@ ghost use Rattle.std.specs.Prelude.{◌≡◌};
 
 use super::status::Status;
 use instruction_table::{DeckFault, Refusal};
-use job_deck::{DeckError, WriteFailed};
 use thiserror::Error;
 
 /// Why the program ends without its output.
@@ -61,21 +60,5 @@ impl ProgramFault {
 impl From<Refusal> for ProgramFault {
     fn from(refusal: Refusal) -> ProgramFault {
         ProgramFault::of(refusal)
-    }
-}
-
-impl From<DeckError> for ProgramFault {
-    fn from(error: DeckError) -> ProgramFault {
-        match error {
-            DeckError::Deck { line, fault } => ProgramFault::Deck { line, fault },
-            DeckError::OutOfMemory => ProgramFault::OutOfMemory,
-            DeckError::Read => ProgramFault::Read,
-        }
-    }
-}
-
-impl From<WriteFailed> for ProgramFault {
-    fn from(_: WriteFailed) -> ProgramFault {
-        ProgramFault::Write
     }
 }

@@ -1,11 +1,11 @@
 //! A run of a deck by threads: a worker for each unit, one for memory, and this thread, which issues.
-ghost use Rattle.std.specs.Prelude.{◌≡◌, map, true, Some, IfOk, MatchResult};
+ghost use Rattle.std.specs.Prelude.{◌≡◌, map, MatchResult, IfOk};
 ghost use Rattle.instructions.specs.declared.refusal.Refusal.TheVariants.{OutOfMemory};
-ghost use Rattle.sequential.specs.Replay.{boot, replay};
-ghost use Rattle.program_order.specs.Headline.{IsFaultedRun};
 ghost use Rattle.program_order.specs.Processor.{boot_processor};
+ghost use Rattle.operator_main.specs.Running.{IsRun, EndsNoRun};
 
 use super::budget::Budget;
+use super::fault::ProgramFault;
 use instruction_table::Refusal;
 use job_deck::Deck;
 use machine::{Machine, Snapshot};
@@ -63,25 +63,28 @@ fn open_gates() -> Gates<Open> {
 }
 
 /// Boots a machine with a deck's memory and runs it to the end by threads, with the deck's requests for exchanges. The
-/// machine that is answered has come to its state by its log on the memory with which it was booted.
+/// machine that is answered has come to its state by its log on that memory.
 ///
 /// # Errors
-/// `OutOfMemory`, also where a thread couldn't be started, and what the machine refuses before its run is at its end.
-#[tactic(auto, using(program_order::proofs::theorem::Headline::replay_faulted))]
+/// `OutOfMemory`, also where a thread couldn't be started, and `Stuck` where the machine refused a step before the
+/// run's end.
 pub fn run<T: Threads + Wait + Sync>(
     rt: &T,
     alloc: Global,
     deck: &Deck,
     budget: Budget,
-) -> Result<Snapshot, Refusal>
-    ensures replay { IfOk result (λ snapshot. replay (boot snapshot.boot_memory) snapshot.log ≡ Some snapshot.state) }
-    ensures fault { IfOk result (λ snapshot. snapshot.state.fault ≡ true
-        → IsFaultedRun snapshot.log snapshot.boot_memory snapshot.state) }
+) -> Result<Snapshot, ProgramFault>
+    ensures { MatchResult result (λ snapshot. IsRun deck.now.image.memory snapshot.log snapshot.state) EndsNoRun }
 {
     let Ok(orders) = orders(alloc, deck) else {
-        return Err(Refusal::OutOfMemory);
+        return Err(ProgramFault::OutOfMemory);
     };
-    let machine = booted(alloc, deck, budget)?;
-    let ended = run_threads(rt, alloc, machine, &orders, open_gates())?;
-    Ok(ended.snapshot)
+    let Ok(machine) = booted(alloc, deck, budget) else {
+        return Err(ProgramFault::OutOfMemory);
+    };
+    match run_threads(rt, alloc, machine, &orders, open_gates()) {
+        Ok(ended) => Ok(ended.snapshot),
+        Err(Refusal::OutOfMemory) => Err(ProgramFault::OutOfMemory),
+        Err(_) => Err(ProgramFault::Stuck),
+    }
 }

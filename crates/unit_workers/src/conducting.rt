@@ -79,7 +79,9 @@ fn ask_due<K: Naming, R: Wait>(
     shared: &Shared<K>,
     seen: &mut Seen<K>,
     agenda: &mut Agenda<'_>,
-) -> Result<(), Refusal> {
+) -> Result<(), Refusal>
+    ensures memory { seen.new.boot_memory ≡ seen.old.boot_memory }
+{
     let Some(at) = agenda.due() else {
         return Ok(());
     };
@@ -101,7 +103,9 @@ fn exchange<K: Naming, R: Wait>(
     shared: &Shared<K>,
     seen: &mut Seen<K>,
     agenda: &mut Agenda<'_>,
-) -> Result<Course, Refusal> {
+) -> Result<Course, Refusal>
+    ensures memory { seen.new.boot_memory ≡ seen.old.boot_memory }
+{
     match shared.exchange(rt, seen) {
         Ok(()) => {
             agenda.exchanged();
@@ -123,7 +127,9 @@ fn finish<K: Naming, R: Wait>(
     shared: &Shared<K>,
     seen: &mut Seen<K>,
     agenda: &mut Agenda<'_>,
-) -> Result<Course, Refusal> {
+) -> Result<Course, Refusal>
+    ensures memory { seen.new.boot_memory ≡ seen.old.boot_memory }
+{
     // Looked at first: who asks counts afterwards, so where none is left all were asked for.
     let are_left = agenda.free.are_left();
     match exchange(rt, shared, seen, agenda) {
@@ -150,7 +156,9 @@ fn step<K: Naming, R: Wait>(
     seen: &mut Seen<K>,
     agenda: &mut Agenda<'_>,
     lines: &mut Lines<'_>,
-) -> Result<Course, Refusal> {
+) -> Result<Course, Refusal>
+    ensures memory { seen.new.boot_memory ≡ seen.old.boot_memory }
+{
     ask_due(rt, shared, seen, agenda)?;
     match shared.issue(rt, seen) {
         Ok(note) => {
@@ -176,7 +184,9 @@ pub fn begin<K: Naming, R: Wait>(
     shared: &Shared<K>,
     seen: &mut Seen<K>,
     agenda: &mut Agenda<'_>,
-) -> Result<(), Refusal> {
+) -> Result<(), Refusal>
+    ensures memory { seen.new.boot_memory ≡ seen.old.boot_memory }
+{
     ask_due(rt, shared, seen, agenda)?;
     exchange(rt, shared, seen, agenda)?;
     Ok(())
@@ -192,7 +202,9 @@ pub fn conduct<K: Naming, R: Wait>(
     seen: &mut Seen<K>,
     mut agenda: Agenda<'_>,
     lines: &mut Lines<'_>,
-) -> Result<(), Refusal> {
+) -> Result<(), Refusal>
+    ensures memory { seen.new.boot_memory ≡ seen.old.boot_memory }
+{
     let changes = &shared.signals().changes;
     let mut wait = Waiting::new();
     for _ in rt.forever() {

@@ -1,5 +1,5 @@
 //! A whole run by threads.
-ghost use Rattle.std.specs.Prelude.{◌≡◌};
+ghost use Rattle.std.specs.Prelude.{◌≡◌, IfOk, Ok};
 
 use crate::asking::{FreeRequests, ask_all};
 use crate::conducting::{Agenda, begin, conduct};
@@ -52,7 +52,9 @@ fn closing<K: Naming, R: Wait>(
     conducted: Result<(), Refusal>,
     asked: Result<Seen<K>, Refusal>,
     mut seen: Seen<K>,
-) -> Result<Snapshot, Refusal> {
+) -> Result<Snapshot, Refusal>
+    ensures memory { IfOk result (λ snapshot. snapshot.boot_memory ≡ seen.boot_memory) }
+{
     conducted?;
     let mut other = asked?;
     shared.meet(&mut seen, &mut other);
@@ -66,7 +68,9 @@ fn closing<K: Naming, R: Wait>(
 fn with_tallies(
     snapshot: Result<Snapshot, Refusal>,
     tallies: Option<[Tally; 7]>,
-) -> Result<Ended, Refusal> {
+) -> Result<Ended, Refusal>
+    ensures snapshot { IfOk result (λ ended. snapshot ≡ Ok ended.snapshot) }
+{
     let snapshot = snapshot?;
     let Some(tallies) = tallies else {
         return Err(Refusal::OutOfMemory);
@@ -89,7 +93,9 @@ fn run_in<'s, E, K: Naming + Send + Sync + 's, G: Gate + Send + 's, R: Threads +
     free: &'s FreeRequests<'s>,
     mut seen: Seen<K>,
     other: Seen<K>,
-) -> Result<Ended, Refusal> {
+) -> Result<Ended, Refusal>
+    ensures memory { IfOk result (λ ended. ended.snapshot.boot_memory ≡ seen.boot_memory) }
+{
     let mut lines = Lines::start(scope, rt, shared, pairs, places, gates);
     let storing = scope.spawn(move || storage_worker(rt, shared)).ok();
     let asking = scope.spawn(move || ask_all(rt, shared, other, free)).ok();
@@ -125,12 +131,20 @@ fn run_scope<K: Naming + Send + Sync, G: Gate + Send, R: Threads + Wait + Sync>(
     free: &FreeRequests<'_>,
     seen: Seen<K>,
     other: Seen<K>,
-) -> Result<Ended, Refusal> {
-    thread::scope(thread::scope_env(), rt, move |scope| {
-        run_in(
-            scope, rt, shared, pairs, places, gates, agenda, free, seen, other,
-        )
-    })
+) -> Result<Ended, Refusal>
+    ensures memory { IfOk result (λ ended. ended.snapshot.boot_memory ≡ seen.boot_memory) }
+{
+    thread::scope(
+        thread::scope_env(),
+        rt,
+        move |scope| -> Result<Ended, Refusal>
+            ensures { IfOk result (λ ended. ended.snapshot.boot_memory ≡ seen.boot_memory) }
+        {
+            run_in(
+                scope, rt, shared, pairs, places, gates, agenda, free, seen, other,
+            )
+        },
+    )
 }
 
 /// Makes the lanes, and runs.
@@ -147,7 +161,9 @@ fn run_lanes<K: Naming + Send + Sync, G: Gate + Send, R: Threads + Wait + Sync>(
     free: &FreeRequests<'_>,
     seen: Seen<K>,
     other: Seen<K>,
-) -> Result<Ended, Refusal> {
+) -> Result<Ended, Refusal>
+    ensures memory { IfOk result (λ ended. ended.snapshot.boot_memory ≡ seen.boot_memory) }
+{
     let (branch, branch_sender, branch_taker) = lane(alloc, Unit::Branch)?;
     let (boolean, boolean_sender, boolean_taker) = lane(alloc, Unit::Boolean)?;
     let (shift, shift_sender, shift_taker) = lane(alloc, Unit::Shift)?;
@@ -180,7 +196,9 @@ fn run_from_start<K: Naming + Send + Sync, G: Gate + Send, R: Threads + Wait + S
     requests: Requests,
     free: &FreeRequests<'_>,
     mut seen: Seen<K>,
-) -> Result<Ended, Refusal> {
+) -> Result<Ended, Refusal>
+    ensures memory { IfOk result (λ ended. ended.snapshot.boot_memory ≡ seen.boot_memory) }
+{
     let mut agenda = Agenda::new(requests, free);
     begin(rt, shared, &mut seen, &mut agenda)?;
     let other = seen.split()?;
@@ -202,6 +220,7 @@ fn run_beside<K: Naming + Send + Sync, G: Gate + Send, R: Threads + Wait + Sync>
     free: &FreeRequests<'_>,
 ) -> Result<Ended, Refusal>
     requires { ground ≡ K.table }
+    ensures memory { IfOk result (λ ended. ended.snapshot.boot_memory ≡ machine.boot_memory) }
 {
     let (shared, seats, seen) = Shared::<K>::open(alloc, ground, machine)?;
     let mut places = Places::of(seats);
@@ -225,7 +244,9 @@ pub fn run_threads<G: Gate + Send, R: Threads + Wait + Sync>(
     machine: Machine,
     orders: &Orders,
     gates: Gates<G>,
-) -> Result<Ended, Refusal> {
+) -> Result<Ended, Refusal>
+    ensures memory { IfOk result (λ ended. ended.snapshot.boot_memory ≡ machine.boot_memory) }
+{
     let Ok(requests) = Requests::new(alloc, orders.start, orders.after.as_slice()) else {
         return Err(Refusal::OutOfMemory);
     };
