@@ -109,7 +109,7 @@ fn run_deck<T: Threads + Wait + Sync, I: Input, O: Output>(
 /// Goes through a log on a deck, prints the dump and hands it on.
 ///
 /// # Errors
-/// `Deck` with a line and its fault, `BadLog`, `PackageRange` where the words of one of the log's exchanges don't lie in
+/// `Deck` with a line and its fault, `BadLog`, `PackageRange` where the words of an exchange of the log don't lie in
 /// memory, `OutOfMemory`, `Read`, and `Write`. Only at the last of these anything was written, a beginning of the dump.
 fn replay_log<I: Input, O: Output>(
     alloc: Global,

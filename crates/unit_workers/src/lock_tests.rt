@@ -551,7 +551,7 @@ fn two_threads(rt: HostRuntime) -> Result<(), Fail> {
     Ok(())
 }
 
-/// What the start and the two issues answer, how many were stored with each seat, whether the machine was drained before
+/// What the start and the two issues answer, how many were stored with each seat, whether the machine is drained before
 /// and after, and whether the snapshot shows both.
 type ServedByTwo = (
     Result<(), Refusal>,
@@ -612,7 +612,7 @@ fn meeting(rt: HostRuntime) -> Result<(), Fail> {
     Ok(())
 }
 
-/// What the start and the four issues answer, whether the second holder's snapshot has them, what its own issue answers,
+/// What the start and four issues answer, whether the second holder's snapshot has them, what its own issue answers,
 /// and why there is no snapshot then.
 type Met = (
     Result<(), Refusal>,

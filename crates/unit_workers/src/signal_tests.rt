@@ -106,7 +106,7 @@ fn stores_are_told(rt: HostRuntime) -> Result<(), Fail> {
 /// How often it was told of changes and of references.
 type Counts = (u64, u64);
 
-/// Whether the exchange and the issue were made, what the seat tells, what was told at each step of the reservation, what
+/// Whether exchange and issue were made, what the seat tells, what was told at each step of the reservation, what
 /// an accept answers, and what was told then.
 type Stored = (
     bool,
