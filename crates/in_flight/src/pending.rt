@@ -87,7 +87,15 @@ impl Stage {
     }
 }
 
+/// A pass that was never issued, number 0: what lists of a fixed room hold where nothing is.
 impl Default for Pending {
+    ghost use Rattle.instructions.specs.declared.instr.Instr.TheVariants.{Pass};
+    ghost use Rattle.instructions.specs.declared.instr.Unit.TheVariants.{Branch};
+    ghost use Rattle.in_flight.specs.declared.pending.Stage.TheVariants.{Waiting};
+    ghost use Rattle.in_flight.specs.declared.pending.Phase.TheVariants.{Before};
+
+    ghost is_default = { λ p. p ≡ record { instr = Pass; at = 0; number = 0; unit = Branch; phase = Before Waiting } };
+
     fn default() -> Pending {
         Pending {
             instr: Instr::Pass,

@@ -1,6 +1,6 @@
 -- Each event leaves every pending instruction with a slot of its own, so that sixteen places are enough.
 use Rattle.std.proofs.Common.{◌≡◌, ◌≢◌, ◌<◌, ◌≤◌, ℕ, false, List, [], ◌∷◌, ◌++◌, refl, sym, ap, ◌∙◌, subst, eqb, get_or}
-use Rattle.std.proofs.Common.{arith, ◌+◌, Bool, true, cond, Some, None}
+use Rattle.std.proofs.Common.{arith, Bool, true, cond, Some, None}
 use Rattle.std.proofs.lemmas.Bool.{eqb-false, ne_eqb, or_parts}
 use Rattle.std.specs.List.{list_any}
 use Rattle.instructions.specs.declared.instr.Reg.TheVariants.{X, A}

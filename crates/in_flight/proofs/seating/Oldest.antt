@@ -64,7 +64,7 @@ lowest_sorted (Some x ∷ os) =
 pub first_pending : (units places channels : List (Option Pending))
     → lower_of (lowest_of units) (lower_of (lowest_of places) (lowest_of channels))
     ≡ first_of (in_order (seats units places channels))
-unfolding seats in_order
+unfolding seats
 first_pending units places channels =
     ap (lower_of (lowest_of units)) (sym (lowest-append places channels))
     ∙ sym (lowest-append units (places ++ channels))

@@ -1,6 +1,6 @@
 use Rattle.std.proofs.Common.{refl}
 use Rattle.instructions.specs.Order.{sort_by, somes}
-use Rattle.in_flight.specs.inner.Seats.{seats, in_order}
+use Rattle.in_flight.specs.inner.Seats.{seats}
 use Rattle.in_flight.proofs.slots.Slots.new.Goals as goal
 
 pub invariant_of-result : goal.invariant_of-result
@@ -8,5 +8,5 @@ unfolding seats somes
 invariant_of-result c = record { all_units = refl; all_places = refl; all_channels = refl; sits = tt; own = tt }
 
 pub returns : goal.returns
-unfolding seats in_order sort_by somes
+unfolding seats sort_by somes
 returns c = refl
