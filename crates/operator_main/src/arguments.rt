@@ -47,30 +47,46 @@ fn budget_option<'a>(alloc: Global) -> Arg<'a> {
         .help("Issues at most N instructions")
 }
 
-/// The command line that is accepted. `help` is no command of its own; `--help` is an option of each.
-fn accepted<'a>(alloc: Global) -> Result<Command<'a>, AllocError> {
-    let run = Command::new(alloc, "run")
+/// `run`.
+fn run_command<'a>(alloc: Global) -> Result<Command<'a>, AllocError> {
+    Command::new(alloc, "run")
         .about("Runs the deck on standard input and prints the machine's dump")
         .override_usage("cdc6600 run [--budget N]")
-        .arg(budget_option(alloc))?;
+        .arg(budget_option(alloc))
+}
+
+/// `replay`.
+fn replay_command<'a>(alloc: Global) -> Result<Command<'a>, AllocError> {
     let log = Arg::new(alloc, "LOG")
         .required(true)
         .help("What the dump of a run has after LOG, as one argument");
-    let replay = Command::new(alloc, "replay")
+    Command::new(alloc, "replay")
         .about(
             "Goes through LOG on the deck on standard input, one instruction at a time, and prints the machine's dump",
         )
         .override_usage("cdc6600 replay LOG")
-        .arg(log)?;
-    let events = Command::new(alloc, "events")
+        .arg(log)
+}
+
+/// `events`.
+fn events_command<'a>(alloc: Global) -> Result<Command<'a>, AllocError> {
+    Command::new(alloc, "events")
         .about(
             "Makes the events of the schedule after the deck on standard input, one a line, and answers each",
         )
         .override_usage("cdc6600 events [--budget N]")
-        .arg(budget_option(alloc))?;
-    let list = Command::new(alloc, "list")
+        .arg(budget_option(alloc))
+}
+
+/// `list`.
+fn list_command<'a>(alloc: Global) -> Command<'a> {
+    Command::new(alloc, "list")
         .about("Prints the words of the deck on standard input with their instructions")
-        .override_usage("cdc6600 list");
+        .override_usage("cdc6600 list")
+}
+
+/// The program, still without its commands. `help` is no command of its own; `--help` is an option of each.
+fn bare_program<'a>(alloc: Global) -> Command<'a> {
     Command::new(alloc, "cdc6600")
         .about("A CDC 6600 central processor with its scoreboard")
         .version(VERSION)
@@ -79,10 +95,15 @@ fn accepted<'a>(alloc: Global) -> Result<Command<'a>, AllocError> {
         .no_binary_name(true)
         .subcommand_required(true)
         .disable_help_subcommand(true)
-        .subcommand(run)?
-        .subcommand(replay)?
-        .subcommand(events)?
-        .subcommand(list)
+}
+
+/// The command line that is accepted.
+fn accepted<'a>(alloc: Global) -> Result<Command<'a>, AllocError> {
+    bare_program(alloc)
+        .subcommand(run_command(alloc)?)?
+        .subcommand(replay_command(alloc)?)?
+        .subcommand(events_command(alloc)?)?
+        .subcommand(list_command(alloc))
 }
 
 /// The budget that a command is given, which `clap` holds to be one.

@@ -58,6 +58,10 @@ impl ProgramFault {
 }
 
 impl From<Refusal> for ProgramFault {
+    ghost use Rattle.operator_main.specs.Status.{fault_of};
+
+    ghost from_gives = { λ refusal fault. fault ≡ fault_of refusal };
+
     fn from(refusal: Refusal) -> ProgramFault {
         ProgramFault::of(refusal)
     }

@@ -218,8 +218,37 @@ fn is_alike<K: Naming>(
     crew.call(rt, event) == machine.apply(event) && crew.drained(rt) == machine.drained()
 }
 
-/// The calls of a locked machine, beside its progress word, and what the seats and the snapshot then tell. The schedule
-/// leaves nothing pending.
+/// How many of the events are alike.
+fn count_alike<K: Naming>(
+    rt: &impl Wait,
+    crew: &mut Crew<K>,
+    machine: &mut Machine,
+    events: &[Event],
+) -> usize {
+    let mut alike = 0usize;
+    for event in events {
+        if is_alike(rt, crew, machine, *event) {
+            alike = alike.saturating_add(1);
+        }
+    }
+    alike
+}
+
+/// What the seats and the snapshot tell after the schedule, which leaves nothing pending.
+fn expect_told<K: Naming>(
+    rt: &(impl Abort + AllocGlobal + Wait),
+    schedule: &Schedule,
+    deck: &Deck,
+    crew: Crew<K>,
+) -> Result<(), Fail> {
+    let mut crew = crew;
+    let snapshot = crew.snapshot(rt);
+    let stored = crew.leave();
+    assert_eq!(rt; stored, stored_by_unit(schedule), "{}", schedule.name);
+    expect_left(rt, schedule, deck, &snapshot?)
+}
+
+/// The calls of a locked machine, beside its progress word.
 fn expect_calls_beside<K: Naming>(
     rt: &(impl Abort + AllocGlobal + Wait),
     schedule: &Schedule,
@@ -232,21 +261,9 @@ fn expect_calls_beside<K: Naming>(
     let mut alone = booted(rt.alloc(), &deck, schedule)?;
     let machine = booted(rt.alloc(), &deck, schedule)?;
     let mut crew = Crew::<K>::open(rt.alloc(), ground, machine)?;
-    let mut alike = 0usize;
-    for event in events {
-        if is_alike(rt, &mut crew, &mut alone, event) {
-            alike = alike.saturating_add(1);
-        }
-    }
-    let snapshot = crew.snapshot(rt);
-    let stored = crew.leave();
-    assert_eq!(rt;
-        (alike, stored),
-        (schedule.steps.len(), stored_by_unit(schedule)),
-        "{}",
-        schedule.name
-    );
-    expect_left(rt, schedule, &deck, &snapshot?)
+    let alike = count_alike(rt, &mut crew, &mut alone, events.as_slice());
+    assert_eq!(rt; alike, schedule.steps.len(), "{}", schedule.name);
+    expect_told(rt, schedule, &deck, crew)
 }
 
 /// The same beside a progress word of its own.
@@ -269,38 +286,37 @@ fn expect_each(
     Ok(())
 }
 
+/// Each of the schedules.
+fn expect_all(
+    rt: &(impl Abort + AllocGlobal + Threads + Wait + Sync),
+    schedules: &[Schedule],
+) -> Result<(), Fail> {
+    for schedule in schedules {
+        expect_each(rt, schedule)?;
+    }
+    Ok(())
+}
+
 /// Instructions that read and set registers alone.
 #[test]
 fn registers(rt: HostRuntime) -> Result<(), Fail> {
-    for schedule in &test_registers::SCHEDULES {
-        expect_each(&rt, schedule)?;
-    }
-    Ok(())
+    expect_all(&rt, test_registers::SCHEDULES.as_slice())
 }
 
 /// Loads and stores.
 #[test]
 fn references(rt: HostRuntime) -> Result<(), Fail> {
-    for schedule in &test_references::SCHEDULES {
-        expect_each(&rt, schedule)?;
-    }
-    Ok(())
+    expect_all(&rt, test_references::SCHEDULES.as_slice())
 }
 
 /// Branches.
 #[test]
 fn branches(rt: HostRuntime) -> Result<(), Fail> {
-    for schedule in &test_branches::SCHEDULES {
-        expect_each(&rt, schedule)?;
-    }
-    Ok(())
+    expect_all(&rt, test_branches::SCHEDULES.as_slice())
 }
 
 /// Requests for exchanges.
 #[test]
 fn exchanges(rt: HostRuntime) -> Result<(), Fail> {
-    for schedule in &test_exchanges::SCHEDULES {
-        expect_each(&rt, schedule)?;
-    }
-    Ok(())
+    expect_all(&rt, test_exchanges::SCHEDULES.as_slice())
 }

@@ -5,8 +5,8 @@ ghost use Rattle.unit_workers.specs.Ending.{is_end};
 
 use crate::asking::FreeRequests;
 use crate::crew::Lines;
-use crate::requests::Requests;
 use crate::waiting::Waiting;
+use exchange_requests::Requests;
 use instruction_table::Refusal;
 use machine_lock::{Naming, Seen, Shared};
 use std::sync::Wait;

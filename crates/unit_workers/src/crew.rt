@@ -6,8 +6,10 @@ use crate::working::Tally;
 use instruction_table::Unit;
 use machine::{Note, Seat};
 use machine_lock::{Naming, Shared};
+use std::alloc::Global;
 use std::sync::Wait;
 use std::thread::{Scope, Threads};
+use unit_queue::Lane;
 
 /// Where the workers find their seats. A worker takes its seat out and leaves it at its end.
 pub struct Places {
@@ -71,6 +73,33 @@ impl Places {
     }
 }
 
+/// Where the lanes are kept while their ends are used.
+#[derive(Drop)]
+pub struct Lanes {
+    branch: Option<Lane>,
+    boolean: Option<Lane>,
+    shift: Option<Lane>,
+    long_add: Option<Lane>,
+    divide: Option<Lane>,
+    increment1: Option<Lane>,
+    increment2: Option<Lane>,
+}
+
+impl Lanes {
+    /// None is there.
+    pub fn new() -> Lanes {
+        Lanes {
+            branch: None,
+            boolean: None,
+            shift: None,
+            long_add: None,
+            divide: None,
+            increment1: None,
+            increment2: None,
+        }
+    }
+}
+
 /// The lanes with their ends.
 #[derive(Drop)]
 pub struct Pairs<'a> {
@@ -81,6 +110,32 @@ pub struct Pairs<'a> {
     pub divide: Pair<'a>,
     pub increment1: Pair<'a>,
     pub increment2: Pair<'a>,
+}
+
+impl<'a> Pairs<'a> {
+    /// Makes all seven lanes, each in its place. None where no memory was to be had.
+    pub fn open(alloc: Global, lanes: &'a mut Lanes) -> Option<Pairs<'a>> {
+        let branch = Pair::open(alloc, Unit::Branch, &mut lanes.branch);
+        let boolean = Pair::open(alloc, Unit::Boolean, &mut lanes.boolean);
+        let shift = Pair::open(alloc, Unit::Shift, &mut lanes.shift);
+        let long_add = Pair::open(alloc, Unit::LongAdd, &mut lanes.long_add);
+        let divide = Pair::open(alloc, Unit::Divide, &mut lanes.divide);
+        let increment1 = Pair::open(alloc, Unit::Increment1, &mut lanes.increment1);
+        let increment2 = Pair::open(alloc, Unit::Increment2, &mut lanes.increment2);
+        let first = branch.zip(boolean).zip(shift.zip(long_add));
+        let last = divide.zip(increment1.zip(increment2));
+        let (((branch, boolean), (shift, long_add)), (divide, (increment1, increment2))) =
+            first.zip(last)?;
+        Some(Pairs {
+            branch,
+            boolean,
+            shift,
+            long_add,
+            divide,
+            increment1,
+            increment2,
+        })
+    }
 }
 
 /// The lanes to send on, with their workers.
@@ -186,21 +241,16 @@ impl<'a> Lines<'a> {
             increment1,
             increment2,
         } = self;
-        let branch = branch.end(rt);
-        let boolean = boolean.end(rt);
-        let shift = shift.end(rt);
-        let long_add = long_add.end(rt);
-        let divide = divide.end(rt);
-        let increment1 = increment1.end(rt);
-        let increment2 = increment2.end(rt);
+        let first = branch.end(rt).zip(boolean.end(rt));
+        let second = shift.end(rt).zip(long_add.end(rt));
+        let last = divide
+            .end(rt)
+            .zip(increment1.end(rt).zip(increment2.end(rt)));
+        let (((branch, boolean), (shift, long_add)), (divide, (increment1, increment2))) = first
+            .zip(second)
+            .zip(last)?;
         Some([
-            branch?,
-            boolean?,
-            shift?,
-            long_add?,
-            divide?,
-            increment1?,
-            increment2?,
+            branch, boolean, shift, long_add, divide, increment1, increment2,
         ])
     }
 }

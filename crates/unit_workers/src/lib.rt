@@ -8,7 +8,6 @@ mod conducting;
 mod crew;
 mod gate;
 mod lines;
-mod requests;
 mod running;
 mod serving;
 mod storing;

@@ -4,13 +4,15 @@ ghost use Rattle.std.specs.Option.{ForSome};
 
 use crate::gate::Gate;
 use crate::working::{Tally, worker};
+use instruction_table::Unit;
 use machine::{Note, Seat};
 use machine_lock::{Naming, Shared};
+use std::alloc::Global;
 use std::snapshot::Snapshot;
 use std::sync::Wait;
 use std::thread;
 use std::thread::{Promise, PromisedHandle, Scope, Threads};
-use unit_queue::{Lane, SendPass, TakePass};
+use unit_queue::{Lane, SendPass, TakePass, lane};
 
 /// The tally that a worker's thread gives is of this lane.
 #[derive(Drop)]
@@ -101,6 +103,12 @@ impl<'a> Pair<'a> {
             sender,
             taker,
         }
+    }
+
+    /// Makes a unit's lane, which is kept in the place. None where no memory was to be had.
+    pub fn open(alloc: Global, unit: Unit, place: &'a mut Option<Lane>) -> Option<Pair<'a>> {
+        let (lane, sender, taker) = lane(alloc, unit).ok()?;
+        Some(Pair::of(place.insert(lane), sender, taker))
     }
 
     /// Starts the lane's worker, which finds its seat in the place.

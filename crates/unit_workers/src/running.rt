@@ -3,13 +3,12 @@ ghost use Rattle.std.specs.Prelude.{◌≡◌, IfOk, Ok};
 
 use crate::asking::{FreeRequests, ask_all};
 use crate::conducting::{Agenda, begin, conduct};
-use crate::crew::{Lines, Pairs, Places};
+use crate::crew::{Lanes, Lines, Pairs, Places};
 use crate::gate::{Gate, Gates};
-use crate::lines::Pair;
-use crate::requests::Requests;
 use crate::storing::storage_worker;
 use crate::working::Tally;
-use instruction_table::{Refusal, Unit};
+use exchange_requests::Requests;
+use instruction_table::Refusal;
 use machine::{Machine, Snapshot};
 use machine_lock::{Ground, Naming, Seen, Shared};
 use std::alloc::Global;
@@ -17,7 +16,6 @@ use std::marker::Brand;
 use std::sync::Wait;
 use std::thread;
 use std::thread::{Scope, Threads};
-use unit_queue::lane;
 
 /// What a run is to do.
 #[derive(Drop)]
@@ -164,21 +162,9 @@ fn run_lanes<K: Naming + Send + Sync, G: Gate + Send, R: Threads + Wait + Sync>(
 ) -> Result<Ended, Refusal>
     ensures memory { IfOk result (λ ended. ended.snapshot.boot_memory ≡ seen.boot_memory) }
 {
-    let (branch, branch_sender, branch_taker) = lane(alloc, Unit::Branch)?;
-    let (boolean, boolean_sender, boolean_taker) = lane(alloc, Unit::Boolean)?;
-    let (shift, shift_sender, shift_taker) = lane(alloc, Unit::Shift)?;
-    let (long_add, long_add_sender, long_add_taker) = lane(alloc, Unit::LongAdd)?;
-    let (divide, divide_sender, divide_taker) = lane(alloc, Unit::Divide)?;
-    let (increment1, increment1_sender, increment1_taker) = lane(alloc, Unit::Increment1)?;
-    let (increment2, increment2_sender, increment2_taker) = lane(alloc, Unit::Increment2)?;
-    let pairs = Pairs {
-        branch: Pair::of(&branch, branch_sender, branch_taker),
-        boolean: Pair::of(&boolean, boolean_sender, boolean_taker),
-        shift: Pair::of(&shift, shift_sender, shift_taker),
-        long_add: Pair::of(&long_add, long_add_sender, long_add_taker),
-        divide: Pair::of(&divide, divide_sender, divide_taker),
-        increment1: Pair::of(&increment1, increment1_sender, increment1_taker),
-        increment2: Pair::of(&increment2, increment2_sender, increment2_taker),
+    let mut lanes = Lanes::new();
+    let Some(pairs) = Pairs::open(alloc, &mut lanes) else {
+        return Err(Refusal::OutOfMemory);
     };
     run_scope(rt, shared, pairs, places, gates, agenda, free, seen, other)
 }

@@ -4,7 +4,6 @@ ghost use Rattle.std.specs.Prelude.{◌≡◌};
 
 use crate::lines::{Line, Pair};
 use crate::lock_tests::leave_all;
-use crate::requests::Requests;
 use crate::test_machines::{Words, booted, booted_over, note, word, x};
 use crate::{Ended, Gate, Gates, Open, Orders, Tally, run_threads, serve, worker};
 use instruction_table::{Digit, Halt, Refusal, Reg, Unit};
@@ -702,39 +701,4 @@ fn counts_strangers_beside<K: Naming + Send + Sync, R: Threads + Wait + Sync>(
     let pair = Pair::of(&lane, sender, taker);
     let counts = strange_tally(rt, &shared, pair, &mut place);
     Ok((started, is_empty(place), counts))
-}
-
-/// The requests that are due before each of eight instructions, where each exchange is made at once: of those that are
-/// due the one after the fewest instructions first.
-#[test]
-fn requests_in_turn(rt: HostRuntime) -> Result<(), Fail> {
-    let asks = [(0o60, 4), (0o100, 2), (0o120, 4), (0o140, 0), (0o160, 9)];
-    let mut requests = Requests::new(rt.alloc(), 0o40, asks.as_slice())?;
-    let mut made = Vec::new(rt.alloc());
-    for issued in 0..8u32 {
-        for _ in 0..3u32 {
-            if let Some(ask) = requests.take_due() {
-                made.push((issued, ask.0))?;
-                requests.exchanged();
-            }
-        }
-        requests.issued();
-    }
-    let wanted = [(0, 0o40), (0, 0o140), (2, 0o100), (4, 0o60), (4, 0o120)];
-    assert_eq!(rt; made.as_slice(), wanted.as_slice());
-    Ok(())
-}
-
-/// None is due while one waits.
-#[test]
-fn waiting_request(rt: HostRuntime) -> Result<(), Fail> {
-    let asks = [(0o60, 0)];
-    let mut requests = Requests::new(rt.alloc(), 0o40, asks.as_slice())?;
-    assert_eq!(rt; requests.take_due(), Some((0o40, 0)));
-    assert_eq!(rt; requests.take_due(), None);
-    requests.exchanged();
-    assert_eq!(rt; requests.take_due(), Some((0o60, 0)));
-    requests.exchanged();
-    assert_eq!(rt; requests.take_due(), None);
-    Ok(())
 }

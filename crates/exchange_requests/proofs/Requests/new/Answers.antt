@@ -1,14 +1,12 @@
 use Rattle.std.proofs.Common.{rules, ap, ◌∙◌, ◌++◌}
 use Rattle.std.specs.List.{filter}
 use Rattle.std.proofs.lemmas.List.Sorted.{IsNonDecreasingBy-from_sort_by_key, answers_always}
-use Rattle.unit_workers.proofs.requests.Requests.new.Goals as goal
+use Rattle.exchange_requests.proofs.Requests.new.Goals as goal
 
 pub invariant_of-result : goal.invariant_of-result
-invariant_of-result c = record {
-  in_order = rw c.from_vec.ensures.items
-      (IsNonDecreasingBy-from_sort_by_key (λ ask. ask.1) _ c.in_ok-sort_by_key.ensures.sorted
-      (λ a r q k. search rules));
-}
+invariant_of-result c = rw c.from_vec.ensures.items
+    (IsNonDecreasingBy-from_sort_by_key (λ ask. ask.1) _ c.in_ok-sort_by_key.ensures.sorted
+    (λ a r q k. search rules))
 
 pub returns-clause-left : goal.returns-clause-left
 returns-clause-left c = rw c.from_vec.ensures.items

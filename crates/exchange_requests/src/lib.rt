@@ -9,19 +9,27 @@
 //! A run ends where the machine is drained and either it is halted, faulted or out of budget, no request waits
 //! and none is due; or it is out of budget in the middle of a word, where the exchange that waits can't be made.
 //! A request after more instructions than are issued by then isn't made.
+//!
+//! All of this is this project's choice; the exchange jump itself is the 6600's (Control Data 60100000).
+#![tactic(auto)]
 
 ghost use Rattle.std.specs.Prelude.{◌≡◌, ◌<◌, ◌+◌, ◌^◌, ◌++◌, ◌∷◌, ◌||◌, true, false, None, is_some, option_to_list};
 ghost use Rattle.std.specs.Prelude.{IfOk};
-ghost use Rattle.unit_workers.specs.Requests.{IsInOrder, KeepsTies, IsDue};
+ghost use Rattle.exchange_requests.specs.Requests.{KeepsTies, IsDue};
+
+#[cfg(test)]
+mod tests;
 
 use std::alloc::{AllocError, Global};
 use std::collections::VecDeque;
+use std::marker::Model;
 
 /// A request for an exchange: the absolute address of the package, and the number of instructions after which it is
 /// made.
 pub type Ask = (u32, u64);
 
-/// The requests that a run has still to make, and how far the run has come.
+/// The requests that a run has still to make, and how far the run has come. A contract sees the requests in the order
+/// in which they are made, how many instructions were issued, and whether a request waits for its exchange.
 #[derive(Drop)]
 pub struct Requests {
     /// In the order in which they are made.
@@ -30,7 +38,16 @@ pub struct Requests {
     issued: u64,
     /// Whether a request waits for its exchange.
     is_waiting: bool,
-    ghost in_order: { IsInOrder left.items },
+}
+
+impl Model for Requests {
+    ghost use Rattle.exchange_requests.specs.Requests.{ToMake, IsInOrder};
+
+    ghost Value = { ToMake };
+
+    ghost view = { λ s. record { asks = s.left.items; issued = s.issued; is_waiting = s.is_waiting } };
+
+    ghost invariant = { λ s. IsInOrder s.left.items };
 }
 
 impl Requests {
@@ -40,7 +57,7 @@ impl Requests {
     /// # Errors
     /// No memory was to be had.
     pub fn new(alloc: Global, start: u32, asks: &[Ask]) -> Result<Requests, AllocError>
-        ensures left { IfOk result (λ requests. KeepsTies ((start, 0) ∷ asks.now) requests.left.items) }
+        ensures left { IfOk result (λ requests. KeepsTies ((start, 0) ∷ asks.now) requests.asks) }
         ensures issued { IfOk result (λ requests. requests.issued ≡ 0) }
         ensures is_waiting { IfOk result (λ requests. requests.is_waiting ≡ false) }
     {
@@ -56,9 +73,9 @@ impl Requests {
 
     /// Takes the request that is due, if one is; it waits for its exchange from then on.
     pub fn take_due(&mut self) -> Option<Ask>
-        ensures due { self.old.is_waiting ≡ false → IsDue self.old.left.items self.old.issued result }
+        ensures due { self.old.is_waiting ≡ false → IsDue self.old.asks self.old.issued result }
         ensures none { self.old.is_waiting ≡ true → result ≡ None }
-        ensures left { self.old.left.items ≡ option_to_list result ++ self.new.left.items }
+        ensures left { self.old.asks ≡ option_to_list result ++ self.new.asks }
         ensures is_waiting { self.new.is_waiting ≡ (self.old.is_waiting || is_some result) }
         ensures issued { self.new.issued ≡ self.old.issued }
     {
@@ -76,7 +93,7 @@ impl Requests {
 
     /// The exchange of the request that waits was made.
     pub fn exchanged(&mut self)
-        ensures left { self.new.left.items ≡ self.old.left.items }
+        ensures left { self.new.asks ≡ self.old.asks }
         ensures is_waiting { self.new.is_waiting ≡ false }
         ensures issued { self.new.issued ≡ self.old.issued }
     {
@@ -85,7 +102,7 @@ impl Requests {
 
     /// An instruction was issued.
     pub fn issued(&mut self)
-        ensures left { self.new.left.items ≡ self.old.left.items }
+        ensures left { self.new.asks ≡ self.old.asks }
         ensures is_waiting { self.new.is_waiting ≡ self.old.is_waiting }
         ensures issued { self.old.issued + 1 < 2 ^ 64 → self.new.issued ≡ self.old.issued + 1 }
     {

@@ -1,8 +1,15 @@
 -- The order in which a run makes its requests for exchanges, and which of them is due. A request is the absolute
 -- address of a package and the number of instructions after which it is made. Source: ours.
-use Rattle.std.specs.Prelude.{ℕ, ◌≤◌, ◌<◌, List, Option, Some, None, All}
+use Rattle.std.specs.Prelude.{ℕ, Bool, ◌≤◌, ◌<◌, List, Option, Some, None, All}
 use Rattle.std.specs.Ordering.{nat_cmp}
 use Rattle.std.specs.List.Sorted.{IsNonDecreasingBy, IsStableByKey}
+
+-- what a run has still to make, in the order in which it is made, how many instructions were issued, and whether a
+-- request waits for its exchange
+pub record ToMake : Type 0 where
+  pub asks : List (ℕ × ℕ)
+  pub issued : ℕ
+  pub is_waiting : Bool
 
 -- those after fewer instructions come first
 abbrev pub IsInOrder : List (ℕ × ℕ) → Type 0
