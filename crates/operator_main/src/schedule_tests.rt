@@ -239,9 +239,8 @@ fn expect_told<K: Naming>(
     rt: &(impl Abort + AllocGlobal + Wait),
     schedule: &Schedule,
     deck: &Deck,
-    crew: Crew<K>,
+    mut crew: Crew<K>,
 ) -> Result<(), Fail> {
-    let mut crew = crew;
     let snapshot = crew.snapshot(rt);
     let stored = crew.leave();
     assert_eq!(rt; stored, stored_by_unit(schedule), "{}", schedule.name);
