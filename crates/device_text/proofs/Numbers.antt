@@ -1,21 +1,17 @@
 -- The digits of a number.
-use Rattle.std.proofs.Common.{◌≡◌, ℕ, suc, ◌+◌, ◌*◌, ◌^◌, ◌<◌, ◌≤◌, Bool, true, false, ◌&&◌, List, [], ◌∷◌, length}
+use Rattle.std.proofs.Common.{◌≡◌, ℕ, suc, ◌+◌, ◌*◌, ◌^◌, ◌<◌, ◌≤◌, true, List, [], ◌∷◌, length}
 use Rattle.std.proofs.Common.{take, get_or, refl, arith, length-take}
 use Rattle.std.proofs.lemmas.List.Folds.{list_all_more}
 use Rattle.std.specs.List.{list_all}
 use Rattle.std.specs.Char.{is_digit, digit_value}
 use Rattle.std.specs.Str.Parse.{digits_value, AllDigits}
 use Rattle.std.proofs.Math.Nat.{pow-le-pow_right, pow-suc, mul-le-mul_right}
-use Rattle.std.proofs.lemmas.Bool.{ltb-true, lt-ltb}
+use Rattle.std.proofs.lemmas.Bool.{ltb-true, lt-ltb, and_parts}
 use Rattle.std.proofs.lemmas.Int.Digits.{digits_value-lt, digits_value_more}
-
-both : (a b : Bool) → (a && b) ≡ true → (a ≡ true) × (b ≡ true)
-both true b e = (refl, e)
-both false b e = (e, cc)
 
 pub all_digits : (base : ℕ) (cs : List ℕ) → list_all (λ c. is_digit c base) cs ≡ true → AllDigits base cs
 all_digits base [] e = tt
-all_digits base (c ∷ cs) e = let h = both (is_digit c base) _ e in (ltb-true _ _ h.0, all_digits base cs h.1)
+all_digits base (c ∷ cs) e = let h = and_parts (is_digit c base) _ e in (ltb-true _ _ h.0, all_digits base cs h.1)
 
 -- one more digit fits
 pub room : (base most v d : ℕ) (cs : List ℕ) → 2 ≤ base → base ^ most ≤ 2 ^ 64 → length cs < most

@@ -1,10 +1,8 @@
 -- Who is found in a list.
 use Rattle.std.proofs.Common.{◌≡◌, List, [], ◌∷◌, ◌++◌, Option, Some, None, refl, ap, ◌∙◌, subst}
+use Rattle.std.proofs.lemmas.Option.{same_Some}
 use Rattle.instructions.specs.Each.{Each}
 use Rattle.instructions.specs.Finding.{Found, found_further, found_here, seek, put_back, replaced}
-
-pub some_inj : {K : Type 0} (x y : K) → Some x ≡ Some y → x ≡ y
-some_inj x y e = cc
 
 -- what was found is one of the list, the answer is about it, and none before it answers
 abbrev pub Splits : {M K : Type 0} → (M → Option K) → List M → Found M K → Type 0
@@ -17,11 +15,11 @@ seek_splits {M} {K} f (m ∷ ms) x h = here (seek_splits f ms) (f m) refl (seek 
   where
     here : ((y : Found M K) → seek f ms ≡ Some y → Splits f ms y) → (o : Option K) → f m ≡ o
         → (rest : Option (Found M K)) → seek f ms ≡ rest → found_here o m ms rest ≡ Some x → Splits f (m ∷ ms) x
-    here ih (Some y) e rest er k = subst (Splits f (m ∷ ms)) (some_inj _ x k) (refl, e, tt)
+    here ih (Some y) e rest er k = subst (Splits f (m ∷ ms)) (same_Some _ x k) (refl, e, tt)
     here ih None e None er k = cc
     here ih None e (Some y) er k =
         let p = ih y er in
-        subst (Splits f (m ∷ ms)) (some_inj _ x k) (ap (λ l. m ∷ l) p.0, p.1, (e, p.2))
+        subst (Splits f (m ∷ ms)) (same_Some _ x k) (ap (λ l. m ∷ l) p.0, p.1, (e, p.2))
 
 -- one is found where none before it answers
 pub seek_around : {M K : Type 0} (f : M → Option K) (es : List M) (m : M) (x : K) (ls : List M)

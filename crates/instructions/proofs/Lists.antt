@@ -1,9 +1,13 @@
 -- Tests over lists, when lists are joined.
-use Rattle.std.proofs.Common.{◌≡◌, Bool, false, List, [], ◌∷◌, ◌++◌, refl, ap, map}
+use Rattle.std.proofs.Common.{◌≡◌, Bool, true, false, List, [], ◌∷◌, ◌++◌, refl, ap, map}
 use Rattle.std.specs.Prelude.{◌||◌}
 use Rattle.std.proofs.lemmas.Bool.{or_parts, or_from}
 use Rattle.std.specs.List.{list_any}
 use Rattle.instructions.specs.Each.{Each, Pairs}
+
+pub or_false : (b : Bool) → (b || false) ≡ b
+or_false true = refl
+or_false false = refl
 
 pub any_left : {X : Type 0} (f : X → Bool) (xs ys : List X) → list_any f (xs ++ ys) ≡ false → list_any f xs ≡ false
 any_left f [] ys h = refl
@@ -78,6 +82,14 @@ pairs_with R (x ∷ xs) y z ys h k step = (
 )
 
 -- one more at the end
+pub pairs_insert : {X : Type 0} (R : X → X → Type 0) (xs : List X) (y : X) (ys : List X) → Pairs R (xs ++ ys)
+    → Each (λ x. R x y) xs → Each (R y) ys → Pairs R (xs ++ y ∷ ys)
+pairs_insert R [] y ys h k l = (l, h)
+pairs_insert R (x ∷ xs) y ys h k l = (
+  each_append (R x) xs (y ∷ ys) (each_left (R x) xs ys h.0) (k.0, each_right (R x) xs ys h.0),
+  pairs_insert R xs y ys h.1 k.1 l,
+)
+
 pub pairs_push : {X : Type 0} (R : X → X → Type 0) (xs : List X) (y : X) → Pairs R xs → Each (λ x. R x y) xs
     → Pairs R (xs ++ y ∷ [])
 pairs_push R [] y h k = (tt, tt)

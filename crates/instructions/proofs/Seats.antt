@@ -11,7 +11,7 @@ use Rattle.instructions.specs.Finding.{seek}
 use Rattle.instructions.specs.Order.{insert_by, sort_by, somes, IsSeated}
 use Rattle.instructions.proofs.Finding.{seek_around, seek_nobody}
 use Rattle.instructions.proofs.Lists.{any_of_each, each_left, each_right, each_append, each_map, pairs_before}
-use Rattle.instructions.proofs.Lists.{pairs_right, pairs_without}
+use Rattle.instructions.proofs.Lists.{pairs_right, pairs_without, pairs_insert}
 use Rattle.instructions.proofs.Sorted.{below, above, insert_splits, insert_last, below-above, sort_around, sort_each}
 use Rattle.instructions.proofs.Sorted.{before_place, after_place, somes-at, somes-set_some, somes-set_none, somes-empty}
 
@@ -23,14 +23,6 @@ within (o ∷ os) (suc i) x h = let k : i < length os = within os i x h in omega
 -- no two have one number
 abbrev pub HasOwnKeys : {K : Type 0} → (K → ℕ) → List K → Type 0
 HasOwnKeys key xs = Pairs (λ a b. key a ≢ key b) xs
-
-pairs_insert : {K : Type 0} (R : K → K → Type 0) (xs : List K) (y : K) (ys : List K) → Pairs R (xs ++ ys)
-    → Each (λ x. R x y) xs → Each (R y) ys → Pairs R (xs ++ y ∷ ys)
-pairs_insert R [] y ys h k l = (l, h)
-pairs_insert R (x ∷ xs) y ys h k l = (
-  each_append (R x) xs (y ∷ ys) (each_left (R x) xs ys h.0) (k.0, each_right (R x) xs ys h.0),
-  pairs_insert R xs y ys h.1 k.1 l,
-)
 
 -- the others, once it is taken out
 pub others_differ : {K : Type 0} (key : K → ℕ) (os : List (Option K)) (i : ℕ) (m : K) → get_or os i None ≡ Some m

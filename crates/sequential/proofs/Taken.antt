@@ -1,11 +1,9 @@
 -- The instructions of a log that go to a unit are counted step by step.
 use Rattle.std.proofs.Common.{◌≡◌, ◌+◌, List, [], ◌∷◌, ◌++◌, Option, Some, None, refl, ap, arith}
+use Rattle.std.proofs.lemmas.Option.{same_Some}
 use Rattle.sequential.specs.declared.state.State.{State}
 use Rattle.sequential.specs.Replay.{LogStep, do_log_step, replay, then_replay}
 use Rattle.sequential.specs.Taken.{taken_at, then_taken, taken}
-
-some_inj : (s t : State) → Some s ≡ Some t → s ≡ t
-some_inj s t e = cc
 
 then_none : (o : Option State) → then_taken o (λ t. 0) ≡ 0
 unfolding then_taken
@@ -17,7 +15,7 @@ pub taken-push : (s t : State) (xs : List LogStep) (x : LogStep) → replay s xs
     → taken s (xs ++ x ∷ []) ≡ taken s xs + taken_at t x
 unfolding taken replay then_taken then_replay
 taken-push s t [] x h =
-    let e : s ≡ t = some_inj s t h in
+    let e : s ≡ t = same_Some s t h in
     let n = then_none (do_log_step s x) in
     let c = ap (λ z. taken_at z x) e in
     omega (arith, n, c)

@@ -4,6 +4,7 @@ use Rattle.std.proofs.Common.{refl, sym, ap, ◌∙◌, subst, eqb, get_or, arit
 use Rattle.std.specs.Prelude.{◌&&◌, ◌||◌, not, is_none, is_some, Result, Ok, Err, IfSome, replicate, unwrap_or}
 use Rattle.std.specs.List.{list_any}
 use Rattle.std.proofs.lemmas.Bool.{or_parts, eqb-true}
+use Rattle.std.proofs.lemmas.Option.{same_Some}
 use Rattle.instructions.specs.declared.instr.Instr.{Instr}
 use Rattle.instructions.specs.declared.instr.Reg.{Reg}
 use Rattle.instructions.specs.declared.instr.Reg.TheVariants.{X, B}
@@ -17,7 +18,7 @@ use Rattle.instructions.specs.declared.refusal.Refusal.TheVariants.{ResultHeld}
 use Rattle.instructions.specs.Each.{Each, Pairs}
 use Rattle.instructions.specs.RegisterLists.{is_in, overlap}
 use Rattle.instructions.specs.Shape.{shape_of, results, is_branch_shape, has_store}
-use Rattle.instructions.proofs.Lists.{each_left, each_right, each_append, each_map, each_of_any, pairs_before}
+use Rattle.instructions.proofs.Lists.{each_left, each_right, each_append, each_map, each_of_any, pairs_before, or_false}
 use Rattle.hopper.specs.Hopper.{free_place, stores_to}
 use Rattle.hopper.specs.Queue.{Queue, stands_at, stores_here, place_for as free_in, is_taken as taken_in, free_answer}
 use Rattle.hopper.proofs.Standing.{first_same}
@@ -32,6 +33,7 @@ use Rattle.scoreboard.specs.Conflicts.{first_free, free_unit, is_held}
 use Rattle.scoreboard.specs.Issued.{reservation_of as reservation_of_issued}
 use Rattle.scoreboard.specs.Answers.{Standing, held_in, returning_by, unless, read_answer, store_answer, return_answer}
 use Rattle.scoreboard.specs.Answers.{turn_answer, read, gone, with_issued, reserve_answer, reserved, new_issued}
+use Rattle.scoreboard.proofs.seating.Standing.{find_same}
 use Rattle.unit_ops.specs.declared.Operands.{Operands}
 use Rattle.unit_ops.specs.declared.UnitValue.{UnitValue}
 use Rattle.sequential.specs.declared.fetching.Fetched.TheVariants.{Taking}
@@ -64,18 +66,15 @@ use Rattle.instructions.proofs.Finding.{seek_splits, seek_nobody}
 use Rattle.in_flight.proofs.asking.Finding.{stage_found}
 use Rattle.in_flight.proofs.answering.Boarding.{arrival_in_there, board_any, read_of_all, store_of_all, turn_of_all}
 use Rattle.in_flight.proofs.answering.Boarding.{return_of_all, read_follows, stage_follows, return_follows}
-use Rattle.in_flight.proofs.answering.Boarding.{issue_follows, same_free, same_awaited, any_same, find_same}
+use Rattle.in_flight.proofs.answering.Boarding.{issue_follows, same_free, same_awaited, any_same}
 
 -- ---- the one that was found ----
-
-some_inj : {K : Type 0} (x y : K) → Some x ≡ Some y → x ≡ y
-some_inj x y e = cc
 
 pub there : {K : Type 0} (o : Option (Found Pending K)) (s : Sought K) → sought o ≡ Some s → (f : Found Pending K)
     × (o ≡ Some f) × (f.item ≡ s.pending) × (f.answer ≡ s.answer)
 unfolding sought
 there None s h = cc
-there (Some f) s h = (f, refl, ap (λ x. x.pending) (some_inj _ s h), ap (λ x. x.answer) (some_inj _ s h))
+there (Some f) s h = (f, refl, ap (λ x. x.pending) (same_Some _ s h), ap (λ x. x.answer) (same_Some _ s h))
 
 pub nothing_there : {K : Type 0} (o : Option (Found Pending K)) (g : Found Pending K → List Test) → sought o ≡ None
     → refusal_of (tests_found o g) ≡ Some Nothing
@@ -142,10 +141,6 @@ store_waits a (m ∷ ms) = any-append (stores_here a) (waiting_in m.phase) (wait
     ∙ ap (λ b. b || list_any (stores_here a) (waiting ms)) (in_phase_of m.phase)
     ∙ ap (λ b. stores_in a m.phase || b) (store_waits a ms)
   where
-    or_false : (b : Bool) → (b || false) ≡ b
-    or_false true = refl
-    or_false false = refl
-
     in_phase_of : (p : Phase) → list_any (stores_here a) (waiting_in p) ≡ stores_in a p
     in_phase_of (Before t) = refl
     in_phase_of (After (HasEntered place k access)) = or_false (stores_to a k access)
@@ -402,7 +397,7 @@ in_channel n (After (HasEntered place a access)) x h = cc
 in_channel n (After (Accepted m w)) x h = by_test (eqb m n) refl h
   where
     by_test : (b : Bool) → eqb m n ≡ b → cond b (Some (record { channel = m; word = w })) None ≡ Some x → x.channel ≡ n
-    by_test true e k = sym (ap (λ (y : Arrival). y.channel) (some_inj _ x k)) ∙ eqb-true m n e
+    by_test true e k = sym (ap (λ (y : Arrival). y.channel) (same_Some _ x k)) ∙ eqb-true m n e
     by_test false e k = cc
 
 pub arrival_phase : (n : ℕ) (m : Pending) (x : Arrival) → arrival_at n m ≡ Some x → m.phase ≡ After (Accepted n x.word)
@@ -492,7 +487,7 @@ pub what_there : {K : Type 0} (o : Option (Found Pending K)) (s : Sought K) → 
     → IfSome o (λ f. f.answer ≡ s.answer)
 unfolding sought
 what_there None s h = cc
-what_there (Some f) s h = ap (λ x. x.answer) (some_inj _ s h)
+what_there (Some f) s h = ap (λ x. x.answer) (same_Some _ s h)
 
 -- all but the pending stays
 pub changed_flight : (g : List Pending → List Pending) (ms ns : List Pending) (queue : Queue) (b c : Standing)
@@ -610,7 +605,7 @@ first_free_is held (v ∷ us) u h = by_test (held v) refl (first_free_is held us
     by_test : (t : Bool) → held v ≡ t → (first_free held us ≡ Some u → held u ≡ false)
         → cond t (first_free held us) (Some v) ≡ Some u → held u ≡ false
     by_test true e rest k = rest k
-    by_test false e rest k = ap held (sym (some_inj v u k)) ∙ e
+    by_test false e rest k = ap held (sym (same_Some v u k)) ∙ e
 
 not_held : (u : FunctionalUnit) (m : Pending) → board.holds u (reservation_of m) ≡ false → stage_at u m ≡ None
 unfolding board.holds reservation_of stage_at stage_in is_reserved progress_of

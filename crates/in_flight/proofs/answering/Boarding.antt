@@ -1,9 +1,10 @@
 -- The list of pending instructions, and those of them that a board has.
 use Rattle.std.proofs.Common.{◌≡◌, ℕ, Bool, true, false, cond, List, [], ◌∷◌, ◌++◌, Option, Some, None, refl, sym, ap}
 use Rattle.std.proofs.Common.{◌∙◌, subst, eqb}
-use Rattle.std.specs.Prelude.{◌&&◌, ◌||◌, unwrap_or, find}
+use Rattle.std.specs.Prelude.{◌&&◌, ◌||◌, unwrap_or}
 use Rattle.std.specs.List.{list_any}
-use Rattle.std.proofs.lemmas.Bool.{eqb-true, eq-eqb, ne_eqb, or_parts}
+use Rattle.std.proofs.lemmas.Bool.{eqb-true, eq-eqb, ne_eqb, or_parts, and_right}
+use Rattle.std.proofs.lemmas.Option.{same_Some}
 use Rattle.instructions.specs.declared.instr.Instr.{Instr}
 use Rattle.instructions.specs.declared.instr.Reg.{Reg}
 use Rattle.instructions.specs.declared.instr.Reg.TheVariants.{X, B}
@@ -22,13 +23,15 @@ use Rattle.scoreboard.specs.Reservations.{is_reserved, returning_to, to_come, to
 use Rattle.scoreboard.specs.Reservations.{reads_it}
 use Rattle.scoreboard.specs.Reservations.{holds, has_turn}
 use Rattle.scoreboard.specs.Units.{same_unit, units_of}
-use Rattle.scoreboard.specs.Conflicts.{awaited, to_be_read, first_such, out_of_turn, is_held, first_free, free_unit}
+use Rattle.scoreboard.specs.Conflicts.{awaited, to_be_read, first_such, out_of_turn, is_held, free_unit}
 use Rattle.unit_ops.specs.declared.Operands.{Operands}
 use Rattle.unit_ops.specs.declared.UnitValue.{UnitValue}
 use Rattle.scoreboard.specs.declared.issued.Issued.{Issued}
 use Rattle.scoreboard.specs.Answers.{held_in, returns_in, returning_by, new_issued, unless, read_answer, store_answer}
 use Rattle.scoreboard.specs.Answers.{return_answer, turn_answer, in_progress, read, left, left_with, gone}
 use Rattle.scoreboard.specs.Issued.{reservation_of as reservation_of_issued, channel_of}
+use Rattle.scoreboard.proofs.seating.Standing.{find_same}
+use Rattle.scoreboard.proofs.changing.Reserving.{first_free_same}
 use Rattle.instructions.specs.Each.{Each}
 use Rattle.in_flight.specs.declared.pending.Arrival.{Arrival}
 use Rattle.in_flight.specs.declared.pending.HopperEntry.{HopperEntry}
@@ -44,7 +47,7 @@ use Rattle.instructions.specs.Finding.{Found, found_further, found_here, seek, p
 use Rattle.in_flight.specs.Lookup.{arrival_in, stage_in, stage_at, entry_at, arrival_at, in_phase, kept}
 use Rattle.in_flight.specs.inner.Board.{issued_of, kept_on, on_board}
 use Rattle.in_flight.specs.Pending.{left_to_return}
-use Rattle.instructions.proofs.Finding.{some_inj, seek_splits, seek_around}
+use Rattle.instructions.proofs.Finding.{seek_splits, seek_around}
 use Rattle.in_flight.proofs.asking.Finding.{stage_found, entry_in_found}
 
 -- the one that was found, as it is found on the board
@@ -100,15 +103,11 @@ pub no_turn : (reservation : Reservation) → reservation.progress ≡ Left None
 unfolding has_turn is_reserved
 no_turn reservation e = ap (λ p. is_reserved p && has_reference (shape_of reservation.instr)) e
 
-and_false : (b : Bool) → (b && false) ≡ false
-and_false true = refl
-and_false false = refl
-
 no_unit : (u : FunctionalUnit) (reservation : Reservation) → reservation.progress ≡ Left None
     → holds u reservation ≡ false
 unfolding holds is_reserved
 no_unit u reservation e = ap (λ p. same_unit reservation.unit u && is_reserved p) e
-    ∙ and_false (same_unit reservation.unit u)
+    ∙ and_right (same_unit reservation.unit u) false refl
 
 pub same_awaited : (ms : List Pending) (r : Reg) → awaited reservation_of_issued (on_board ms) r
     ≡ awaited reservation_of ms r
@@ -127,13 +126,6 @@ pub same_held : (ms : List Pending) (u : FunctionalUnit) → is_held reservation
     ≡ is_held reservation_of ms u
 unfolding is_held
 same_held ms u = board_any (holds u) (no_unit u) ms
-
-first_free_same : (f g : FunctionalUnit → Bool) → ((u : FunctionalUnit) → f u ≡ g u) → (us : List FunctionalUnit)
-    → first_free f us ≡ first_free g us
-unfolding first_free
-first_free_same f g h [] = refl
-first_free_same f g h (u ∷ us) =
-    ap (λ b. cond b (first_free f us) (Some u)) (h u) ∙ ap (λ o. cond (g u) o (Some u)) (first_free_same f g h us)
 
 pub same_free : (kind : UnitKind) (ms : List Pending)
     → free_unit reservation_of_issued (on_board ms) kind ≡ free_unit reservation_of ms kind
@@ -226,7 +218,7 @@ unit_not_in u v (Before s) h = by_test (same_unit v u) h
     by_test : (b : Bool) → cond b (Some s) None ≡ None → (b && true) ≡ false
     by_test true k = cc
     by_test false k = refl
-unit_not_in u v (After l) h = and_false (same_unit v u)
+unit_not_in u v (After l) h = and_right (same_unit v u) false refl
 
 unit_on_in : (b : Bool) (p : Phase) (t : Stage) → cond b (stage_in p) None ≡ Some t → progress_of p ≡ Left None → ⊥
 unfolding stage_in progress_of
@@ -248,11 +240,6 @@ unit_found u ms =
 pub any_same : (f g : Reg → Bool) → ((r : Reg) → f r ≡ g r) → (rs : List Reg) → list_any f rs ≡ list_any g rs
 any_same f g h [] = refl
 any_same f g h (r ∷ rs) = ap (λ b. b || list_any f rs) (h r) ∙ ap (λ b. g r || b) (any_same f g h rs)
-
-pub find_same : (f g : Reg → Bool) → ((r : Reg) → f r ≡ g r) → (rs : List Reg) → find f rs ≡ find g rs
-find_same f g h [] = refl
-find_same f g h (r ∷ rs) =
-    ap (λ b. cond b (Some r) (find f rs)) (h r) ∙ ap (λ o. cond (g r) (Some r) o) (find_same f g h rs)
 
 unless_same : (f g : Reg → Bool) (rs : List Reg) (k : Reg → Refusal) → ((r : Reg) → f r ≡ g r)
     → unless (list_any f rs) (k (first_such f rs)) ≡ unless (list_any g rs) (k (first_such g rs))
@@ -299,7 +286,7 @@ arrival_in_there c (After (Accepted n v)) x h = by_test (eqb n c) refl h
     by_test : (b : Bool) → eqb n c ≡ b → cond b (Some (record { channel = n; word = v })) None ≡ Some x
         → After (Accepted n v) ≡ After (Accepted c x.word)
     by_test true e k = ap (λ m. After (Accepted m v)) (eqb-true n c e)
-        ∙ ap (λ (y : Arrival). After (Accepted c y.word)) (some_inj _ x k)
+        ∙ ap (λ (y : Arrival). After (Accepted c y.word)) (same_Some _ x k)
     by_test false e k = cc
 
 arrival_progress : (c : ℕ) (m : Pending) (x : Arrival) → arrival_at c m ≡ Some x

@@ -4,6 +4,7 @@ use Rattle.std.proofs.Common.{None, refl, sym, ap, ◌∙◌, subst, eqb, ltb, g
 use Rattle.std.specs.Prelude.{◌&&◌, ◌||◌, is_none, is_some, Result, Ok, Err, IfSome, unwrap_or}
 use Rattle.std.specs.List.{list_any}
 use Rattle.std.proofs.lemmas.Bool.{or_parts, eqb-true, eqb-false, eq-eqb, lt-ltb}
+use Rattle.std.proofs.lemmas.Option.{same_Some}
 use Rattle.instructions.specs.declared.instr.Reg.{Reg}
 use Rattle.instructions.specs.declared.instr.Reg.TheVariants.{X, A}
 use Rattle.instructions.specs.declared.instr.Unit.{Unit as FunctionalUnit}
@@ -17,6 +18,7 @@ use Rattle.instructions.specs.Shape.{Shape, Puts, Loads, Stores, Jumps, Links, s
 use Rattle.instructions.specs.Shape.{has_reference}
 use Rattle.instructions.specs.Operands.{reg_eq}
 use Rattle.instructions.proofs.Lists.{any_right, each_append, each_map, each_of_any, pairs_before, pairs_right}
+use Rattle.instructions.proofs.Lists.{or_false}
 use Rattle.relocation.specs.declared.area.Access.{Access}
 use Rattle.relocation.specs.declared.area.Access.TheVariants.{Load, Store}
 use Rattle.hopper.specs.Hopper.{bank_of}
@@ -64,9 +66,6 @@ use Rattle.in_flight.proofs.asking.Slotting.{place_found, loads_channel, proper_
 abbrev pub reference_of : HopperEntry → Reference
 reference_of e = record { address = e.a; access = e.access }
 
-some_inj : {K : Type 0} (x y : K) → Some x ≡ Some y → x ≡ y
-some_inj x y e = cc
-
 entry_in_is : (p : ℕ) (q : Phase) (e : HopperEntry) → entry_in p q ≡ Some e → q ≡ After (HasEntered p e.a e.access)
 unfolding entry_in
 entry_in_is p (Before t) e h = cc
@@ -76,7 +75,7 @@ entry_in_is p (After (HasEntered place a access)) e h = by_test (eqb place p) re
     by_test : (b : Bool) → eqb place p ≡ b → cond b (Some (record { a = a; access = access })) None ≡ Some e
         → After (HasEntered place a access) ≡ After (HasEntered p e.a e.access)
     by_test true i k = ap (λ s. After (HasEntered s a access)) (eqb-true place p i)
-        ∙ ap (λ (y : HopperEntry). After (HasEntered p y.a y.access)) (some_inj _ e k)
+        ∙ ap (λ (y : HopperEntry). After (HasEntered p y.a y.access)) (same_Some _ e k)
     by_test false i k = cc
 
 entry_phase : (p : ℕ) (m : Pending) (e : HopperEntry) → entry_at p m ≡ Some e
@@ -154,10 +153,6 @@ bank_in : (k : ℕ) (q : Phase) → list_any (waits_for_bank k) (waiting_in q) �
 unfolding waiting_in waits_for_bank in_bank_in
 bank_in k (Before t) = refl
 bank_in k (After (HasEntered place a access)) = or_false (eqb (bank_of a) k)
-  where
-    or_false : (b : Bool) → (b || false) ≡ b
-    or_false true = refl
-    or_false false = refl
 bank_in k (After (Accepted n w)) = refl
 
 bank_waits : (k : ℕ) (es : List Pending) → list_any (waits_for_bank k) (waiting es) ≡ list_any (in_bank k) es
@@ -437,7 +432,7 @@ returns_alike place (Some (Enters r)) = by_access r.access
 loads_through : (h : Shape) (n : ℕ) → Some n ≡ channel_of h → h ≡ Loads n
 unfolding channel_of
 loads_through (Puts rs) n e = cc
-loads_through (Loads m) n e = ap Loads (some_inj m n (sym e))
+loads_through (Loads m) n e = ap Loads (same_Some m n (sym e))
 loads_through (Stores m) n e = cc
 loads_through Jumps n e = cc
 loads_through Links n e = cc

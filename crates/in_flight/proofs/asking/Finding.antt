@@ -1,5 +1,6 @@
 -- The pending instruction that an event names, and the tests that its answer passed.
 use Rattle.std.proofs.Common.{◌≡◌, ℕ, Bool, true, false, cond, List, [], ◌∷◌, Some, None, refl, ap, eqb}
+use Rattle.std.proofs.lemmas.Option.{same_Some}
 use Rattle.instructions.specs.Each.{Each}
 use Rattle.instructions.specs.Finding.{Found}
 use Rattle.in_flight.specs.Tests.{Test, nothing, refusal_of}
@@ -14,7 +15,6 @@ use Rattle.in_flight.specs.declared.pending.Phase.{Phase}
 use Rattle.in_flight.specs.declared.pending.Phase.TheVariants.{After, Before}
 use Rattle.in_flight.specs.declared.pending.Stage.{Stage}
 use Rattle.in_flight.specs.declared.slots.Sought.{Sought}
-use Rattle.instructions.proofs.Finding.{some_inj}
 
 -- no refusal: no test failed
 pub refusal_none : (ts : List Test) → refusal_of ts ≡ None → Each (λ t. t.fails ≡ false) ts
@@ -34,11 +34,11 @@ not_nothing h = cc
 -- the instruction that was sought is the one that was found
 pub sought_pending : {K : Type 0} (f : Found Pending K) (s : Sought K) → sought (Some f) ≡ Some s → f.item ≡ s.pending
 unfolding sought
-sought_pending {K} f s h = ap (λ (x : Sought K). x.pending) (some_inj _ s h)
+sought_pending {K} f s h = ap (λ (x : Sought K). x.pending) (same_Some _ s h)
 
 pub sought_what : {K : Type 0} (f : Found Pending K) (s : Sought K) → sought (Some f) ≡ Some s → f.answer ≡ s.answer
 unfolding sought
-sought_what {K} f s h = ap (λ (x : Sought K). x.answer) (some_inj _ s h)
+sought_what {K} f s h = ap (λ (x : Sought K). x.answer) (same_Some _ s h)
 
 pub no_sought : {K : Type 0} (s : Sought K) → sought None ≡ Some s → ⊥
 unfolding sought
@@ -46,7 +46,7 @@ no_sought s h = cc
 
 stage_in_found : (p : Phase) (t : Stage) → stage_in p ≡ Some t → p ≡ Before t
 unfolding stage_in
-stage_in_found (Before s) t h = ap Before (some_inj s t h)
+stage_in_found (Before s) t h = ap Before (same_Some s t h)
 stage_in_found (After l) t h = cc
 
 pub stage_found : (u : FunctionalUnit) (m : Pending) (t : Stage) → stage_at u m ≡ Some t → m.phase ≡ Before t
@@ -66,7 +66,7 @@ entry_in_found p (After (Entered slot a access)) e h = by_test (eqb slot p) h
   where
     by_test : (f : Bool) → cond f (Some (record { a = a; access = access })) None ≡ Some e → (k : ℕ)
         × (After (Entered slot a access) ≡ After (Entered k e.a e.access))
-    by_test true k = (slot, ap (λ (y : HopperEntry). After (Entered slot y.a y.access)) (some_inj _ e k))
+    by_test true k = (slot, ap (λ (y : HopperEntry). After (Entered slot y.a y.access)) (same_Some _ e k))
     by_test false k = cc
 
 pub entry_found : (p : ℕ) (m : Pending) (e : HopperEntry) → entry_at p m ≡ Some e → (slot : ℕ)
@@ -83,7 +83,7 @@ arrival_in_found c (After (Accepted n v)) x h = by_test (eqb n c) h
   where
     by_test : (f : Bool) → cond f (Some (record { channel = n; word = v })) None ≡ Some x
         → After (Accepted n v) ≡ After (Accepted x.channel x.word)
-    by_test true k = ap (λ (y : Arrival). After (Accepted y.channel y.word)) (some_inj _ x k)
+    by_test true k = ap (λ (y : Arrival). After (Accepted y.channel y.word)) (same_Some _ x k)
     by_test false k = cc
 
 pub arrival_found : (c : ℕ) (m : Pending) (x : Arrival) → arrival_at c m ≡ Some x

@@ -22,7 +22,7 @@ use Rattle.in_flight.specs.Pending.{progress_of, returning, reservation_of, to_c
 use Rattle.in_flight.specs.inner.Slots.{unit_slot, clash_in, clash, IsPlaced, IsProper, IsSlotted, IsChannel}
 use Rattle.in_flight.specs.Apart.{IsApart}
 use Rattle.instructions.proofs.Lists.{each_left, each_right, each_append, each_map, each_both, pairs_without}
-use Rattle.instructions.proofs.Lists.{each_of_any, pairs_before, pairs_right}
+use Rattle.instructions.proofs.Lists.{each_of_any, pairs_before, pairs_right, pairs_insert}
 use Rattle.in_flight.proofs.asking.Phases.{to_come_in, slot_in, slot_of}
 use Rattle.std.proofs.lemmas.Bool.Decides.{nat_tests}
 use Rattle.std.specs.Prelude.{nat_le, is_some}
@@ -124,14 +124,6 @@ slotted_without size es m ls s = record {
   proper = each_append (IsProper size) es ls (each_left (IsProper size) es (m ∷ ls) s.proper)
       (each_right (IsProper size) es (m ∷ ls) s.proper).1;
 }
-
-pairs_insert : {K : Type 0} (R : K → K → Type 0) (xs : List K) (y : K) (ys : List K) → Pairs R (xs ++ ys)
-    → Each (λ x. R x y) xs → Each (R y) ys → Pairs R (xs ++ y ∷ ys)
-pairs_insert R [] y ys h k l = (l, h)
-pairs_insert R (x ∷ xs) y ys h k l = (
-  each_append (R x) xs (y ∷ ys) (each_left (R x) xs ys h.0) (k.0, each_right (R x) xs ys h.0),
-  pairs_insert R xs y ys h.1 k.1 l,
-)
 
 pub slotted_with : (size : ℕ) (es : List Pending) (m n : Pending) (ls : List Pending) → IsSlotted size (es ++ m ∷ ls)
     → IsProper size n → Each (λ x. clash x n ≡ false) es → Each (λ x. clash n x ≡ false) ls

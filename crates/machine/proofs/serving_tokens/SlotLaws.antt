@@ -2,6 +2,7 @@
 use Rattle.std.proofs.Common.{◌≡◌, ℕ, Bool, true, false, cond, ◌&&◌, List, [], ◌∷◌, ◌++◌, Option, Some, None, refl, sym}
 use Rattle.std.proofs.Common.{ap, ◌∙◌, subst, eqb, rules}
 use Rattle.std.proofs.lemmas.Bool.{eq-eqb, eqb-true}
+use Rattle.std.proofs.lemmas.Option.{same_Some}
 use Rattle.instructions.specs.declared.instr.Unit.{Unit as FunctionalUnit}
 use Rattle.scoreboard.specs.Units.{same_unit}
 use Rattle.sequential.specs.Work.{operands}
@@ -24,7 +25,7 @@ use Rattle.instructions.specs.Each.{Each}
 use Rattle.in_flight.specs.declared.slots.Sought.{Sought}
 use Rattle.in_flight.specs.Flight.{Flight, with_pending}
 use Rattle.in_flight.specs.Lookup.{sought, in_phase, stage_at, stage_in}
-use Rattle.instructions.specs.Finding.{replaced, Found, found_further, found_here, put_back, seek}
+use Rattle.instructions.specs.Finding.{replaced, Found, put_back, seek}
 use Rattle.machine.specs.Tokens.{Computation, Reading, Reservation, Seating, IsValueAt, IsValueIn, finished_in, read_of}
 use Rattle.machine.specs.Tokens.{reading_at, reading_in, refusal_to, slot, waits_in}
 use Rattle.program_order.specs.Processor.{Processor}
@@ -36,23 +37,10 @@ use Rattle.instructions.proofs.Finding.{seek_around, seek_splits}
 use Rattle.machine.proofs.making.Making.{finish_made, flight, with_flight}
 use Rattle.program_order.proofs.keeping.Naming.{answered_err}
 
-some_inj : {K : Type 0} (x y : K) → Some x ≡ Some y → x ≡ y
-some_inj x y e = cc
-
 -- nobody before the one that is found answers
 seek_before : {K : Type 0} (f : Pending → Option K) (ms : List Pending) (x : Found Pending K) → seek f ms ≡ Some x
     → Each (λ e. f e ≡ None) x.earlier
-unfolding seek found_here found_further
-seek_before f [] x h = cc
-seek_before {K} f (m ∷ ms) x h = here (seek_before f ms) (f m) refl (seek f ms) refl h
-  where
-    here : ((y : Found Pending K) → seek f ms ≡ Some y → Each (λ e. f e ≡ None) y.earlier) → (o : Option K) → f m ≡ o
-        → (rest : Option (Found Pending K)) → seek f ms ≡ rest → found_here o m ms rest ≡ Some x
-        → Each (λ e. f e ≡ None) x.earlier
-    here ih (Some y) e rest er k = subst (λ (z : Found Pending K). Each (λ e. f e ≡ None) z.earlier) (some_inj _ x k) tt
-    here ih None e None er k = cc
-    here ih None e (Some y) er k =
-        subst (λ (z : Found Pending K). Each (λ e. f e ≡ None) z.earlier) (some_inj _ x k) (e, ih y er)
+seek_before f ms x h = (seek_splits f ms x h).2
 
 -- another instruction that answers, in the place of the one that was found, is found there
 put_found : {K : Type 0} (f : Pending → Option K) (ms : List Pending) (x : Found Pending K) (m : Pending) (answer : K)
@@ -144,7 +132,7 @@ value_in (Some f) seat r v h e = at_stage f.answer h
   where
     at_stage : (t : Stage) → reading_at seat f.item.number f.item.instr t ≡ Some r → IsValueAt v f.item.instr t
     at_stage Waiting k = cc
-    at_stage (HasRead os) k = e ∙ ap (λ (x : Reading). value_of x.instr x.operands) (sym (some_inj _ r k))
+    at_stage (HasRead os) k = e ∙ ap (λ (x : Reading). value_of x.instr x.operands) (sym (same_Some _ r k))
     at_stage (Finished w) k = cc
 
 -- a slot that is to have the value of what was read has read
@@ -321,7 +309,7 @@ pub reads_same : (b : Bool) (t : Computation) (o : Option (Found Pending Stage))
 unfolding reading_at
 reads_same true t o m os h e = reads_as t.seat o (record { pending = m; answer = HasRead os }) h ∙ ap Some (sym e)
 reads_same false t o m os h e =
-    λ k. e (some_inj _ _ (sym k ∙ reads_as t.seat o (record { pending = m; answer = HasRead os }) h))
+    λ k. e (same_Some _ _ (sym k ∙ reads_as t.seat o (record { pending = m; answer = HasRead os }) h))
 
 -- the value of what was read is the value that the slot is to have
 pub value_of_sought : (o : Option (Found Pending Stage)) (m : Pending) (os : Operands) (v : UnitValue)

@@ -3,6 +3,7 @@ use Rattle.std.proofs.Common.{◌≡◌, ◌≤◌, ◌+◌, ℕ, zero, suc, Boo
 use Rattle.std.proofs.Common.{None, refl, sym, ap, ◌∙◌, subst, get_or, set, arith}
 use Rattle.std.specs.Prelude.{◌&&◌, not, is_some, is_none, IfSome}
 use Rattle.std.proofs.lemmas.Bool.{or_from, and_left, and_right, eq-eqb}
+use Rattle.std.proofs.lemmas.Option.{same_Some}
 use Rattle.std.specs.List.{list_any}
 use Rattle.instructions.specs.Shape.{Shape, Puts, Loads, Stores, Jumps, Links, shape_of, puts_of, has_reference}
 use Rattle.instructions.specs.Operands.{sources_of}
@@ -163,9 +164,6 @@ oldest_allowed w m ls (After (Accepted n word)) e p h =
     first_allowed (arrival_at n) _ w.pending ls m (record { channel = n; word = word }) e (arrival_first m n word p)
     (refl, tt)
 
-some_inj : {K : Type 0} (x y : K) → Some x ≡ Some y → x ≡ y
-some_inj x y e = cc
-
 -- what is next is allowed
 next_allowed : (w : Processor) (e : Event) → IsSound w → next_of w.pending w.busy ≡ Some e → allowed w e ≡ None
 unfolding next_of
@@ -174,7 +172,7 @@ next_allowed w e s h = by_list w.pending refl h
     by_list : (ms : List Pending) → w.pending ≡ ms → next_of ms w.busy ≡ Some e → allowed w e ≡ None
     by_list [] k i = cc
     by_list (m ∷ ls) k i =
-        subst (λ x. allowed w x ≡ None) (some_inj (next_in m.unit m.phase w.busy) e i)
+        subst (λ x. allowed w x ≡ None) (same_Some (next_in m.unit m.phase w.busy) e i)
         (oldest_allowed w m ls m.phase k refl (subst (Pairs IsApart) k s.apart).0)
 
 pub next_is_allowed : (v w : Processor) (o : Option Event) (held : List Pending) → IsSound v → v ≡ w → held ≡ v.pending
@@ -200,7 +198,7 @@ pub next_works : (ms : List Pending) (busy : List Bool) (e : Event) → next_of 
 unfolding next_of
 next_works [] busy e h = cc
 next_works (m ∷ ms) busy e h =
-    subst (λ x. is_work x ≡ true) (some_inj (next_in m.unit m.phase busy) e h) (oldest_works m.unit m.phase busy)
+    subst (λ x. is_work x ≡ true) (same_Some (next_in m.unit m.phase busy) e h) (oldest_works m.unit m.phase busy)
 
 -- nothing is next only where nothing is pending
 pub nothing_next : (ms : List Pending) (busy : List Bool) → next_of ms busy ≡ None → is_pending ms ≡ false
@@ -384,7 +382,7 @@ next_eases w e h = by_list w.pending refl h
   where
     by_list : (ms : List Pending) → w.pending ≡ ms → next_of ms w.busy ≡ Some e → Eases w (after w e)
     by_list [] k i = cc
-    by_list (m ∷ ls) k i = subst (λ x. Eases w (after w x)) (some_inj (next_in m.unit m.phase w.busy) e i)
+    by_list (m ∷ ls) k i = subst (λ x. Eases w (after w x)) (same_Some (next_in m.unit m.phase w.busy) e i)
         (oldest_eases w m ls m.phase k refl)
 
 saved_less : (h : Shape) (p : Phase) (busy : List Bool) → saved_in p busy + 1 ≤ phase_cost h p

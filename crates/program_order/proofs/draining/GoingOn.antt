@@ -1,6 +1,7 @@
 -- A drained machine goes on: nothing that it does not ask for keeps it from the next instruction, or from an exchange.
 use Rattle.std.proofs.Common.{◌≡◌, ◌<◌, ◌≤◌, ℕ, Bool, true, false, cond, leb-true, List, [], ◌∷◌, Option, Some, None}
 use Rattle.std.proofs.Common.{refl, ap, ◌∙◌, arith}
+use Rattle.std.proofs.lemmas.Bool.{and_right}
 use Rattle.std.specs.Prelude.{◌&&◌, ◌||◌, IsSome, is_none, is_some, nat_le, not}
 use Rattle.std.specs.List.{list_any}
 use Rattle.instructions.specs.declared.instr.Reg.{Reg}
@@ -164,14 +165,10 @@ unfolding waits_at
 nothing_delays None = refl
 nothing_delays (Some a) = refl
 
-and_false : (b : Bool) → (b && false) ≡ false
-and_false true = refl
-and_false false = refl
-
 fetch_goes : (b : Bounds) (place : Place) → fetch_waits b place [] ≡ false
 unfolding fetch_waits
 fetch_goes b place =
-    ap (λ x. is_none place.held && x) (nothing_delays (absolute b place.p)) ∙ and_false (is_none place.held)
+    ap (λ x. is_none place.held && x) (nothing_delays (absolute b place.p)) ∙ and_right (is_none place.held) false refl
 
 held_or_unasked : (r h : Option ℕ) → (is_none r || is_some h) ≡ true → (is_some r && is_none h) ≡ false
 held_or_unasked None h e = refl

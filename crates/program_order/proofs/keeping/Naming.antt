@@ -1,6 +1,7 @@
 -- Each refusal is one of those that its event may have.
 use Rattle.std.proofs.Common.{◌≡◌, Bool, true, false, ◌||◌, List, [], ◌∷◌, Option, Some, None, refl, sym, ap, ◌∙◌}
 use Rattle.std.proofs.Common.{subst, cond, inl, inr}
+use Rattle.std.proofs.lemmas.Option.{same_Some}
 use Rattle.std.specs.Prelude.{Result, Ok, Err, IfErr}
 use Rattle.instructions.specs.declared.refusal.Refusal.{Refusal}
 use Rattle.instructions.specs.declared.refusal.Refusal.TheVariants.{OutOfMemory}
@@ -29,9 +30,6 @@ use Rattle.in_flight.specs.Lookup.{stage_at}
 use Rattle.sequential.specs.State.{Bounds, bounds_of}
 use Rattle.program_order.proofs.Opened.{refusals_by_event}
 
-some_inj : (x y : Refusal) → Some x ≡ Some y → x ≡ y
-some_inj x y i = cc
-
 -- what is refused by a list of tests is one of their refusals
 pub one_of : (p : Refusal → Bool) (ts : List Test) (k : Refusal) → Each (λ t. p t.refusal ≡ true) ts
     → refusal_of ts ≡ Some k → p k ≡ true
@@ -41,7 +39,7 @@ one_of p (t ∷ ts) k h e = by_test (one_of p ts k h.1) t.fails e
   where
     by_test : (refusal_of ts ≡ Some k → p k ≡ true) → (f : Bool) → cond f (Some t.refusal) (refusal_of ts) ≡ Some k
         → p k ≡ true
-    by_test rest true i = ap p (sym (some_inj t.refusal k i)) ∙ h.0
+    by_test rest true i = ap p (sym (same_Some t.refusal k i)) ∙ h.0
     by_test rest false i = rest i
 
 -- where nobody is found there is nothing to act on

@@ -1,6 +1,7 @@
 -- Reservations are numbered along the log: each event keeps the last one's number, and an issue answers the next.
 use Rattle.std.proofs.Common.{◌≡◌, ◌+◌, ℕ, suc, true, false, List, [], ◌∷◌, ◌++◌, Option, Some, None, refl, sym}
 use Rattle.std.proofs.Common.{ap, ◌∙◌, subst, arith, inl, inr}
+use Rattle.std.proofs.lemmas.Option.{same_Some}
 use Rattle.std.specs.Prelude.{unwrap_or, Result, Ok}
 use Rattle.std.specs.List.{list_any}
 use Rattle.instructions.specs.declared.instr.Instr.{Instr}
@@ -134,9 +135,6 @@ reserved_unit : (w : Processor) (i : Instr) (place : Place)
 unfolding reservation_tests
 reserved_unit w i place h = (unit_found w.pending (uses i).unit h.0).of_kind
 
-some_inj : (i j : Instr) → Some i ≡ Some j → i ≡ j
-some_inj i j e = cc
-
 noted_by : (w : Processor) (g : Fetched) → IsReplay w → IsNumbered w → taken_in (completed w) ≡ taken_by g
     → Each (λ t. t.fails ≡ false) (reservation_tests w.pending g)
     → IsNoted (completed w) (taken (boot w.boot_memory) (w.log ++ Issued ∷ [])) (note_by w g)
@@ -151,7 +149,7 @@ noted_by w (Taking i place) r h t u =
     record {
       none = λ e. let k = sym t ∙ e in absurd (cc);
       some = λ j e.
-          let k : i ≡ j = some_inj i j (sym t ∙ e) in (
+          let k : i ≡ j = same_Some i j (sym t ∙ e) in (
             note,
             refl,
             record {

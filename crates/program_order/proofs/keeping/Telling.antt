@@ -1,6 +1,7 @@
 -- What a refusal tells of the state to which the log leads.
 use Rattle.std.proofs.Common.{◌≡◌, ◌⊎◌, ◌||◌, ℕ, Bool, true, false, List, [], ◌∷◌, Option, Some, None, cond, refl}
 use Rattle.std.proofs.Common.{sym, ap, ◌∙◌, inl, inr, ⊎_elim}
+use Rattle.std.proofs.lemmas.Bool.{and_parts}
 use Rattle.std.specs.Prelude.{◌&&◌, not, is_some, is_none, unwrap_or, Result, Ok, Err, IfErr}
 use Rattle.instructions.specs.declared.refusal.Halt.{Halt}
 use Rattle.instructions.specs.declared.refusal.Halt.TheVariants.{Stop}
@@ -105,10 +106,6 @@ issue_faulted w e =
 
 -- ---- an exchange ----
 
-both : (a b : Bool) → (a && b) ≡ true → (a ≡ true) × (b ≡ true)
-both true b e = (refl, e)
-both false b e = absurd (cc)
-
 is_none_none : (o : Option Halt) → is_none o ≡ true → o ≡ None
 is_none_none None e = refl
 is_none_none (Some x) e = absurd (cc)
@@ -130,8 +127,8 @@ record IsMidWord (w : Processor) : Type 0 where
 in_mid_word : (w : Processor) → is_pending w.pending ≡ false
     → (is_none w.state.halt && (not w.state.fault && is_some w.state.place.held)) ≡ true → IsMidWord w
 in_mid_word w p h =
-    let a = both _ _ h in
-    let b = both _ _ a.1 in
+    let a = and_parts _ _ h in
+    let b = and_parts _ _ a.1 in
     record {
       drained = not_pending w.pending p;
       halt = is_none_none _ a.0;

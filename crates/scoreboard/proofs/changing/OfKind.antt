@@ -3,7 +3,7 @@ use Rattle.std.proofs.Common.{◌≡◌, ◌≢◌, ℕ, zero, suc, Bool, true, 
 use Rattle.std.proofs.Common.{refl, sym, ap, ◌∙◌, eqb, leb, ltb, length, get_or, set, arith}
 use Rattle.std.specs.Prelude.{not, ◌&&◌, ◌||◌}
 use Rattle.std.specs.List.{list_any}
-use Rattle.std.proofs.lemmas.Bool.{eq-eqb, eqb-true, eqb-false}
+use Rattle.std.proofs.lemmas.Bool.{eq-eqb, eqb-true, eqb-false, and_right}
 use Rattle.std.proofs.lemmas.List.{get_or-set_other}
 use Rattle.instructions.specs.declared.instr.Addends.{Addends}
 use Rattle.instructions.specs.declared.instr.Addends.TheVariants.{Address, Registers}
@@ -40,7 +40,7 @@ use Rattle.instructions.specs.Finding.{seek}
 use Rattle.instructions.specs.Order.{sort_by, somes, IsSeated}
 use Rattle.instructions.specs.Shape.{Puts, Loads, Stores, shape_of, is_branch_shape, has_reference, has_store}
 use Rattle.instructions.specs.Operands.{uses}
-use Rattle.instructions.proofs.Lists.{each_map, each_both}
+use Rattle.instructions.proofs.Lists.{each_map, each_both, or_false}
 use Rattle.instructions.proofs.Seats.{seated_others, seated_empty, found_there}
 use Rattle.instructions.proofs.Sorted.{any_sort}
 use Rattle.scoreboard.specs.declared.issued.Issued.{Issued}
@@ -380,10 +380,6 @@ seat_same : (units channels : List (Option Issued)) (u : FunctionalUnit) → len
     → get_or (units ++ channels) (unit_number u) None ≡ seat_at units u
 seat_same units channels u l = unit_seat units channels u (unit_number u) (seat_at units u) l refl refl
 
-or_false : (b : Bool) → (b || false) ≡ b
-or_false true = refl
-or_false false = refl
-
 -- a test that fails outside the Increment units
 in_increments : (t : Issued → Bool) (g : Option Issued → Bool) → g None ≡ false → ((x : Issued) → g (Some x) ≡ t x)
     → (units channels : List (Option Issued)) → length units ≡ 10
@@ -438,15 +434,11 @@ turn_found n units channels l s k =
     let t : Issued → Bool = λ y. ltb y.number n && has_turn y.reservation in
     sym (seats_any t (seat_has_turn n) refl (λ y. refl)
     (unit_number Branch ∷ unit_number Increment1 ∷ unit_number Increment2 ∷ []) IsOfKind (units ++ channels) s k
-    (λ y q d. ap (λ b. ltb y.number n && b) (turn_silent y q d.0 d.1.0 d.1.1.0) ∙ and_false (ltb y.number n))
+    (λ y q d. ap (λ b. ltb y.number n && b) (turn_silent y q d.0 d.1.0 d.1.1.0) ∙ and_right (ltb y.number n) false refl)
     ∙ ap (λ o. seat_has_turn n o || list_any (λ i. seat_has_turn n (get_or (units ++ channels) i None))
     (unit_number Increment1 ∷ unit_number Increment2 ∷ [])) (seat_same units channels Branch l)
     ∙ ap (λ b. seat_has_turn n (seat_at units Branch) || b)
     (in_increments t (seat_has_turn n) refl (λ y. refl) units channels l))
-  where
-    and_false : (b : Bool) → (b && false) ≡ false
-    and_false true = refl
-    and_false false = refl
 
 pub turn_answered : (units channels : List (Option Issued)) (producers : List (List (Option Writer))) (ws : Writers)
     (last : ℕ) (u : FunctionalUnit) (i : ℕ) (x : Issued) (b : Bool) → IsRight units channels producers ws last

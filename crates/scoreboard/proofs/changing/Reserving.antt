@@ -167,7 +167,7 @@ held_taken units channels producers ws last right u = by_seat (get_or units (uni
         sym (any_here (λ y. holds u y.reservation) (units ++ channels) (unit_number u) x here
         (here_holds u (units ++ channels) (unit_number u) x refl here right.sits))
 
-first_free_same : (f g : FunctionalUnit → Bool) → ((u : FunctionalUnit) → f u ≡ g u) → (us : List FunctionalUnit)
+pub first_free_same : (f g : FunctionalUnit → Bool) → ((u : FunctionalUnit) → f u ≡ g u) → (us : List FunctionalUnit)
     → first_free f us ≡ first_free g us
 unfolding first_free
 first_free_same f g h [] = refl

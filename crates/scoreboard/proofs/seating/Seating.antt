@@ -2,7 +2,7 @@
 use Rattle.std.proofs.Common.{◌≡◌, ◌≢◌, ◌<◌, ◌+◌, ℕ, zero, suc, Bool, true, false, cond, List, [], ◌∷◌, ◌++◌, Option}
 use Rattle.std.proofs.Common.{Some, None, refl, sym, ap, ◌∙◌, subst, ltb, get_or, set, length, arith}
 use Rattle.std.specs.Prelude.{◌&&◌}
-use Rattle.std.proofs.lemmas.Bool.{eq-eqb, ne_eqb}
+use Rattle.std.proofs.lemmas.Bool.{eq-eqb, ne_eqb, and_right}
 use Rattle.instructions.specs.declared.instr.Reg.{Reg}
 use Rattle.instructions.specs.declared.instr.Unit.{Unit as FunctionalUnit}
 use Rattle.instructions.specs.declared.instr.Unit.TheVariants.{Branch, Boolean, Shift, Add, LongAdd, Multiply1}
@@ -20,7 +20,7 @@ use Rattle.instructions.specs.Order.{somes}
 use Rattle.scoreboard.specs.inner.View.{IsOther, seat_in, seat_of}
 use Rattle.scoreboard.specs.Writers.{forget}
 use Rattle.instructions.proofs.Lists.{each_left, each_right, each_append, each_map, pairs_before, pairs_right}
-use Rattle.instructions.proofs.Lists.{pairs_without}
+use Rattle.instructions.proofs.Lists.{pairs_without, pairs_insert}
 use Rattle.instructions.proofs.Sorted.{before_place, after_place, somes-at, somes-set_some, somes-set_none, somes-empty}
 use Rattle.instructions.proofs.Seats.{within, HasOwnKeys}
 use Rattle.scoreboard.proofs.seating.Writing.{IsAlone, first_at, first_none, first_replaced, forget_first}
@@ -68,11 +68,7 @@ holds_not_in : (u v : FunctionalUnit) (p : Progress) → (seat_in v p ≡ unit_n
     → (same_unit v u && is_reserved p) ≡ false
 unfolding seat_in same_unit is_reserved
 holds_not_in u v (Reserved has_read) h = ap (λ b. b && true) (ne_eqb (unit_number v) (unit_number u) h)
-holds_not_in u v (Left o) h = and_false (same_unit v u)
-  where
-    and_false : (b : Bool) → (b && false) ≡ false
-    and_false true = refl
-    and_false false = refl
+holds_not_in u v (Left o) h = and_right (same_unit v u) false refl
 
 pub sits_not : (u : FunctionalUnit) (x : Issued) → (seat_of x ≡ unit_number u → ⊥) → holds u x.reservation ≡ false
 unfolding holds seat_of
@@ -131,14 +127,6 @@ pub pairs_map : {X : Type 0} (R S : X → X → Type 0) → ((x y : X) → R x y
     → Pairs S xs
 pairs_map R S f [] h = tt
 pairs_map R S f (x ∷ xs) h = (each_map (R x) (S x) (f x) xs h.0, pairs_map R S f xs h.1)
-
-pairs_insert : {K : Type 0} (R : K → K → Type 0) (xs : List K) (y : K) (ys : List K) → Pairs R (xs ++ ys)
-    → Each (λ x. R x y) xs → Each (R y) ys → Pairs R (xs ++ y ∷ ys)
-pairs_insert R [] y ys h k l = (l, h)
-pairs_insert R (x ∷ xs) y ys h k l = (
-  each_append (R x) xs (y ∷ ys) (each_left (R x) xs ys h.0) (k.0, each_right (R x) xs ys h.0),
-  pairs_insert R xs y ys h.1 k.1 l,
-)
 
 pub other_flip : (x y : Issued) → IsOther x y → IsOther y x
 other_flip x y h =

@@ -5,6 +5,7 @@ use Rattle.std.specs.Prelude.{is_some, ◌&&◌, ◌||◌, unwrap_or, find, Resu
 use Rattle.std.specs.List.{list_any}
 use Rattle.std.proofs.lemmas.List.{get_or_append_left}
 use Rattle.std.proofs.lemmas.List.Folds.{list_any-append}
+use Rattle.std.proofs.lemmas.Bool.{and_right}
 use Rattle.instructions.specs.declared.instr.Reg.{Reg}
 use Rattle.instructions.specs.declared.instr.Reg.TheVariants.{X, B}
 use Rattle.instructions.specs.declared.instr.Unit.{Unit as FunctionalUnit}
@@ -29,7 +30,7 @@ use Rattle.scoreboard.specs.inner.Fields.{seat_reads}
 use Rattle.scoreboard.specs.Issued.{reservation_of, number_of, written_by, if_earlier, writer_before}
 use Rattle.instructions.specs.Order.{sort_by, somes, IsSeated}
 use Rattle.scoreboard.specs.inner.View.{seated, IsOther, seat_in, seat_of, AreProducers, first_produced, IsRight}
-use Rattle.instructions.proofs.Lists.{each_map}
+use Rattle.instructions.proofs.Lists.{each_map, or_false}
 use Rattle.instructions.proofs.Sorted.{any_sort, any_earlier, any_somes, IsIncreasing, sort_increasing, sort_each}
 use Rattle.instructions.proofs.Seats.{taken_with, seated_others, seated_nobody, seated_here, before_seat, after_seat}
 use Rattle.instructions.proofs.Seats.{each_before, found_there, found_nobody}
@@ -253,10 +254,6 @@ pub none_any : (t : Issued → Bool) (ys : List Issued) → Each (λ y. t y ≡ 
 none_any t [] h = refl
 none_any t (y ∷ ys) h = ap (λ b. b || list_any t ys) h.0 ∙ none_any t ys h.1
 
-or_false : (b : Bool) → (b || false) ≡ b
-or_false true = refl
-or_false false = refl
-
 -- a test that those in channels fail is a test of the units
 pub units_any : (t : Issued → Bool) (g : Option Issued → Bool) → g None ≡ false → ((x : Issued) → g (Some x) ≡ t x)
     → ((y : Issued) → is_reserved y.reservation.progress ≡ false → t y ≡ false)
@@ -272,10 +269,6 @@ units_any t g none some silent units channels l s =
     (left_from channels 10 (omega arith) (seated_back units channels 0 10 (omega (arith, l)) s)))))
     ∙ sym (list_any-append t (somes units) (somes channels))
     ∙ ap (list_any t) (sym (somes-append units channels))
-
-and_false : (b : Bool) → (b && false) ≡ false
-and_false true = refl
-and_false false = refl
 
 no_reads : (r : Reg) (y : Issued) → is_reserved y.reservation.progress ≡ false → reads_it r y.reservation ≡ false
 unfolding reads_it reads is_reserved reads_in is_in
@@ -294,7 +287,7 @@ pub read_earlier : (r : Reg) (units channels : List (Option Issued)) (i : ℕ) (
 unfolding to_be_read number_of reservation_of seat_reads
 read_earlier r units channels i x l s h p =
     units_any (λ y. ltb y.number x.number && reads_it r y.reservation) (seat_reads x.number r) refl (λ y. refl)
-    (λ y k. ap (λ b. ltb y.number x.number && b) (no_reads r y k) ∙ and_false (ltb y.number x.number)) units
+    (λ y k. ap (λ b. ltb y.number x.number && b) (no_reads r y k) ∙ and_right (ltb y.number x.number) false refl) units
     channels l s
     ∙ earlier_any (λ y. reads_it r y.reservation) (units ++ channels) i x h p
 
