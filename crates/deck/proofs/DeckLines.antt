@@ -34,8 +34,8 @@ refuses_long n xs ys [] h left = absurd h
 refuses_long n xs ys (line ∷ more) h left = (refl, refl, omega arith, left)
 
 -- of a long line 201 bytes were taken
-long_left : (text xs ys : List ℕ) → length text ≡ 201 → xs ≡ text ++ ys → ys ≡ drop 201 xs
-long_left text xs ys e q =
+pub long_taken : (text xs ys : List ℕ) → length text ≡ 201 → xs ≡ text ++ ys → ys ≡ drop 201 xs
+long_taken text xs ys e q =
     sym (drop-append_seam text ys) ∙ ap (λ n. drop n (text ++ ys)) e ∙ ap (drop 201) (sym q)
 
 pub taken_long : (a b : Option (List ℕ)) (n : ℕ) (text : List ℕ) → IsText text → length text ≡ 201
@@ -43,7 +43,7 @@ pub taken_long : (a b : Option (List ℕ)) (n : ℕ) (text : List ℕ) → IsTex
 taken_long a b n text h e m =
     Moves-weaker a b (LineTaken Long text) (λ xs ys. Refuses n (errors.Deck n faults.Long) xs ys (lines_of xs))
     (λ xs ys q.
-    refuses_long n xs ys (lines_of xs) (lines_first_long text xs ys h e q) (long_left text xs ys e q)) m
+    refuses_long n xs ys (lines_of xs) (lines_first_long text xs ys h e q) (long_taken text xs ys e q)) m
 
 pub taken_nothing : (a b : Option (List ℕ)) (n : ℕ) (text : List ℕ) → Moves a b (LineTaken Nothing text)
     → Moves a b (λ xs ys. Refuses n (errors.Deck n faults.NoEnd) xs ys (lines_of xs))

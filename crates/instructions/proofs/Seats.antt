@@ -20,6 +20,13 @@ within [] i x h = cc
 within (o ∷ os) zero x h = omega arith
 within (o ∷ os) (suc i) x h = let k : i < length os = within os i x h in omega arith
 
+-- what was read from a seat, whatever is read after the last
+pub seat_any : {K : Type 0} (os : List (Option K)) (i : ℕ) (o : Option K) → i < length os
+    → get_or os i None ≡ get_or os i o
+seat_any [] i o h = absurd (omega arith)
+seat_any (x ∷ os) zero o h = refl
+seat_any (x ∷ os) (suc i) o h = seat_any os i o (omega arith)
+
 -- no two have one number
 abbrev pub HasOwnKeys : {K : Type 0} → (K → ℕ) → List K → Type 0
 HasOwnKeys key xs = Pairs (λ a b. key a ≢ key b) xs

@@ -1,6 +1,6 @@
 -- What the board and the hopper answer, beside the list of pending instructions.
 use Rattle.std.proofs.Common.{◌≡◌, ◌<◌, ◌≤◌, ℕ, suc, Bool, true, false, cond, List, [], ◌∷◌, ◌++◌, Option, Some, None}
-use Rattle.std.proofs.Common.{refl, sym, ap, ◌∙◌, subst, eqb, get_or, arith}
+use Rattle.std.proofs.Common.{refl, sym, ap, ◌∙◌, subst, eqb, get_or, arith, append-nil}
 use Rattle.std.specs.Prelude.{◌&&◌, ◌||◌, not, is_none, is_some, Result, Ok, Err, IfSome, replicate, unwrap_or}
 use Rattle.std.specs.List.{list_any}
 use Rattle.std.proofs.lemmas.Bool.{or_parts, eqb-true}
@@ -19,6 +19,7 @@ use Rattle.instructions.specs.Each.{Each, Pairs}
 use Rattle.instructions.specs.RegisterLists.{is_in, overlap}
 use Rattle.instructions.specs.Shape.{shape_of, results, is_branch_shape, has_store}
 use Rattle.instructions.proofs.Lists.{each_left, each_right, each_append, each_map, each_of_any, pairs_before, or_false}
+use Rattle.instructions.proofs.Lists.{any_same}
 use Rattle.hopper.specs.Hopper.{free_place, stores_to}
 use Rattle.hopper.specs.Queue.{Queue, stands_at, stores_here, place_for as free_in, is_taken as taken_in, free_answer}
 use Rattle.hopper.proofs.Standing.{first_same}
@@ -66,7 +67,7 @@ use Rattle.instructions.proofs.Finding.{seek_splits, seek_nobody}
 use Rattle.in_flight.proofs.asking.Finding.{stage_found}
 use Rattle.in_flight.proofs.answering.Boarding.{arrival_in_there, board_any, read_of_all, store_of_all, turn_of_all}
 use Rattle.in_flight.proofs.answering.Boarding.{return_of_all, read_follows, stage_follows, return_follows}
-use Rattle.in_flight.proofs.answering.Boarding.{issue_follows, same_free, same_awaited, any_same}
+use Rattle.in_flight.proofs.answering.Boarding.{issue_follows, same_free, same_awaited}
 
 -- ---- the one that was found ----
 
@@ -193,10 +194,6 @@ pub waiting_around : {K : Type 0} (g : Pending → Option K) (ms : List Pending)
     → seek g ms ≡ Some f → waiting ms ≡ waiting f.earlier ++ (waiting_in f.item.phase ++ waiting f.later)
 unfolding waiting
 waiting_around g ms f h = ap waiting (seek_splits g ms f h).0 ∙ waiting-append f.earlier (f.item ∷ f.later)
-
-pub append-nil : {K : Type 0} (xs : List K) → xs ++ [] ≡ xs
-append-nil [] = refl
-append-nil (x ∷ xs) = ap (λ l. x ∷ l) (append-nil xs)
 
 pub waiting_one : (m : Pending) → waiting (m ∷ []) ≡ waiting_in m.phase
 unfolding waiting

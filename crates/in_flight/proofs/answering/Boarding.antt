@@ -48,6 +48,7 @@ use Rattle.in_flight.specs.Lookup.{arrival_in, stage_in, stage_at, entry_at, arr
 use Rattle.in_flight.specs.inner.Board.{issued_of, kept_on, on_board}
 use Rattle.in_flight.specs.Pending.{left_to_return}
 use Rattle.instructions.proofs.Finding.{seek_splits, seek_around}
+use Rattle.instructions.proofs.Lists.{any_same}
 use Rattle.in_flight.proofs.asking.Finding.{stage_found, entry_in_found}
 
 -- the one that was found, as it is found on the board
@@ -236,10 +237,6 @@ unit_found u ms =
     (λ m t h e. unit_on_in (same_unit m.unit u) m.phase t h e) ms
 
 -- ---- what the board answers ----
-
-pub any_same : (f g : Reg → Bool) → ((r : Reg) → f r ≡ g r) → (rs : List Reg) → list_any f rs ≡ list_any g rs
-any_same f g h [] = refl
-any_same f g h (r ∷ rs) = ap (λ b. b || list_any f rs) (h r) ∙ ap (λ b. g r || b) (any_same f g h rs)
 
 unless_same : (f g : Reg → Bool) (rs : List Reg) (k : Reg → Refusal) → ((r : Reg) → f r ≡ g r)
     → unless (list_any f rs) (k (first_such f rs)) ≡ unless (list_any g rs) (k (first_such g rs))

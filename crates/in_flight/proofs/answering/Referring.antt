@@ -1,6 +1,6 @@
 -- References that enter the hopper and are taken by their banks, beside the list of pending instructions.
 use Rattle.std.proofs.Common.{◌≡◌, ◌≢◌, ◌<◌, ◌≤◌, ◌+◌, ℕ, Bool, true, false, cond, List, [], ◌∷◌, ◌++◌, Option, Some}
-use Rattle.std.proofs.Common.{None, refl, sym, ap, ◌∙◌, subst, eqb, ltb, get_or, set, length, arith}
+use Rattle.std.proofs.Common.{None, refl, sym, ap, ◌∙◌, subst, eqb, ltb, get_or, set, length, arith, append-nil}
 use Rattle.std.specs.Prelude.{◌&&◌, ◌||◌, is_none, is_some, Result, Ok, Err, IfSome, unwrap_or}
 use Rattle.std.specs.List.{list_any}
 use Rattle.std.proofs.lemmas.Bool.{or_parts, eqb-true, eqb-false, eq-eqb, lt-ltb}
@@ -53,7 +53,7 @@ use Rattle.in_flight.specs.inner.Slots.{IsSlotted, IsChannel, IsPlaced}
 use Rattle.in_flight.specs.inner.Seats.{seat_in, seat_of, AreElsewhere, HasRoom}
 use Rattle.in_flight.specs.Lookup.{sought, stage_at, entry_at, entry_in, in_place, place_for, enters, in_phase, kept}
 use Rattle.in_flight.specs.Apart.{IsApart}
-use Rattle.in_flight.proofs.answering.Beside.{append-nil, any-append, waiting_put, waiting_around, waiting_one}
+use Rattle.in_flight.proofs.answering.Beside.{any-append, waiting_put, waiting_around, waiting_one}
 use Rattle.in_flight.proofs.answering.Beside.{each_put, same_place, arrival_phase}
 use Rattle.instructions.proofs.Finding.{seek_splits, seek_around, seek_nobody}
 use Rattle.in_flight.proofs.asking.Finding.{stage_found}
@@ -515,7 +515,7 @@ unfolding waiting
 none_entered m [] h a = refl
 none_entered m (l ∷ ls) h a = ap (λ w. w ++ waiting ls) (not_entered l m h a.0) ∙ none_entered m ls h a.1
 
-turn_there : (m : Pending) (t : Stage) → m.phase ≡ Before t → has_reference (shape_of m.instr) ≡ true
+pub turn_there : (m : Pending) (t : Stage) → m.phase ≡ Before t → has_reference (shape_of m.instr) ≡ true
     → has_turn m ≡ true
 unfolding has_turn board.has_turn reservation_of is_reserved progress_of
 turn_there m t h e = ap (λ p. is_reserved (progress_of p) && has_reference (shape_of m.instr)) h ∙ e

@@ -1,5 +1,5 @@
 -- The list that the seats stand for, when an instruction is found in its seat, changed there, moved or taken out.
-use Rattle.std.proofs.Common.{◌≡◌, ◌≢◌, ◌<◌, ◌≤◌, ◌+◌, ℕ, zero, suc, Bool, true, false, cond, List, [], ◌∷◌, ◌++◌}
+use Rattle.std.proofs.Common.{◌≡◌, ◌≢◌, ◌<◌, ◌≤◌, ◌+◌, ℕ, Bool, true, false, cond, List, [], ◌∷◌, ◌++◌}
 use Rattle.std.proofs.Common.{Option, Some, None, refl, sym, ap, ◌∙◌, subst, eqb, ltb, get_or, set, length, arith}
 use Rattle.std.specs.Prelude.{◌&&◌, is_none}
 use Rattle.std.specs.List.{list_all}
@@ -13,6 +13,7 @@ use Rattle.instructions.proofs.Lists.{each_map}
 use Rattle.instructions.proofs.Seats.{seated_others, seated_nobody, seated_here, seated_empty, seated_fill, seat_empty}
 use Rattle.instructions.proofs.Seats.{seats_below, before_seat, after_seat, found_there, found_nobody, within}
 use Rattle.instructions.proofs.Seats.{others_differ, own_taken, own_put, taken_without, moved_with, sort_new}
+use Rattle.instructions.proofs.Seats.{each_taken}
 use Rattle.scoreboard.proofs.seating.Seating.{get_back, set_back, unit_below}
 use Rattle.in_flight.specs.declared.pending.Arrival.{Arrival}
 use Rattle.in_flight.specs.declared.pending.HopperEntry.{HopperEntry}
@@ -270,15 +271,6 @@ all_seats units places channels right =
     let a = length_joined units (places ++ channels) in
     let b = length_joined places channels in
     omega (arith, a, b, right.all_units, right.all_places, right.all_channels)
-
-each_taken : (P : Pending → Type 0) (os : List (Option Pending)) (i : ℕ) → Each P (somes os)
-    → Each P (somes (set os i None))
-unfolding somes
-each_taken P [] i h = tt
-each_taken P (None ∷ os) zero h = h
-each_taken P (Some x ∷ os) zero h = h.1
-each_taken P (None ∷ os) (suc i) h = each_taken P os i h
-each_taken P (Some x ∷ os) (suc i) h = (h.0, each_taken P os i h.1)
 
 left_empty : (os : List (Option Pending)) (i : ℕ) (l : Outstanding) → IsSeated seat_of 0 os
     → HasRoom (Some l) (in_order os) → get_or (set os i None) (later_seat l) None ≡ None
@@ -680,13 +672,6 @@ unfolding replaced
 nobody_returned g units places channels n right b h =
     ap (λ o. replaced o (in_order (seats units places channels)) g)
     (sym (arrival_nobody units places channels n right b h))
-
--- what was read from a seat
-pub seat_any : (os : List (Option Pending)) (i : ℕ) (o : Option Pending) → i < length os
-    → get_or os i None ≡ get_or os i o
-seat_any [] i o h = absurd (omega arith)
-seat_any (x ∷ os) zero o h = refl
-seat_any (x ∷ os) (suc i) o h = seat_any os i o (omega arith)
 
 -- ---- a new one ----
 

@@ -2,7 +2,6 @@
 use Rattle.std.proofs.Common.{◌≡◌, ℕ, ◌≤◌, true, false, ltb, List, [], ◌∷◌, ◌++◌, length, drop, Option, refl, sym}
 use Rattle.std.proofs.Common.{ap, ◌∙◌, append_assoc, append-nil, inl, inr}
 use Rattle.std.proofs.lemmas.Bool.{lt-ltb, le-ltb}
-use Rattle.std.proofs.Math.Seq.{drop-append_seam}
 use Rattle.instructions.specs.declared.refusal.DeckFault.TheVariants as faults
 use Rattle.device_text.specs.Device.{Moves}
 use Rattle.device_text.specs.Line.{IsText, LineTaken, lines_of}
@@ -13,6 +12,7 @@ use Rattle.job_deck.specs.declared.schedule.Spoken.{Spoken}
 use Rattle.job_deck.specs.declared.schedule.Spoken.TheVariants.{Makes, Ends, Drains, Faulty}
 use Rattle.device_text.proofs.Lines.{FirstHas, lines_whole, lines_first_long}
 use Rattle.device_text.proofs.Moving.{Moves-weaker}
+use Rattle.deck.proofs.DeckLines.{long_taken}
 
 whole_line : (n : ℕ) (text ys : List ℕ) → n ≤ 10000000 → length text ≤ 200
     → heard n ((text, ys) ∷ lines_of ys) ≡ spoken text
@@ -58,9 +58,6 @@ long_line n (line ∷ lines) low h =
     rw (within, long) refl
 
 -- of a long line 201 bytes were taken
-long_taken : (text xs ys : List ℕ) → length text ≡ 201 → xs ≡ text ++ ys → ys ≡ drop 201 xs
-long_taken text xs ys e q = sym (drop-append_seam text ys) ∙ ap (λ n. drop n (text ++ ys)) e ∙ ap (drop 201) (sym q)
-
 long_left : (n : ℕ) (bytes : List ℕ) (lines : List (List ℕ × List ℕ)) → n ≤ 10000000 → FirstHas 201 lines
     → drop 201 bytes ≡ left_heard n bytes lines
 long_left n bytes [] low h = absurd h

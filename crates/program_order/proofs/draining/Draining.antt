@@ -11,8 +11,6 @@ use Rattle.instructions.specs.declared.instr.Unit.{Unit as FunctionalUnit}
 use Rattle.relocation.specs.declared.area.Access.{Access}
 use Rattle.relocation.specs.declared.area.Access.TheVariants.{Load as LoadInto, Store as StoreWord}
 use Rattle.hopper.specs.Hopper.{bank_of, first_place, free_place}
-use Rattle.scoreboard.specs.Reservations as reservation
-use Rattle.scoreboard.specs.Reservations.{is_reserved}
 use Rattle.scoreboard.specs.Conflicts as conflict
 use Rattle.scoreboard.specs.Units.{unit_number, same_unit}
 use Rattle.sequential.specs.State.{Bounds, bounds_of, absolute}
@@ -30,7 +28,7 @@ use Rattle.in_flight.specs.declared.pending.Phase.TheVariants.{Before, After}
 use Rattle.in_flight.specs.declared.pending.Stage.{Stage}
 use Rattle.in_flight.specs.declared.pending.Stage.TheVariants.{Waiting, Read as HasRead, Finished}
 use Rattle.instructions.specs.Each.{Each, Pairs}
-use Rattle.in_flight.specs.Pending.{progress_of, reservation_of, is_entered, entered_in, has_turn}
+use Rattle.in_flight.specs.Pending.{is_entered, entered_in, has_turn}
 use Rattle.in_flight.specs.Apart.{IsApart}
 use Rattle.program_order.specs.Sound.{IsSound}
 use Rattle.instructions.specs.Finding.{Found, seek, put_back}
@@ -42,6 +40,7 @@ use Rattle.program_order.specs.Memory.{after_accept, after_return}
 use Rattle.in_flight.specs.Tests.{Test, refusal_of, tests_found, read_tests, accept_tests, return_tests, free_tests}
 use Rattle.in_flight.specs.Lookup.{stage_in, stage_at, entry_in, entry_at, arrival_in, arrival_at, enters, in_place}
 use Rattle.in_flight.specs.Lookup.{is_taken, place_for, is_pending, in_phase, kept}
+use Rattle.in_flight.proofs.answering.Referring.{turn_there}
 use Rattle.program_order.specs.Working.{is_work, next_in, next_of, reference_cost, stage_cost, outstanding_cost}
 use Rattle.program_order.specs.Working.{phase_cost, cost, work_left}
 use Rattle.program_order.proofs.effects.Effects.{no_reference}
@@ -118,10 +117,6 @@ place_is_free m ms ls t e p k h =
     ∙ ap (λ b. is_none (cond b (first_place (is_taken (m ∷ ls)) (1 ∷ 2 ∷ 3 ∷ [])) (Some 0)))
     (or_from (in_place 0 m) (list_any (in_place 0) ls) (no_place 0 m.phase (ap entered_in p)) (none_entered m ls k h))
 
-turn_of : (m : Pending) (t : Stage) → m.phase ≡ Before t → has_reference (shape_of m.instr) ≡ true → has_turn m ≡ true
-unfolding has_turn reservation.has_turn reservation_of progress_of is_reserved
-turn_of m t e k = ap (λ p. is_reserved (progress_of p) && has_reference (shape_of m.instr)) e ∙ k
-
 enters_nothing : (b : Bounds) (h : Shape) (v : UnitValue) → has_reference h ≡ false
     → enters (rest_of b 0 (reference_for h v)) ≡ false
 unfolding rest_of enters
@@ -133,7 +128,7 @@ hopper_has_room : (b : Bounds) (m : Pending) (ms ls : List Pending) (v : UnitVal
 unfolding work_of
 hopper_has_room b m ms ls v false k e p h = and_left _ _ (enters_nothing b (shape_of m.instr) v k)
 hopper_has_room b m ms ls v true k e p h =
-    and_right _ _ (place_is_free m ms ls (Finished v) e p (turn_of m (Finished v) p k) h)
+    and_right _ _ (place_is_free m ms ls (Finished v) e p (turn_there m (Finished v) p k) h)
 
 -- the tests of the events that a drain is made of
 unfoldable working_tests : Unit {0}

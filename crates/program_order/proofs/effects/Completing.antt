@@ -15,6 +15,7 @@ use Rattle.instructions.specs.Shape.{Shape, puts_of}
 use Rattle.instructions.specs.declared.instr.Reg.{Reg}
 use Rattle.instructions.specs.declared.refusal.Halt.{Halt}
 use Rattle.instructions.specs.Each.{Each}
+use Rattle.instructions.proofs.Lists.{each_map}
 use Rattle.program_order.specs.Complete.{complete, run}
 use Rattle.in_flight.specs.declared.pending.Pending.{Pending}
 use Rattle.registers.specs.Registers.{get}
@@ -67,19 +68,15 @@ pub each_no_branch : (ms : List Pending) → list_any is_branch ms ≡ false →
 each_no_branch [] h = tt
 each_no_branch (m ∷ ms) h = let p = or_parts (is_branch m) (list_any is_branch ms) h in (p.0, each_no_branch ms p.1)
 
-each_step : {K : Type 0} (P Q : K → Type 0) → ((x : K) → P x → Q x) → (xs : List K) → Each P xs → Each Q xs
-each_step P Q f [] h = tt
-each_step P Q f (x ∷ xs) h = (f x h.0, each_step P Q f xs h.1)
-
 pub complete-place : (b : Bounds) (s : State) (ms : List Pending) → Each IsNoBranch ms
     → (complete b s ms).place ≡ s.place
 complete-place b s ms h =
-    complete-keeps b (λ x. x.place) ms (each_step IsNoBranch _ (λ m e x. run-place b x m e) ms h) s
+    complete-keeps b (λ x. x.place) ms (each_map IsNoBranch _ (λ m e x. run-place b x m e) ms h) s
 
 pub complete-move : (b : Bounds) (s : State) (ms : List Pending) (k : Place) → Each IsNoBranch ms
     → complete b (move_to s k) ms ≡ move_to (complete b s ms) k
 complete-move b s ms k h =
-    complete-change b (λ x. move_to x k) ms (each_step IsNoBranch _ (λ m e x. run-move b x m k e) ms h) s
+    complete-change b (λ x. move_to x k) ms (each_map IsNoBranch _ (λ m e x. run-move b x m k e) ms h) s
 
 pub complete-halt : (b : Bounds) (s : State) (ms : List Pending) (k : Halt)
     → complete b (halt_by s k) ms ≡ halt_by (complete b s ms) k
@@ -89,19 +86,19 @@ complete-halt b s ms k = complete-change b (λ x. halt_by x k) ms (each_all _ (�
 pub complete-word : (b : Bounds) (s : State) (ms : List Pending) (a : ℕ) → Each (λ m. may_store a m ≡ false) ms
     → get_or (complete b s ms).memory a 0 ≡ get_or s.memory a 0
 complete-word b s ms a h = complete-keeps b (λ x. get_or x.memory a 0) ms
-    (each_step (λ m. may_store a m ≡ false) _ (λ m e x. run-word b x m a e) ms h) s
+    (each_map (λ m. may_store a m ≡ false) _ (λ m e x. run-word b x m a e) ms h) s
 
 -- a register that is no result still to come
 pub complete-get : (b : Bounds) (s : State) (ms : List Pending) (r : Reg) → Each (λ m. comes r m ≡ false) ms
     → get (complete b s ms).registers r ≡ get s.registers r
 unfolding comes board.comes results_to_come
 complete-get b s ms r h = complete-keeps b (λ x. get x.registers r) ms
-    (each_step (λ m. is_in (to_come m) r ≡ false) _ (λ m e x. run-get b x m r e) ms h) s
+    (each_map (λ m. is_in (to_come m) r ≡ false) _ (λ m e x. run-get b x m r e) ms h) s
 
 pub complete-poke : (b : Bounds) (s : State) (ms : List Pending) (a w : ℕ) → Each (λ m. touches a m ≡ false) ms
     → complete b (poke s a w) ms ≡ poke (complete b s ms) a w
 complete-poke b s ms a w h = complete-change b (λ x. poke x a w) ms
-    (each_step (λ m. touches a m ≡ false) _ (λ m e x. run-poke b x m a w e) ms h) s
+    (each_map (λ m. touches a m ≡ false) _ (λ m e x. run-poke b x m a w e) ms h) s
 
 -- the register is neither a result still to come nor a source still to be read
 pub record IsFree (r : Reg) (m : Pending) : Type 0 where
@@ -112,7 +109,7 @@ pub complete-write : (b : Bounds) (s : State) (ms : List Pending) (r : Reg) (v :
     → complete b (write s r v) ms ≡ write (complete b s ms) r v
 complete-write b s ms r v h =
     complete-change b (λ x. write x r v) ms
-    (each_step (IsFree r) _ (λ m e x. run-write b x m r v e.not_to_come e.not_read) ms h) s
+    (each_map (IsFree r) _ (λ m e x. run-write b x m r v e.not_to_come e.not_read) ms h) s
 
 -- ---- what the store event does at once ----
 

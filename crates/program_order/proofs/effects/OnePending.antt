@@ -3,8 +3,9 @@ use Rattle.scoreboard.specs.Reservations as board
 use Rattle.in_flight.specs.Pending.{has_read, progress_of, returning, reservation_of, is_branch, to_come}
 use Rattle.in_flight.proofs.asking.Asked.{reads}
 use Rattle.scoreboard.specs.Reservations.{is_reserved, returning_to}
+use Rattle.scoreboard.proofs.seating.Registers.{reg_eq_same}
 use Rattle.std.specs.Prelude.{◌||◌}
-use Rattle.std.proofs.lemmas.Bool.{eqb-true, or_parts}
+use Rattle.std.proofs.lemmas.Bool.{or_parts}
 use Rattle.std.proofs.Common.{◌≡◌, ℕ, Bool, true, false, cond, sym, subst, List, [], ◌∷◌, ◌++◌, Option, Some, None}
 use Rattle.std.proofs.Common.{refl, ap, ◌∙◌, get_or}
 use Rattle.std.specs.List.{list_any}
@@ -23,7 +24,7 @@ use Rattle.instructions.specs.Shape.{shape_of}
 use Rattle.instructions.specs.Operands.{reg_eq, sources_of, uses, with_source}
 use Rattle.instructions.specs.declared.instr.Instr.{Instr}
 use Rattle.instructions.specs.declared.instr.Reg.{Reg}
-use Rattle.instructions.specs.declared.instr.Reg.TheVariants.{A, B, X}
+use Rattle.instructions.specs.declared.instr.Reg.TheVariants.{B}
 use Rattle.instructions.specs.declared.refusal.Halt.{Halt}
 use Rattle.in_flight.proofs.asking.Phases.{target_of, before_and, may_store, may_store_in, reads_in, to_come_in}
 use Rattle.instructions.specs.Each.{Each}
@@ -43,17 +44,6 @@ use Rattle.sequential.specs.declared.place.Place.{Place}
 use Rattle.sequential.specs.declared.state.State.{State}
 use Rattle.unit_ops.specs.Values.{value_of}
 
-reg_eq_true : (r t : Reg) → reg_eq r t ≡ true → r ≡ t
-reg_eq_true (X m) (X n) h = ap X (eqb-true m n h)
-reg_eq_true (A m) (A n) h = ap A (eqb-true m n h)
-reg_eq_true (B m) (B n) h = ap B (eqb-true m n h)
-reg_eq_true (X m) (A n) h = cc
-reg_eq_true (X m) (B n) h = cc
-reg_eq_true (A m) (X n) h = cc
-reg_eq_true (A m) (B n) h = cc
-reg_eq_true (B m) (X n) h = cc
-reg_eq_true (B m) (A n) h = cc
-
 -- what holds of each register of a list holds of one that is among them
 holds_of_one : (P : Reg → Type 0) (r : Reg) (rs : List Reg) → list_any (reg_eq r) rs ≡ true → Each P rs → P r
 holds_of_one P r [] h e = cc
@@ -61,7 +51,7 @@ holds_of_one P r (t ∷ rs) h e = by_test (reg_eq r t) refl h (λ k. holds_of_on
   where
     by_test : (f : Bool) → reg_eq r t ≡ f → (f || list_any (reg_eq r) rs) ≡ true
         → (list_any (reg_eq r) rs ≡ true → P r) → P r
-    by_test true i k rest = subst P (sym (reg_eq_true r t i)) e.0
+    by_test true i k rest = subst P (sym (reg_eq_same r t i)) e.0
     by_test false i k rest = rest k
 
 b0_agrees : (g k : RegisterFile) (r : Reg) → r ≡ B 0 → get g r ≡ get k r
@@ -82,7 +72,7 @@ operand-agree g k rs (Some r) h = by_test (reg_eq r (B 0)) refl (list_any (reg_e
     by_test : (x : Bool) → reg_eq r (B 0) ≡ x → (y : Bool) → list_any (reg_eq r) rs ≡ y
         → Each (λ t. get g t ≡ get k t) (cond (x || y) rs (rs ++ r ∷ [])) → Each (λ t. get g t ≡ get k t) rs
         × (get g r ≡ get k r)
-    by_test true i y j e = (e, b0_agrees g k r (reg_eq_true r (B 0) i))
+    by_test true i y j e = (e, b0_agrees g k r (reg_eq_same r (B 0) i))
     by_test false i true j e = (e, holds_of_one P r rs j e)
     by_test false i false j e = (each_left P rs (r ∷ []) e, (each_right P rs (r ∷ []) e).0)
 

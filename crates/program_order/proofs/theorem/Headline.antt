@@ -2,6 +2,7 @@
 use Rattle.sequential.specs.Place.{gone}
 use Rattle.std.proofs.Common.{◌≡◌, ℕ, zero, suc, ◌+◌, ◌-◌, ◌<◌, ◌≤◌, Bool, true, false, List, [], ◌∷◌, ◌++◌, Option}
 use Rattle.std.proofs.Common.{Some, None, cond, refl, sym, ap, ◌∙◌, subst, drop, length, append_assoc, arith}
+use Rattle.std.proofs.Common.{append-nil}
 use Rattle.std.proofs.lemmas.Bool.{and_parts, not-true, or_left}
 use Rattle.in_flight.specs.declared.pending.Pending.{Pending}
 use Rattle.program_order.proofs.effects.Effects.{write_all_rest, do_option, do_parts, do_work-is}
@@ -55,13 +56,9 @@ pub record Books (w v : Processor) (r : Option ℕ) (xs : List LogStep) : Type 0
   pub request : v.request ≡ r
   pub boot : v.boot_memory ≡ w.boot_memory
 
-nil_right : (xs : List LogStep) → xs ≡ xs ++ []
-nil_right [] = refl
-nil_right (x ∷ xs) = ap (λ l. x ∷ l) (nil_right xs)
-
 books_same : (w v : Processor) → v.log ≡ w.log → v.request ≡ w.request → v.boot_memory ≡ w.boot_memory
     → Books w v w.request []
-books_same w v a b c = record { log = a ∙ nil_right w.log; request = b; boot = c }
+books_same w v a b c = record { log = a ∙ sym (append-nil w.log); request = b; boot = c }
 
 books_found : {K : Type 0} (w : Processor) (o : Option (Found Pending K)) (f : Found Pending K → Processor)
     → ((x : Found Pending K) → Books w (f x) w.request []) → Books w (after_found w o f) w.request []
@@ -89,7 +86,7 @@ books_issue w (Taking i place) = record { log = refl; request = refl; boot = ref
 
 books_exchange : (w : Processor) (o : Option ℕ) → w.request ≡ o → Books w (after_exchange w o) None (exchange_step o)
 unfolding after_exchange exchange_step
-books_exchange w None e = record { log = nil_right w.log; request = e; boot = refl }
+books_exchange w None e = record { log = sym (append-nil w.log); request = e; boot = refl }
 books_exchange w (Some n) e = record { log = refl; request = refl; boot = refl }
 
 pub books_after : (w : Processor) (e : Event) → Books w (after w e) (made_request w.request e) (made_steps w.request e)
@@ -101,7 +98,7 @@ books_after w (StoreResult u) = books_found w _ _ (λ f. books_store w f f.answe
 books_after w (Accept p) = books_found w _ _ (λ f. books_accept w f f.answer.a f.answer.access)
 books_after w (Return c) = books_found w _ _ (λ f. books_same w _ refl refl refl)
 books_after w (BankFree k) = books_same w _ refl refl refl
-books_after w (Ask n) = record { log = nil_right w.log; request = refl; boot = refl }
+books_after w (Ask n) = record { log = sym (append-nil w.log); request = refl; boot = refl }
 books_after w Exchange = books_exchange w w.request refl
 
 pub books_by : (w : Processor) (e : Event) (a : Result Done Refusal)
@@ -113,8 +110,8 @@ books_by w e (Err k) = books_same w w refl refl refl
 pub run_log : (w : Processor) (es : List Event) (given : List (Result Done Refusal))
     → (settled_all w es given).log ≡ w.log ++ logged w.request es given
 unfolding settled_all logged
-run_log w [] given = nil_right w.log
-run_log w (e ∷ es) [] = nil_right w.log
+run_log w [] given = sym (append-nil w.log)
+run_log w (e ∷ es) [] = sym (append-nil w.log)
 run_log w (e ∷ es) (a ∷ given) =
     let b = books_by w e a in
     run_log (settled w e a) es given
@@ -320,7 +317,7 @@ unfolding settled exchanges
 fault_settled w e (Ok done) f h n =
     let none = made_allowed w e done h in (
       (books_after w e).log ∙ ap (λ xs. w.log ++ xs) (no_steps w w.request e f none n)
-          ∙ sym (nil_right w.log),
+          ∙ append-nil w.log,
       fault_after w e n f,
     )
 fault_settled w e (Err k) f h n = (refl, f)

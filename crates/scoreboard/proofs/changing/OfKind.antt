@@ -40,7 +40,7 @@ use Rattle.instructions.specs.Finding.{seek}
 use Rattle.instructions.specs.Order.{sort_by, somes, IsSeated}
 use Rattle.instructions.specs.Shape.{Puts, Loads, Stores, shape_of, is_branch_shape, has_reference, has_store}
 use Rattle.instructions.specs.Operands.{uses}
-use Rattle.instructions.proofs.Lists.{each_map, each_both, or_false}
+use Rattle.instructions.proofs.Lists.{each_map, each_both, or_false, any_same}
 use Rattle.instructions.proofs.Seats.{seated_others, seated_empty, found_there}
 use Rattle.instructions.proofs.Sorted.{any_sort}
 use Rattle.scoreboard.specs.declared.issued.Issued.{Issued}
@@ -58,7 +58,6 @@ use Rattle.scoreboard.specs.inner.View.{seated, seat_in, seat_of, IsOfKind, IsRi
 use Rattle.scoreboard.proofs.changing.Reserving.{held_taken}
 use Rattle.scoreboard.proofs.seating.Seating.{own_keys}
 use Rattle.scoreboard.proofs.seating.Standing.{none_any, unit_seat, earlier_any, here_held, others_free}
-use Rattle.scoreboard.proofs.seating.Writing.{any_same}
 
 -- ---- the kind of unit that an instruction takes, by its name ----
 

@@ -34,11 +34,11 @@ use Rattle.instructions.specs.Order.{sort_by, somes, IsSeated}
 use Rattle.scoreboard.specs.inner.View.{standing_of, seated, seat_in, seat_of, IsOther, IsOfKind, AreProducers}
 use Rattle.scoreboard.specs.inner.View.{first_produced, IsRight}
 use Rattle.scoreboard.specs.Writers.{IsRegister, writer_at, set_writer}
-use Rattle.instructions.proofs.Lists.{each_map}
+use Rattle.instructions.proofs.Lists.{each_map, any_same}
 use Rattle.instructions.proofs.Seats.{within, seated_fill, sort_new}
 use Rattle.instructions.proofs.Sorted.{any_sort, before_place, after_place, somes-at}
 use Rattle.scoreboard.proofs.seating.Registers.{AreSized, reg_eq_same, set_gives, set_sized, each_sized, each_gives}
-use Rattle.scoreboard.proofs.seating.Writing.{some_any, any_same, some_written, all_earlier}
+use Rattle.scoreboard.proofs.seating.Writing.{some_any, some_written, all_earlier}
 use Rattle.scoreboard.proofs.seating.Seating.{pairs_put, each_here, each_put, writer_put, unit_below}
 use Rattle.scoreboard.proofs.seating.Standing.{none_any, unit_seat, nobody_holds, here_holds, produced_found, any_find}
 use Rattle.scoreboard.proofs.changing.Right.{right_again, producers_same}

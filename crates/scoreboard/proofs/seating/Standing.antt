@@ -30,12 +30,12 @@ use Rattle.scoreboard.specs.inner.Fields.{seat_reads}
 use Rattle.scoreboard.specs.Issued.{reservation_of, number_of, written_by, if_earlier, writer_before}
 use Rattle.instructions.specs.Order.{sort_by, somes, IsSeated}
 use Rattle.scoreboard.specs.inner.View.{seated, IsOther, seat_in, seat_of, AreProducers, first_produced, IsRight}
-use Rattle.instructions.proofs.Lists.{each_map, or_false}
+use Rattle.instructions.proofs.Lists.{each_map, or_false, any_same}
 use Rattle.instructions.proofs.Sorted.{any_sort, any_earlier, any_somes, IsIncreasing, sort_increasing, sort_each}
 use Rattle.instructions.proofs.Seats.{taken_with, seated_others, seated_nobody, seated_here, before_seat, after_seat}
 use Rattle.instructions.proofs.Seats.{each_before, found_there, found_nobody}
 use Rattle.instructions.proofs.Finding.{replaced_around, replaced_nobody}
-use Rattle.scoreboard.proofs.seating.Writing.{some_any, any_same, earlier_some}
+use Rattle.scoreboard.proofs.seating.Writing.{some_any, earlier_some}
 use Rattle.scoreboard.proofs.seating.Seating.{get_back, own_keys, sits_holds, sits_not, sits_held, sits_not_held}
 use Rattle.scoreboard.proofs.seating.Seating.{sits_returns, sits_not_returning, unit_below}
 
@@ -71,13 +71,6 @@ earlier_any f os i x h p =
     (subst (IsIncreasing number_of) order (sort_increasing number_of (somes os) (own_keys (somes os) p)))
 
 -- ---- the seats of units and channels ----
-
--- what was read from a seat, whatever is read after the last
-pub seat_any : (os : List (Option Issued)) (i : ℕ) (o : Option Issued) → i < length os
-    → get_or os i None ≡ get_or os i o
-seat_any [] i o h = absurd (omega arith)
-seat_any (x ∷ os) zero o h = refl
-seat_any (x ∷ os) (suc i) o h = seat_any os i o (omega arith)
 
 pub no_seat : (o : Option Issued) → ((x : Issued) → o ≡ Some x → ⊥) → o ≡ None
 no_seat None h = refl

@@ -36,10 +36,6 @@ some_any {M} {W} f (x ∷ xs) = by_answer (f x) (some_any f xs)
     by_answer None e = e
     by_answer (Some w) e = refl
 
-pub any_same : {M : Type 0} (f g : M → Bool) → ((x : M) → f x ≡ g x) → (xs : List M) → list_any f xs ≡ list_any g xs
-any_same f g h [] = refl
-any_same f g h (x ∷ xs) = ap (λ b. b || list_any f xs) (h x) ∙ ap (λ b. g x || b) (any_same f g h xs)
-
 pub first_same : {M W : Type 0} (f g : M → Option W) (xs : List M) → Each (λ x. f x ≡ g x) xs
     → first_some f xs ≡ first_some g xs
 unfolding first_some

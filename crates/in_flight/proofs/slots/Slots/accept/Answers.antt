@@ -1,8 +1,9 @@
 use Rattle.std.proofs.Common.{ap, sym, ◌∙◌, subst, None, get_or, set, arith}
 use Rattle.instructions.specs.Finding.{seek, replaced}
+use Rattle.instructions.proofs.Seats.{seat_any}
 use Rattle.in_flight.specs.Lookup.{entry_at, kept}
 use Rattle.in_flight.specs.inner.Seats.{seats, in_order, IsRight, HasRoom, places_with}
-use Rattle.in_flight.proofs.seating.Moving.{accepted_right, accepted_view, nobody_accepted, seat_any}
+use Rattle.in_flight.proofs.seating.Moving.{accepted_right, accepted_view, nobody_accepted}
 use Rattle.in_flight.proofs.slots.Slots.accept.Goals as goal
 
 pub returns-in_default : goal.returns-in_default

@@ -1,7 +1,8 @@
 use Rattle.std.proofs.Common.{ap, sym, ◌∙◌, None, get_or, arith}
 use Rattle.instructions.specs.Finding.{seek}
+use Rattle.instructions.proofs.Seats.{seat_any}
 use Rattle.in_flight.specs.Lookup.{entry_at, sought}
-use Rattle.in_flight.proofs.seating.Moving.{entry_nobody, entry_answer, entry_must, seat_any}
+use Rattle.in_flight.proofs.seating.Moving.{entry_nobody, entry_answer, entry_must}
 use Rattle.in_flight.proofs.slots.Slots.find_entry.Goals as goal
 
 pub returns-in_default : goal.returns-in_default

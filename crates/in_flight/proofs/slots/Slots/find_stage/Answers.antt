@@ -1,7 +1,8 @@
 use Rattle.std.proofs.Common.{ap, sym, ◌∙◌, arith}
 use Rattle.instructions.specs.Finding.{seek}
+use Rattle.instructions.proofs.Seats.{seat_any}
 use Rattle.in_flight.specs.Lookup.{stage_at, sought}
-use Rattle.in_flight.proofs.seating.Moving.{stage_nobody, found_answer, found_must, seat_any}
+use Rattle.in_flight.proofs.seating.Moving.{stage_nobody, found_answer, found_must}
 use Rattle.in_flight.proofs.slots.Slots.find_stage.Goals as goal
 
 pub returns-in_default : goal.returns-in_default

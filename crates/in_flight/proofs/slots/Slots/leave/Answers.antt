@@ -1,8 +1,9 @@
 use Rattle.std.proofs.Common.{ap, sym, ◌∙◌, subst, None, set, arith}
 use Rattle.instructions.specs.Finding.{seek, replaced}
+use Rattle.instructions.proofs.Seats.{seat_any}
 use Rattle.in_flight.specs.Lookup.{stage_at, kept}
 use Rattle.in_flight.specs.inner.Seats.{seats, in_order, IsRight, HasRoom, places_with}
-use Rattle.in_flight.proofs.seating.Moving.{left_right, left_view, nobody_replaced, seat_any}
+use Rattle.in_flight.proofs.seating.Moving.{left_right, left_view, nobody_replaced}
 use Rattle.in_flight.proofs.slots.Slots.leave.Goals as goal
 
 pub returns-in_default : goal.returns-in_default

@@ -1,8 +1,9 @@
 use Rattle.std.proofs.Common.{ap, sym, ◌∙◌, subst, None, [], get_or, set, arith}
 use Rattle.instructions.specs.Finding.{seek, replaced}
+use Rattle.instructions.proofs.Seats.{seat_any}
 use Rattle.in_flight.specs.Lookup.{arrival_at}
 use Rattle.in_flight.specs.inner.Seats.{seats, in_order, IsRight}
-use Rattle.in_flight.proofs.seating.Moving.{returned_right, returned_view, nobody_returned, seat_any}
+use Rattle.in_flight.proofs.seating.Moving.{returned_right, returned_view, nobody_returned}
 use Rattle.in_flight.proofs.slots.Slots.returned.Goals as goal
 
 pub returns-in_default : goal.returns-in_default

@@ -3,9 +3,10 @@ use Rattle.std.proofs.lemmas.List.{set-get_or}
 use Rattle.in_flight.specs.declared.pending.Phase.TheVariants.{Before}
 use Rattle.in_flight.specs.declared.slots.Slots.TheInside.{Inside}
 use Rattle.instructions.specs.Finding.{seek, replaced}
+use Rattle.instructions.proofs.Seats.{seat_any}
 use Rattle.in_flight.specs.Lookup.{stage_at, in_phase}
 use Rattle.in_flight.specs.inner.Seats.{seats, in_order, IsRight}
-use Rattle.in_flight.proofs.seating.Moving.{staged_right, staged_view, nobody_replaced, seat_any}
+use Rattle.in_flight.proofs.seating.Moving.{staged_right, staged_view, nobody_replaced}
 use Rattle.in_flight.proofs.slots.Slots.set_stage.Goals as goal
 use Rattle.in_flight.proofs.slots.Slots.set_stage.Goals.{in-Some, in_default}
 

@@ -3,9 +3,10 @@ use Rattle.std.proofs.Common.{ap, sym, ◌∙◌, get_or, true, false, arith}
 use Rattle.std.specs.Prelude.{◌&&◌, ◌||◌}
 use Rattle.instructions.specs.declared.instr.Unit.TheVariants.{Branch}
 use Rattle.instructions.specs.Finding.{seek}
+use Rattle.instructions.proofs.Seats.{seat_any}
 use Rattle.scoreboard.specs.Answers.{Standing, turn_answer, held_in}
 use Rattle.scoreboard.specs.inner.Fields.{seat_at, seat_has_turn, in_increment}
-use Rattle.scoreboard.proofs.seating.Standing.{nobody_answers, seat_any, no_seat}
+use Rattle.scoreboard.proofs.seating.Standing.{nobody_answers, no_seat}
 use Rattle.scoreboard.proofs.changing.OfKind.{turn_answered}
 use Rattle.scoreboard.proofs.board.Board.in_turn.Goals.{else-has_reference-via-then-has_reference+else-any_turn}
 use Rattle.scoreboard.proofs.board.Board.in_turn.Goals.{else-has_reference-via-else-has_reference}

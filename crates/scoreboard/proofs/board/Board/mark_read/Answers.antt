@@ -2,10 +2,10 @@
 use Rattle.std.proofs.Common.{ap, sym, ◌∙◌, subst, arith}
 use Rattle.std.proofs.lemmas.List.{set-get_or}
 use Rattle.instructions.specs.Finding.{seek, replaced}
+use Rattle.instructions.proofs.Seats.{seat_any}
 use Rattle.scoreboard.specs.declared.board.Board.TheInside.{Inside}
 use Rattle.scoreboard.specs.Answers.{Standing, held_in, with_issued, read, in_progress}
 use Rattle.scoreboard.specs.inner.View.{standing_of, IsRight}
-use Rattle.scoreboard.proofs.seating.Standing.{seat_any}
 use Rattle.scoreboard.proofs.changing.Right.{marked_right}
 use Rattle.scoreboard.proofs.changing.Changing.{nobody_marked, marked_view}
 use Rattle.scoreboard.proofs.board.Board.mark_read.Goals as goal

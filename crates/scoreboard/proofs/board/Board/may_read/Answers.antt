@@ -4,7 +4,8 @@ use Rattle.instructions.specs.Finding.{seek}
 use Rattle.instructions.specs.Operands.{sources_of}
 use Rattle.scoreboard.specs.Answers.{Standing, read_answer, held_in}
 use Rattle.instructions.specs.declared.refusal.Refusal.TheVariants.{OperandAwaited}
-use Rattle.scoreboard.proofs.seating.Standing.{nobody_answers, read_answered, from_found, seat_any, no_seat, list_read}
+use Rattle.instructions.proofs.Seats.{seat_any}
+use Rattle.scoreboard.proofs.seating.Standing.{nobody_answers, read_answered, from_found, no_seat, list_read}
 use Rattle.scoreboard.proofs.seating.Small.{none_produced}
 use Rattle.scoreboard.proofs.board.Board.may_read.Goals as goal
 

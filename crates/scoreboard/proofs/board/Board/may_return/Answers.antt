@@ -6,7 +6,8 @@ use Rattle.scoreboard.specs.Answers.{Standing, return_answer, returning_by, unle
 use Rattle.scoreboard.specs.inner.Fields.{seat_reads}
 use Rattle.instructions.specs.declared.instr.Reg.TheVariants.{X}
 use Rattle.instructions.specs.declared.refusal.Refusal.TheVariants.{ResultHeld}
-use Rattle.scoreboard.proofs.seating.Standing.{nobody_returning, return_answered, seat_any, no_seat}
+use Rattle.instructions.proofs.Seats.{seat_any}
+use Rattle.scoreboard.proofs.seating.Standing.{nobody_returning, return_answered, no_seat}
 use Rattle.scoreboard.proofs.board.Board.may_return.Goals as goal
 
 pub returns-in_default : goal.returns-in_default

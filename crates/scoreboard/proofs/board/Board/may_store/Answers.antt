@@ -3,7 +3,8 @@ use Rattle.std.proofs.Common.{ap, sym, ◌∙◌, get_or, arith}
 use Rattle.instructions.specs.Finding.{seek}
 use Rattle.scoreboard.specs.Answers.{Standing, store_answer, held_in}
 use Rattle.instructions.specs.declared.refusal.Refusal.TheVariants.{ResultHeld}
-use Rattle.scoreboard.proofs.seating.Standing.{nobody_answers, store_answered, from_found, seat_any, no_seat}
+use Rattle.instructions.proofs.Seats.{seat_any}
+use Rattle.scoreboard.proofs.seating.Standing.{nobody_answers, store_answered, from_found, no_seat}
 use Rattle.scoreboard.proofs.board.Board.may_store.Goals as goal
 
 pub returns-in_default : goal.returns-in_default

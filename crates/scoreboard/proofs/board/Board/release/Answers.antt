@@ -4,12 +4,12 @@ use Rattle.instructions.specs.Each.{Each}
 use Rattle.instructions.specs.Shape.{shape_of}
 use Rattle.scoreboard.specs.declared.writer.Writer.TheVariants.{OfUnit}
 use Rattle.instructions.specs.Finding.{seek, replaced}
+use Rattle.instructions.proofs.Seats.{seat_any}
 use Rattle.scoreboard.specs.Answers.{Standing, held_in, with_issued, left}
 use Rattle.scoreboard.specs.inner.Fields.{channels_with}
 use Rattle.scoreboard.specs.Issued.{channel_of}
 use Rattle.scoreboard.specs.inner.View.{standing_of, IsRight}
 use Rattle.scoreboard.specs.Writers.{IsRegister, set_each}
-use Rattle.scoreboard.proofs.seating.Standing.{seat_any}
 use Rattle.scoreboard.proofs.changing.Right.{AreForgotten, released_right, released_others, released_last}
 use Rattle.scoreboard.proofs.changing.Changing.{nobody_marked, released_view}
 use Rattle.scoreboard.proofs.board.Board.release.Goals as goal

@@ -3,11 +3,11 @@ use Rattle.std.proofs.Common.{rules, ap, sym, ◌∙◌, ◌++◌, subst, None, 
 use Rattle.instructions.specs.declared.instr.Reg.TheVariants.{X}
 use Rattle.scoreboard.specs.declared.writer.Writer.TheVariants.{OfChannel}
 use Rattle.instructions.specs.Finding.{seek, replaced}
+use Rattle.instructions.proofs.Seats.{seat_any}
 use Rattle.scoreboard.specs.Answers.{Standing, returning_by, with_issued, gone}
 use Rattle.scoreboard.specs.inner.Fields.{forget_in_taken}
 use Rattle.scoreboard.specs.inner.View.{standing_of, IsRight}
 use Rattle.scoreboard.specs.Writers.{set_writer}
-use Rattle.scoreboard.proofs.seating.Standing.{seat_any}
 use Rattle.scoreboard.proofs.changing.Right.{AreForgotten, returned_right, returned_last, returned_others}
 use Rattle.scoreboard.proofs.changing.Changing.{nobody_returned, returned_view}
 use Rattle.scoreboard.proofs.board.Board.returned.Goals as goal
