@@ -62,10 +62,6 @@ piece_cut a b c piece rest all h p = (
   ),
 )
 
--- all was written
-pub all_written : (a b : Option (List ℕ)) (all : List ℕ) → WritesAllBut [] a b all → Appends a b all
-all_written a b all h = subst (Appends a b) (sym (h.1 ∙ append-nil h.0)) h.2
-
 -- ---- a text for each item of a list
 
 each_left : {X : Type 0} (f : X → List ℕ) (xs : List X) (i : ℕ) (d : X) → i < length xs

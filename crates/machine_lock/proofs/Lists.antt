@@ -18,9 +18,6 @@ use Rattle.machine_lock.specs.inner.Rules.{Knowing}
 pub starts_all : (xs : List LogStep) → StartsWith xs xs
 starts_all xs = ([], sym (append-nil xs))
 
-pub starts_none : (xs : List LogStep) → StartsWith xs []
-starts_none xs = (xs, refl)
-
 pub starts_more : (xs ys front : List LogStep) → StartsWith xs front → StartsWith (xs ++ ys) front
 starts_more xs ys front h = (h.0 ++ ys, ap (λ l. l ++ ys) h.1 ∙ append_assoc front h.0 ys)
 

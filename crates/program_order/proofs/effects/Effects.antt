@@ -333,11 +333,6 @@ unfolding go gone
 go-memory s None = refl
 go-memory s (Some to) = refl
 
-go-area : (s : State) (j : Option ℕ) → (go s j).area ≡ s.area
-unfolding go gone
-go-area s None = refl
-go-area s (Some to) = refl
-
 go-halted : (s : State) (j : Option ℕ) → (go s j).halt ≡ s.halt
 unfolding go gone
 go-halted s None = refl

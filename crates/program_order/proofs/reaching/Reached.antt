@@ -11,7 +11,7 @@ use Rattle.program_order.specs.declared.event.Event.{Event}
 use Rattle.program_order.specs.declared.event.Event.TheVariants.{Issue, Read, Finish, Store as StoreResult, Accept}
 use Rattle.program_order.specs.declared.event.Event.TheVariants.{Return, BankFree, Ask, Exchange}
 use Rattle.program_order.specs.Headline.{makes_no_exchange}
-use Rattle.program_order.specs.Reached.{GoesOn, GoesOnByWork, IsReached, StaysReached, without_seats}
+use Rattle.program_order.specs.Reached.{GoesOn, GoesOnByWork, IsReached, without_seats}
 use Rattle.program_order.specs.Run.{IsAnswer, IsAnswered, IsRun, answer_by, answer_of, done_by, settled, settled_all}
 use Rattle.program_order.specs.Processor.{Processor, boot_processor}
 use Rattle.program_order.specs.Events.{after, allowed}
@@ -78,10 +78,6 @@ run_goes_on w v events old new r =
     subst (λ given. GoesOn w events given v)
     (sym (drop-append_seam old r.given) ∙ ap (drop (length old)) (sym r.added))
     (goes_on w v events r.given r.answered r.left)
-
-pub seats_stay : (w v : Processor) → v ≡ record w { seats_given = true } → StaysReached w v
-seats_stay w v e memory budget events answers r =
-    record { answered = r.answered; left = ap (λ x. without_seats x) e ∙ r.left }
 
 -- ---- a drain ----
 

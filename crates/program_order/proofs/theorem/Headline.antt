@@ -8,7 +8,6 @@ use Rattle.in_flight.specs.declared.pending.Pending.{Pending}
 use Rattle.program_order.proofs.effects.Effects.{write_all_rest, do_option, do_parts, do_work-is}
 use Rattle.program_order.proofs.theorem.Theorem.{IsRight, run_kept, boot_right, drained_replay, made_allowed}
 use Rattle.relocation.specs.Relocation.{package_fits}
-use Rattle.instructions.specs.declared.instr.Reg.{Reg}
 use Rattle.instructions.specs.declared.refusal.Halt.{Halt}
 use Rattle.instructions.specs.declared.refusal.Halt.TheVariants.{Stop}
 use Rattle.instructions.specs.declared.refusal.Refusal.{Refusal}
@@ -42,7 +41,7 @@ use Rattle.relocation.specs.declared.area.Access.{Access}
 use Rattle.relocation.specs.declared.area.Access.TheVariants.{Load as LoadInto, Store as StoreWord}
 use Rattle.sequential.specs.Log.{issued}
 use Rattle.sequential.specs.Replay.{Exchanged, Issued, LogStep, boot, do_log_step, replay, then_replay}
-use Rattle.sequential.specs.State.{Bounds, access_at, bounds_of, go, halt_by, mark, move_to, poke, write, write_all}
+use Rattle.sequential.specs.State.{Bounds, access_at, bounds_of, go, halt_by, mark, move_to, poke, write}
 use Rattle.sequential.specs.Step.{do_fetched, do_instruction, step, step_unless}
 use Rattle.sequential.specs.Work.{Work, do_now}
 use Rattle.sequential.specs.declared.fetching.Fetched.{Fetched}
@@ -175,9 +174,6 @@ go-fault s (Some to) = refl
 do_now-fault : (b : Bounds) (s : State) (w : Work) → s.fault ≡ true → (do_now b s w).fault ≡ true
 unfolding do_now mark
 do_now-fault b s w h = or_left _ _ (go-fault _ w.jump ∙ ap (λ y. y.fault) (write_all_rest s w.puts) ∙ h)
-
-write_all-fault : (s : State) (es : List (Reg × ℕ)) → (write_all s es).fault ≡ s.fault
-write_all-fault s es = ap (λ y. y.fault) (write_all_rest s es)
 
 do_option-fault : (s : State) (o : Option Outstanding) → (do_option s o).fault ≡ s.fault
 unfolding do_option do_outstanding access_at write poke
