@@ -6,6 +6,8 @@ mod board_tests;
 #[cfg(test)]
 mod exchange_package_tests;
 #[cfg(test)]
+mod exchange_requests_tests;
+#[cfg(test)]
 mod fixtures;
 #[cfg(test)]
 mod hopper_tests;

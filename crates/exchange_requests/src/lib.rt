@@ -17,9 +17,6 @@ ghost use Rattle.std.specs.Prelude.{◌≡◌, ◌<◌, ◌+◌, ◌^◌, ◌++�
 ghost use Rattle.std.specs.Prelude.{IfOk};
 ghost use Rattle.exchange_requests.specs.Requests.{KeepsTies, IsDue};
 
-#[cfg(test)]
-mod tests;
-
 use std::alloc::{AllocError, Global};
 use std::collections::VecDeque;
 use std::marker::Model;

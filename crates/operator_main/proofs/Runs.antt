@@ -11,9 +11,9 @@ use Rattle.deck.specs.Deck.{Reading, deck}
 use Rattle.deck.specs.Reading.{GivesErr, GivesRefusal}
 use Rattle.deck.specs.declared.deck.DeckError.{DeckError}
 use Rattle.deck.specs.declared.deck.DeckError.TheVariants as errors
-use Rattle.operator_main.specs.declared.fault.ProgramFault.{ProgramFault}
+use Rattle.operator_terms.specs.declared.fault.ProgramFault.{ProgramFault}
 use Rattle.operator_main.specs.Running.{IsRun, Runs}
-use Rattle.operator_main.specs.Status.{fault_of}
+use Rattle.operator_terms.specs.Status.{fault_of}
 
 -- a snapshot on this memory shows a run on it
 pub run_on : (memory other : List ℕ) (log : List LogStep) (s : State) → other ≡ memory

@@ -1,4 +1,3 @@
--- What the program prints, and how it ends.
+-- What the program prints, and how it ends then.
 -- Source: ours.
 pub mod Running
-pub mod Status

@@ -12,10 +12,10 @@ use Rattle.deck.specs.Deck.{Reading, Good, Bad}
 use Rattle.deck.specs.declared.deck.Deck.{Deck}
 use Rattle.job_deck.specs.Dump.{dump_text}
 use Rattle.job_deck.specs.Replaying.{Replays}
-use Rattle.operator_main.specs.declared.fault.ProgramFault.{ProgramFault}
-use Rattle.operator_main.specs.declared.fault.ProgramFault.TheVariants as faults
-use Rattle.operator_main.specs.declared.status.Status.{Status}
-use Rattle.operator_main.specs.Status.{status_of, fault_of}
+use Rattle.operator_terms.specs.declared.fault.ProgramFault.{ProgramFault}
+use Rattle.operator_terms.specs.declared.fault.ProgramFault.TheVariants as faults
+use Rattle.operator_terms.specs.declared.status.Status.{Status}
+use Rattle.operator_terms.specs.Status.{status_of, fault_of}
 
 -- the log leads from boot with this memory to this state; and where the state has the fault, the log is a beginning of
 -- the program's run that includes the faulting instruction

@@ -1,7 +1,7 @@
-use super::budget::{Budget, LARGEST_BUDGET};
 use clap::builder::ValueParser;
 use clap::error::ErrorKind;
 use clap::{Arg, ArgMatches, Command, Error};
+use operator_terms::{Budget, LARGEST_BUDGET};
 use std::alloc::{AllocError, Global};
 
 /// What `--version` prints after the program's name.

@@ -3,12 +3,10 @@
 #![tactic(auto)]
 
 mod arguments;
-mod budget;
-mod fault;
 mod program;
 mod running;
-mod status;
 
+use operator_terms::ProgramFault;
 use std::env;
 use std::process::ExitCode;
 
@@ -20,7 +18,7 @@ fn main(rt: HostRuntime) -> ExitCode {
     };
     let _ = words.next();
     let Ok(words) = words.collect::<Vec<String>>(rt.alloc()) else {
-        return ExitCode::from(program::refused(&mut stderr, fault::ProgramFault::OutOfMemory));
+        return ExitCode::from(program::refused(&mut stderr, ProgramFault::OutOfMemory));
     };
     ExitCode::from(program::program(
         &rt,
@@ -37,17 +35,7 @@ mod command_tests;
 #[cfg(test)]
 mod device_tests;
 #[cfg(test)]
-mod refusal_tests;
-#[cfg(test)]
-mod request_tests;
-#[cfg(test)]
-mod run_tests;
-#[cfg(test)]
 mod schedule_tests;
-#[cfg(test)]
-mod session_tests;
-#[cfg(test)]
-mod status_tests;
 #[cfg(test)]
 mod test_branches;
 #[cfg(test)]

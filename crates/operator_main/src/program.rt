@@ -4,10 +4,7 @@ ghost use Rattle.device_text.specs.Device.{Moves};
 ghost use Rattle.operator_main.specs.Running.{PrintsRun, Runs, EndsReplay, is_read_fault, is_write_fault};
 
 use super::arguments::{Request, read_arguments};
-use super::budget::Budget;
-use super::fault::ProgramFault;
 use super::running::run;
-use super::status::{Status, end_status};
 use arrayvec::ArrayVec;
 use clap::Error;
 use clap::error::ErrorKind;
@@ -16,6 +13,7 @@ use job_deck::{
     Deck, Input, Output, Tracked, WatchedBuffer, dump_to, events_to, list_to, read_deck_from,
     replay_to,
 };
+use operator_terms::{Budget, ProgramFault, Status, end_status};
 use std::alloc::Global;
 use std::io;
 use std::io::{BufReader, BufWriter, Read, Write};

@@ -4,11 +4,10 @@ ghost use Rattle.instructions.specs.declared.refusal.Refusal.TheVariants.{OutOfM
 ghost use Rattle.program_order.specs.Processor.{boot_processor};
 ghost use Rattle.operator_main.specs.Running.{IsRun, EndsNoRun};
 
-use super::budget::Budget;
-use super::fault::ProgramFault;
 use instruction_table::Refusal;
 use job_deck::Deck;
 use machine::{Machine, Snapshot};
+use operator_terms::{Budget, ProgramFault};
 use std::alloc::{AllocError, Global};
 use std::sync::Wait;
 use std::thread::Threads;

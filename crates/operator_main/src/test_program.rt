@@ -15,15 +15,6 @@ pub fn words(alloc: Global, texts: &[&str]) -> Result<Vec<String>, AllocError> {
     Ok(all)
 }
 
-/// Texts one after another.
-pub fn joined(alloc: Global, texts: &[&[u8]]) -> Result<Vec<u8>, AllocError> {
-    let mut all = Vec::new(alloc);
-    for text in texts {
-        all.extend_from_slice(text)?;
-    }
-    Ok(all)
-}
-
 /// The program's status with these arguments and this input, what it prints and what it says of faults.
 pub fn called(
     rt: &(impl Abort + AllocGlobal + Threads + Wait + Sync),
@@ -173,33 +164,3 @@ pub const TWO_ADDS_DUMP: &[u8] = b"\
     M 000100 71100000057120000003\n\
     M 000101 36312374214600000000\n\
     LOG E40 I6\n";
-
-/// What is shown of it before any exchange.
-pub const BOOT_DUMP: &[u8] = b"\
-    P 000000 PARCEL 0 HELD none\n\
-    HALT stop FAULT none\n\
-    RA 000000 FL 000000 EM 000000\n\
-    A 000000 000000 000000 000000 000000 000000 000000 000000\n\
-    B 000000 000000 000000 000000 000000 000000 000000 000000\n\
-    X0 00000000000000000000\n\
-    X1 00000000000000000000\n\
-    X2 00000000000000000000\n\
-    X3 00000000000000000000\n\
-    X4 00000000000000000000\n\
-    X5 00000000000000000000\n\
-    X6 00000000000000000000\n\
-    X7 00000000000000000000\n\
-    M 000100 71100000057120000003\n\
-    M 000101 36312374214600000000\n\
-    LOG none\n";
-
-/// A deck that shifts X3 to the left and then comes to an opcode that is refused.
-pub const LEFT_SHIFT: &[u8] = b"\
-    core 256\n\
-    at 41\n\
-    word 00000100000000000000\n\
-    word 00000020000000000000\n\
-    at 100\n\
-    word 20301301234600046000\n\
-    start 40\n\
-    end\n";

@@ -10,6 +10,8 @@ mod fixtures;
 #[cfg(test)]
 mod led_tests;
 #[cfg(test)]
+mod operator_terms_tests;
+#[cfg(test)]
 mod printing_tests;
 #[cfg(test)]
 mod session_tests;

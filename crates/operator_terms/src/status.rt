@@ -1,5 +1,5 @@
 ghost use Rattle.std.specs.Prelude.{◌≡◌};
-ghost use Rattle.operator_main.specs.Status.{status_of};
+ghost use Rattle.operator_terms.specs.Status.{status_of};
 
 use instruction_table::Halt;
 use sequential::State;
@@ -26,7 +26,7 @@ pub enum Status {
 }
 
 impl Status {
-    ghost use Rattle.operator_main.specs.Status.{code_of};
+    ghost use Rattle.operator_terms.specs.Status.{code_of};
 
     /// The exit status.
     pub fn code(self) -> u8

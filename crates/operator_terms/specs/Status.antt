@@ -5,11 +5,11 @@ use Rattle.instructions.specs.declared.refusal.Halt.{Halt}
 use Rattle.instructions.specs.declared.refusal.Halt.TheVariants.{Stop, Illegal, Straddle, FetchRange}
 use Rattle.instructions.specs.declared.refusal.Refusal.{Refusal}
 use Rattle.instructions.specs.declared.refusal.Refusal.TheVariants as refusals
-use Rattle.operator_main.specs.declared.fault.ProgramFault.{ProgramFault}
-use Rattle.operator_main.specs.declared.fault.ProgramFault.TheVariants as faults
-use Rattle.operator_main.specs.declared.status.Status.{Status}
-use Rattle.operator_main.specs.declared.status.Status.TheVariants.{Stopped, Refused, Usage, Halted, AddressFault}
-use Rattle.operator_main.specs.declared.status.Status.TheVariants.{Running, OutOfMemory, Device}
+use Rattle.operator_terms.specs.declared.fault.ProgramFault.{ProgramFault}
+use Rattle.operator_terms.specs.declared.fault.ProgramFault.TheVariants as faults
+use Rattle.operator_terms.specs.declared.status.Status.{Status}
+use Rattle.operator_terms.specs.declared.status.Status.TheVariants.{Stopped, Refused, Usage, Halted, AddressFault}
+use Rattle.operator_terms.specs.declared.status.Status.TheVariants.{Running, OutOfMemory, Device}
 
 -- how a machine stands at its end: a fault wins over a halt, and without either it still runs
 abbrev pub status_of : Bool → Option Halt → Status

@@ -1,6 +1,6 @@
 //! Requests in their order, and when they are due.
 
-use crate::Requests;
+use exchange_requests::Requests;
 use std::test::Fail;
 
 /// The requests that are due before each of eight instructions, where each exchange is made at once: of those that are

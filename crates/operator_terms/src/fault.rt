@@ -1,6 +1,6 @@
 ghost use Rattle.std.specs.Prelude.{◌≡◌};
 
-use super::status::Status;
+use crate::status::Status;
 use instruction_table::{DeckFault, Refusal};
 use thiserror::Error;
 
@@ -25,7 +25,7 @@ pub enum ProgramFault {
 }
 
 impl ProgramFault {
-    ghost use Rattle.operator_main.specs.Status.{fault_of, fault_status};
+    ghost use Rattle.operator_terms.specs.Status.{fault_of, fault_status};
 
     /// Why the program ends where this is refused.
     pub fn of(refusal: Refusal) -> ProgramFault
@@ -58,7 +58,7 @@ impl ProgramFault {
 }
 
 impl From<Refusal> for ProgramFault {
-    ghost use Rattle.operator_main.specs.Status.{fault_of};
+    ghost use Rattle.operator_terms.specs.Status.{fault_of};
 
     ghost from_gives = { λ refusal fault. fault ≡ fault_of refusal };
 

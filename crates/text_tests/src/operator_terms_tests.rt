@@ -1,18 +1,12 @@
-//! Exit statuses, the texts of faults, and what the command line may be.
+//! Exit statuses, the texts of faults, and budgets.
 
-use super::fault::ProgramFault;
-use super::program::program;
-use super::status::end_status;
-use super::test_program::words;
 use instruction_table::{DeckFault, Digit, Halt, Op};
+use operator_terms::{Budget, LARGEST_BUDGET, ProgramFault, end_status};
 use registers::RegisterFile;
 use relocation::{Area, Storage};
 use sequential::{Place, State};
 use std::alloc::{AllocError, Global};
-use std::process::Abort;
-use std::sync::Wait;
 use std::test::Fail;
-use std::thread::Threads;
 
 /// The exit status of a machine that ended so.
 fn ended_code(alloc: Global, halt: Option<Halt>, fault: bool) -> Result<u8, AllocError> {
@@ -83,66 +77,17 @@ fn fault_texts(rt: HostRuntime) -> Result<(), Fail> {
     Ok(())
 }
 
-/// Arguments, the exit status, and how what is printed begins, at status 0 to standard output.
-type Usage<'a> = (&'a [&'a str], u8, &'a str);
-
-const USAGES: [Usage<'static>; 17] = [
-    (&["--help"], 0, "A CDC 6600"),
-    (&["--version"], 0, "cdc6600 0.1.0\n"),
-    (&["run", "--help"], 0, "Runs the deck"),
-    (&["list", "--help"], 0, "Prints the words"),
-    (&["replay", "--help"], 0, "Goes through LOG"),
-    (&["events", "--help"], 0, "Makes the events"),
-    (&["replay"], 2, "error: "),
-    (&["replay", "E40", "I4"], 2, "error: "),
-    (&[], 2, "A CDC 6600"),
-    (&["walk"], 2, "error: "),
-    (&["help"], 2, "error: "),
-    (&["run", "more"], 2, "error: "),
-    (&["run", "--budget"], 2, "error: "),
-    (&["run", "--budget", "0"], 2, "error: "),
-    (&["run", "--budget", "10000001"], 2, "error: "),
-    (&["run", "--budget", "3x"], 2, "error: "),
-    (&["list", "--budget", "3"], 2, "error: "),
-];
-
-/// The exit status, what is printed and what is told with these arguments, and how much of the input is left.
-fn left_by(
-    rt: &(impl Abort + AllocGlobal + Threads + Wait + Sync),
-    arguments: &[&str],
-    input: &[u8],
-) -> Result<(u8, Vec<u8>, Vec<u8>, usize), Fail> {
-    let words = words(rt.alloc(), arguments)?;
-    let mut input = input;
-    let mut output = Vec::new(rt.alloc());
-    let mut faults = Vec::new(rt.alloc());
-    let status = program(
-        rt,
-        rt.alloc(),
-        words.as_slice(),
-        &mut input,
-        &mut output,
-        &mut faults,
-    );
-    Ok((status, output, faults, input.len()))
-}
-
-/// Nothing is read of a deck.
 #[test]
-fn usage(rt: HostRuntime) -> Result<(), Fail> {
-    for (arguments, status, begins) in &USAGES {
-        let (ended, output, faults, left) = left_by(&rt, arguments, b"core 31\n")?;
-        let (told, untold) = if *status == 0 {
-            (output, faults)
-        } else {
-            (faults, output)
-        };
-        let has_begun = told.as_slice().starts_with(begins.as_bytes());
-        assert_eq!(rt;
-            (ended, has_begun, untold.is_empty(), left),
-            (*status, true, true, 8),
-            "{begins}"
-        );
+fn budgets(rt: HostRuntime) -> Result<(), Fail> {
+    for (instructions, is_one) in [
+        (0, false),
+        (1, true),
+        (LARGEST_BUDGET, true),
+        (LARGEST_BUDGET + 1, false),
+    ] {
+        let wanted = if is_one { Some(instructions) } else { None };
+        let budget = Budget::new(instructions).map(|budget| budget.get());
+        assert_eq!(rt; budget, wanted);
     }
     Ok(())
 }

@@ -1,0 +1,3 @@
+-- How the program ends.
+-- Source: ours.
+pub mod Status
