@@ -35,13 +35,23 @@ mod command_tests;
 #[cfg(test)]
 mod device_tests;
 #[cfg(test)]
+mod example_tests;
+#[cfg(test)]
+mod lock_tests;
+#[cfg(test)]
+mod queue_tests;
+#[cfg(test)]
 mod schedule_tests;
+#[cfg(test)]
+mod signal_tests;
 #[cfg(test)]
 mod test_branches;
 #[cfg(test)]
 mod test_crew;
 #[cfg(test)]
 mod test_exchanges;
+#[cfg(test)]
+mod test_machines;
 #[cfg(test)]
 mod test_program;
 #[cfg(test)]
@@ -50,3 +60,5 @@ mod test_references;
 mod test_registers;
 #[cfg(test)]
 mod test_schedule;
+#[cfg(test)]
+mod thread_tests;

@@ -19,16 +19,3 @@ pub use running::{Ended, Orders, run_threads};
 pub use serving::serve;
 pub use storing::storage_worker;
 pub use working::{Tally, worker};
-
-#[cfg(test)]
-mod example_tests;
-#[cfg(test)]
-mod lock_tests;
-#[cfg(test)]
-mod queue_tests;
-#[cfg(test)]
-mod signal_tests;
-#[cfg(test)]
-mod test_machines;
-#[cfg(test)]
-mod tests;
