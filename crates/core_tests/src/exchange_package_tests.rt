@@ -98,14 +98,18 @@ fn package(halted: bool, fault: bool) -> Package {
     }
 }
 
+/// Whether two packages have the same P, area and registers.
+fn has_the_same(one: &Package, other: &Package) -> bool {
+    one.p == other.p && one.area == other.area && one.registers == other.registers
+}
+
 /// Bits without a name, a B field in word 0 and the status don't count.
 #[test]
 fn reads_a_package(rt: HostRuntime) {
     let incoming = Package::read(&words(&INCOMING));
     let wanted = package(false, false);
-    assert_eq!(rt; (incoming.p, incoming.area), (wanted.p, wanted.area));
-    assert_eq!(rt; incoming.registers, wanted.registers);
-    assert_eq!(rt; (incoming.halted, incoming.fault), (false, false));
+    assert!(rt; has_the_same(&incoming, &wanted));
+    assert!(rt; !incoming.halted && !incoming.fault);
 }
 
 /// Bits without a name are written as zeros.
@@ -135,21 +139,25 @@ fn last_words(memory: &Storage) -> Option<[Word60; 16]> {
     }
 }
 
-/// A package out of memory is refused and leaves it as it is; two swaps give the package back.
+/// A package out of memory is refused and leaves it as it is.
+#[test]
+fn refuses_a_package_out_of_memory(rt: HostRuntime) -> Result<(), Fail> {
+    let mut memory = Storage::new(rt.alloc(), 256)?;
+    let swapped = Package::swap(&mut memory, 0o361, &package(true, false));
+    let is_left = last_words(&memory) == Some([Word60::default(); 16]);
+    assert!(rt; matches!(swapped, Err(Refusal::PackageRange)) && is_left);
+    Ok(())
+}
+
+/// Two swaps give the package back.
 #[test]
 fn swaps_packages(rt: HostRuntime) -> Result<(), Fail> {
     let mut memory = Storage::new(rt.alloc(), 256)?;
-    let refusal = Package::swap(&mut memory, 0o361, &package(true, false)).err();
-    assert_eq!(rt; refusal, Some(Refusal::PackageRange));
-    assert_eq!(rt; last_words(&memory), Some([Word60::default(); 16]));
-
-    let incoming = Package::swap(&mut memory, 0o360, &package(true, false))?;
-    assert_eq!(rt; incoming.registers, RegisterFile::default());
-    assert_eq!(rt; incoming.area, Area::default());
-    assert_eq!(rt; last_words(&memory), Some(words(&OUTGOING)));
-    let again = Package::swap(&mut memory, 0o360, &incoming)?;
     let outgoing = package(true, false);
-    assert_eq!(rt; (again.p, again.area), (outgoing.p, outgoing.area));
-    assert_eq!(rt; again.registers, outgoing.registers);
+    let incoming = Package::swap(&mut memory, 0o360, &outgoing)?;
+    let is_zero = incoming.registers == RegisterFile::default() && incoming.area == Area::default();
+    let is_written = last_words(&memory) == Some(words(&OUTGOING));
+    let again = Package::swap(&mut memory, 0o360, &incoming)?;
+    assert!(rt; is_zero && is_written && has_the_same(&again, &outgoing));
     Ok(())
 }

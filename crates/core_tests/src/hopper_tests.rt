@@ -5,6 +5,7 @@ use Step::{Accept, Free, IsBusy, IsFull, Load, Store, StoresTo};
 use hopper::{Hopper, PLACES, Reference, bank_of};
 use instructions::{Digit, Refusal};
 use relocation::Access;
+use std::process::Abort;
 use word60::Word60;
 
 /// What a test does to a hopper, or asks it.
@@ -302,28 +303,29 @@ const KEEPING: [Case; 16] = [
     ),
 ];
 
+/// The last step of each case answers so.
+fn expect(rt: &impl Abort, cases: &[Case]) {
+    for (name, steps, wanted) in cases {
+        assert_eq!(rt; last_answer(steps), *wanted, "{name}");
+    }
+}
+
 /// A reference enters where the cases say.
 #[test]
 fn enters(rt: HostRuntime) {
-    for (name, steps, wanted) in ENTERING.as_slice() {
-        assert_eq!(rt; last_answer(steps), *wanted, "{name}");
-    }
+    expect(&rt, ENTERING.as_slice());
 }
 
 /// What the cases accept is accepted, and nothing else.
 #[test]
 fn accepts(rt: HostRuntime) {
-    for (name, steps, wanted) in ACCEPTING.as_slice() {
-        assert_eq!(rt; last_answer(steps), *wanted, "{name}");
-    }
+    expect(&rt, ACCEPTING.as_slice());
 }
 
 /// Banks are busy, and stores wait, as the cases say.
 #[test]
 fn keeps(rt: HostRuntime) {
-    for (name, steps, wanted) in KEEPING.as_slice() {
-        assert_eq!(rt; last_answer(steps), *wanted, "{name}");
-    }
+    expect(&rt, KEEPING.as_slice());
 }
 
 /// An address, its bank, and the bank after it.

@@ -8,16 +8,9 @@ use instructions::{Digit, Reg, SixBits, UnitKind, operand_registers, results, so
 /// Digits are below 8 and counts below 64; higher bits don't count in `low`.
 #[test]
 fn makes_fields(rt: HostRuntime) {
-    assert_eq!(rt;
-        [Digit::new(7), Digit::new(8)],
-        [Some(Digit::low(0o17)), None]
-    );
-    assert_eq!(rt;
-        [SixBits::new(63), SixBits::new(64)],
-        [Some(SixBits::low(0o177)), None]
-    );
-    let found = (digit(7).get(), SixBits::of(digit(7), digit(5)).get());
-    assert_eq!(rt; found, (7, 61));
+    assert!(rt; [Digit::new(7), Digit::new(8)] == [Some(Digit::low(0o17)), None]);
+    assert!(rt; [SixBits::new(63), SixBits::new(64)] == [Some(SixBits::low(0o177)), None]);
+    assert!(rt; digit(7).get() == 7 && SixBits::of(digit(7), digit(5)).get() == 61);
 }
 
 /// A list of registers of an instruction.

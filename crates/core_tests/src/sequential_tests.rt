@@ -240,8 +240,10 @@ fn fetches_from_memory(rt: HostRuntime) -> Result<(), Fail> {
         p: index(3),
         ..held_at(PASSES, 1)
     });
-    assert_eq!(rt; booted, (Some(Halt::Stop), out_of_range(0)));
-    assert_eq!(rt; (last, beyond), (passing, out_of_range(4)));
+    assert!(rt;
+        booted == (Some(Halt::Stop), out_of_range(0))
+            && [last, beyond] == [passing, out_of_range(4)]
+    );
     Ok(())
 }
 
@@ -280,12 +282,8 @@ fn steps_over_one_instruction(rt: HostRuntime) -> Result<(), Fail> {
         state.halt = before.halt();
         state.place = held_at(*held, *parcel);
         step(&mut state);
-        let found = (state.halt, state.place, state.fault);
-        assert_eq!(rt;
-            found,
-            (after.halt(), held_at(*held, *next), true),
-            "{name}"
-        );
+        let is_stepped = state.halt == after.halt() && state.place == held_at(*held, *next);
+        assert!(rt; is_stepped && state.fault, "{name}");
     }
     Ok(())
 }
@@ -364,14 +362,11 @@ fn after_exchange() -> Seen {
 fn exchanges(rt: HostRuntime) -> Result<(), Fail> {
     let mut state = with_package(rt.alloc())?;
     let refused = state.exchange(0o361);
-    assert_eq!(rt;
-        (refused, state.halt),
-        (Err(Refusal::PackageRange), Some(Halt::Stop))
-    );
+    let is_left = refused == Err(Refusal::PackageRange) && state.halt == Some(Halt::Stop);
     state.exchange(0o40)?;
     let copy = state.copy()?;
-    assert_eq!(rt; what_is_seen(&state), after_exchange());
-    assert_eq!(rt; what_is_seen(&copy), after_exchange());
+    let seen = [what_is_seen(&state), what_is_seen(&copy)];
+    assert!(rt; is_left && seen == [after_exchange(), after_exchange()]);
     Ok(())
 }
 
@@ -566,8 +561,9 @@ fn logs(rt: HostRuntime) -> Result<(), Fail> {
     for (steps, entries, issues) in LOGS.as_slice() {
         let log = log_of(rt.alloc(), steps)?;
         let copy = log.copy()?;
-        let found = (log.entries(), log.issues(), copy.entries(), copy.issues());
-        assert_eq!(rt; found, (*entries, *issues, *entries, *issues));
+        let is_logged = log.entries() == *entries && log.issues() == *issues;
+        let is_copied = copy.entries() == *entries && copy.issues() == *issues;
+        assert!(rt; is_logged && is_copied);
     }
     Ok(())
 }
@@ -626,12 +622,21 @@ const REPLAYS: [Replay; 3] = [
     ),
 ];
 
+/// What a replay answers, and why the machine stands then, at which place, and with what in X3.
+type Replayed = (Result<(), Refusal>, Option<Halt>, Place, Word60);
+
 /// What the replay of a log makes of the doubling machine.
+fn replayed(alloc: Global, steps: &[Did]) -> Result<Replayed, Fail> {
+    let mut state = doubling(alloc)?;
+    let done = replay(&mut state, &log_of(alloc, steps)?);
+    let x3 = state.registers.get(Register::X(3).reg());
+    Ok((done, state.halt, state.place, x3))
+}
+
+/// A log is replayed so.
 #[test]
 fn replays(rt: HostRuntime) -> Result<(), Fail> {
     for (name, steps, answer, stand, parcel, x3) in REPLAYS.as_slice() {
-        let mut state = doubling(rt.alloc())?;
-        let done = replay(&mut state, &log_of(rt.alloc(), steps)?);
         let place = match *parcel {
             Some(parcel) => Place {
                 p: index(0),
@@ -639,13 +644,11 @@ fn replays(rt: HostRuntime) -> Result<(), Fail> {
             },
             None => beginning(0),
         };
-        let found = (
-            done,
-            state.halt,
-            state.place,
-            state.registers.get(Register::X(3).reg()),
+        let found = replayed(rt.alloc(), steps)?;
+        assert!(rt;
+            found == (*answer, stand.halt(), place, word(*x3)),
+            "{name}"
         );
-        assert_eq!(rt; found, (*answer, stand.halt(), place, word(*x3)), "{name}");
     }
     Ok(())
 }
