@@ -2,7 +2,7 @@
 
 use crate::fixtures::{MADE, drain, make, meets, shows, started_on};
 use instruction_table::{Halt, Refusal};
-use machine::{Event, Machine};
+use machine::{Answer, Event, Machine};
 use std::process::Abort;
 use std::test::Fail;
 
@@ -12,18 +12,19 @@ const TWO_SUMS: [(u32, &str); 2] = [
     (0o101, "36312374214600000000"),
 ];
 
-/// Numbers past all places, channels, banks and packages.
+/// Events with numbers past all places, channels, banks and packages, and one with the last package.
+const PAST_ALL: [(Event, Answer); 5] = [
+    (Event::Accept(200), Err(Refusal::Nothing)),
+    (Event::Return(200), Err(Refusal::Nothing)),
+    (Event::BankFree(200), Err(Refusal::Nothing)),
+    (Event::Ask(u32::MAX), Err(Refusal::PackageRange)),
+    (Event::Ask(0o360), MADE),
+];
+
 #[test]
 fn numbers_out_of_range(rt: HostRuntime) -> Result<(), Fail> {
     let mut machine = started_on(rt.alloc(), &TWO_SUMS).ok_or("start")?;
-    let steps = [
-        (Event::Accept(200), Err(Refusal::Nothing)),
-        (Event::Return(200), Err(Refusal::Nothing)),
-        (Event::BankFree(200), Err(Refusal::Nothing)),
-        (Event::Ask(u32::MAX), Err(Refusal::PackageRange)),
-        (Event::Ask(0o360), MADE),
-    ];
-    assert!(rt; meets(&mut machine, &steps));
+    assert!(rt; meets(&mut machine, &PAST_ALL));
     Ok(())
 }
 

@@ -55,27 +55,27 @@ fn serve(machine: &mut Machine, seat: Seat, note: Note) -> (Seat, bool) {
     }
 }
 
-/// Gives the value of one machine's operands to the other, and then the other its own. It answers whether
-/// the first is refused and the second is not.
-fn crossed(one: &mut Machine, seat: Seat, other: &mut Machine, other_seat: Seat) -> bool {
-    let foreign = match load(one, seat, note(1)) {
-        Ok(loaded) => loaded.compute(),
+/// The value of what reservation 1 reads; None where its seat, its claim or its read is refused.
+fn computed(machine: &mut Machine) -> Option<Computed> {
+    let seat = seat_of_increment1(machine)?;
+    match load(machine, seat, note(1)) {
+        Ok(loaded) => Some(loaded.compute()),
         Err(seat) => {
             seat.leave();
-            other_seat.leave();
-            return false;
+            None
         }
+    }
+}
+
+/// Gives the machine the value of another's operands, and then its own. It answers whether the first is refused and
+/// the second is not.
+fn crossed(machine: &mut Machine, foreign: Computed) -> bool {
+    let Some(own) = computed(machine) else {
+        foreign.abandon().leave();
+        return false;
     };
-    let own = match load(other, other_seat, note(1)) {
-        Ok(loaded) => loaded.compute(),
-        Err(seat) => {
-            seat.leave();
-            foreign.abandon().leave();
-            return false;
-        }
-    };
-    let is_refused = is_foreign(other, foreign);
-    match other.finish(own) {
+    let is_refused = is_foreign(machine, foreign);
+    match machine.finish(own) {
         Ok(finished) => {
             finished.abandon().leave();
             is_refused
@@ -101,25 +101,39 @@ fn is_foreign(machine: &mut Machine, token: Computed) -> bool {
     }
 }
 
-/// A machine with the word at 100, of which one instruction was issued to Increment1, and that unit's seat.
-fn issued_with_seat(alloc: Global, code: &str) -> Option<(Machine, Seat)> {
+/// Whether two instructions are issued, to the one unit and then to the other.
+fn issues_two(machine: &mut Machine, one: Unit, other: Unit) -> bool {
+    meets(
+        machine,
+        &[
+            (Event::Issue, issued(one, 1)),
+            (Event::Issue, issued(other, 2)),
+        ],
+    )
+}
+
+/// A machine with the word at 100, of which one instruction was issued to Increment1.
+fn issued_one(alloc: Global, code: &str) -> Option<Machine> {
     let mut machine = started(alloc, code)?;
-    if make(&mut machine, Event::Issue) != issued(Unit::Increment1, 1) {
-        return None;
+    if make(&mut machine, Event::Issue) == issued(Unit::Increment1, 1) {
+        Some(machine)
+    } else {
+        None
     }
-    let seat = seat_of_increment1(&mut machine)?;
-    Some((machine, seat))
+}
+
+/// The value of the reservation of SX1 B0+5, of a machine of its own.
+fn value_of_five(alloc: Global) -> Option<Computed> {
+    let mut five = issued_one(alloc, FIVE)?;
+    computed(&mut five)
 }
 
 /// Two machines that have issued SX1 B0+5 and SX1 B0+6: the value of the one is nothing to the other.
 #[test]
 fn value_of_another_machine(rt: HostRuntime) -> Result<(), Fail> {
-    let (mut five, seat) = issued_with_seat(rt.alloc(), FIVE).ok_or("five")?;
-    let Some((mut six, others)) = issued_with_seat(rt.alloc(), SIX) else {
-        seat.leave();
-        return Err("six".into());
-    };
-    let is_refused = crossed(&mut five, seat, &mut six, others);
+    let mut six = issued_one(rt.alloc(), SIX).ok_or("six")?;
+    let value = value_of_five(rt.alloc()).ok_or("five")?;
+    let is_refused = crossed(&mut six, value);
     assert!(rt; is_refused && drain(&mut six) == 1 && shows(&six, "6", "0", 1));
     Ok(())
 }
@@ -135,28 +149,31 @@ fn are_given(machine: &mut Machine) -> bool {
     }
 }
 
+/// Whether the next instruction is issued to Increment1 under this number, and its seat takes it to its end.
+fn issue_and_serve(machine: &mut Machine, seat: Seat, number: u64) -> (Seat, bool) {
+    let is_issued = make(machine, Event::Issue) == issued(Unit::Increment1, number);
+    let (seat, is_stored) = serve(machine, seat, note(number));
+    (seat, is_issued && is_stored)
+}
+
+/// Whether one seat takes reservations 1 and 2 to their end, and counts them.
+fn are_served(machine: &mut Machine) -> bool {
+    let Some(seat) = seat_of_increment1(machine) else {
+        return false;
+    };
+    let (seat, is_first_served) = issue_and_serve(machine, seat, 1);
+    let (seat, is_second_served) = issue_and_serve(machine, seat, 2);
+    let (unit, stored) = (seat.unit(), seat.stored());
+    let left = seat.leave();
+    is_first_served && is_second_served && unit == Unit::Increment1 && stored == 2 && left == 2
+}
+
 /// A seat takes two reservations to their end, and counts them; the seats are given out once.
 #[test]
 fn two_reservations(rt: HostRuntime) -> Result<(), Fail> {
     let mut machine = started(rt.alloc(), FIVE_AND_SIX).ok_or("start")?;
-    let seat = seat_of_increment1(&mut machine).ok_or("seats")?;
-    let first = make(&mut machine, Event::Issue);
-    let (seat, is_first_stored) = serve(&mut machine, seat, note(1));
-    let second = make(&mut machine, Event::Issue);
-    let (seat, is_second_stored) = serve(&mut machine, seat, note(2));
-    let (unit, stored) = (seat.unit(), seat.stored());
-    let left = seat.leave();
-    assert_eq!(rt;
-        (first, second, is_first_stored, is_second_stored),
-        (
-            issued(Unit::Increment1, 1),
-            issued(Unit::Increment1, 2),
-            true,
-            true
-        )
-    );
-    assert_eq!(rt; (unit, stored, left), (Unit::Increment1, 2, 2));
-    assert!(rt; !are_given(&mut machine) && shows(&machine, "5", "6", 2));
+    let are_served = are_served(&mut machine);
+    assert!(rt; are_served && !are_given(&mut machine) && shows(&machine, "5", "6", 2));
     Ok(())
 }
 
@@ -181,32 +198,36 @@ fn are_strange(machine: &mut Machine, seat: Seat, notes: &[Note]) -> (Seat, bool
     (at, true)
 }
 
-/// Claims of a number that was never given, of one before its issue and of another unit's note.
-#[test]
-fn strange_claims(rt: HostRuntime) -> Result<(), Fail> {
-    let mut machine = started(rt.alloc(), FIVE_AND_SIX).ok_or("start")?;
-    let seat = seat_of_increment1(&mut machine).ok_or("seats")?;
-    let (seat, is_early) = refused_claim(&mut machine, seat, note(1));
-    let first = make(&mut machine, Event::Issue);
-    let second = make(&mut machine, Event::Issue);
+/// Whether the seat can claim reservation 1 alone, and once.
+fn is_one_claimed(machine: &mut Machine, seat: Seat) -> bool {
     let other = Note {
         unit: Unit::Increment2,
         number: 2,
     };
     let notes = [note(0), note(2), note(u64::MAX), other];
-    let (seat, is_strange) = are_strange(&mut machine, seat, &notes);
-    let (seat, is_stored) = serve(&mut machine, seat, note(1));
-    let (seat, is_stale) = are_strange(&mut machine, seat, &[note(1)]);
+    let (seat, is_strange) = are_strange(machine, seat, &notes);
+    let (seat, is_stored) = serve(machine, seat, note(1));
+    let (seat, is_stale) = are_strange(machine, seat, &[note(1)]);
     let stored = seat.leave();
-    assert_eq!(rt;
-        (is_early, first, second),
-        (
-            Some(Refusal::Stranger),
-            issued(Unit::Increment1, 1),
-            issued(Unit::Increment2, 2)
-        )
-    );
-    assert!(rt; is_strange && is_stored && is_stale && stored == 1);
+    is_strange && is_stored && is_stale && stored == 1
+}
+
+/// Whether that is so from its issue on, and no claim of it is accepted before.
+fn is_claimed_when_issued(machine: &mut Machine) -> bool {
+    let Some(seat) = seat_of_increment1(machine) else {
+        return false;
+    };
+    let (seat, early) = refused_claim(machine, seat, note(1));
+    let is_issued = issues_two(machine, Unit::Increment1, Unit::Increment2);
+    let is_claimed = is_one_claimed(machine, seat);
+    early == Some(Refusal::Stranger) && is_issued && is_claimed
+}
+
+/// Claims of a number that was never given, of one before its issue and of another unit's note.
+#[test]
+fn strange_claims(rt: HostRuntime) -> Result<(), Fail> {
+    let mut machine = started(rt.alloc(), FIVE_AND_SIX).ok_or("start")?;
+    assert!(rt; is_claimed_when_issued(&mut machine));
     Ok(())
 }
 
@@ -250,62 +271,38 @@ fn claim_and_miss(
     }
 }
 
+/// The reservation of Shift, from its read event to its store event.
+const SHIFTED: [(Event, Answer); 3] = [
+    (Event::Read(Unit::Shift), MADE),
+    (Event::Finish(Unit::Shift), MADE),
+    (Event::Store(Unit::Shift), MADE),
+];
+
+/// Whether reservation 2 awaits the shift of reservation 1 for its read, and then finds that another has read.
+fn is_awaited_and_missed(machine: &mut Machine) -> bool {
+    let Some(seat) = seat_of_increment1(machine) else {
+        return false;
+    };
+    let (seat, awaited) = claim_and_read(machine, seat, note(2));
+    let is_shifted = meets(machine, &SHIFTED);
+    let read = Event::Read(Unit::Increment1);
+    let (seat, missed) = claim_and_miss(machine, seat, note(2), read);
+    let stored = seat.leave();
+    awaited == Some(Refusal::OperandAwaited(x(2)))
+        && is_shifted
+        && missed == Some(Refusal::Stranger)
+        && stored == 0
+}
+
 /// LX2 1, then SX1 X2+B0: its operand is awaited, and when the shift is done another has read it, so that
 /// the token is a stranger's.
 #[test]
 fn refused_reads(rt: HostRuntime) -> Result<(), Fail> {
     let mut machine = started_with(rt.alloc(), "20201731204600046000", "3").ok_or("start")?;
-    let seat = seat_of_increment1(&mut machine).ok_or("seats")?;
-    let first = make(&mut machine, Event::Issue);
-    let second = make(&mut machine, Event::Issue);
-    let (seat, is_awaited) = claim_and_read(&mut machine, seat, note(2));
-    let steps = [
-        (Event::Read(Unit::Shift), MADE),
-        (Event::Finish(Unit::Shift), MADE),
-        (Event::Store(Unit::Shift), MADE),
-    ];
-    let is_shifted = meets(&mut machine, &steps);
-    let read = Event::Read(Unit::Increment1);
-    let (seat, is_missed) = claim_and_miss(&mut machine, seat, note(2), read);
-    let stored = seat.leave();
-    assert_eq!(rt;
-        (first, second, is_awaited, is_missed),
-        (
-            issued(Unit::Shift, 1),
-            issued(Unit::Increment1, 2),
-            Some(Refusal::OperandAwaited(x(2))),
-            Some(Refusal::Stranger)
-        )
-    );
+    let is_issued = issues_two(&mut machine, Unit::Shift, Unit::Increment1);
+    let is_refused = is_awaited_and_missed(&mut machine);
     let left = drain(&mut machine);
-    assert!(rt; is_shifted && stored == 0 && left == 2 && shows(&machine, "6", "6", 2));
-    Ok(())
-}
-
-/// CX1 X2, then SX2 B0+5: its result is held back while X2 has still to be read. A second token for it is
-/// a stranger's when the first has stored.
-#[test]
-fn refused_stores(rt: HostRuntime) -> Result<(), Fail> {
-    let mut machine = started_with(rt.alloc(), "47102712000000546000", "17").ok_or("start")?;
-    let seat = seat_of_increment1(&mut machine).ok_or("seats")?;
-    let first = make(&mut machine, Event::Issue);
-    let second = make(&mut machine, Event::Issue);
-    let (seat, held, strange) = match finish(&mut machine, seat, note(2)) {
-        Err(seat) => (seat, None, None),
-        Ok(finished) => store_late(&mut machine, finished),
-    };
-    let stored = seat.leave();
-    assert_eq!(rt;
-        (first, second, held, strange),
-        (
-            issued(Unit::Divide, 1),
-            issued(Unit::Increment1, 2),
-            Some(Refusal::ResultHeld(x(2))),
-            Some(Refusal::Stranger)
-        )
-    );
-    let left = drain(&mut machine);
-    assert!(rt; stored == 0 && left == 2 && shows(&machine, "4", "5", 2));
+    assert!(rt; is_issued && is_refused && left == 2 && shows(&machine, "6", "6", 2));
     Ok(())
 }
 
@@ -320,6 +317,31 @@ fn store_late(machine: &mut Machine, token: Finished) -> (Seat, Option<Refusal>,
             (seat, Some(held), strange)
         }
     }
+}
+
+/// Whether the result of reservation 2 is held back, and its token is a stranger's when another has stored that.
+fn is_held_and_strange(machine: &mut Machine) -> bool {
+    let Some(seat) = seat_of_increment1(machine) else {
+        return false;
+    };
+    let (seat, held, strange) = match finish(machine, seat, note(2)) {
+        Err(seat) => (seat, None, None),
+        Ok(finished) => store_late(machine, finished),
+    };
+    let stored = seat.leave();
+    held == Some(Refusal::ResultHeld(x(2))) && strange == Some(Refusal::Stranger) && stored == 0
+}
+
+/// CX1 X2, then SX2 B0+5: its result is held back while X2 has still to be read. A second token for it is
+/// a stranger's when the first has stored.
+#[test]
+fn refused_stores(rt: HostRuntime) -> Result<(), Fail> {
+    let mut machine = started_with(rt.alloc(), "47102712000000546000", "17").ok_or("start")?;
+    let is_issued = issues_two(&mut machine, Unit::Divide, Unit::Increment1);
+    let is_refused = is_held_and_strange(&mut machine);
+    let left = drain(&mut machine);
+    assert!(rt; is_issued && is_refused && left == 2 && shows(&machine, "4", "5", 2));
+    Ok(())
 }
 
 /// SX1 B0+5 twice.
@@ -363,6 +385,19 @@ fn token_due(machine: &mut Machine, seat: Seat, note: Note, due: Due) -> Result<
     }
 }
 
+/// A token of Increment1's reservation of that number, of which this call is due; None where its seat was given out or
+/// a call before is refused.
+fn token_of(machine: &mut Machine, number: u64, due: Due) -> Option<Token> {
+    let seat = seat_of_increment1(machine)?;
+    match token_due(machine, seat, note(number), due) {
+        Ok(token) => Some(token),
+        Err(seat) => {
+            seat.leave();
+            None
+        }
+    }
+}
+
 /// Makes the events of Increment1's reservation before this one.
 fn comes_to(machine: &mut Machine, due: Due) -> bool {
     match due {
@@ -402,20 +437,15 @@ fn is_stranger(machine: &mut Machine, token: Token) -> bool {
 }
 
 /// Has reservation 1 go on without its token, and offers that when reservation 2 has come as far, which then goes on.
-fn is_older_refused(machine: &mut Machine, seat: Seat, due: Due) -> bool {
-    match token_due(machine, seat, note(1), due) {
-        Err(seat) => {
-            seat.leave();
-            false
-        }
-        Ok(token) => {
-            let is_stored = goes_on(machine, due);
-            let is_issued = make(machine, Event::Issue) == issued(Unit::Increment1, 2);
-            let is_there = comes_to(machine, due);
-            let is_refused = is_stranger(machine, token);
-            is_stored && is_issued && is_there && is_refused && goes_on(machine, due)
-        }
-    }
+fn is_older_refused(machine: &mut Machine, due: Due) -> bool {
+    let Some(token) = token_of(machine, 1, due) else {
+        return false;
+    };
+    let is_stored = goes_on(machine, due);
+    let is_issued = make(machine, Event::Issue) == issued(Unit::Increment1, 2);
+    let is_there = comes_to(machine, due);
+    let is_refused = is_stranger(machine, token);
+    is_stored && is_issued && is_there && is_refused && goes_on(machine, due)
 }
 
 /// A token of an older reservation is a stranger's, also where the instruction and the operands are the same. The
@@ -423,8 +453,8 @@ fn is_older_refused(machine: &mut Machine, seat: Seat, due: Due) -> bool {
 #[test]
 fn older_reservations(rt: HostRuntime) -> Result<(), Fail> {
     for due in [Due::Read, Due::Finish, Due::Store] {
-        let (mut machine, seat) = issued_with_seat(rt.alloc(), FIVE_TWICE).ok_or("start")?;
-        let is_refused = is_older_refused(&mut machine, seat, due);
+        let mut machine = issued_one(rt.alloc(), FIVE_TWICE).ok_or("start")?;
+        let is_refused = is_older_refused(&mut machine, due);
         assert!(rt; is_refused && shows(&machine, "5", "0", 2), "{due:?}");
     }
     Ok(())
@@ -449,24 +479,38 @@ impl Program<'_> {
             None
         }
     }
+
+    /// A token of that instruction's reservation, of which this call is due, of a machine of its own.
+    fn token(&self, alloc: Global, due: Due) -> Option<Token> {
+        let mut machine = self.issued(alloc)?;
+        token_of(&mut machine, self.number, due)
+    }
 }
 
-/// Offers a token of the one machine to the other, in which Increment1's reservation has come as far and then goes on.
-fn is_refused_by(other: &mut Machine, own: &mut Machine, number: u64, due: Due) -> bool {
-    let Some(seat) = seat_of_increment1(own) else {
-        return false;
-    };
-    match token_due(own, seat, note(number), due) {
-        Err(seat) => {
-            seat.leave();
-            false
-        }
-        Ok(token) => {
-            let is_there = comes_to(other, due);
-            let is_refused = is_stranger(other, token);
-            is_there && is_refused && goes_on(other, due)
-        }
-    }
+/// Offers a token of another machine, when Increment1's reservation has come as far, which then goes on.
+fn is_refused_by(machine: &mut Machine, token: Token, due: Due) -> bool {
+    let is_there = comes_to(machine, due);
+    let is_refused = is_stranger(machine, token);
+    is_there && is_refused && goes_on(machine, due)
+}
+
+/// The call that is due of a token, the program of its machine and that of the machine to which it is offered, and what
+/// the latter shows in X1 and X2 at the end.
+type Offer = (
+    Due,
+    Program<'static>,
+    Program<'static>,
+    &'static str,
+    &'static str,
+);
+
+/// Whether the token is refused, and the machine shows those words. None where there is no such token or machine.
+fn is_refused_offer((due, one, other, x1, x2): &Offer, alloc: Global) -> Option<bool> {
+    let mut machine = other.issued(alloc)?;
+    let token = one.token(alloc, *due)?;
+    let is_refused = is_refused_by(&mut machine, token, *due);
+    let _ = drain(&mut machine);
+    Some(is_refused && shows(&machine, x1, x2, 2))
 }
 
 /// NO and SX1 B0+5.
@@ -504,22 +548,23 @@ const FOUR: Program<'static> = Program {
     number: 1,
 };
 
+const OFFERS: [Offer; 5] = [
+    (Due::Read, FIRST, SECOND, "5", "3"),
+    (Due::Finish, FIRST, SECOND, "5", "3"),
+    (Due::Store, FIRST, SECOND, "5", "3"),
+    (Due::Finish, FIRST, OTHER, "0", "5"),
+    (Due::Finish, THREE, FOUR, "4", "4"),
+];
+
 /// A token of another machine is a stranger's where it differs in number, and at its finish where it differs in
 /// instruction or operands alone. The machine's own reservation goes on as if there had been none.
 #[test]
-fn other_machines(rt: HostRuntime) -> Result<(), Fail> {
-    for (due, one, other, x1, x2) in [
-        (Due::Read, FIRST, SECOND, "5", "3"),
-        (Due::Finish, FIRST, SECOND, "5", "3"),
-        (Due::Store, FIRST, SECOND, "5", "3"),
-        (Due::Finish, FIRST, OTHER, "0", "5"),
-        (Due::Finish, THREE, FOUR, "4", "4"),
-    ] {
-        let mut own = one.issued(rt.alloc()).ok_or("one")?;
-        let mut machine = other.issued(rt.alloc()).ok_or("other")?;
-        let is_refused = is_refused_by(&mut machine, &mut own, one.number, due);
-        let _ = drain(&mut machine);
-        assert!(rt; is_refused && shows(&machine, x1, x2, 2), "{due:?}");
+fn other_machines(rt: HostRuntime) {
+    for offer in &OFFERS {
+        let due = offer.0;
+        assert!(rt;
+            is_refused_offer(offer, rt.alloc()) == Some(true),
+            "{due:?}"
+        );
     }
-    Ok(())
 }
