@@ -4,10 +4,11 @@ ghost use Rattle.std.specs.Prelude.{Some};
 
 use arrayvec::ArrayVec;
 use device_text::{
-    Output, Piece, ReadFailed, Took, Tracked, Watched, WatchedBuffer, WriteFailed, first_field,
-    number, put_pieces, read_line, unit_named,
+    Input, Output, Piece, ReadFailed, Took, Tracked, Watched, WatchedBuffer, WriteFailed,
+    first_field, number, put_pieces, read_line, unit_named,
 };
 use instruction_table::Unit;
+use std::alloc::{AllocError, Global};
 use std::io;
 use std::io::{ErrorKind, Write};
 use std::process::Abort;
@@ -71,15 +72,16 @@ const FIELDS: [(&str, &str, Option<&str>); 5] = [
     ("at ", "at", Some("")),
 ];
 
+/// Whether a text has this first field, and this stands after the space.
+fn has_fields(text: &str, first: &str, rest: Option<&str>) -> bool {
+    let (field, more) = first_field(text.as_bytes());
+    field == first.as_bytes() && more == rest.map(|rest| rest.as_bytes())
+}
+
 #[test]
 fn fields(rt: HostRuntime) -> Result<(), Fail> {
     for (text, first, rest) in &FIELDS {
-        let (field, more) = first_field(text.as_bytes());
-        let wanted = match rest {
-            Some(rest) => Some(rest.as_bytes()),
-            None => None,
-        };
-        assert_eq!(rt; (field, more), (first.as_bytes(), wanted), "{text}");
+        assert!(rt; has_fields(text, first, *rest));
     }
     Ok(())
 }
@@ -91,37 +93,48 @@ fn unit_names(rt: HostRuntime) -> Result<(), Fail> {
     Ok(())
 }
 
-/// Lines by a reader and by a buffered one: an empty line, one without an end, and nothing after it.
+/// What is taken of a text call by call, and the line: an empty one, one without an end, and nothing after it.
+const LINES: [(Took, &str); 4] = [
+    (Took::Whole, "one"),
+    (Took::Whole, ""),
+    (Took::Whole, "last"),
+    (Took::Nothing, ""),
+];
+
+/// The lines of a text.
+fn expect_lines<I: Input>(rt: &impl Abort, input: &mut I) -> Result<(), Fail> {
+    let mut line = ArrayVec::new();
+    for (took, text) in &LINES {
+        let is_read = read_line(input, &mut line) == Ok(*took);
+        assert!(rt; is_read && line.as_slice() == text.as_bytes());
+    }
+    Ok(())
+}
+
+/// Lines by a reader and by a buffered one.
 #[test]
 fn lines(rt: HostRuntime) -> Result<(), Fail> {
     let mut bytes = b"one\n\nlast".as_slice();
     let mut buffered = bytes;
-    let mut watched = Watched::new(&mut bytes);
-    let mut buffer = WatchedBuffer::new(&mut buffered);
-    let mut line = ArrayVec::new();
-    for (took, text) in [
-        (Took::Whole, "one"),
-        (Took::Whole, ""),
-        (Took::Whole, "last"),
-        (Took::Nothing, ""),
-    ] {
-        let is_read = read_line(&mut watched, &mut line) == Ok(took);
-        assert!(rt; is_read && line.as_slice() == text.as_bytes());
-        let is_read = read_line(&mut buffer, &mut line) == Ok(took);
-        assert!(rt; is_read && line.as_slice() == text.as_bytes());
+    expect_lines(&rt, &mut Watched::new(&mut bytes))?;
+    expect_lines(&rt, &mut WatchedBuffer::new(&mut buffered))
+}
+
+/// A line of so many sevens, and a text after it.
+fn sevens(alloc: Global, length: u32) -> Result<Vec<u8>, AllocError> {
+    let mut text = Vec::new(alloc);
+    for _ in 0..length {
+        text.push(b'7')?;
     }
-    Ok(())
+    text.extend_from_slice(b"\nrest")?;
+    Ok(text)
 }
 
 /// A line of 200 bytes is whole, and of a longer one 201 bytes are taken.
 #[test]
 fn long_lines(rt: HostRuntime) -> Result<(), Fail> {
     for (length, took) in [(200u32, Took::Whole), (201, Took::Long)] {
-        let mut text = Vec::new(rt.alloc());
-        for _ in 0..length {
-            text.push(b'7')?;
-        }
-        text.extend_from_slice(b"\nrest")?;
+        let text = sevens(rt.alloc(), length)?;
         let mut bytes = text.as_slice();
         let mut line = ArrayVec::new();
         let read: Result<Took, ReadFailed> = read_line(&mut Watched::new(&mut bytes), &mut line);

@@ -6,6 +6,7 @@ use registers::RegisterFile;
 use relocation::{Area, Storage};
 use sequential::{Place, State};
 use std::alloc::{AllocError, Global};
+use std::process::Abort;
 use std::test::Fail;
 
 /// The exit status of a machine that ended so.
@@ -43,36 +44,61 @@ fn statuses(rt: HostRuntime) -> Result<(), Fail> {
     Ok(())
 }
 
+/// The text of a fault.
+fn expect_text(
+    rt: &(impl Abort + AllocGlobal),
+    fault: &ProgramFault,
+    text: &str,
+) -> Result<(), Fail> {
+    let found = fault.to_string(rt.alloc())?;
+    assert_eq!(rt; found.as_str(), text);
+    Ok(())
+}
+
+/// Faults of other kinds than a deck's, and their texts.
+const FAULT_TEXTS: [(ProgramFault, &str); 5] = [
+    (ProgramFault::PackageRange, "E19 package range"),
+    (ProgramFault::BadLog, "bad log"),
+    (ProgramFault::OutOfMemory, "E21 out of memory"),
+    (ProgramFault::Read, "E22 read failed"),
+    (ProgramFault::Write, "E23 write failed"),
+];
+
 #[test]
 fn fault_texts(rt: HostRuntime) -> Result<(), Fail> {
-    for (fault, text) in [
-        (ProgramFault::PackageRange, "E19 package range"),
-        (ProgramFault::BadLog, "bad log"),
-        (ProgramFault::OutOfMemory, "E21 out of memory"),
-        (ProgramFault::Read, "E22 read failed"),
-        (ProgramFault::Write, "E23 write failed"),
-    ] {
-        assert_eq!(rt; fault.to_string(rt.alloc())?.as_str(), text);
+    for (fault, text) in &FAULT_TEXTS {
+        expect_text(&rt, fault, text)?;
     }
+    Ok(())
+}
+
+/// Faults of a deck, and their texts at line 10000001.
+const DECK_FAULT_TEXTS: [(DeckFault, &str); 14] = [
+    (DeckFault::Lines, "E20 line 10000001: lines"),
+    (DeckFault::Long, "E20 line 10000001: long"),
+    (DeckFault::First, "E20 line 10000001: first"),
+    (DeckFault::Unknown, "E20 line 10000001: unknown"),
+    (DeckFault::Number, "E20 line 10000001: number"),
+    (DeckFault::Size, "E20 line 10000001: size"),
+    (DeckFault::Repeated, "E20 line 10000001: repeated"),
+    (DeckFault::Many, "E20 line 10000001: many"),
+    (DeckFault::Range, "E20 line 10000001: range"),
+    (DeckFault::Package, "E20 line 10000001: package"),
+    (DeckFault::Instruction, "E20 line 10000001: instruction"),
+    (DeckFault::Full, "E20 line 10000001: full"),
+    (DeckFault::NoStart, "E20 line 10000001: no start"),
+    (DeckFault::NoEnd, "E20 line 10000001: no end"),
+];
+
+#[test]
+fn deck_fault_texts(rt: HostRuntime) -> Result<(), Fail> {
     let line = 10_000_001;
-    for (fault, text) in [
-        (DeckFault::Lines, "E20 line 10000001: lines"),
-        (DeckFault::Long, "E20 line 10000001: long"),
-        (DeckFault::First, "E20 line 10000001: first"),
-        (DeckFault::Unknown, "E20 line 10000001: unknown"),
-        (DeckFault::Number, "E20 line 10000001: number"),
-        (DeckFault::Size, "E20 line 10000001: size"),
-        (DeckFault::Repeated, "E20 line 10000001: repeated"),
-        (DeckFault::Many, "E20 line 10000001: many"),
-        (DeckFault::Range, "E20 line 10000001: range"),
-        (DeckFault::Package, "E20 line 10000001: package"),
-        (DeckFault::Instruction, "E20 line 10000001: instruction"),
-        (DeckFault::Full, "E20 line 10000001: full"),
-        (DeckFault::NoStart, "E20 line 10000001: no start"),
-        (DeckFault::NoEnd, "E20 line 10000001: no end"),
-    ] {
-        let fault = ProgramFault::Deck { line, fault };
-        assert_eq!(rt; fault.to_string(rt.alloc())?.as_str(), text);
+    for (fault, text) in &DECK_FAULT_TEXTS {
+        let fault = ProgramFault::Deck {
+            line,
+            fault: *fault,
+        };
+        expect_text(&rt, &fault, text)?;
     }
     Ok(())
 }

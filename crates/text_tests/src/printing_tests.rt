@@ -5,7 +5,7 @@ use instruction_table::Refusal;
 use job_deck::{dump, list, read_deck, read_log};
 use relocation::Storage;
 use sequential::{Log, State};
-use std::alloc::AllocError;
+use std::alloc::{AllocError, Global};
 use std::process::Abort;
 use std::test::Fail;
 
@@ -15,12 +15,17 @@ const FOUR_LINES: &str = "\
     000100 71100000057120000003 SX1 B0+5; SX2 B0+3\n\
     000101 36312374214600000000 IX3 X1+X2; IX4 X2-X1; NO; PS\n";
 
+/// Whether a deck is listed so.
+fn is_listed(alloc: Global, deck: &[u8], lines: &[u8]) -> bool {
+    let mut input = deck;
+    let mut output = Vec::new(alloc);
+    let listed = list(alloc, &mut input, &mut output);
+    listed.is_ok() && output.as_slice() == lines
+}
+
 #[test]
 fn lists(rt: HostRuntime) -> Result<(), Fail> {
-    let mut input = FOUR_WORDS.as_bytes();
-    let mut output = Vec::new(rt.alloc());
-    let listed = list(rt.alloc(), &mut input, &mut output);
-    assert!(rt; listed.is_ok() && output.as_slice() == FOUR_LINES.as_bytes());
+    assert!(rt; is_listed(rt.alloc(), FOUR_WORDS.as_bytes(), FOUR_LINES.as_bytes()));
     Ok(())
 }
 
@@ -31,10 +36,7 @@ fn expect_listed(rt: &(impl Abort + AllocGlobal), word: &str, items: &str) -> Re
         ["core 32\nword ", word, "\nstart 0\nend"].as_slice(),
     )?;
     let line = joined(rt.alloc(), ["000000 ", word, " ", items, "\n"].as_slice())?;
-    let mut input = deck.as_slice();
-    let mut output = Vec::new(rt.alloc());
-    let listed = list(rt.alloc(), &mut input, &mut output);
-    assert_eq!(rt; (listed, output), (Ok(()), line));
+    assert!(rt; is_listed(rt.alloc(), deck.as_slice(), line.as_slice()));
     Ok(())
 }
 
@@ -65,12 +67,12 @@ fn lists_from_failing_readers(rt: HostRuntime) -> Result<(), Fail> {
         let mut output = Vec::new(rt.alloc());
         let listed = list(rt.alloc(), &mut input, &mut output);
         let whole = fails_from == 1000;
-        let wanted = if whole {
+        let (wanted, length) = if whole {
             (Ok(()), FOUR_LINES.len())
         } else {
             (Err(Refusal::Read), 0)
         };
-        assert_eq!(rt; (listed, output.len()), wanted, "{fails_from}");
+        assert!(rt; listed == wanted && output.len() == length, "{fails_from}");
     }
     Ok(())
 }

@@ -4,6 +4,7 @@ use crate::fixtures::{Dripping, Failing, joined};
 use instruction_table::{DeckFault, Refusal};
 use job_deck::{events, replay};
 use std::alloc::{AllocGlobal, Global};
+use std::io::Read;
 use std::process::Abort;
 use std::test::Fail;
 
@@ -51,6 +52,18 @@ const BOOTED: &str = "\
     X7 00000000000000000000\n\
     LOG none\n";
 
+/// Whether a session from a reader ends so, and has written these bytes by then.
+fn is_held<R: Read>(
+    alloc: Global,
+    reader: &mut R,
+    wanted: Result<(), Refusal>,
+    written: &[u8],
+) -> bool {
+    let mut output = Vec::new(alloc);
+    let held = events(alloc, reader, &mut output, 4);
+    held == wanted && output.as_slice() == written
+}
+
 /// The session of a deck with its schedule, which writes these texts and leaves the rest.
 fn expect_session(
     rt: &(impl Abort + AllocGlobal),
@@ -62,9 +75,8 @@ fn expect_session(
     let bytes = joined(rt.alloc(), [deck, schedule, rest].as_slice())?;
     let written = joined(rt.alloc(), texts)?;
     let mut input = bytes.as_slice();
-    let mut output = Vec::new(rt.alloc());
-    let held = events(rt.alloc(), &mut input, &mut output, 4);
-    assert_eq!(rt; (held, output, input), (Ok(()), written, rest.as_bytes()));
+    let is_written = is_held(rt.alloc(), &mut input, Ok(()), written.as_slice());
+    assert!(rt; is_written && input == rest.as_bytes());
     Ok(())
 }
 
@@ -123,12 +135,8 @@ fn expect_fault(
 ) -> Result<(), Fail> {
     let bytes = joined(rt.alloc(), [DECK, schedule].as_slice())?;
     let mut input = bytes.as_slice();
-    let mut output = Vec::new(rt.alloc());
-    let held = events(rt.alloc(), &mut input, &mut output, 4);
-    assert_eq!(rt;
-        (held, output.as_slice()),
-        (Err(Refusal::Deck { line, fault }), answers.as_bytes())
-    );
+    let refused = Err(Refusal::Deck { line, fault });
+    assert!(rt; is_held(rt.alloc(), &mut input, refused, answers.as_bytes()));
     Ok(())
 }
 
@@ -189,9 +197,7 @@ fn fails_after(alloc: Global, bytes: &[u8], fails_from: u64, answers: &str) -> b
         turn: 0,
         fails_from,
     };
-    let mut output = Vec::new(alloc);
-    let held = events(alloc, &mut input, &mut output, 4);
-    held == Err(Refusal::Read) && output.as_slice() == answers.as_bytes()
+    is_held(alloc, &mut input, Err(Refusal::Read), answers.as_bytes())
 }
 
 /// Each line is answered before the next is read.
@@ -214,13 +220,7 @@ fn answers_to_a_failing_writer(rt: HostRuntime) -> Result<(), Fail> {
         fails_from: 5,
     };
     let held = events(rt.alloc(), &mut input, &mut output, 4);
-    assert_eq!(rt;
-        (held, output.bytes.as_slice(), input),
-        (
-            Err(Refusal::Write),
-            b"E1 h".as_slice(),
-            b"issue\n".as_slice()
-        )
-    );
+    let is_cut = held == Err(Refusal::Write) && output.bytes.as_slice() == b"E1 h".as_slice();
+    assert!(rt; is_cut && input == b"issue\n".as_slice());
     Ok(())
 }
