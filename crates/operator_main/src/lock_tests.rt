@@ -393,15 +393,10 @@ fn serve_beside<K: Naming, J: Naming, R: Wait>(
 #[test]
 fn strangers(rt: HostRuntime) -> Result<(), Fail> {
     let machine = booted(rt.alloc(), &[(0o100, FIVE)])?;
-    let idle = booted(rt.alloc(), &[(0o100, FIVE)])?;
     let ground = Ground::new(rt.alloc())?;
-    let other_ground = Ground::new(rt.alloc())?;
-    let strange = strangers_of::<Brand, _>(&rt, rt.alloc(), ground, machine, other_ground, idle)?;
+    let strange = strangers_of::<Brand, _>(&rt, rt.alloc(), ground, machine)?;
     let first = issued(Unit::Increment1, 1);
-    assert_eq!(rt;
-        strange,
-        (Ok(()), first, Some(Refusal::Stranger), true, 1, true)
-    );
+    assert!(rt; strange == (Ok(()), first, Some(Refusal::Stranger), true, 1, true));
     Ok(())
 }
 
@@ -416,17 +411,23 @@ type Strange = (
     bool,
 );
 
+/// A machine that is to issue nothing, with a progress word of its own.
+fn idle(alloc: Global) -> Result<(Machine, Ground), Refusal> {
+    let machine = booted(alloc, &[(0o100, FIVE)])?;
+    let ground = Ground::new(alloc)?;
+    Ok((machine, ground))
+}
+
 /// The first machine stands beside the word that K names.
 fn strangers_of<K: Naming, R: Wait>(
     rt: &R,
     alloc: Global,
     ground: Ground,
     machine: Machine,
-    other_ground: Ground,
-    idle: Machine,
 ) -> Result<Strange, Refusal>
     requires { ground ≡ K.table }
 {
+    let (idle, other_ground) = idle(alloc)?;
     let (own, seats, seen) = Shared::<K>::open(alloc, ground, machine)?;
     strangers_beside::<K, Brand, _>(rt, alloc, &own, seats, seen, other_ground, idle)
 }

@@ -113,19 +113,30 @@ fn put_indexes(
     text.extend_from_slice(b"\n")
 }
 
-/// The text of a dump.
-pub fn dump_text(alloc: Global, dump: Dump<'_>) -> Result<Vec<u8>, AllocError> {
-    let mut text = Vec::from_slice(alloc, dump.begins.as_bytes())?;
-    let a = ["A0", "A1", "A2", "A3", "A4", "A5", "A6", "A7"];
-    put_indexes(&mut text, dump, "A", a)?;
-    let b = ["B0", "B1", "B2", "B3", "B4", "B5", "B6", "B7"];
-    put_indexes(&mut text, dump, "B", b)?;
+/// The lines of the X registers.
+fn put_words(text: &mut Vec<u8>, dump: Dump<'_>) -> Result<(), AllocError> {
     for register in ["X0", "X1", "X2", "X3", "X4", "X5", "X6", "X7"] {
         text.extend_from_slice(register.as_bytes())?;
         text.push(b' ')?;
-        put_register(&mut text, dump, register, 20)?;
+        put_register(text, dump, register, 20)?;
         text.push(b'\n')?;
     }
+    Ok(())
+}
+
+/// The lines of all registers.
+fn put_registers(text: &mut Vec<u8>, dump: Dump<'_>) -> Result<(), AllocError> {
+    let a = ["A0", "A1", "A2", "A3", "A4", "A5", "A6", "A7"];
+    put_indexes(text, dump, "A", a)?;
+    let b = ["B0", "B1", "B2", "B3", "B4", "B5", "B6", "B7"];
+    put_indexes(text, dump, "B", b)?;
+    put_words(text, dump)
+}
+
+/// The text of a dump.
+pub fn dump_text(alloc: Global, dump: Dump<'_>) -> Result<Vec<u8>, AllocError> {
+    let mut text = Vec::from_slice(alloc, dump.begins.as_bytes())?;
+    put_registers(&mut text, dump)?;
     for part in [dump.shows, "LOG ", dump.log, "\n"] {
         text.extend_from_slice(part.as_bytes())?;
     }
