@@ -55,9 +55,10 @@ fn two_threads<K: Naming + Send + Sync, R: Threads + Wait + Sync + Abort>(
     );
     meet(&shared, &mut one, &mut two);
     let snapshot = shared.snapshot(rt, &mut one)?;
-    assert!(rt; ones == [Ok(None), Ok(None)]);
-    assert!(rt; twos == [Ok(None), Ok(None)]);
-    assert!(rt; snapshot.log().entries() == [Entry::Exchange(0o40), Entry::Issued(4)].as_slice());
+    let passes = [Ok(None), Ok(None)];
+    let is_logged = snapshot.log().entries()
+        == [Entry::Exchange(0o40), Entry::Issued(4)].as_slice();
+    assert!(rt; ones == passes && twos == passes && is_logged);
     Ok(())
 }
 

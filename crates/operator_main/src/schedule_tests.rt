@@ -20,17 +20,33 @@ use std::test::Fail;
 use std::thread::Threads;
 use word60::Word60;
 
-/// The lines of the events, and those of their answers.
-fn lines_of(alloc: Global, schedule: &Schedule) -> Result<(Vec<u8>, Vec<u8>), AllocError> {
-    let mut events = Vec::new(alloc);
+/// The lines of a session: the deck, the events and a drain.
+fn session_of(alloc: Global, schedule: &Schedule) -> Result<Vec<u8>, AllocError> {
+    let mut session = Vec::from_slice(alloc, schedule.deck.as_bytes())?;
+    for (event, _) in schedule.steps {
+        session.extend_from_slice(event.as_bytes())?;
+        session.push(b'\n')?;
+    }
+    session.extend_from_slice(b"drain\n")?;
+    Ok(session)
+}
+
+/// The lines that answer the events.
+fn answers_of(alloc: Global, schedule: &Schedule) -> Result<Vec<u8>, AllocError> {
     let mut answers = Vec::new(alloc);
-    for (event, answer) in schedule.steps {
-        events.extend_from_slice(event.as_bytes())?;
-        events.push(b'\n')?;
+    for (_, answer) in schedule.steps {
         answers.extend_from_slice(answer.as_bytes())?;
         answers.push(b'\n')?;
     }
-    Ok((events, answers))
+    Ok(answers)
+}
+
+/// What the session prints: the answers, and what the drained machine shows.
+fn printed_by(alloc: Global, schedule: &Schedule) -> Result<Vec<u8>, AllocError> {
+    let mut printed = answers_of(alloc, schedule)?;
+    let dump = dump_text(alloc, schedule.dump)?;
+    printed.extend_from_slice(dump.as_slice())?;
+    Ok(printed)
 }
 
 /// The events that the lines say.
@@ -113,49 +129,67 @@ fn expect_left(
     Ok(())
 }
 
-/// The events get their answers. A snapshot is given only when the machine is drained, which takes as many events as
-/// the schedule says; it shows what is left.
-fn expect_answers(
+/// A snapshot is given only when the machine is drained, which takes as many events as the schedule says; it shows
+/// what is left.
+fn expect_drained(
     rt: &(impl Abort + AllocGlobal),
     schedule: &Schedule,
     deck: &Deck,
     machine: &mut Machine,
-    answers: &[Answer],
 ) -> Result<(), Fail> {
-    let text = text_of(rt.alloc(), answers)?;
-    let (_, wanted) = lines_of(rt.alloc(), schedule)?;
-    let is_pending = matches!(machine.snapshot(), Err(Refusal::NotDrained));
+    let is_pending = machine.snapshot().err() == Some(Refusal::NotDrained);
     let left = machine.drain();
-    let snapshot = machine.snapshot()?;
-    let is_logged = machine.log().entries() == snapshot.log().entries();
     assert_eq!(rt;
-        (text, is_pending, left, is_logged),
-        (wanted, schedule.left > 0, schedule.left, true),
+        (is_pending, left),
+        (schedule.left > 0, schedule.left),
         "{}",
         schedule.name
     );
+    let snapshot = machine.snapshot()?;
+    let is_logged = machine.log().entries() == snapshot.log().entries();
+    assert!(rt; is_logged, "{}", schedule.name);
     expect_left(rt, schedule, deck, &snapshot)
 }
 
+/// The answers have the lines that the schedule says.
+fn expect_answers(
+    rt: &(impl Abort + AllocGlobal),
+    schedule: &Schedule,
+    answers: &[Answer],
+) -> Result<(), Fail> {
+    let text = text_of(rt.alloc(), answers)?;
+    let wanted = answers_of(rt.alloc(), schedule)?;
+    assert_eq!(rt; text, wanted, "{}", schedule.name);
+    Ok(())
+}
+
 /// One event after another.
-fn expect_events(rt: &(impl Abort + AllocGlobal), schedule: &Schedule) -> Result<(), Fail> {
-    let deck = deck_of(rt.alloc(), schedule)?;
-    let mut machine = booted(rt.alloc(), &deck, schedule)?;
+fn expect_events(
+    rt: &(impl Abort + AllocGlobal),
+    schedule: &Schedule,
+    deck: &Deck,
+) -> Result<(), Fail> {
+    let mut machine = booted(rt.alloc(), deck, schedule)?;
     let mut answers = Vec::new(rt.alloc());
     for event in events_of(rt.alloc(), schedule)? {
         answers.push(machine.apply(event))?;
     }
-    expect_answers(rt, schedule, &deck, &mut machine, answers.as_slice())
+    expect_answers(rt, schedule, answers.as_slice())?;
+    expect_drained(rt, schedule, deck, &mut machine)
 }
 
 /// All events as one list.
-fn expect_one_run(rt: &(impl Abort + AllocGlobal), schedule: &Schedule) -> Result<(), Fail> {
-    let deck = deck_of(rt.alloc(), schedule)?;
-    let mut machine = booted(rt.alloc(), &deck, schedule)?;
+fn expect_one_run(
+    rt: &(impl Abort + AllocGlobal),
+    schedule: &Schedule,
+    deck: &Deck,
+) -> Result<(), Fail> {
+    let mut machine = booted(rt.alloc(), deck, schedule)?;
     let events = events_of(rt.alloc(), schedule)?;
     let mut answers = Vec::new(rt.alloc());
     machine.run(events.as_slice(), &mut answers)?;
-    expect_answers(rt, schedule, &deck, &mut machine, answers.as_slice())
+    expect_answers(rt, schedule, answers.as_slice())?;
+    expect_drained(rt, schedule, deck, &mut machine)
 }
 
 /// The lines of a session by the program, and a drain.
@@ -163,13 +197,8 @@ fn expect_lines(
     rt: &(impl Abort + AllocGlobal + Threads + Wait + Sync),
     schedule: &Schedule,
 ) -> Result<(), Fail> {
-    let (events, answers) = lines_of(rt.alloc(), schedule)?;
-    let mut input = Vec::from_slice(rt.alloc(), schedule.deck.as_bytes())?;
-    input.extend_from_slice(events.as_slice())?;
-    input.extend_from_slice(b"drain\n")?;
-    let dump = dump_text(rt.alloc(), schedule.dump)?;
-    let mut printed = answers;
-    printed.extend_from_slice(dump.as_slice())?;
+    let input = session_of(rt.alloc(), schedule)?;
+    let printed = printed_by(rt.alloc(), schedule)?;
     let limit = schedule.budget.to_string(rt.alloc())?;
     let budget = limit.as_str();
     let ended = called(rt, &["events", "--budget", budget], input.as_slice())?;
@@ -220,55 +249,63 @@ fn is_alike<K: Naming>(
 
 /// How many of the events are alike.
 fn count_alike<K: Naming>(
-    rt: &impl Wait,
+    rt: &(impl AllocGlobal + Wait),
+    schedule: &Schedule,
+    deck: &Deck,
     crew: &mut Crew<K>,
-    machine: &mut Machine,
-    events: &[Event],
-) -> usize {
+) -> Result<usize, Fail> {
+    let mut machine = booted(rt.alloc(), deck, schedule)?;
     let mut alike = 0usize;
-    for event in events {
-        if is_alike(rt, crew, machine, *event) {
+    for event in events_of(rt.alloc(), schedule)? {
+        if is_alike(rt, crew, &mut machine, event) {
             alike = alike.saturating_add(1);
         }
     }
-    alike
+    Ok(alike)
 }
 
-/// What the seats and the snapshot tell after the schedule, which leaves nothing pending.
-fn expect_told<K: Naming>(
-    rt: &(impl Abort + AllocGlobal + Wait),
+/// How many of the events are alike, and what the seats and the snapshot tell after them; the seats are left.
+fn told_by<K: Naming>(
+    rt: &(impl AllocGlobal + Wait),
     schedule: &Schedule,
     deck: &Deck,
     mut crew: Crew<K>,
-) -> Result<(), Fail> {
+) -> Result<(usize, [Option<(Unit, u64)>; 7], Snapshot), Fail> {
+    let alike = count_alike(rt, schedule, deck, &mut crew);
     let snapshot = crew.snapshot(rt);
     let stored = crew.leave();
-    assert_eq!(rt; stored, stored_by_unit(schedule), "{}", schedule.name);
-    expect_left(rt, schedule, deck, &snapshot?)
+    Ok((alike?, stored, snapshot?))
 }
 
-/// The calls of a locked machine, beside its progress word.
+/// The calls of a locked machine, beside its progress word. The schedule leaves nothing pending.
 fn expect_calls_beside<K: Naming>(
     rt: &(impl Abort + AllocGlobal + Wait),
     schedule: &Schedule,
+    deck: &Deck,
     ground: Ground,
 ) -> Result<(), Fail>
     requires { ground ≡ K.table }
 {
-    let deck = deck_of(rt.alloc(), schedule)?;
-    let events = events_of(rt.alloc(), schedule)?;
-    let mut alone = booted(rt.alloc(), &deck, schedule)?;
-    let machine = booted(rt.alloc(), &deck, schedule)?;
-    let mut crew = Crew::<K>::open(rt.alloc(), ground, machine)?;
-    let alike = count_alike(rt, &mut crew, &mut alone, events.as_slice());
-    assert_eq!(rt; alike, schedule.steps.len(), "{}", schedule.name);
-    expect_told(rt, schedule, &deck, crew)
+    let machine = booted(rt.alloc(), deck, schedule)?;
+    let crew = Crew::<K>::open(rt.alloc(), ground, machine)?;
+    let (alike, stored, snapshot) = told_by(rt, schedule, deck, crew)?;
+    assert_eq!(rt;
+        (alike, stored),
+        (schedule.steps.len(), stored_by_unit(schedule)),
+        "{}",
+        schedule.name
+    );
+    expect_left(rt, schedule, deck, &snapshot)
 }
 
 /// The same beside a progress word of its own.
-fn expect_calls(rt: &(impl Abort + AllocGlobal + Wait), schedule: &Schedule) -> Result<(), Fail> {
+fn expect_calls(
+    rt: &(impl Abort + AllocGlobal + Wait),
+    schedule: &Schedule,
+    deck: &Deck,
+) -> Result<(), Fail> {
     let ground = Ground::new(rt.alloc())?;
-    expect_calls_beside::<Brand>(rt, schedule, ground)
+    expect_calls_beside::<Brand>(rt, schedule, deck, ground)
 }
 
 /// A schedule by each way.
@@ -277,10 +314,11 @@ fn expect_each(
     schedule: &Schedule,
 ) -> Result<(), Fail> {
     expect_lines(rt, schedule)?;
-    expect_events(rt, schedule)?;
-    expect_one_run(rt, schedule)?;
+    let deck = deck_of(rt.alloc(), schedule)?;
+    expect_events(rt, schedule, &deck)?;
+    expect_one_run(rt, schedule, &deck)?;
     if schedule.left == 0 {
-        expect_calls(rt, schedule)?;
+        expect_calls(rt, schedule, &deck)?;
     }
     Ok(())
 }
