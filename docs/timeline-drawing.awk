@@ -74,6 +74,7 @@ function draw(form,   r) {
     legend[++legends] = "A its reference accepted   L its load returned   D carried out by the drain"
     legend[++legends] = "--- reserved in its unit   === in the hopper   ~~~ in its channel, still to return"
     legend[++legends] = "machine: Q exchange asked for, --- until X made   I issued without a unit   B8 bank 8 freed"
+    if (accesses) legend[++legends] = "machine: P a peripheral processor read a word   W it wrote one"
     legend[++legends] = "The small letters say what each event is: l a return, q an ask, d the drain, e the end."
     colour["-"] = "#cfe0f5"; colour["="] = "#f7dfa5"; colour["~"] = "#cdebc8"
     label[-2] = "event"; label[0] = "machine"

@@ -36,7 +36,13 @@ function read_files(   file, line, part) {
 # Whether a line is an event of a schedule.
 function is_event(line) {
     return line ~ /^(issue|exchange|end|drain)$/ || line ~ /^(accept|return|bank) [0-9][0-9]?$/ ||
-        line ~ /^ask [0-7]+$/ && length(line) <= 10 || line ~ ("^(read|finish|store) " units "$")
+        line ~ /^ask [0-7]+$/ && length(line) <= 10 || line ~ ("^(read|finish|store) " units "$") || is_access(line)
+}
+
+# Whether a line is a peripheral access: an address has at most six digits, a word twenty.
+function is_access(line,   part) {
+    split(line, part, " ")
+    return line ~ /^(ppread [0-7]+|ppwrite [0-7]+ [0-7]+)$/ && length(part[2]) <= 6 && length(part[3]) <= 20
 }
 
 # Puts into `dump` what `replay` prints for the deck and a log, or for the deck with one word of memory shown instead
@@ -76,9 +82,35 @@ function instruction(done,   word, parcel, command, line) {
     return substr(line, 29)
 }
 
-# Adds an instruction to the log.
+# Adds an instruction to the log. In `logged` is the log before its last run of instructions.
 function log_instruction() {
-    done = exchanges " I" ++run
+    done = logged " I" ++run
+}
+
+# Adds an exchange or a peripheral access to the log.
+function log_entry(entry) {
+    done = logged = (done == "none" ? "" : done " ") entry
+    run = 0
+}
+
+# Octal digits without noughts in front.
+function plain(digits) {
+    sub(/^0+/, "", digits)
+    return digits == "" ? "0" : digits
+}
+
+# Draws a peripheral access; whether the answer fits. A word that is read is the one that the log up to there leaves.
+function accessed(n, said,   part, word) {
+    split(event[n], part, " ")
+    accesses = 1
+    if (part[1] == "ppwrite") {
+        log_entry("W" plain(part[2]) "=" plain(part[3]))
+        return said == "ok"
+    }
+    replay(done, plain(part[2]))
+    word = substr(dump[dumped - 1], 10)
+    log_entry("R" plain(part[2]))
+    return said == "ok " word
 }
 
 # Draws an issue that reserves a unit; whether the answer fits.
@@ -127,9 +159,10 @@ function made(n, kind, what, r, said) {
         asked = sprintf("%o", octal(what)); state[0] = "-"
     } else if (kind == "exchange") {
         if (asked == "") return 0
-        exchanges = (done == "none" ? "" : done " ") "E" asked
-        done = exchanges; run = 0; asked = ""; state[0] = ""
-    } else if (kind != "bank") {
+        log_entry("E" asked)
+        asked = ""; state[0] = ""
+    } else if (kind ~ /^pp/) return accessed(n, said)
+    else if (kind != "bank") {
         if (!r) return 0
         if (kind == "accept") { in_place[what + 0] = 0; state[r] = channel[r] ? "~" : "" }
         else if (kind == "return") { if (state[r] != "~") return 0; in_channel[what + 0] = 0; state[r] = "" }
@@ -172,12 +205,14 @@ function step(n, kind, what,   r, part) {
 BEGIN {
     form = ENVIRON["form"]; work = ENVIRON["work"]; session = ENVIRON["session"]; answers = ENVIRON["answers"]
     units = "(branch|boolean|shift|add|longadd|multiply1|multiply2|divide|increment1|increment2)"
-    count = split("issue I read R finish F store S accept A return L bank B ask Q exchange X drain D end E", part, " ")
+    count = split("issue I read R finish F store S accept A return L bank B ask Q exchange X drain D end E " \
+        "ppread P ppwrite W", part, " ")
     for (n = 1; n < count; n += 2) letter[part[n]] = part[n + 1]
     after["issue"] = "read"; after["read"] = "finish"; after["finish"] = "store"
     refusable["issue"] = " E1 E2 E3 E4 E5 E6 E7 E8"; refusable["read"] = " E9 E15"; refusable["finish"] = " E15"
     refusable["store"] = " E10 E11 E12 E15"; refusable["accept"] = " E13 E14 E15"; refusable["return"] = " E10 E15"
     refusable["bank"] = " E15"; refusable["ask"] = " E3 E17 E19 E21"; refusable["exchange"] = " E15 E18 E25"
+    refusable["ppread"] = refusable["ppwrite"] = " E3 E21 E26 E27"
     done = "none"
 
     read_files()

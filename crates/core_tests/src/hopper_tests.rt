@@ -1,7 +1,7 @@
 //! A hopper's answers, by lists of steps with the answer of the last.
 
 use Answer::{Entered, Freed, IsLoad, IsStore, No, Yes};
-use Step::{Accept, Free, IsBusy, IsFull, Load, Store, StoresTo};
+use Step::{Accept, Free, IsBusy, IsFull, Load, Store, StoresTo, WaitsFor};
 use hopper::{Hopper, PLACES, Reference, bank_of};
 use instructions::{Digit, Refusal};
 use relocation::Access;
@@ -25,6 +25,8 @@ enum Step {
     IsBusy(u8),
     /// Does a store to the address wait?
     StoresTo(u32),
+    /// Does a reference to the address wait?
+    WaitsFor(u32),
 }
 
 /// What a step answers.
@@ -103,6 +105,7 @@ fn take(hopper: &mut Hopper, step: Step) -> Result<Answer, Refusal> {
         IsFull => Ok(truth(hopper.is_full())),
         IsBusy(bank) => Ok(truth(hopper.is_bank_busy(bank))),
         StoresTo(address) => Ok(truth(hopper.store_for(address))),
+        WaitsFor(address) => Ok(truth(hopper.waits_for(address))),
     }
 }
 
@@ -155,8 +158,8 @@ const ENTERING: [Case; 8] = [
     ),
 ];
 
-/// What entered is accepted once, where its bank is free and no older one waits for it.
-const ACCEPTING: [Case; 15] = [
+/// What entered is accepted once, where its bank is free and no older one holds it back.
+const ACCEPTING: [Case; 19] = [
     ("a load", &[Load(9), Store(0o47), Accept(0)], Ok(IsLoad(9))),
     (
         "a store",
@@ -181,42 +184,53 @@ const ACCEPTING: [Case; 15] = [
     ),
     (
         "a busy bank comes before an older one",
-        &[Load(5), Load(37), Load(69), Accept(0), Accept(2)],
+        &[Store(5), Load(37), Load(5), Accept(1), Accept(2)],
         Err(Refusal::BankBusy(5)),
     ),
     (
-        "an older one waits for the free bank",
-        &[Load(5), Load(37), Load(69), Accept(0), Free(5), Accept(2)],
-        Err(Refusal::OlderInBank),
+        "a load and an older store",
+        &[Store(5), Load(37), Load(5), Accept(1), Free(5), Accept(2)],
+        Err(Refusal::OlderAtAddress),
     ),
     (
-        "the oldest for the free bank",
-        &[Load(5), Load(37), Load(69), Accept(0), Free(5), Accept(1)],
-        Ok(IsLoad(37)),
+        "a store and an older load",
+        &[Load(5), Store(5), Accept(1)],
+        Err(Refusal::OlderAtAddress),
     ),
     (
-        "older ones for other banks",
-        &[Load(6), Load(5), Load(37), Accept(1)],
-        Ok(IsLoad(5)),
+        "two stores",
+        &[Store(5), Store(5), Accept(1)],
+        Err(Refusal::OlderAtAddress),
+    ),
+    ("two loads", &[Load(5), Load(5), Accept(1)], Ok(IsLoad(5))),
+    (
+        "older ones to other addresses of the bank",
+        &[Store(37), Load(69), Store(5), Accept(2)],
+        Ok(IsStore(5)),
     ),
     (
         "the older one stands in a higher place",
-        &[Load(0), Load(5), Accept(0), Load(37), Accept(0)],
-        Err(Refusal::OlderInBank),
+        &[Load(0), Load(5), Accept(0), Store(5), Accept(0)],
+        Err(Refusal::OlderAtAddress),
     ),
     (
-        "the third for the bank, after one in the middle left",
-        &[Load(5), Load(6), Load(37), Accept(1), Load(69), Accept(2)],
-        Err(Refusal::OlderInBank),
+        "a younger one in a lower place",
+        &[Load(0), Load(5), Accept(0), Store(5), Accept(1)],
+        Ok(IsLoad(5)),
+    ),
+    (
+        "the second for the address, after one between them left",
+        &[Load(5), Load(6), Store(5), Accept(1), Load(5), Accept(2)],
+        Err(Refusal::OlderAtAddress),
     ),
     (
         "the youngest, in the place of the one that left",
-        &[Load(5), Load(6), Load(37), Accept(1), Load(69), Accept(1)],
-        Err(Refusal::OlderInBank),
+        &[Load(5), Load(6), Store(5), Accept(1), Load(5), Accept(1)],
+        Err(Refusal::OlderAtAddress),
     ),
     (
         "the oldest, after one in the middle left",
-        &[Load(5), Load(6), Load(37), Accept(1), Load(69), Accept(0)],
+        &[Load(5), Load(6), Store(5), Accept(1), Load(5), Accept(0)],
         Ok(IsLoad(5)),
     ),
     (
@@ -224,19 +238,24 @@ const ACCEPTING: [Case; 15] = [
         &[
             Load(5),
             Load(6),
-            Load(37),
+            Store(5),
             Accept(1),
-            Load(69),
+            Load(5),
             Accept(0),
             Free(5),
             Accept(1),
         ],
-        Err(Refusal::OlderInBank),
+        Err(Refusal::OlderAtAddress),
+    ),
+    (
+        "a load, after the older store is done",
+        &[Store(5), Load(5), Accept(0), Free(5), Accept(1)],
+        Ok(IsLoad(5)),
     ),
 ];
 
 /// A bank is busy from its acceptance until it is freed, and a store is found while it waits.
-const KEEPING: [Case; 16] = [
+const KEEPING: [Case; 18] = [
     ("no bank is busy at first", &[Load(5), IsBusy(5)], Ok(No)),
     (
         "busy once accepted",
@@ -297,6 +316,16 @@ const KEEPING: [Case; 16] = [
         Ok(No),
     ),
     (
+        "but waits for its address",
+        &[Load(9), Store(0o47), WaitsFor(9)],
+        Ok(Yes),
+    ),
+    (
+        "and no more once it is accepted",
+        &[Load(9), Store(0o47), Accept(0), WaitsFor(9)],
+        Ok(No),
+    ),
+    (
         "an accepted store waits no more",
         &[Load(9), Store(0o47), Accept(1), StoresTo(0o47)],
         Ok(No),
@@ -328,27 +357,28 @@ fn keeps(rt: HostRuntime) {
     expect(&rt, KEEPING.as_slice());
 }
 
-/// An address, its bank, and the bank after it.
-const BANKS: [(u32, u8, u8); 5] = [
-    (0, 0, 1),
-    (31, 31, 32),
-    (32, 0, 1),
-    (0o47, 7, 8),
-    (131_071, 31, 32),
-];
+/// An address and its bank.
+const BANKS: [(u32, u8); 5] = [(0, 0), (31, 31), (32, 0), (0o47, 7), (131_071, 31)];
 
-/// A reference waits for the bank of its address alone.
+/// The bank of an address.
 #[test]
-fn waits_for_a_bank(rt: HostRuntime) {
-    for (address, bank, next) in BANKS.as_slice() {
-        let reference = load(*address);
-        let answers = (
-            bank_of(*address),
-            reference.is_for_bank(*bank),
-            reference.is_for_bank(*next),
-        );
-        assert_eq!(rt; answers, (*bank, true, false), "at {address}");
+fn has_a_bank(rt: HostRuntime) {
+    for (address, bank) in BANKS.as_slice() {
+        assert_eq!(rt; bank_of(*address), *bank, "at {address}");
     }
+}
+
+/// Two references to one address keep their order where one of them stores; those to another address of the bank don't.
+#[test]
+fn keeps_the_order_at_an_address(rt: HostRuntime) {
+    let answers = [
+        load(0o47).keeps_order(&store(0o47)),
+        store(0o47).keeps_order(&load(0o47)),
+        store(0o47).keeps_order(&store(0o47)),
+        load(0o47).keeps_order(&load(0o47)),
+        store(0o47).keeps_order(&store(0o7)),
+    ];
+    assert_eq!(rt; answers, [true, true, true, false, false]);
 }
 
 /// A store is to its address alone, not to another of its bank, and a load is no store; there are four places.

@@ -506,6 +506,10 @@ enum Did {
     Instruction,
     /// An exchange with the package at this address.
     Exchange(u32),
+    /// A peripheral processor reads the word at this address.
+    PpRead(u32),
+    /// A peripheral processor writes this word to this address.
+    PpWrite(u32, u64),
 }
 
 fn add(log: &mut Log, did: Did) -> Result<(), Refusal> {
@@ -515,6 +519,8 @@ fn add(log: &mut Log, did: Did) -> Result<(), Refusal> {
     }
     match did {
         Did::Exchange(at) => log.exchanged(at),
+        Did::PpRead(at) => log.read_at(at),
+        Did::PpWrite(at, number) => log.wrote(at, word(number)),
         Did::Instruction => {
             if log.issues() < u64::MAX {
                 log.issued();
@@ -534,8 +540,9 @@ fn log_of(alloc: Global, steps: &[Did]) -> Result<Log, Refusal> {
     Ok(log)
 }
 
-/// Steps, the entries of their log, and how many instructions there are.
-const LOGS: [(&[Did], &[Entry], u64); 2] = [
+/// Steps, the log's entries with the steps of each, and how many instructions there are. A constant can't lend an
+/// `Entry`, which may hold a word.
+const LOGS: [(&[Did], &[(Did, u64)], u64); 3] = [
     (&[], &[], 0),
     (
         &[
@@ -546,14 +553,55 @@ const LOGS: [(&[Did], &[Entry], u64); 2] = [
             Did::Instruction,
         ],
         &[
-            Entry::Exchange(0o40),
-            Entry::Issued(2),
-            Entry::Exchange(0o60),
-            Entry::Issued(1),
+            (Did::Exchange(0o40), 1),
+            (Did::Instruction, 2),
+            (Did::Exchange(0o60), 1),
+            (Did::Instruction, 1),
         ],
         3,
     ),
+    (
+        &[
+            Did::Instruction,
+            Did::PpRead(0o50),
+            Did::Instruction,
+            Did::PpRead(0o50),
+            Did::PpWrite(0o51, 5),
+        ],
+        &[
+            (Did::Instruction, 1),
+            (Did::PpRead(0o50), 1),
+            (Did::Instruction, 1),
+            (Did::PpRead(0o50), 1),
+            (Did::PpWrite(0o51, 5), 1),
+        ],
+        2,
+    ),
 ];
+
+/// The entry of so many steps of a kind.
+fn entry_of(did: Did, count: u64) -> Entry {
+    match did {
+        Did::Instruction => Entry::Issued(count),
+        Did::Exchange(at) => Entry::Exchange(at),
+        Did::PpRead(at) => Entry::PpRead(at),
+        Did::PpWrite(at, number) => Entry::PpWrite(at, word(number)),
+    }
+}
+
+/// Whether the entries are those of the steps.
+fn are(entries: &[Entry], wanted: &[(Did, u64)]) -> bool {
+    if entries.len() != wanted.len() {
+        return false;
+    }
+    for index in 0..wanted.len() {
+        let (did, count) = wanted[index];
+        if entries[index] != entry_of(did, count) {
+            return false;
+        }
+    }
+    true
+}
 
 /// Instructions one after another are one entry, and a copy has the same entries.
 #[test]
@@ -561,8 +609,8 @@ fn logs(rt: HostRuntime) -> Result<(), Fail> {
     for (steps, entries, issues) in LOGS.as_slice() {
         let log = log_of(rt.alloc(), steps)?;
         let copy = log.copy()?;
-        let is_logged = log.entries() == *entries && log.issues() == *issues;
-        let is_copied = copy.entries() == *entries && copy.issues() == *issues;
+        let is_logged = are(log.entries(), entries) && log.issues() == *issues;
+        let is_copied = are(copy.entries(), entries) && copy.issues() == *issues;
         assert!(rt; is_logged && is_copied);
     }
     Ok(())
@@ -591,7 +639,7 @@ type Replay = (
     u64,
 );
 
-const REPLAYS: [Replay; 3] = [
+const REPLAYS: [Replay; 5] = [
     ("nothing", &[], Ok(()), Stopped, None, 0),
     (
         "a program up to its stop",
@@ -616,6 +664,32 @@ const REPLAYS: [Replay; 3] = [
             Did::Instruction,
         ],
         Err(Refusal::PackageRange),
+        Running,
+        Some(1),
+        10,
+    ),
+    (
+        "a peripheral processor puts another word into the package",
+        &[
+            Did::PpWrite(0o51, 7),
+            Did::Exchange(0o40),
+            Did::PpRead(0),
+            Did::Instruction,
+        ],
+        Ok(()),
+        Running,
+        Some(1),
+        14,
+    ),
+    (
+        "the word after the last isn't read, and what stands before it is done",
+        &[
+            Did::Exchange(0o40),
+            Did::Instruction,
+            Did::PpRead(0o100),
+            Did::Exchange(0o61),
+        ],
+        Err(Refusal::PeripheralRange),
         Running,
         Some(1),
         10,

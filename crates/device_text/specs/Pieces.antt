@@ -11,7 +11,7 @@ use Rattle.instruction_table.specs.Spelling.{spelling}
 use Rattle.device_text.specs.Names.{unit_text, register_text}
 use Rattle.device_text.specs.declared.piece.Piece.{Piece}
 use Rattle.device_text.specs.declared.piece.Piece.TheVariants.{Text, Instruction, Opcode, Reason, UnitName, Register}
-use Rattle.device_text.specs.declared.piece.Piece.TheVariants.{Parcel, Index, Word, Address, Count}
+use Rattle.device_text.specs.declared.piece.Piece.TheVariants.{Parcel, Index, Word, Address, ShortWord, Count}
 
 -- digits without noughts in front, but with one digit at least
 abbrev pub trimmed : List ℕ → List ℕ
@@ -43,6 +43,7 @@ text_of (Parcel n) = (48 + n) ∷ []
 text_of (Index n) = octal_text 6 n
 text_of (Word n) = octal_text 20 n
 text_of (Address n) = trimmed (octal_text 20 n)
+text_of (ShortWord n) = trimmed (octal_text 20 n)
 text_of (Count n) = decimal n
 
 -- the texts of some pieces, one after another

@@ -34,6 +34,8 @@ pub enum Piece<'a> {
     Word(Word60),
     /// One to twenty octal digits, as many as are needed.
     Address(u32),
+    /// The same of a word.
+    ShortWord(Word60),
     /// Decimal digits.
     Count(u64),
 }
@@ -99,6 +101,7 @@ fn put_piece<O: Output>(output: &mut O, piece: &Piece<'_>) -> Result<(), WriteFa
         Piece::Address(address) => {
             output.put(trim(&Word60::from_bits(u64::from(address)).octal()))
         }
+        Piece::ShortWord(word) => output.put(trim(&word.octal())),
         Piece::Count(number) => {
             let mut buffer = Buffer::new();
             output.put(buffer.format(number).as_bytes())

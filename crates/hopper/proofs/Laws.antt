@@ -5,7 +5,7 @@ use Rattle.std.specs.Prelude.{is_some, is_none, Result, Ok, Err}
 use Rattle.std.specs.List.{list_any}
 use Rattle.std.proofs.lemmas.List.{length-map, length-set, map-append}
 use Rattle.instructions.specs.declared.refusal.Refusal.{Refusal}
-use Rattle.instructions.specs.declared.refusal.Refusal.TheVariants.{BankBusy, OlderInBank}
+use Rattle.instructions.specs.declared.refusal.Refusal.TheVariants.{BankBusy, OlderAtAddress}
 use Rattle.instructions.specs.Each.{Each, Pairs}
 use Rattle.instructions.specs.Finding.{Found, seek, put_back}
 use Rattle.instructions.specs.Order.{sort_by, somes}
@@ -20,10 +20,10 @@ use Rattle.hopper.specs.declared.entered.Entered.{Entered}
 use Rattle.hopper.specs.declared.reference.Reference.{Reference}
 use Rattle.hopper.specs.declared.waiting.Waiting.{Waiting}
 use Rattle.hopper.specs.Hopper.{bank_of, free_place}
-use Rattle.hopper.specs.Queue.{stands_at, reference_at, is_taken, place_for, waits_for_bank, accept_answer, accepted}
-use Rattle.hopper.specs.Queue.{stores_here}
+use Rattle.hopper.specs.Queue.{stands_at, reference_at, is_taken, place_for, holds_back, accept_answer, accepted}
+use Rattle.hopper.specs.Queue.{is_for, stores_here}
 use Rattle.hopper.specs.inner.View.{entered_in, place_of, before, queue_of, IsRight, holds, is_older, holds_older}
-use Rattle.hopper.specs.inner.View.{holds_store, lower, lowered, acceptance}
+use Rattle.hopper.specs.inner.View.{holds_for, holds_store, lower, lowered, acceptance}
 use Rattle.hopper.proofs.Standing.{elsewhere, stands_here, first_same, first_free}
 use Rattle.hopper.proofs.Lowering.{sort_lowered, entered_lowered, apart_lowered, counted_lowered, somes_lowered}
 use Rattle.hopper.proofs.Lowering.{placed_lowered}
@@ -37,7 +37,13 @@ any_entered : (f : Entered → Bool) (os : List (Option Waiting))
 any_entered f os = sym
     (any_map f entered_in (sort_by before (somes os)) ∙ any_sort before (λ w. f w.entered) (somes os))
 
--- ---- stores ----
+-- ---- addresses ----
+
+pub for_is : (os : List (Option Waiting)) (address : ℕ)
+    → list_any (holds_for address) os ≡ list_any (is_for address) (entered_of os)
+unfolding holds_for
+for_is os address = any_somes (λ w. is_for address w.entered) (holds_for address) refl (λ w. refl) os
+    ∙ any_entered (is_for address) os
 
 pub store_is : (os : List (Option Waiting)) (address : ℕ)
     → list_any (holds_store address) os ≡ list_any (stores_here address) (entered_of os)
@@ -148,18 +154,18 @@ one_found os busy p w r h =
     (each_before before (λ v. place_of v ≢ p) os p w (seated_others place_of os 0 p p (omega arith) r.placed)))
     (stands_here p w (seated_here place_of os 0 p w h r.placed ∙ omega arith))
 
-older_is : (os : List (Option Waiting)) (busy : List Bool) (p bank : ℕ) (w : Waiting) → IsRight os busy
+older_is : (os : List (Option Waiting)) (busy : List Bool) (p : ℕ) (w : Waiting) → IsRight os busy
     → get_or os p None ≡ Some w
-    → list_any (waits_for_bank bank) (found_at os p w).earlier ≡ list_any (holds_older w.before bank) os
+    → list_any (holds_back w.entered.reference) (found_at os p w).earlier ≡ list_any (holds_older w) os
 unfolding found_at holds_older
-older_is os busy p bank w r h =
-    any_map (waits_for_bank bank) entered_in (before_seat before os p w)
-    ∙ sym (any_earlier before (λ v. waits_for_bank bank v.entered) (before_seat before os p w) w
+older_is os busy p w r h =
+    any_map (holds_back w.entered.reference) entered_in (before_seat before os p w)
+    ∙ sym (any_earlier before (λ v. holds_back w.entered.reference v.entered) (before_seat before os p w) w
     (after_seat before os p w)
     (subst (IsIncreasing before) (taken_with before os p w h r.apart) (sort_increasing before (somes os) r.apart)))
-    ∙ ap (list_any (is_older w.before bank)) (sym (taken_with before os p w h r.apart))
-    ∙ any_sort before (is_older w.before bank) (somes os)
-    ∙ sym (any_somes (is_older w.before bank) (holds_older w.before bank) refl (λ v. refl) os)
+    ∙ ap (list_any (is_older w)) (sym (taken_with before os p w h r.apart))
+    ∙ any_sort before (is_older w) (somes os)
+    ∙ sym (any_somes (is_older w) (holds_older w) refl (λ v. refl) os)
 
 unfoldable pub reference_of : Result Waiting Refusal → Result Reference Refusal
 reference_of (Ok w) = Ok w.entered.reference
@@ -171,9 +177,10 @@ unfolding reference_of acceptance accept_answer found_at
 acceptance_is os busy p r = by_place (get_or os p None) refl
   where
     bank_tests : (b c : Bool) (w : Waiting)
-        → reference_of (cond b (Err (BankBusy (bank_of w.entered.reference.address))) (cond c (Err OlderInBank) (Ok w)))
+        → reference_of (cond b (Err (BankBusy (bank_of w.entered.reference.address)))
+        (cond c (Err OlderAtAddress) (Ok w)))
         ≡ cond b (Err (BankBusy (bank_of w.entered.reference.address)))
-        (cond c (Err OlderInBank) (Ok w.entered.reference))
+        (cond c (Err OlderAtAddress) (Ok w.entered.reference))
     bank_tests true c w = refl
     bank_tests false true w = refl
     bank_tests false false w = refl
@@ -183,10 +190,10 @@ acceptance_is os busy p r = by_place (get_or os p None) refl
     by_place None e = ap (accept_answer busy) (sym (nothing_found os busy p r e))
     by_place (Some w) e =
         bank_tests (get_or busy (bank_of w.entered.reference.address) false)
-        (list_any (holds_older w.before (bank_of w.entered.reference.address)) os) w
+        (list_any (holds_older w) os) w
         ∙ ap (λ c. cond (get_or busy (bank_of w.entered.reference.address) false)
-        (Err (BankBusy (bank_of w.entered.reference.address))) (cond c (Err OlderInBank) (Ok w.entered.reference)))
-        (sym (older_is os busy p (bank_of w.entered.reference.address) w r e))
+        (Err (BankBusy (bank_of w.entered.reference.address))) (cond c (Err OlderAtAddress) (Ok w.entered.reference)))
+        (sym (older_is os busy p w r e))
         ∙ ap (accept_answer busy) (sym (one_found os busy p w r e))
 
 acceptance_ok : (os : List (Option Waiting)) (busy : List Bool) (o : Option Waiting) (w : Waiting)
@@ -195,10 +202,10 @@ unfolding acceptance
 acceptance_ok os busy None w h = cc
 acceptance_ok os busy (Some v) w h =
     by_tests (get_or busy (bank_of v.entered.reference.address) false)
-    (list_any (holds_older v.before (bank_of v.entered.reference.address)) os) h
+    (list_any (holds_older v) os) h
   where
     by_tests : (b c : Bool)
-        → cond b (Err (BankBusy (bank_of v.entered.reference.address))) (cond c (Err OlderInBank) (Ok v)) ≡ Ok w
+        → cond b (Err (BankBusy (bank_of v.entered.reference.address))) (cond c (Err OlderAtAddress) (Ok v)) ≡ Ok w
         → Some v ≡ Some w
     by_tests true c e = cc
     by_tests false true e = cc

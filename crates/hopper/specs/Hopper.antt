@@ -1,12 +1,25 @@
--- The hopper's four places, and the banks that references wait for.
--- Source: Thornton, stunt box; 60100000, central memory. That the lowest-numbered free place is taken is ours.
-use Rattle.std.specs.Prelude.{ℕ, ◌%◌, Bool, false, ◌==◌, if◌then◌else◌, List, [], ◌∷◌, Option, Some, None}
+-- The hopper's four places, the banks that references wait for, and which of them keep their order.
+-- Source: Thornton, stunt box; 60100000, central memory. That the lowest-numbered free place is taken is ours, and which
+-- references keep their order.
+use Rattle.std.specs.Prelude.{ℕ, ◌%◌, Bool, true, false, ◌==◌, ◌&&◌, ◌||◌, if◌then◌else◌, List, [], ◌∷◌, Option}
+use Rattle.std.specs.Prelude.{Some, None}
 use Rattle.relocation.specs.declared.area.Access.{Access}
 use Rattle.relocation.specs.declared.area.Access.TheVariants.{Load, Store}
 
 -- the bank of an absolute address is its low five bits
 unfoldable pub bank_of : ℕ → ℕ
 bank_of address = address % 32
+
+-- a reference stores
+unfoldable pub is_store : Access → Bool
+is_store (Load n) = false
+is_store (Store word) = true
+
+-- two references keep the order in which they entered: at least one of them stores, and both are to one absolute
+-- address
+unfoldable pub keep_order : ℕ → Access → ℕ → Access → Bool
+keep_order address access other_address other_access =
+    (is_store access || is_store other_access) && other_address == address
 
 -- a reference at an absolute address stores to a given one
 unfoldable pub stores_to : ℕ → ℕ → Access → Bool

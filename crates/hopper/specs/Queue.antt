@@ -4,11 +4,11 @@ use Rattle.std.specs.Prelude.{ℕ, Bool, true, false, ◌==◌, if◌then◌else
 use Rattle.std.specs.Prelude.{slice_index_or, slice_set}
 use Rattle.std.specs.List.{list_any}
 use Rattle.instructions.specs.declared.refusal.Refusal.{Refusal}
-use Rattle.instructions.specs.declared.refusal.Refusal.TheVariants.{HopperFull, BankBusy, OlderInBank, Nothing}
+use Rattle.instructions.specs.declared.refusal.Refusal.TheVariants.{HopperFull, BankBusy, OlderAtAddress, Nothing}
 use Rattle.instructions.specs.Finding.{Found, put_back}
 use Rattle.hopper.specs.declared.entered.Entered.{Entered}
 use Rattle.hopper.specs.declared.reference.Reference.{Reference}
-use Rattle.hopper.specs.Hopper.{bank_of, stores_to, free_place}
+use Rattle.hopper.specs.Hopper.{bank_of, keep_order, stores_to, free_place}
 
 -- what a hopper stands for
 pub record Queue : Type 0 where
@@ -42,17 +42,17 @@ enter_answer (Some p) = Ok p
 
 -- ---- banks ----
 
--- it waits for the bank
-unfoldable pub waits_for_bank : ℕ → Entered → Bool
-waits_for_bank bank e = bank_of e.reference.address == bank
+-- it holds back a later reference
+unfoldable pub holds_back : Reference → Entered → Bool
+holds_back later e = keep_order later.address later.access e.reference.address e.reference.access
 
--- E15, nothing, where no reference stands in the place; E13, bank busy; E14, older in bank, where an older one waits
--- for that bank; else the reference
+-- E15, nothing, where no reference stands in the place; E13, bank busy; E14, older at address, where an older one holds
+-- it back; else the reference
 unfoldable pub accept_answer : List Bool → Option (Found Entered Reference) → Result Reference Refusal
 accept_answer busy None = Err Nothing
 accept_answer busy (Some f) =
     if slice_index_or busy (bank_of f.answer.address) false then Err (BankBusy (bank_of f.answer.address))
-    else (if list_any (waits_for_bank (bank_of f.answer.address)) f.earlier then Err OlderInBank else Ok f.answer)
+    else (if list_any (holds_back f.answer) f.earlier then Err OlderAtAddress else Ok f.answer)
 
 -- the reference has left, and its bank is busy
 unfoldable pub accepted : Queue → Option (Found Entered Reference) → Queue
@@ -63,7 +63,11 @@ accepted q (Some f) = record { entered = put_back f []; busy = slice_set q.busy 
 unfoldable pub free_answer : List Bool → ℕ → Result (Unit {0}) Refusal
 free_answer busy bank = if slice_index_or busy bank false then Ok tt else Err Nothing
 
--- ---- stores ----
+-- ---- addresses ----
+
+-- it is for an absolute address, whether it loads or stores
+unfoldable pub is_for : ℕ → Entered → Bool
+is_for address e = e.reference.address == address
 
 -- it stores to an absolute address
 unfoldable pub stores_here : ℕ → Entered → Bool

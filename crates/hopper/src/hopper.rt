@@ -3,9 +3,9 @@ ghost use Rattle.std.specs.Prelude.{MatchResult};
 ghost use Rattle.std.specs.List.{list_any};
 ghost use Rattle.instructions.specs.Finding.{seek};
 ghost use Rattle.hopper.specs.Queue.{reference_at, place_for, enter_answer, accept_answer, accepted, free_answer};
-ghost use Rattle.hopper.specs.Queue.{stores_here};
+ghost use Rattle.hopper.specs.Queue.{is_for, stores_here};
 
-use crate::places::{acceptance, all_lowered, any_store, free_place, how_many, is_busy};
+use crate::places::{acceptance, all_lowered, any_for, any_store, free_place, how_many, is_busy};
 use crate::waiting::Waiting;
 use crate::{Entered, Reference, bank_of};
 use instructions::Refusal;
@@ -78,8 +78,8 @@ impl Hopper {
     ///
     /// # Errors
     /// In this order, and then nothing changes: `Nothing` where nothing stands in the place or there is no such
-    /// place; `BankBusy` where the bank of the address is busy; `OlderInBank` where one that entered earlier waits
-    /// for that bank.
+    /// place; `BankBusy` where the bank of the address is busy; `OlderAtAddress` where one that entered earlier waits
+    /// at the same address and at least one of the two stores.
     pub fn accept(&mut self, place: u8) -> Result<Reference, Refusal>
         ensures answer { result ≡ accept_answer self.old.busy (seek (reference_at place) self.old.entered) }
         ensures after { MatchResult result
@@ -115,6 +115,13 @@ impl Hopper {
         } else {
             Err(Refusal::Nothing)
         }
+    }
+
+    /// Whether a reference to an absolute address waits, be it a load or a store.
+    pub fn waits_for(&self, address: u32) -> bool
+        ensures { result ≡ list_any (is_for address) self.now.entered }
+    {
+        any_for(&self.places, address)
     }
 
     /// Whether a store to an absolute address waits.

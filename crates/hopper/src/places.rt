@@ -2,10 +2,11 @@ ghost use Rattle.std.specs.Prelude.{◌≡◌, ◌≤◌, None, false, length, m
 ghost use Rattle.std.specs.List.{list_any};
 ghost use Rattle.instructions.specs.Order.{somes};
 ghost use Rattle.hopper.specs.Hopper.{free_place};
-ghost use Rattle.hopper.specs.inner.View.{holds_older, holds_store, lowered, acceptance, holds, one_if_taken};
+ghost use Rattle.hopper.specs.inner.View.{holds_older, holds_for, holds_store, lowered, acceptance, holds};
+ghost use Rattle.hopper.specs.inner.View.{one_if_taken};
 
 use crate::bank_of;
-use crate::waiting::{Waiting, holds_older, holds_store, lowered};
+use crate::waiting::{Waiting, holds_for, holds_older, holds_store, lowered};
 use instructions::Refusal;
 
 /// The lowest-numbered place that holds nothing.
@@ -47,11 +48,18 @@ pub fn is_busy(busy: &[bool], bank: u8) -> bool
     }
 }
 
-/// Whether one that entered before the one of the number waits for the bank.
-fn any_older(places: &[Option<Waiting>], number: u8, bank: u8) -> bool
-    ensures { result ≡ list_any (holds_older number bank) places.now }
+/// Whether one that entered earlier holds a later one back.
+fn any_older(places: &[Option<Waiting>], later: &Waiting) -> bool
+    ensures { result ≡ list_any (holds_older later.now) places.now }
 {
-    places.iter().any(|place| holds_older(place, number, bank))
+    places.iter().any(|place| holds_older(place, later))
+}
+
+/// Whether one that waits is for an absolute address.
+pub fn any_for(places: &[Option<Waiting>], address: u32) -> bool
+    ensures { result ≡ list_any (holds_for address) places.now }
+{
+    places.iter().any(|place| holds_for(place, address))
 }
 
 /// Whether one that waits stores to an absolute address.
@@ -74,8 +82,8 @@ pub fn acceptance(places: &[Option<Waiting>], busy: &[bool], place: u8) -> Resul
     if is_busy(busy, bank) {
         return Err(Refusal::BankBusy(bank));
     }
-    if any_older(places, waiting.before, bank) {
-        return Err(Refusal::OlderInBank);
+    if any_older(places, &waiting) {
+        return Err(Refusal::OlderAtAddress);
     }
     Ok(waiting)
 }

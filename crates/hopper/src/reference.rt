@@ -1,5 +1,5 @@
-ghost use Rattle.std.specs.Prelude.{◌≡◌, ◌<◌, ◌==◌};
-ghost use Rattle.hopper.specs.Hopper.{bank_of, stores_to};
+ghost use Rattle.std.specs.Prelude.{◌≡◌, ◌<◌};
+ghost use Rattle.hopper.specs.Hopper.{bank_of, is_store, keep_order, stores_to};
 
 use relocation::Access;
 
@@ -27,12 +27,25 @@ pub fn bank_of(address: u32) -> u8
     (address % 32) as u8
 }
 
+/// Whether a reference stores.
+#[tactic(auto, unfolding(crate::specs::Hopper::is_store))]
+fn is_store(access: &Access) -> bool
+    ensures { result ≡ is_store access.now }
+{
+    match access {
+        Access::Load(_) => false,
+        Access::Store(_) => true,
+    }
+}
+
 impl Reference {
-    /// Whether it waits for the bank of this number.
-    pub fn is_for_bank(&self, bank: u8) -> bool
-        ensures { result ≡ (bank_of self.now.address == bank) }
+    /// Whether memory takes it and another one in the order in which they entered: at least one of them stores, and
+    /// both are to one absolute address.
+    #[tactic(auto, unfolding(crate::specs::Hopper::keep_order))]
+    pub fn keeps_order(&self, other: &Reference) -> bool
+        ensures { result ≡ keep_order other.now.address other.now.access self.now.address self.now.access }
     {
-        bank_of(self.address) == bank
+        (is_store(&other.access) || is_store(&self.access)) && self.address == other.address
     }
 
     /// Whether it stores to an absolute address.

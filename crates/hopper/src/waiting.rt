@@ -1,5 +1,5 @@
 ghost use Rattle.std.specs.Prelude.{◌≡◌};
-ghost use Rattle.hopper.specs.inner.View.{low, lowered, holds_older, holds_store};
+ghost use Rattle.hopper.specs.inner.View.{low, lowered, holds_older, holds_for, holds_store};
 
 use crate::Entered;
 
@@ -11,14 +11,28 @@ pub struct Waiting {
     pub before: u8,
 }
 
-/// Whether what stands in the place entered before the one of the number, and waits for the bank.
-#[tactic(auto, unfolding(crate::specs::inner::View::holds_older, crate::specs::Queue::waits_for_bank))]
-pub fn holds_older(place: &Option<Waiting>, number: u8, bank: u8) -> bool
-    ensures { result ≡ holds_older number bank place.now }
+/// Whether what stands in the place entered before the other, and holds it back.
+#[tactic(auto, unfolding(crate::specs::inner::View::holds_older, crate::specs::Queue::holds_back))]
+pub fn holds_older(place: &Option<Waiting>, later: &Waiting) -> bool
+    ensures { result ≡ holds_older later.now place.now }
 {
     match place {
         None => false,
-        Some(waiting) => waiting.before < number && waiting.entered.reference.is_for_bank(bank),
+        Some(older) => {
+            let reference = &later.entered.reference;
+            older.before < later.before && older.entered.reference.keeps_order(reference)
+        }
+    }
+}
+
+/// Whether what stands in the place is for an absolute address.
+#[tactic(auto, unfolding(crate::specs::inner::View::holds_for, crate::specs::Queue::is_for))]
+pub fn holds_for(place: &Option<Waiting>, address: u32) -> bool
+    ensures { result ≡ holds_for address place.now }
+{
+    match place {
+        None => false,
+        Some(waiting) => waiting.entered.reference.address == address,
     }
 }
 

@@ -1,8 +1,9 @@
 -- Pending: the instructions in issue order that have an effect still to come. Source: ours.
 use Rattle.std.specs.Prelude.{ℕ, Bool, true, false, ◌||◌, ◌==◌, List, Option, Some, None}
 use Rattle.instructions.specs.declared.instr.Reg.{Reg}
+use Rattle.relocation.specs.declared.area.Access.{Access}
 use Rattle.relocation.specs.declared.area.Access.TheVariants.{Load, Store}
-use Rattle.hopper.specs.Hopper.{bank_of, stores_to}
+use Rattle.hopper.specs.Hopper.{keep_order, stores_to}
 use Rattle.scoreboard.specs.declared.reservation.Progress.{Progress}
 use Rattle.scoreboard.specs.declared.reservation.Progress.TheVariants.{Reserved, Left}
 use Rattle.scoreboard.specs.declared.reservation.Reservation.{Reservation}
@@ -89,15 +90,26 @@ entered_in (After (Accepted n word)) = false
 unfoldable pub is_entered : Pending → Bool
 is_entered m = entered_in m.phase
 
--- in that phase its reference waits in the hopper for that bank
-unfoldable pub in_bank_in : ℕ → Phase → Bool
-in_bank_in bank (Before t) = false
-in_bank_in bank (After (Entered place a access)) = bank_of a == bank
-in_bank_in bank (After (Accepted n word)) = false
+-- in that phase its reference waits in the hopper, and holds back a later one
+unfoldable pub holds_back_in : ℕ → Access → Phase → Bool
+holds_back_in address access (Before t) = false
+holds_back_in address access (After (Entered place a x)) = keep_order address access a x
+holds_back_in address access (After (Accepted n word)) = false
 
--- it waits in the hopper for that bank
-unfoldable pub in_bank : ℕ → Pending → Bool
-in_bank bank m = in_bank_in bank m.phase
+-- its reference waits in the hopper, and holds back a later one
+unfoldable pub holds_back : ℕ → Access → Pending → Bool
+holds_back address access m = holds_back_in address access m.phase
+
+-- in that phase its reference to that absolute address waits in the hopper
+unfoldable pub waits_in : ℕ → Phase → Bool
+waits_in address (Before t) = false
+waits_in address (After (Entered place a access)) = a == address
+waits_in address (After (Accepted n word)) = false
+
+-- a peripheral access to the word at that absolute address waits for it: it has a reference that has not come to its
+-- store event, or one to that address that waits in the hopper
+unfoldable pub delays_access : ℕ → Pending → Bool
+delays_access address m = reservation.has_turn (reservation_of m) || waits_in address m.phase
 
 -- in that phase it is a store to that absolute address, which waits in the hopper
 unfoldable pub stores_in : ℕ → Phase → Bool

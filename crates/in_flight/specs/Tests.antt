@@ -11,7 +11,7 @@ use Rattle.instructions.specs.declared.instr.UnitKind.{UnitKind}
 use Rattle.instructions.specs.declared.refusal.Refusal.{Refusal}
 use Rattle.instructions.specs.declared.refusal.Refusal.TheVariants.{UnitBusy, ResultReserved, OperandAwaited}
 use Rattle.instructions.specs.declared.refusal.Refusal.TheVariants.{ResultHeld, HopperFull, OutOfTurn, BankBusy}
-use Rattle.instructions.specs.declared.refusal.Refusal.TheVariants.{OlderInBank, Nothing}
+use Rattle.instructions.specs.declared.refusal.Refusal.TheVariants.{OlderAtAddress, Nothing}
 use Rattle.instructions.specs.Finding.{Found}
 use Rattle.instructions.specs.Shape.{shape_of, puts_of, results, has_reference}
 use Rattle.instructions.specs.Operands.{uses, sources_of}
@@ -27,7 +27,7 @@ use Rattle.in_flight.specs.declared.pending.Pending.{Pending}
 use Rattle.in_flight.specs.declared.pending.Stage.{Stage}
 use Rattle.in_flight.specs.declared.pending.Stage.TheVariants.{Waiting, Read as HasRead, Finished}
 use Rattle.in_flight.specs.Lookup.{place_for}
-use Rattle.in_flight.specs.Pending.{reservation_of, awaited, to_be_read, in_bank}
+use Rattle.in_flight.specs.Pending.{reservation_of, awaited, to_be_read, holds_back}
 
 -- a refusal, and whether it applies
 pub record Test : Type 0 where
@@ -99,11 +99,11 @@ store_conflicts ms earlier i entering =
 
 -- ---- the events of memory ----
 
--- E13, bank busy; E14, older in bank: an older reference for that bank waits
+-- E13, bank busy; E14, older at address: an older reference to that address waits, and at least one of the two stores
 unfoldable pub accept_tests : List Bool → List Pending → HopperEntry → List Test
 accept_tests busy earlier entry =
     record { fails = slice_index_or busy (bank_of entry.a) false; refusal = BankBusy (bank_of entry.a) }
-    ∷ record { fails = list_any (in_bank (bank_of entry.a)) earlier; refusal = OlderInBank }
+    ∷ record { fails = list_any (holds_back entry.a entry.access) earlier; refusal = OlderAtAddress }
     ∷ []
 
 -- E10, result held (third order): an earlier instruction has still to read the X register of the load

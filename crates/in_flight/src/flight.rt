@@ -16,7 +16,7 @@ ghost use Rattle.in_flight.specs.Tests.{reservation_tests, read_tests};
 ghost use Rattle.in_flight.specs.Tests.{accept_tests, return_tests, free_tests};
 ghost use Rattle.in_flight.specs.Flight.{left_by, outstanding_of, IsRestOf, unit_taken, reserved_in, with_pending};
 ghost use Rattle.in_flight.specs.Flight.{entered_at, rest_at, queue_with, queue_after};
-ghost use Rattle.in_flight.specs.Pending.{has_read, is_branch, delays_fetch};
+ghost use Rattle.in_flight.specs.Pending.{has_read, is_branch, delays_fetch, delays_access};
 ghost use Rattle.in_flight.specs.Lookup.{first_of, sought, stage_at, entry_at, arrival_at, in_phase, kept, enters};
 ghost use Rattle.in_flight.specs.Lookup.{place_for, is_pending};
 ghost use Rattle.instructions.specs.Finding.{replaced, Found, seek};
@@ -140,6 +140,13 @@ impl InFlight {
         ensures { result ≡ list_any (delays_fetch address) self.now.pending }
     {
         self.board.has_store_to_come() || self.hopper.store_for(address)
+    }
+
+    /// Whether a peripheral access to the word at the absolute address waits for a reference.
+    pub fn delays_access(&self, address: u32) -> bool
+        ensures { result ≡ list_any (delays_access address) self.now.pending }
+    {
+        self.board.has_reference_to_come() || self.hopper.waits_for(address)
     }
 
     /// Whether a bank is busy; there is none after the last.
@@ -279,7 +286,7 @@ impl InFlight {
     /// and of a store nothing is left. It answers the reference; a store is still to be written to memory.
     ///
     /// # Errors
-    /// `Nothing`, `BankBusy`, `OlderInBank`.
+    /// `Nothing`, `BankBusy`, `OlderAtAddress`.
     pub fn accept(&mut self, place: u8, memory: &Storage) -> Result<Reference, Refusal>
         requires apart { Pairs IsApart self.old.pending }
         requires slotted { IsSlotted (length memory.now) self.old.pending }

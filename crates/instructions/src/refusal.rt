@@ -62,14 +62,15 @@ pub enum DeckFault {
 }
 
 /// Why something was refused. The program prints the numbers of what an event of a schedule may be refused for, and
-/// those of some faults of its own; where several apply, the lowest is answered.
+/// those of some faults of its own; where several apply, the lowest is answered, and want of memory last.
 #[derive(Clone, Copy, Debug, Drop, PartialEq, Eq)]
 pub enum Refusal {
     /// E1, issue: the machine is halted.
     Halted(Halt),
     /// E2, issue: the fault flag is set.
     Faulted,
-    /// E3, issue: the budget is used up; ask: 1,000,000 requests were accepted.
+    /// E3, issue: the budget is used up; ask: 1,000,000 requests were accepted; peripheral access: 1,000,000
+    /// accesses were accepted.
     Budget,
     /// E4, issue: the Branch unit is reserved.
     BranchPending,
@@ -91,8 +92,8 @@ pub enum Refusal {
     OutOfTurn,
     /// E13, accept: the bank is busy.
     BankBusy(u8),
-    /// E14, accept: an older reference for the bank waits.
-    OlderInBank,
+    /// E14, accept: an older reference to the address waits, and one of the two stores.
+    OlderAtAddress,
     /// E15: there is nothing that the event could act on.
     Nothing,
     /// E16: a token that doesn't match the slot that it names.
@@ -115,4 +116,8 @@ pub enum Refusal {
     MemorySize,
     /// E25, exchange: the machine runs without fault in the middle of a word.
     MidWord,
+    /// E26, peripheral access: a reference hasn't come to its store event, or one that entered waits for the word.
+    PeripheralWait,
+    /// E27, peripheral access: the address doesn't lie in memory.
+    PeripheralRange,
 }

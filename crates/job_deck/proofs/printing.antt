@@ -2,3 +2,4 @@
 pub mod Ranges
 pub mod LogReading
 pub mod Listings
+pub mod Refused

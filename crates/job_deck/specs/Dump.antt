@@ -77,10 +77,14 @@ word_line memory a =
 abbrev pub show_lines : List ℕ → Show → List ℕ
 show_lines memory show = flat_map (word_line memory) (addresses (show.last + 1 - show.first) show.first)
 
--- an entry of the log with a space before it: `E` and octal digits, or `I` and decimal digits
+-- an entry of the log with a space before it: `E` and octal digits, `I` and decimal digits, `R` and octal digits, or
+-- `W`, octal digits, `=` and octal digits
 abbrev pub spaced_entry : Entry → List ℕ
 spaced_entry (entries.Exchange a) = concat (codes " E" ∷ trimmed (octal_text 20 a) ∷ [])
 spaced_entry (entries.Issued n) = concat (codes " I" ∷ decimal n ∷ [])
+spaced_entry (entries.PpRead a) = concat (codes " R" ∷ trimmed (octal_text 20 a) ∷ [])
+spaced_entry (entries.PpWrite a w) =
+    concat (codes " W" ∷ trimmed (octal_text 20 a) ∷ codes "=" ∷ trimmed (octal_text 20 w) ∷ [])
 
 -- the entries of the log, or `none` where there are none
 abbrev pub log_text : List Entry → List ℕ

@@ -2,18 +2,21 @@
 -- Source: ours.
 use Rattle.std.specs.Prelude.{◌≡◌, ℕ, ◌-◌, Bool, true, false, ◌||◌, ◌==◌, nat_lt, if◌then◌else◌, List, [], ◌∷◌, ◌++◌}
 use Rattle.std.specs.Prelude.{Option, Some, None, codes}
+use Rattle.std.specs.List.{slice_split}
 use Rattle.std.specs.Str.{bytes_eq}
+use Rattle.word60.specs.Words.{from_octal}
 use Rattle.sequential.specs.declared.log.Entry.{Entry}
-use Rattle.sequential.specs.declared.log.Entry.TheVariants.{Issued as Count, Exchange}
+use Rattle.sequential.specs.declared.log.Entry.TheVariants.{Issued as Count, Exchange, PpRead, PpWrite}
 use Rattle.sequential.specs.declared.log.Log.{Log}
 use Rattle.sequential.specs.Log.{steps_of}
 use Rattle.sequential.specs.Replay.{LogStep}
 use Rattle.device_text.specs.Text.{fields_of, number_of}
 use Rattle.job_deck.specs.declared.logs.Allowance.{Allowance}
 
--- at first: at most 10,000,000 instructions and 1,000,000 exchanges
+-- at first: at most 10,000,000 instructions, 1,000,000 exchanges and 1,000,000 peripheral accesses
 abbrev pub whole_allowance : Allowance
-whole_allowance = record { after_count = false; instructions = 10000000; exchanges = 1000000 }
+whole_allowance =
+    record { after_count = false; instructions = 10000000; exchanges = 1000000; accesses = 1000000 }
 
 -- a nought in front and a digit after it
 abbrev pub has_nought_in_front : List ℕ → Bool
@@ -35,24 +38,52 @@ abbrev pub count_in : Allowance → Option ℕ → Option Entry
 count_in left None = None
 count_in left (Some n) = if left.after_count || (n == 0) || nat_lt left.instructions n then None else Some (Count n)
 
--- the entry of a field: `E` and one to six octal digits, or `I` and one to eight decimal digits
+-- the word that the digits are, without noughts in front
+abbrev pub plain_word : List ℕ → Option ℕ
+plain_word digits = if has_nought_in_front digits then None else from_octal 20 digits
+
+-- the entry of a word that was read, if its address is a number and one more access may come
+abbrev pub read_in : Allowance → Option ℕ → Option Entry
+read_in left None = None
+read_in left (Some a) = if left.accesses == 0 then None else Some (PpRead a)
+
+-- the entry of a word that was written, if address and word are numbers and one more access may come
+abbrev pub write_in : Allowance → Option ℕ → Option ℕ → Option Entry
+write_in left None word = None
+write_in left (Some a) None = None
+write_in left (Some a) (Some w) = if left.accesses == 0 then None else Some (PpWrite a w)
+
+-- the same by the parts between the signs `=`, of which there is one
+abbrev pub written_in : Allowance → List (List ℕ) → Option Entry
+written_in left [] = None
+written_in left (address ∷ []) = None
+written_in left (address ∷ word ∷ []) = write_in left (plain_number 8 6 address) (plain_word word)
+written_in left (address ∷ word ∷ other ∷ more) = None
+
+-- the entry of a field: `E` and one to six octal digits, `I` and one to eight decimal digits, `R` and one to six octal
+-- digits, or `W`, one to six octal digits, `=` and one to twenty octal digits
 abbrev pub entry_in : Allowance → List ℕ → Option Entry
 entry_in left [] = None
 entry_in left (letter ∷ digits) =
     if letter == 69 then exchange_in left (plain_number 8 6 digits)
     else if letter == 73 then count_in left (plain_number 10 8 digits)
+    else if letter == 82 then read_in left (plain_number 8 6 digits)
+    else if letter == 87 then written_in left (slice_split (λ b. b == 61) digits)
     else None
 
 -- how many instructions an entry stands for
 abbrev pub entry_count : Entry → ℕ
 entry_count (Exchange n) = 0
 entry_count (Count n) = n
+entry_count (PpRead a) = 0
+entry_count (PpWrite a w) = 0
 
 -- what may come after an entry
 abbrev pub spent : Allowance → Entry → Allowance
-spent left (Exchange n) =
-    record { after_count = false; instructions = left.instructions; exchanges = left.exchanges - 1 }
-spent left (Count n) = record { after_count = true; instructions = left.instructions - n; exchanges = left.exchanges }
+spent left (Exchange n) = record left { after_count = false; exchanges = left.exchanges - 1 }
+spent left (Count n) = record left { after_count = true; instructions = left.instructions - n }
+spent left (PpRead a) = record left { after_count = false; accesses = left.accesses - 1 }
+spent left (PpWrite a w) = record left { after_count = false; accesses = left.accesses - 1 }
 
 -- these steps and then the others, if the others are steps of a log
 abbrev pub put_steps : List LogStep → Option (List LogStep) → Option (List LogStep)

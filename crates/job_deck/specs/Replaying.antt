@@ -6,7 +6,7 @@ use Rattle.instructions.specs.declared.refusal.Refusal.{Refusal}
 use Rattle.instructions.specs.declared.refusal.Refusal.TheVariants as refusals
 use Rattle.sequential.specs.declared.state.State.{State}
 use Rattle.sequential.specs.Log.{entries_of}
-use Rattle.sequential.specs.Replay.{LogStep, boot, replay}
+use Rattle.sequential.specs.Replay.{LogStep, IsRefusedAt, boot, replay}
 use Rattle.deck.specs.Deck.{Reading, Good, Bad}
 use Rattle.deck.specs.declared.deck.Deck.{Deck}
 use Rattle.deck.specs.declared.deck.Show.{Show}
@@ -18,31 +18,38 @@ use Rattle.job_deck.specs.LogText.{log_in}
 pub data Replayed : Type 0 where
   -- the text is no log's: `bad log`
   BadLog : Replayed
-  -- the package of an exchange doesn't lie in memory: `E19 package range`
-  Undefined : Replayed
+  -- one of these steps from that state on is refused: `E19 package range` or `E27 peripheral range`
+  Undefined : State → List LogStep → Replayed
   -- the state after these steps, and the steps
   Reaches : State → List LogStep → Replayed
 
--- the state after these steps, if the package of each exchange lies in memory
-abbrev pub reached : List LogStep → Option State → Replayed
-reached steps None = Undefined
-reached steps (Some state) = Reaches state steps
+-- the state after these steps from that one on, if none of them is refused
+abbrev pub reached : State → List LogStep → Option State → Replayed
+reached start steps None = Undefined start steps
+reached start steps (Some state) = Reaches state steps
 
 -- what the steps give on this memory, if the text was that of a log
 abbrev pub replayed_steps : List ℕ → Option (List LogStep) → Replayed
 replayed_steps memory None = BadLog
-replayed_steps memory (Some steps) = reached steps (replay (boot memory) steps)
+replayed_steps memory (Some steps) = reached (boot memory) steps (replay (boot memory) steps)
 
 -- the machine that was booted with the deck's memory goes through the log of this text
 abbrev pub replayed : Deck → List ℕ → Replayed
 replayed deck text = replayed_steps deck.image.memory (log_in text)
+
+-- the first of the steps that is refused is refused for that
+abbrev pub IsRefusedFor : State → List LogStep → Refusal → Type 0
+IsRefusedFor start steps refusal = (end : State) × IsRefusedAt start steps end refusal
 
 -- the dump of the state that is reached, or at a failed write a beginning of it; else nothing
 abbrev pub Prints : Result (Option State) Refusal → Replayed → List Show → Option (List ℕ) → Option (List ℕ) → Type 0
 Prints (Ok None) BadLog shows old new = Keeps old new
 Prints (Ok (Some s)) (Reaches state steps) shows old new =
     (s ≡ state) × Appends old new (dump_text state (entries_of steps) shows)
-Prints (Err refusals.PackageRange) Undefined shows old new = Keeps old new
+Prints (Err refusals.PackageRange) (Undefined start steps) shows old new =
+    IsRefusedFor start steps refusals.PackageRange × Keeps old new
+Prints (Err refusals.PeripheralRange) (Undefined start steps) shows old new =
+    IsRefusedFor start steps refusals.PeripheralRange × Keeps old new
 Prints (Err refusals.Write) (Reaches state steps) shows old new =
     WritesFront old new (dump_text state (entries_of steps) shows)
 Prints (Err refusals.OutOfMemory) replayed shows old new = Keeps old new

@@ -2,6 +2,7 @@
 -- Source: ours.
 use Rattle.std.specs.Prelude.{ℕ, List, [], ◌∷◌, length, Option, Some, None, nat_lt, if◌then◌else◌, codes}
 use Rattle.std.specs.Str.{bytes_eq}
+use Rattle.word60.specs.Words.{from_octal}
 use Rattle.instructions.specs.declared.instr.Unit.{Unit as FunctionalUnit}
 use Rattle.instructions.specs.declared.refusal.DeckFault.TheVariants as faults
 use Rattle.program_order.specs.declared.event.Event.{Event}
@@ -23,6 +24,12 @@ abbrev pub with_number : Option ℕ → (ℕ → Event) → Spoken
 with_number None event = Faulty faults.Number
 with_number (Some n) event = Makes (event n)
 
+-- the writing of the word to the address, or the fault `number` where one of them is no number
+abbrev pub with_word : Option ℕ → Option ℕ → Spoken
+with_word None word = Faulty faults.Number
+with_word (Some address) None = Faulty faults.Number
+with_word (Some address) (Some word) = Makes (events.PpWrite address word)
+
 -- a line of one field: `issue`, `exchange`, `end` or `drain`; any other has the fault `unknown`
 abbrev pub spoken_alone : List ℕ → Spoken
 spoken_alone word =
@@ -39,6 +46,7 @@ spoken_number word field =
     else if bytes_eq word (codes "return") then with_number (number_of 10 2 field) events.Return
     else if bytes_eq word (codes "bank") then with_number (number_of 10 2 field) events.BankFree
     else if bytes_eq word (codes "ask") then with_number (number_of 8 6 field) events.Ask
+    else if bytes_eq word (codes "ppread") then with_number (number_of 8 6 field) events.PpRead
     else Faulty faults.Unknown
 
 -- a line of two fields: after `read`, `finish` and `store` comes a unit, else a number
@@ -49,12 +57,19 @@ spoken_with word field =
     else if bytes_eq word (codes "store") then with_unit (unit_named field) events.Store
     else spoken_number word field
 
--- what a line says by its fields; with more than two of them it has the fault `unknown`
+-- a line of three fields: `ppwrite` with an address and a word, both octal
+abbrev pub spoken_write : List ℕ → List ℕ → List ℕ → Spoken
+spoken_write word field other =
+    if bytes_eq word (codes "ppwrite") then with_word (number_of 8 6 field) (from_octal 20 other)
+    else Faulty faults.Unknown
+
+-- what a line says by its fields; with more than three of them it has the fault `unknown`
 abbrev pub spoken_of : List (List ℕ) → Spoken
 spoken_of [] = Faulty faults.Unknown
 spoken_of (word ∷ []) = spoken_alone word
 spoken_of (word ∷ field ∷ []) = spoken_with word field
-spoken_of (word ∷ field ∷ other ∷ more) = Faulty faults.Unknown
+spoken_of (word ∷ field ∷ other ∷ []) = spoken_write word field other
+spoken_of (word ∷ field ∷ other ∷ one ∷ more) = Faulty faults.Unknown
 
 -- what a line of at most 200 bytes says
 abbrev pub spoken : List ℕ → Spoken

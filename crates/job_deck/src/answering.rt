@@ -26,13 +26,15 @@ fn refusal_pieces(refusal: &Refusal) -> [Piece<'static>; 2]
         Refusal::HopperFull => [Piece::Text(b"E11 hopper full"), none],
         Refusal::OutOfTurn => [Piece::Text(b"E12 out of turn"), none],
         Refusal::BankBusy(k) => [Piece::Text(b"E13 bank busy "), Piece::Count(u64::from(k))],
-        Refusal::OlderInBank => [Piece::Text(b"E14 older in bank"), none],
+        Refusal::OlderAtAddress => [Piece::Text(b"E14 older at address"), none],
         Refusal::Nothing => [Piece::Text(b"E15 nothing"), none],
         Refusal::ExchangeBusy => [Piece::Text(b"E17 exchange busy"), none],
         Refusal::NotDrained => [Piece::Text(b"E18 not drained"), none],
         Refusal::PackageRange => [Piece::Text(b"E19 package range"), none],
         Refusal::OutOfMemory => [Piece::Text(b"E21 out of memory"), none],
         Refusal::MidWord => [Piece::Text(b"E25 mid word"), none],
+        Refusal::PeripheralWait => [Piece::Text(b"E26 peripheral waits"), none],
+        Refusal::PeripheralRange => [Piece::Text(b"E27 peripheral range"), none],
         _ => [none, Piece::Text(b"")],
     }
 }
@@ -65,6 +67,10 @@ fn put_line<O: Output>(output: &mut O, answer: &Answer) -> Result<(), WriteFaile
             ],
         ),
         Ok(Done::Issued(None)) => output.put(b"ok\n"),
+        Ok(Done::Word(word)) => put_pieces(
+            output,
+            &[Piece::Text(b"ok "), Piece::Word(*word), Piece::Text(b"\n")],
+        ),
         Ok(Done::Made) => output.put(b"ok\n"),
         Err(refusal) => put_refusal(output, refusal),
     }

@@ -214,12 +214,34 @@ fn put_shows<O: Output>(output: &mut O, memory: &Storage, shows: &[Show]) -> Res
 }
 
 /// An entry of a log with a space before it.
-fn spaced_entry(entry: Entry) -> [Piece<'static>; 2]
+fn spaced_entry(entry: Entry) -> [Piece<'static>; 4]
     ensures { text_of_all result ≡ spaced_entry entry }
 {
     match entry {
-        Entry::Exchange(address) => [Piece::Text(b" E"), Piece::Address(address)],
-        Entry::Issued(count) => [Piece::Text(b" I"), Piece::Count(count)],
+        Entry::Exchange(address) => [
+            Piece::Text(b" E"),
+            Piece::Address(address),
+            Piece::Text(b""),
+            Piece::Text(b""),
+        ],
+        Entry::Issued(count) => [
+            Piece::Text(b" I"),
+            Piece::Count(count),
+            Piece::Text(b""),
+            Piece::Text(b""),
+        ],
+        Entry::PpRead(address) => [
+            Piece::Text(b" R"),
+            Piece::Address(address),
+            Piece::Text(b""),
+            Piece::Text(b""),
+        ],
+        Entry::PpWrite(address, word) => [
+            Piece::Text(b" W"),
+            Piece::Address(address),
+            Piece::Text(b"="),
+            Piece::ShortWord(word),
+        ],
     }
 }
 

@@ -1,14 +1,17 @@
-ghost use Rattle.std.specs.Prelude.{◌≡◌, ◌<◌, ◌≤◌, ◌+◌, ◌++◌, ◌^◌, [], ◌∷◌, MatchResult, IfSome};
+ghost use Rattle.std.specs.Prelude.{◌≡◌, ◌<◌, ◌≤◌, ◌+◌, ◌-◌, ◌++◌, ◌^◌, [], ◌∷◌, ◌==◌, false, MatchResult, IfSome};
+ghost use Rattle.std.specs.List.{slice_split};
 ghost use Rattle.instructions.specs.declared.refusal.Refusal.TheVariants.{OutOfMemory};
 ghost use Rattle.sequential.specs.Log.{steps_of, issued};
 ghost use Rattle.device_text.specs.Text.{fields_of};
 ghost use Rattle.job_deck.specs.LogText.{whole_allowance, has_nought_in_front, plain_number, exchange_in, count_in};
-ghost use Rattle.job_deck.specs.LogText.{entry_in, entry_count, spent, steps_in, log_in, LogHas};
+ghost use Rattle.job_deck.specs.LogText.{entry_in, entry_count, spent, steps_in, log_in, LogHas, plain_word, read_in};
+ghost use Rattle.job_deck.specs.LogText.{write_in, written_in};
 
 use device_text::{first_part, number};
 use instruction_table::Refusal;
 use sequential::{Entry, Log};
 use std::alloc::Global;
+use word60::Word60;
 
 /// What may still come in a log's text.
 #[derive(Clone, Copy, Drop)]
@@ -19,10 +22,12 @@ pub struct Allowance {
     instructions: u64,
     /// How many exchanges.
     exchanges: u32,
+    /// How many peripheral accesses.
+    accesses: u32,
 }
 
 impl Allowance {
-    /// At most 10,000,000 instructions and 1,000,000 exchanges.
+    /// At most 10,000,000 instructions, 1,000,000 exchanges and 1,000,000 peripheral accesses.
     fn whole() -> Allowance
         ensures { result ≡ whole_allowance }
     {
@@ -30,6 +35,7 @@ impl Allowance {
             after_count: false,
             instructions: 10_000_000,
             exchanges: 1_000_000,
+            accesses: 1_000_000,
         }
     }
 
@@ -57,6 +63,43 @@ impl Allowance {
         }
     }
 
+    /// A word that was read, if one more access may come.
+    fn read(&self, digits: &[u8]) -> Option<Entry>
+        ensures entry { result ≡ read_in self.now (plain_number 8 6 digits.now) }
+        ensures within { IfSome result (λ entry. entry_count entry ≤ self.now.instructions) }
+    {
+        match plain_octal(digits) {
+            Some(at) if self.accesses > 0 => Some(Entry::PpRead(at)),
+            _ => None,
+        }
+    }
+
+    /// A word that was written, if one more access may come.
+    fn write(&self, address: &[u8], word: &[u8]) -> Option<Entry>
+        ensures entry { result ≡ write_in self.now (plain_number 8 6 address.now) (plain_word word.now) }
+        ensures within { IfSome result (λ entry. entry_count entry ≤ self.now.instructions) }
+    {
+        let at = plain_octal(address)?;
+        match plain_word(word) {
+            Some(word) if self.accesses > 0 => Some(Entry::PpWrite(at, word)),
+            _ => None,
+        }
+    }
+
+    /// The same of what stands behind its letter.
+    fn written(&self, digits: &[u8]) -> Option<Entry>
+        ensures entry { result ≡ written_in self.now (slice_split (λ b. b == 61) digits.now) }
+        ensures within { IfSome result (λ entry. entry_count entry ≤ self.now.instructions) }
+    {
+        let (address, Some(rest)) = first_part(digits, b'=') else {
+            return None;
+        };
+        match first_part(rest, b'=') {
+            (word, None) => self.write(address, word),
+            (_, Some(_)) => None,
+        }
+    }
+
     /// The entry of a field, if it may come.
     fn entry(&self, field: &[u8]) -> Option<Entry>
         ensures entry { result ≡ entry_in self.now field.now }
@@ -65,15 +108,28 @@ impl Allowance {
         match field {
             [b'E', digits @ ..] => self.exchange(digits),
             [b'I', digits @ ..] => self.count(digits),
+            [b'R', digits @ ..] => self.read(digits),
+            [b'W', digits @ ..] => self.written(digits),
             _ => None,
         }
     }
 
-    /// What may come after an entry.
-    fn spent(self, entry: Entry) -> Allowance
-        ensures { result ≡ spent self entry }
+    /// What may come after a peripheral access.
+    fn without_access(self) -> Allowance
+        ensures { result ≡ record self { after_count = false; accesses = self.accesses - 1 } }
     {
-        match entry {
+        Allowance {
+            after_count: false,
+            accesses: self.accesses.saturating_sub(1),
+            ..self
+        }
+    }
+
+    /// What may come after an entry.
+    fn spent(self, entry: &Entry) -> Allowance
+        ensures { result ≡ spent self entry.now }
+    {
+        match *entry {
             Entry::Exchange(_) => Allowance {
                 after_count: false,
                 exchanges: self.exchanges.saturating_sub(1),
@@ -84,6 +140,8 @@ impl Allowance {
                 instructions: self.instructions.saturating_sub(count),
                 ..self
             },
+            Entry::PpRead(_) => self.without_access(),
+            Entry::PpWrite(_, _) => self.without_access(),
         }
     }
 }
@@ -108,6 +166,16 @@ fn plain_octal(digits: &[u8]) -> Option<u32>
     }
 }
 
+/// A word of one to twenty octal digits without noughts in front.
+fn plain_word(digits: &[u8]) -> Option<Word60>
+    ensures value { result ≡ plain_word digits.now }
+{
+    if has_nought_in_front(digits) {
+        return None;
+    }
+    Word60::from_octal(digits)
+}
+
 /// A number of one to eight decimal digits without noughts in front.
 fn plain_decimal(digits: &[u8]) -> Option<u64>
     ensures value { result ≡ plain_number 10 8 digits.now }
@@ -123,17 +191,19 @@ fn plain_decimal(digits: &[u8]) -> Option<u64>
 /// # Errors
 /// `OutOfMemory`.
 #[tactic(auto, unfolding(sequential::specs::Log::steps_of))]
-fn add_entry(log: &mut Log, entry: Entry) -> Result<(), Refusal>
-    requires { issued log.old.steps + entry_count entry < 2 ^ 64 }
-    ensures { MatchResult result (λ _. log.new.steps ≡ log.old.steps ++ steps_of (entry ∷ []))
+fn add_entry(log: &mut Log, entry: &Entry) -> Result<(), Refusal>
+    requires { issued log.old.steps + entry_count entry.now < 2 ^ 64 }
+    ensures { MatchResult result (λ _. log.new.steps ≡ log.old.steps ++ steps_of (entry.now ∷ []))
         (λ refusal. refusal ≡ OutOfMemory) }
 {
     if log.reserve(1).is_err() {
         return Err(Refusal::OutOfMemory);
     }
-    match entry {
+    match *entry {
         Entry::Exchange(at) => log.exchanged(at),
         Entry::Issued(count) => log.issued_many(count),
+        Entry::PpRead(at) => log.read_at(at),
+        Entry::PpWrite(at, word) => log.wrote(at, word),
     }
     Ok(())
 }
@@ -154,10 +224,10 @@ fn read_entries(alloc: Global, text: &[u8]) -> Result<Option<Log>, Refusal>
         let Some(entry) = left.entry(field) else {
             return Ok(None);
         };
-        if add_entry(&mut log, entry).is_err() {
+        if add_entry(&mut log, &entry).is_err() {
             return Err(Refusal::OutOfMemory);
         }
-        left = left.spent(entry);
+        left = left.spent(&entry);
         match after {
             None => return Ok(Some(log)),
             Some(more) => rest = more,
@@ -167,8 +237,9 @@ fn read_entries(alloc: Global, text: &[u8]) -> Result<Option<Log>, Refusal>
 
 /// Reads the text of a log, as a dump has it: `none`, or entries with one space between them. An entry is
 /// `E` and an address of one to six octal digits, or `I` and a decimal count that isn't 0, without leading
-/// zeros; no two counts stand side by side. There are at most 10,000,000 instructions and 1,000,000
-/// exchanges. None where the text isn't that of a log.
+/// zeros; no two counts stand side by side. `R` and such an address is a peripheral processor's reading, `W` with such
+/// an address, `=` and a word of one to twenty octal digits its writing. There are at most 10,000,000 instructions,
+/// 1,000,000 exchanges and 1,000,000 peripheral accesses. None where the text isn't that of a log.
 ///
 /// # Errors
 /// `OutOfMemory`.

@@ -17,8 +17,8 @@ use std::io::{Read, Write};
 /// None where the text isn't that of a log.
 ///
 /// # Errors
-/// `PackageRange` where an exchange's words don't lie in memory, `OutOfMemory`, and `Write` where a write
-/// fails.
+/// `PackageRange` where the words of the first step that is refused, an exchange's, don't lie in memory,
+/// `PeripheralRange` where it is a peripheral access whose word doesn't, `OutOfMemory`, and `Write` where a write fails.
 fn print_replay<O: Output>(
     alloc: Global,
     output: &mut O,
@@ -37,7 +37,9 @@ fn print_replay<O: Output>(
     };
     let memory = deck.image.memory().copy()?;
     let mut state = State::boot(memory);
-    sequential::replay(&mut state, &log)?;
+    if let Err(refusal) = sequential::replay(&mut state, &log) {
+        return Err(refusal);
+    }
     match dump_to(output, &state, &log, deck) {
         Ok(()) => Ok(Some(state)),
         Err(_) => Err(Refusal::Write),
@@ -49,7 +51,7 @@ fn print_replay<O: Output>(
 /// that of a log. The deck is judged first; its `start` line isn't used.
 ///
 /// # Errors
-/// `Deck` with a line and its fault, `PackageRange` where an exchange's words don't lie in memory,
+/// `Deck` with a line and its fault, `PackageRange` or `PeripheralRange` where a step of the log is refused,
 /// `OutOfMemory`, and `Read` and `Write` where the device fails. Only at the last of these anything was
 /// written, a beginning of the dump.
 pub fn replay_to<I: Input, O: Output>(

@@ -1,10 +1,11 @@
 ghost use Rattle.std.specs.Prelude.{◌≡◌, ◌∷◌};
-ghost use Rattle.device_text.specs.Text.{number_of, other_parts};
-ghost use Rattle.job_deck.specs.Schedule.{spoken, spoken_alone, spoken_number, spoken_of, spoken_with};
+ghost use Rattle.device_text.specs.Text.{fields_of, number_of, other_parts};
+ghost use Rattle.job_deck.specs.Schedule.{spoken, spoken_alone, spoken_number, spoken_of, spoken_with, spoken_write};
 
 use device_text::{first_field, number, unit_named};
 use instruction_table::DeckFault;
 use machine::Event;
+use word60::Word60;
 
 /// What a line of a schedule says.
 #[derive(Clone, Copy, Debug, Drop, PartialEq, Eq)]
@@ -68,6 +69,8 @@ fn spoken_number(word: &[u8], field: &[u8]) -> Spoken
         small_number(field).map(Event::BankFree)
     } else if word == b"ask".as_slice() {
         address(field).map(Event::Ask)
+    } else if word == b"ppread".as_slice() {
+        address(field).map(Event::PpRead)
     } else {
         return Spoken::Faulty(DeckFault::Unknown);
     };
@@ -96,6 +99,32 @@ fn spoken_with(word: &[u8], field: &[u8]) -> Spoken
     }
 }
 
+/// What a line of three fields says.
+fn spoken_write(word: &[u8], field: &[u8], other: &[u8]) -> Spoken
+    ensures { result ≡ spoken_write word.now field.now other.now }
+{
+    if word != b"ppwrite".as_slice() {
+        return Spoken::Faulty(DeckFault::Unknown);
+    }
+    let Some(at) = address(field) else {
+        return Spoken::Faulty(DeckFault::Number);
+    };
+    match Word60::from_octal(other) {
+        Some(word) => Spoken::Makes(Event::PpWrite(at, word)),
+        None => Spoken::Faulty(DeckFault::Number),
+    }
+}
+
+/// What a line says by its first two fields and what comes after them.
+fn spoken_further(word: &[u8], field: &[u8], rest: &[u8]) -> Spoken
+    ensures { result ≡ spoken_of (word.now ∷ field.now ∷ fields_of rest.now) }
+{
+    match first_field(rest) {
+        (other, None) => spoken_write(word, field, other),
+        (_, Some(_)) => Spoken::Faulty(DeckFault::Unknown),
+    }
+}
+
 /// What a line says by its first field and what comes after it.
 fn spoken_of(word: &[u8], rest: Option<&[u8]>) -> Spoken
     ensures { result ≡ spoken_of (word.now ∷ other_parts 32 rest.entry) }
@@ -105,7 +134,7 @@ fn spoken_of(word: &[u8], rest: Option<&[u8]>) -> Spoken
     };
     match first_field(rest) {
         (field, None) => spoken_with(word, field),
-        (_, Some(_)) => Spoken::Faulty(DeckFault::Unknown),
+        (field, Some(more)) => spoken_further(word, field, more),
     }
 }
 

@@ -1,17 +1,17 @@
 -- What an event under the lock leaves of the log, what its answer tells, and what its caller's pass has then.
 use Rattle.std.proofs.Common.{◌≡◌, ℕ, length, Bool, true, false, List, [], ◌∷◌, ◌++◌, Option, Some, None, refl}
 use Rattle.std.proofs.Common.{sym, ap}
-use Rattle.std.proofs.Common.{◌∙◌, subst, inl, inr}
+use Rattle.std.proofs.Common.{◌∙◌, subst, get_or, inl, inr}
 use Rattle.std.proofs.lemmas.List.{append-nil}
 use Rattle.std.specs.Prelude.{Result, Ok, Err, MatchResult}
 use Rattle.instructions.specs.declared.refusal.Refusal.{Refusal}
 use Rattle.sequential.specs.Replay.{LogStep, Issued, Exchanged, boot, replay}
 use Rattle.sequential.specs.Taken.{taken}
 use Rattle.program_order.specs.declared.event.Done.{Done}
-use Rattle.program_order.specs.declared.event.Done.TheVariants.{Issued as DoneIssue, Made as DoneMade}
+use Rattle.program_order.specs.declared.event.Done.TheVariants.{Issued as DoneIssue, Word, Made as DoneMade}
 use Rattle.program_order.specs.declared.event.Event.{Event}
 use Rattle.program_order.specs.declared.event.Event.TheVariants.{Issue, Read, Finish, Store, Accept, Return, BankFree}
-use Rattle.program_order.specs.declared.event.Event.TheVariants.{Ask, Exchange}
+use Rattle.program_order.specs.declared.event.Event.TheVariants.{Ask, Exchange, PpRead, PpWrite}
 use Rattle.program_order.specs.declared.event.Note.{Note}
 use Rattle.program_order.specs.Events.{after, allowed}
 use Rattle.program_order.specs.Headline.{exchange_step, made_steps}
@@ -22,8 +22,9 @@ use Rattle.program_order.proofs.keeping.Telling.{exchange_asked}
 use Rattle.program_order.proofs.theorem.Headline.{books_after}
 use Rattle.program_order.proofs.theorem.Theorem.{made_allowed}
 use Rattle.atomic_table.specs.Table.{Me}
-use Rattle.machine_lock.specs.Known.{Known, known, StartsWith, IsMade, Learnt, note_in, IsNoteOf, IsWhyOf}
-use Rattle.machine_lock.specs.inner.Kept.{is_of_memory}
+use Rattle.machine_lock.specs.Known.{Known, known, StartsWith, IsMade, Learnt, note_in, word_in, IsNoteOf, IsWhyOf}
+use Rattle.machine_lock.specs.Known.{IsWordOf}
+use Rattle.machine_lock.specs.inner.Kept.{access_step, is_access, is_of_memory}
 use Rattle.machine_lock.specs.inner.Rules.{History, Knowing, history, past, keeper, caller, Continues}
 use Rattle.machine_lock.proofs.Lists.{last_step, last_step-push}
 
@@ -55,6 +56,8 @@ is_quiet (Return c) = true
 is_quiet (BankFree b) = true
 is_quiet (Ask n) = true
 is_quiet Exchange = false
+is_quiet (PpRead a) = false
+is_quiet (PpWrite a v) = false
 
 quiet_steps : (r : Option ℕ) (e : Event) → is_quiet e ≡ true → made_steps r e ≡ []
 unfolding made_steps
@@ -67,6 +70,8 @@ quiet_steps r (Return c) h = refl
 quiet_steps r (BankFree b) h = refl
 quiet_steps r (Ask n) h = refl
 quiet_steps r Exchange h = absurd (cc)
+quiet_steps r (PpRead a) h = absurd (cc)
+quiet_steps r (PpWrite a v) h = absurd (cc)
 
 -- ... leaves the log
 quiet : (w v : Processor) (e : Event) → is_quiet e ≡ true → v ≡ after w e → past v ≡ past w
@@ -86,6 +91,8 @@ of_memory (Return c) h = refl
 of_memory (BankFree b) h = refl
 of_memory (Ask n) h = refl
 of_memory Exchange h = absurd (cc)
+of_memory (PpRead a) h = absurd (cc)
+of_memory (PpWrite a v) h = absurd (cc)
 
 -- ... whatever it is answered
 pub quiet_settled : (w v : Processor) (e : Event) (a : Result Done Refusal) → is_quiet e ≡ true → v ≡ settled w e a
@@ -107,19 +114,18 @@ issued_past w v a d s o =
     ∙ ap (history w.boot_memory) b.log
 
 -- an issue is never answered as any other event is
-issue_done : (w : Processor) (a : Result Done Refusal) → IsAnswer w Issue a → a ≡ Ok DoneMade → ⊥
-unfolding answer_of answer_by done_by
-issue_done w a (inl h) o = by_refusal (allowed w Issue) (sym o ∙ h)
-  where
-    by_refusal : (r : Option Refusal) → Ok DoneMade ≡ answer_by (done_by w Issue) r → ⊥
-    by_refusal None k = cc
-    by_refusal (Some x) k = cc
-issue_done w a (inr h) o = let k = sym o ∙ h.want in cc
-
 done_issue : (w : Processor) (a : Result Done Refusal) (d : Done) → IsAnswer w Issue a → a ≡ Ok d
     → d ≡ DoneIssue (note_in d)
-done_issue w a (DoneIssue n) i o = refl
-done_issue w a DoneMade i o = absurd (issue_done w a i o)
+unfolding answer_of answer_by done_by
+done_issue w a d (inl h) o = by_refusal d (allowed w Issue) (sym o ∙ h)
+  where
+    by_refusal : (x : Done) (r : Option Refusal) → Ok x ≡ answer_by (done_by w Issue) r → x ≡ DoneIssue (note_in x)
+    by_refusal (DoneIssue n) r k = refl
+    by_refusal (Word word) None k = cc
+    by_refusal (Word word) (Some x) k = cc
+    by_refusal DoneMade None k = cc
+    by_refusal DoneMade (Some x) k = cc
+done_issue w a d (inr h) o = let k = sym o ∙ h.want in cc
 
 -- what was answered is what an issue from the state to which the log led answers
 pub note_of : (w v : Processor) (a : Result Done Refusal) (d : Done) (k : Known) → replayed w ≡ Some (completed w)
@@ -177,6 +183,56 @@ last_exchange w v a d i s o =
       last = l;
       longer = p ∙ ap (λ x. history w.boot_memory (w.log ++ x ∷ [])) (sym l);
     }
+
+-- ---- a peripheral access ----
+
+access_steps : (r : Option ℕ) (e : Event) → is_access e ≡ true → made_steps r e ≡ access_step e ∷ []
+unfolding made_steps
+access_steps r Issue h = absurd (cc)
+access_steps r (Read u) h = absurd (cc)
+access_steps r (Finish u) h = absurd (cc)
+access_steps r (Store u) h = absurd (cc)
+access_steps r (Accept p) h = absurd (cc)
+access_steps r (Return c) h = absurd (cc)
+access_steps r (BankFree b) h = absurd (cc)
+access_steps r (Ask n) h = absurd (cc)
+access_steps r Exchange h = absurd (cc)
+access_steps r (PpRead a) h = refl
+access_steps r (PpWrite a v) h = refl
+
+accessed_past : (w v : Processor) (e : Event) (a : Result Done Refusal) (d : Done) → is_access e ≡ true
+    → v ≡ settled w e a → a ≡ Ok d → past v ≡ history w.boot_memory (w.log ++ access_step e ∷ [])
+accessed_past w v e a d q s o =
+    let h = made_after w v e a d s o in
+    let b = books_after w e in
+    ap past h
+    ∙ ap (λ m. history m (after w e).log) b.boot
+    ∙ ap (history w.boot_memory) (b.log ∙ ap (λ l. w.log ++ l) (access_steps w.request e q))
+
+-- the last step of the log is the access
+pub record LastAccess (w v : Processor) (e : Event) : Type 0 where
+  pub last : last_step v.log ≡ access_step e
+  pub longer : past v ≡ history w.boot_memory (w.log ++ last_step v.log ∷ [])
+
+pub last_access : (w v : Processor) (e : Event) (a : Result Done Refusal) (d : Done) → is_access e ≡ true
+    → v ≡ settled w e a → a ≡ Ok d → LastAccess w v e
+last_access w v e a d q s o =
+    let p = accessed_past w v e a d q s o in
+    let l : last_step v.log ≡ access_step e =
+    ap (λ (h : History). last_step h.log) p ∙ last_step-push w.log (access_step e) in
+    record { last = l; longer = p ∙ ap (λ x. history w.boot_memory (w.log ++ x ∷ [])) (sym l) }
+
+-- the word that was read is that of the replay
+pub word_of : (v : Processor) (k : Known) (e : Event) (r : Result Done Refusal) (d : Done)
+    → replayed v ≡ Some (completed v) → history k.boot_memory k.log ≡ past v → r ≡ Ok d
+    → ((a : ℕ) → e ≡ PpRead a → (done : Done) → r ≡ Ok done → done ≡ Word (get_or (completed v).memory a 0))
+    → (a : ℕ) → e ≡ PpRead a → IsWordOf k a (word_in d)
+unfolding replayed
+word_of v k e r d h p o told a is = (
+  completed v,
+  ap (λ (x : History). replay (boot x.boot_memory) x.log) p ∙ h,
+  ap word_in (told a is d o),
+)
 
 -- ---- what the caller's pass has then ----
 

@@ -7,10 +7,10 @@ use Rattle.std.proofs.lemmas.Bool.Decides.{nat_tests}
 use Rattle.std.specs.Prelude.{if◌then◌else◌}
 use mathlib.Core.Option.{some, some-ne-none, some-injective}
 use lib.ListN.{get_elem?}
-use Rattle.sequential.specs.Replay.{LogStep, Issued, Exchanged}
+use Rattle.sequential.specs.Replay.{LogStep, Issued, Exchanged, ReadAt, Wrote}
 use Rattle.sequential.specs.Log.{steps_of}
 use Rattle.sequential.specs.declared.log.Entry.{Entry}
-use Rattle.sequential.specs.declared.log.Entry.TheVariants.{Issued as Count, Exchange}
+use Rattle.sequential.specs.declared.log.Entry.TheVariants.{Issued as Count, Exchange, PpRead, PpWrite}
 use Rattle.sequential.proofs.Runs.{taken_steps}
 use Rattle.machine_lock.specs.Known.{StartsWith, is_in}
 use Rattle.machine_lock.specs.inner.Rules.{Knowing}
@@ -85,6 +85,14 @@ steps_of-more es i d l = ap (λ n. steps_of (take n es)) (add-one i) ∙ taken_s
 pub steps_of-exchange : (e : Entry) (n : ℕ) → e ≡ Exchange n → steps_of (e ∷ []) ≡ Exchanged n ∷ []
 unfolding steps_of
 steps_of-exchange e n h = ap (λ x. steps_of (x ∷ [])) h
+
+pub steps_of-read : (e : Entry) (a : ℕ) → e ≡ PpRead a → steps_of (e ∷ []) ≡ ReadAt a ∷ []
+unfolding steps_of
+steps_of-read e a h = ap (λ x. steps_of (x ∷ [])) h
+
+pub steps_of-write : (e : Entry) (a w : ℕ) → e ≡ PpWrite a w → steps_of (e ∷ []) ≡ Wrote a w ∷ []
+unfolding steps_of
+steps_of-write e a w h = ap (λ x. steps_of (x ∷ [])) h
 
 pub steps_of-count : (e : Entry) (n : ℕ) → e ≡ Count n → steps_of (e ∷ []) ≡ replicate n Issued
 unfolding steps_of

@@ -1,12 +1,12 @@
 -- What a caller has seen of a machine under its lock, and which steps of the log are the caller's. Source: ours.
 use Rattle.std.specs.Prelude.{◌≡◌, ◌≢◌, ◌==◌, ◌||◌, ℕ, suc, Bool, true, false, List, [], ◌∷◌, ◌++◌, Option, Some, None}
-use Rattle.std.specs.Prelude.{length, take}
+use Rattle.std.specs.Prelude.{length, slice_index_or, take}
 use Rattle.instructions.specs.declared.refusal.Refusal.{Refusal}
 use Rattle.sequential.specs.declared.state.State.{State}
 use Rattle.sequential.specs.Replay.{LogStep, Issued, boot, replay}
 use Rattle.sequential.specs.Taken.{taken}
 use Rattle.program_order.specs.declared.event.Done.{Done}
-use Rattle.program_order.specs.declared.event.Done.TheVariants.{Issued as DoneIssue, Made}
+use Rattle.program_order.specs.declared.event.Done.TheVariants.{Issued as DoneIssue, Word, Made}
 use Rattle.program_order.specs.declared.event.Note.{Note}
 use Rattle.program_order.specs.Telling.{IsNoted, IsWhy}
 
@@ -47,7 +47,14 @@ Learnt old new = StartsWith new.log old.log × (new ≡ known old.boot_memory ne
 -- the reservation that an issue answered, if it did
 abbrev pub note_in : Done → Option Note
 note_in (DoneIssue note) = note
+note_in (Word _) = None
 note_in Made = None
+
+-- the word that a peripheral processor read, +0 where the answer has none
+abbrev pub word_in : Done → ℕ
+word_in (DoneIssue _) = 0
+word_in (Word word) = word
+word_in Made = 0
 
 -- the last step is an issue, and this is its answer: a reservation exactly where the instruction to which the steps
 -- before lead goes to a unit, of a unit of its kind, and numbered along the log
@@ -55,6 +62,11 @@ abbrev pub IsNoteOf : Known → Option Note → Type 0
 IsNoteOf k note =
     (before : List LogStep) × (k.log ≡ before ++ Issued ∷ []) × (s : State)
     × (replay (boot k.boot_memory) before ≡ Some s) × IsNoted s (taken (boot k.boot_memory) k.log) note
+
+-- the word at that address of the state to which the steps lead
+abbrev pub IsWordOf : Known → ℕ → ℕ → Type 0
+IsWordOf k at word =
+    (s : State) × (replay (boot k.boot_memory) k.log ≡ Some s) × (word ≡ slice_index_or s.memory at 0)
 
 -- what the refusal tells of the state to which the log leads
 abbrev pub IsWhyOf : Known → Refusal → Type 0

@@ -2,13 +2,14 @@ ghost use Rattle.std.specs.Prelude.{◌≡◌, ◌||◌, ◌⊎◌, ℕ, true, f
 ghost use Rattle.instructions.specs.declared.refusal.Refusal.TheVariants.{NotDrained, OutOfMemory, Stranger};
 ghost use Rattle.sequential.specs.Replay.{Issued, Exchanged, boot, replay};
 ghost use Rattle.program_order.specs.declared.event.Event.TheVariants.{Issue, Ask, Exchange, Read, Finish, Store};
+ghost use Rattle.program_order.specs.declared.event.Event.TheVariants.{PpRead};
 ghost use Rattle.program_order.specs.Headline.{IsFaultedRun};
 ghost use Rattle.program_order.specs.Refusals.{may_refuse, is_stranger, is_read_refusal, is_store_refusal};
 ghost use Rattle.program_order.specs.Run.{IsAnswer, settled};
 ghost use Rattle.machine.specs.Tokens.{one_more};
 ghost use Rattle.program_order.specs.Events.{after};
-ghost use Rattle.machine_lock.specs.Known.{IsMade, Learnt, IsNoteOf, IsWhyOf, note_in};
-ghost use Rattle.machine_lock.specs.inner.Kept.{IsCurrent, is_of_memory, with_processor};
+ghost use Rattle.machine_lock.specs.Known.{IsMade, Learnt, IsNoteOf, IsWhyOf, IsWordOf, note_in, word_in};
+ghost use Rattle.machine_lock.specs.inner.Kept.{IsCurrent, access_step, is_access, is_of_memory, with_processor};
 ghost use Rattle.machine_lock.specs.inner.Rules.{IsKeeper, past};
 
 use crate::Seen;
@@ -112,6 +113,34 @@ impl<K: Naming> Locked<K> {
             (λ refusal. Learnt seen.old seen.new × IsWhyOf seen.new refusal) }
     {
         match self.machine.apply(Event::Exchange) {
+            Ok(done) => {
+                word.record::<Brand>(&mut self.pass, &mut seen.pass, &self.machine);
+                self.machine.keeps_replay();
+                Ok(done)
+            }
+            Err(refusal) => {
+                word.compare(&mut self.pass, &mut seen.pass);
+                Err(refusal)
+            }
+        }
+    }
+
+    /// A peripheral access. Its caller has then made the last step of the log, or else has seen the log; a word that was
+    /// read is that of the log's replay.
+    ///
+    /// # Errors
+    /// What a peripheral access may refuse.
+    pub(crate) fn access(&mut self, word: &Word<K>, seen: &mut Seen<K>, event: Event) -> Answer
+        requires { is_access event ≡ true }
+        ensures answer { IsAnswer self.old.processor event result }
+        ensures after { self.new ≡ with_processor self.old (settled self.old.processor event result) }
+        ensures named { IfErr result (λ refusal. may_refuse event refusal ≡ true) }
+        ensures current { IsCurrent self.new.processor seen.new }
+        ensures seen { MatchResult result (λ done. IsMade (access_step event) seen.old seen.new)
+            (λ refusal. Learnt seen.old seen.new) }
+        ensures word { IfOk result (λ done. (a : ℕ) → event ≡ PpRead a → IsWordOf seen.new a (word_in done)) }
+    {
+        match self.machine.apply(event) {
             Ok(done) => {
                 word.record::<Brand>(&mut self.pass, &mut seen.pass, &self.machine);
                 self.machine.keeps_replay();

@@ -1,12 +1,13 @@
 ghost use Rattle.std.specs.Prelude.{◌≡◌, ◌||◌, ◌⊎◌, ℕ, true, false, [], Some, IfErr, IfOk, MatchResult};
 ghost use Rattle.instructions.specs.declared.refusal.Refusal.TheVariants.{Nothing, NotDrained, OutOfMemory, Stranger};
-ghost use Rattle.sequential.specs.Replay.{Issued, Exchanged, boot, replay};
+ghost use Rattle.sequential.specs.Replay.{Issued, Exchanged, ReadAt, Wrote, boot, replay};
 ghost use Rattle.program_order.specs.Headline.{IsFaultedRun};
 ghost use Rattle.program_order.specs.Refusals.{may_refuse, is_stranger, is_nothing, is_issue_refusal, is_read_refusal};
 ghost use Rattle.program_order.specs.Refusals.{is_store_refusal, is_accept_refusal, is_return_refusal, is_ask_refusal};
-ghost use Rattle.program_order.specs.Refusals.{is_exchange_refusal};
+ghost use Rattle.program_order.specs.Refusals.{is_exchange_refusal, is_access_refusal};
 ghost use Rattle.machine.specs.Tokens.{new_seats, one_more};
-ghost use Rattle.machine_lock.specs.Known.{known, IsMade, Learnt, IsNoteOf, IsWhyOf, AreApart, NumbersApart};
+ghost use Rattle.machine_lock.specs.Known.{known, IsMade, Learnt, IsNoteOf, IsWhyOf, IsWordOf, AreApart, NumbersApart};
+ghost use Rattle.machine_lock.specs.Known.{word_in};
 ghost use Rattle.machine_lock.specs.inner.Kept.{is_of_memory};
 
 use crate::Seen;
@@ -21,6 +22,7 @@ use machine::{
 use std::alloc::Global;
 use std::marker::Model;
 use std::sync::{Arc, Mutex, Wait};
+use word60::Word60;
 
 /// A progress word that no machine stands beside yet. A contract sees which it is.
 #[derive(Drop)]
@@ -54,6 +56,17 @@ impl Ground {
             return Err(Refusal::OutOfMemory);
         };
         Ok(Ground { table, pass })
+    }
+}
+
+/// The word that was read, +0 where none was.
+fn word_in(done: &Done) -> Word60
+    ensures { result ≡ word_in done.now }
+{
+    match done {
+        Done::Word(word) => *word,
+        Done::Issued(_) => Word60::default(),
+        Done::Made => Word60::default(),
     }
 }
 
@@ -170,6 +183,7 @@ impl<K: Naming> Shared<K> {
     {
         match self.locked.lock(rt).issue(&self.word, seen) {
             Ok(Done::Issued(note)) => Ok(note),
+            Ok(Done::Word(_)) => Ok(None),
             Ok(Done::Made) => Ok(None),
             Err(refusal) => Err(refusal),
         }
@@ -211,6 +225,55 @@ impl<K: Naming> Shared<K> {
                 self.signals.changes.raise();
                 Ok(())
             }
+            Err(refusal) => Err(refusal),
+        }
+    }
+
+    /// A peripheral processor reads the word at an absolute address: the event `PpRead`. It is then the last step of the
+    /// log that its caller has seen, and the caller's own, and the word is that of the replay of this log; after a
+    /// refusal its caller has seen the log.
+    ///
+    /// # Errors
+    /// What a peripheral access may refuse.
+    #[tactic(auto, unfolding(program_order::specs::Refusals::may_refuse))]
+    pub fn pp_read<R: Wait>(&self, rt: &R, seen: &mut Seen<K>, at: u32) -> Result<Word60, Refusal>
+        ensures seen { MatchResult result (λ word. IsMade (ReadAt at) seen.old seen.new × IsWordOf seen.new at word)
+            (λ refusal. Learnt seen.old seen.new) }
+        ensures named { IfErr result (λ refusal. is_access_refusal refusal ≡ true) }
+    {
+        match self
+            .locked
+            .lock(rt)
+            .access(&self.word, seen, Event::PpRead(at))
+        {
+            Ok(done) => Ok(word_in(&done)),
+            Err(refusal) => Err(refusal),
+        }
+    }
+
+    /// A peripheral processor writes a word to an absolute address: the event `PpWrite`. It is then the last step of the
+    /// log that its caller has seen, and the caller's own; after a refusal its caller has seen the log.
+    ///
+    /// # Errors
+    /// What a peripheral access may refuse.
+    #[tactic(auto, unfolding(program_order::specs::Refusals::may_refuse))]
+    pub fn pp_write<R: Wait>(
+        &self,
+        rt: &R,
+        seen: &mut Seen<K>,
+        at: u32,
+        word: Word60,
+    ) -> Result<(), Refusal>
+        ensures seen { MatchResult result (λ _. IsMade (Wrote at word) seen.old seen.new)
+            (λ refusal. Learnt seen.old seen.new) }
+        ensures named { IfErr result (λ refusal. is_access_refusal refusal ≡ true) }
+    {
+        match self
+            .locked
+            .lock(rt)
+            .access(&self.word, seen, Event::PpWrite(at, word))
+        {
+            Ok(_) => Ok(()),
             Err(refusal) => Err(refusal),
         }
     }
@@ -284,7 +347,7 @@ impl<K: Naming> Shared<K> {
     /// Memory takes the reference in a place of the hopper, 0 to 3: the event `Accept`.
     ///
     /// # Errors
-    /// `BankBusy` or `OlderInBank`, or `Nothing` where the place is empty.
+    /// `BankBusy` or `OlderAtAddress`, or `Nothing` where the place is empty.
     #[tactic(auto, unfolding(program_order::specs::Refusals::may_refuse))]
     pub fn accept<R: Wait>(&self, rt: &R, place: u8) -> Result<(), Refusal>
         ensures { IfErr result (λ refusal. (is_nothing refusal || is_accept_refusal refusal) ≡ true) }

@@ -13,6 +13,7 @@ use crate::rule::{
 use machine::Machine;
 use sequential::Entry;
 use std::marker::{Brand, PhantomData};
+use word60::Word60;
 
 /// The progress word that K names.
 #[derive(Drop)]
@@ -129,6 +130,32 @@ impl<K: Naming> Word<K> {
         self.record_step::<J>(pass, me);
     }
 
+    /// The same of a peripheral processor's reading of the word at that address.
+    fn record_read<J: Chosen>(&self, pass: &mut Pass, me: &mut Pass, at: u32)
+        requires pass { IsKeeper K.table pass.old.me.0.seen pass.old }
+        requires me { IsCaller K.table me.old.me.0.seen me.old.me.0.mine me.old }
+        ensures pass { IsKeeper K.table
+            (history pass.old.me.0.seen.boot_memory (pass.old.me.0.seen.log ++ J.step ∷ [])) pass.new }
+        ensures me { IsCaller K.table me.new.me.0.seen me.new.me.0.mine me.new }
+    {
+        // It stands here for the step that is picked at the call.
+        let _ = at;
+        self.record_step::<J>(pass, me);
+    }
+
+    /// The same of a peripheral processor's writing of that word to that address.
+    fn record_write<J: Chosen>(&self, pass: &mut Pass, me: &mut Pass, at: u32, word: Word60)
+        requires pass { IsKeeper K.table pass.old.me.0.seen pass.old }
+        requires me { IsCaller K.table me.old.me.0.seen me.old.me.0.mine me.old }
+        ensures pass { IsKeeper K.table
+            (history pass.old.me.0.seen.boot_memory (pass.old.me.0.seen.log ++ J.step ∷ [])) pass.new }
+        ensures me { IsCaller K.table me.new.me.0.seen me.new.me.0.mine me.new }
+    {
+        // They stand here for the step that is picked at the call.
+        let _ = (at, word);
+        self.record_step::<J>(pass, me);
+    }
+
     /// The same of the last step of a machine.
     pub(crate) fn record<J: Chosen>(&self, pass: &mut Pass, me: &mut Pass, machine: &Machine)
         requires pass { IsKeeper K.table pass.old.me.0.seen pass.old }
@@ -199,6 +226,8 @@ impl<K: Naming> Word<K> {
         match *entry {
             Entry::Exchange(at) => self.record_exchange::<Brand>(pass, me, at),
             Entry::Issued(count) => self.record_issues(pass, me, count),
+            Entry::PpRead(at) => self.record_read::<Brand>(pass, me, at),
+            Entry::PpWrite(at, word) => self.record_write::<Brand>(pass, me, at, word),
         }
     }
 

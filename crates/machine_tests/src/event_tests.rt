@@ -13,11 +13,12 @@ const TWO_SUMS: [(u32, &str); 2] = [
 ];
 
 /// Events with numbers past all places, channels, banks and packages, and one with the last package.
-const PAST_ALL: [(Event, Answer); 5] = [
+const PAST_ALL: [(Event, Answer); 6] = [
     (Event::Accept(200), Err(Refusal::Nothing)),
     (Event::Return(200), Err(Refusal::Nothing)),
     (Event::BankFree(200), Err(Refusal::Nothing)),
     (Event::Ask(u32::MAX), Err(Refusal::PackageRange)),
+    (Event::PpRead(u32::MAX), Err(Refusal::PeripheralRange)),
     (Event::Ask(0o360), MADE),
 ];
 

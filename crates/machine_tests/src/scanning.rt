@@ -14,7 +14,7 @@ use std::alloc::Global;
 use unit_ops::{UnitValue, value};
 use word60::Word60;
 
-/// How many events of each kind were accepted, in the order of `Event`.
+/// How many events of each kind were accepted, in the order of `Event`; peripheral accesses aren't counted.
 pub type Accepted = [u32; 9];
 
 /// The number of an event's kind.
@@ -29,6 +29,8 @@ fn kind(event: &Event) -> usize {
         Event::BankFree(_) => 6,
         Event::Ask(_) => 7,
         Event::Exchange => 8,
+        Event::PpRead(_) => 9,
+        Event::PpWrite(_, _) => 10,
     }
 }
 
@@ -43,6 +45,7 @@ struct ScanningMachine {
     budget: u64,
     issues: u64,
     asked: u32,
+    accessed: u32,
     last: u64,
     accepted: Accepted,
 }
@@ -104,10 +107,11 @@ fn arrival_in(pending: &Pending, given: u8) -> Option<Arrival> {
     }
 }
 
-/// Whether it waits in the hopper for the bank.
-fn is_in_bank(pending: &Pending, bank: u8) -> bool {
-    match pending.phase {
-        Phase::After(Outstanding::Entered(_, address, _)) => bank_of(address) == bank,
+/// Whether a reference that entered later waits for it: both are to one absolute address, and one of them stores.
+fn holds_back(pending: &Pending, later: &HopperEntry) -> bool {
+    match (pending.phase, later.access) {
+        (Phase::After(Outstanding::Entered(_, _, Access::Load(_))), Access::Load(_)) => false,
+        (Phase::After(Outstanding::Entered(_, address, _)), _) => address == later.a,
         _ => false,
     }
 }
@@ -117,6 +121,15 @@ fn delays_fetch(pending: &Pending, address: u32) -> bool {
     match pending.phase {
         Phase::Before(_) => reservation(pending).has_store_turn(),
         Phase::After(Outstanding::Entered(_, at, Access::Store(_))) => at == address,
+        Phase::After(_) => false,
+    }
+}
+
+/// Whether a peripheral access to the word at the absolute address waits for it.
+fn delays_access(pending: &Pending, address: u32) -> bool {
+    match pending.phase {
+        Phase::Before(_) => reservation(pending).has_turn(),
+        Phase::After(Outstanding::Entered(_, at, _)) => at == address,
         Phase::After(_) => false,
     }
 }
@@ -253,6 +266,7 @@ impl ScanningMachine {
             budget,
             issues: 0,
             asked: 0,
+            accessed: 0,
             last: 0,
             accepted: [0; 9],
         }
@@ -280,6 +294,8 @@ impl ScanningMachine {
             Event::BankFree(bank) => self.bank_free(bank),
             Event::Ask(at) => self.ask(at),
             Event::Exchange => self.exchange(),
+            Event::PpRead(at) => self.pp_read(at),
+            Event::PpWrite(at, word) => self.pp_write(at, word),
         }
     }
 
@@ -530,9 +546,9 @@ impl ScanningMachine {
         }
         if before(self.pending.as_slice(), index)
             .iter()
-            .any(|pending| is_in_bank(pending, bank))
+            .any(|pending| holds_back(pending, &entry))
         {
-            return Err(Refusal::OlderInBank);
+            return Err(Refusal::OlderAtAddress);
         }
         let rest = self.perform(&entry);
         self.put(index, rest);
@@ -593,6 +609,44 @@ impl ScanningMachine {
         }
         self.state.exchange(at)?;
         self.request = None;
+        Ok(Done::Made)
+    }
+
+    /// The word to which a peripheral processor may go.
+    fn accessible(&self, at: u32) -> Result<Word60, Refusal> {
+        if self.accessed >= 1_000_000 {
+            return Err(Refusal::Budget);
+        }
+        if self
+            .pending
+            .iter()
+            .any(|pending| delays_access(pending, at))
+        {
+            return Err(Refusal::PeripheralWait);
+        }
+        match word_of(&self.state.memory, at) {
+            Some(word) => Ok(word),
+            None => Err(Refusal::PeripheralRange),
+        }
+    }
+
+    fn pp_read(&mut self, at: u32) -> Answer {
+        let word = match self.accessible(at) {
+            Ok(word) => word,
+            Err(refusal) => return Err(refusal),
+        };
+        self.accessed = self.accessed.saturating_add(1);
+        Ok(Done::Word(word))
+    }
+
+    fn pp_write(&mut self, at: u32, word: Word60) -> Answer {
+        if let Err(refusal) = self.accessible(at) {
+            return Err(refusal);
+        }
+        if at < self.state.memory.size() {
+            self.state.memory.store(at, word);
+        }
+        self.accessed = self.accessed.saturating_add(1);
         Ok(Done::Made)
     }
 
@@ -701,17 +755,29 @@ fn event_of(number: u64, bank: u8) -> Event {
 }
 
 /// Whether both machines answer the same to an event.
-fn agree_on(machine: &mut Machine, scanning: &mut ScanningMachine, event: Event) -> bool {
-    let answer = machine.apply(event);
-    scanning.apply(event) == answer
+fn agree_on(machine: &mut Machine, scanning: &mut ScanningMachine, event: &Event) -> bool {
+    let answer = machine.apply(*event);
+    scanning.apply(*event) == answer
 }
 
 /// Whether they do to an exchange that is asked for and made at once.
 fn agree_on_exchange(machine: &mut Machine, scanning: &mut ScanningMachine, at: u32) -> bool {
-    agree_on(machine, scanning, Event::Ask(at)) && agree_on(machine, scanning, Event::Exchange)
+    agree_on(machine, scanning, &Event::Ask(at)) && agree_on(machine, scanning, &Event::Exchange)
 }
 
-/// Whether they do to so many generated events; after each 97th an exchange is asked for, where a package is given.
+/// A word that no program has or refers to.
+const SPARE: u32 = 0o370;
+
+/// Whether they do to peripheral accesses: one of the program's words is read, and the spare one written and read.
+fn agree_on_accesses(machine: &mut Machine, scanning: &mut ScanningMachine, made: u32) -> bool {
+    let word = Word60::from_bits(u64::from(made));
+    agree_on(machine, scanning, &Event::PpRead(0o100 + made % 0o40))
+        && agree_on(machine, scanning, &Event::PpWrite(SPARE, word))
+        && agree_on(machine, scanning, &Event::PpRead(SPARE))
+}
+
+/// Whether they do to so many generated events. After each 13th come peripheral accesses, and after each 97th an
+/// exchange is asked for, where a package is given.
 fn agree_on_all(
     machine: &mut Machine,
     scanning: &mut ScanningMachine,
@@ -721,7 +787,10 @@ fn agree_on_all(
 ) -> bool {
     for made in 0..events {
         let event = event_of(drawing.draw(), scanning.lowest_busy());
-        if !agree_on(machine, scanning, event) {
+        if !agree_on(machine, scanning, &event) {
+            return false;
+        }
+        if made % 13 == 12 && !agree_on_accesses(machine, scanning, made) {
             return false;
         }
         if let Some(at) = package {
@@ -735,9 +804,9 @@ fn agree_on_all(
 
 /// Whether both answer the same to all that a unit may do.
 fn agree_on_unit(machine: &mut Machine, scanning: &mut ScanningMachine, unit: Unit) -> bool {
-    agree_on(machine, scanning, Event::Read(unit))
-        && agree_on(machine, scanning, Event::Finish(unit))
-        && agree_on(machine, scanning, Event::Store(unit))
+    agree_on(machine, scanning, &Event::Read(unit))
+        && agree_on(machine, scanning, &Event::Finish(unit))
+        && agree_on(machine, scanning, &Event::Store(unit))
 }
 
 /// Whether they do to an acceptance. The bank that it waits for is freed.
@@ -747,7 +816,7 @@ fn agree_on_place(machine: &mut Machine, scanning: &mut ScanningMachine, place: 
         return false;
     }
     match answer {
-        Err(Refusal::BankBusy(bank)) => agree_on(machine, scanning, Event::BankFree(bank)),
+        Err(Refusal::BankBusy(bank)) => agree_on(machine, scanning, &Event::BankFree(bank)),
         _ => true,
     }
 }
@@ -756,7 +825,7 @@ fn agree_on_place(machine: &mut Machine, scanning: &mut ScanningMachine, place: 
 fn agree_on_turn(machine: &mut Machine, scanning: &mut ScanningMachine) -> bool {
     (0..10u64).all(|number| agree_on_unit(machine, scanning, unit_of(number)))
         && (0..4u8).all(|place| agree_on_place(machine, scanning, place))
-        && (1..6u8).all(|channel| agree_on(machine, scanning, Event::Return(channel)))
+        && (1..6u8).all(|channel| agree_on(machine, scanning, &Event::Return(channel)))
 }
 
 /// Whether both are drained by the same events, and leave the same.

@@ -76,7 +76,7 @@ const CONFLICTS: [Program; 6] = [
         package: Some(0o60),
         accepted: [145, 104, 104, 104, 62, 62, 62, 42, 41],
     },
-    // Loads into X1 to X5 of one word: they wait for their bank, and for those before them.
+    // Loads into X1 to X5 of one word: they wait for their bank, and not for those before them.
     Program {
         name: "one_bank",
         words: &[

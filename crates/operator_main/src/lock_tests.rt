@@ -2,7 +2,7 @@
 
 ghost use Rattle.std.specs.Prelude.{◌≡◌};
 
-use crate::test_machines::{FIRST, SECOND, booted, leave, note, word, x};
+use crate::test_machines::{FIRST, SECOND, booted, is_empty, leave, note, word, x};
 use instruction_table::{Refusal, Unit};
 use machine::{Computed, Finished, Loaded, Machine, Note, Reserved, Seat};
 use machine_lock::{Ground, Naming, Seen, Shared};
@@ -502,17 +502,6 @@ fn serve_from<K: Naming, R: Wait>(
         Some(seat) => {
             let (seat, is_served) = serve(rt, shared, seat, note);
             (seat.leave(), is_served)
-        }
-    }
-}
-
-/// Whether a place is empty; a seat that stands there is left.
-fn is_empty(place: Option<Seat>) -> bool {
-    match place {
-        None => true,
-        Some(seat) => {
-            seat.leave();
-            false
         }
     }
 }

@@ -31,6 +31,8 @@ fn main(rt: HostRuntime) -> ExitCode {
 }
 
 #[cfg(test)]
+mod access_tests;
+#[cfg(test)]
 mod command_tests;
 #[cfg(test)]
 mod device_tests;

@@ -242,9 +242,9 @@ fn is_alike<K: Naming>(
     rt: &impl Wait,
     crew: &mut Crew<K>,
     machine: &mut Machine,
-    event: Event,
+    event: &Event,
 ) -> bool {
-    crew.call(rt, event) == machine.apply(event) && crew.drained(rt) == machine.drained()
+    crew.call(rt, *event) == machine.apply(*event) && crew.drained(rt) == machine.drained()
 }
 
 /// How many of the events are alike.
@@ -257,7 +257,7 @@ fn count_alike<K: Naming>(
     let mut machine = booted(rt.alloc(), deck, schedule)?;
     let mut alike = 0usize;
     for event in events_of(rt.alloc(), schedule)? {
-        if is_alike(rt, crew, &mut machine, event) {
+        if is_alike(rt, crew, &mut machine, &event) {
             alike = alike.saturating_add(1);
         }
     }

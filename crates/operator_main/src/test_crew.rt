@@ -194,6 +194,11 @@ impl<K: Naming> Crew<K> {
             Event::BankFree(bank) => made(self.shared.bank_free(rt, bank)),
             Event::Ask(at) => made(self.shared.ask(rt, &mut self.seen, at)),
             Event::Exchange => made(self.shared.exchange(rt, &mut self.seen)),
+            Event::PpRead(at) => match self.shared.pp_read(rt, &mut self.seen, at) {
+                Ok(word) => Ok(Done::Word(word)),
+                Err(refusal) => Err(refusal),
+            },
+            Event::PpWrite(at, word) => { made(self.shared.pp_write(rt, &mut self.seen, at, word)) }
         }
     }
 

@@ -1,8 +1,9 @@
-//! What the tests share: words, booted machines and notes.
+//! What the tests share: words, booted machines, notes, seats and the entries of logs.
 
 use instruction_table::{Digit, Refusal, Reg, Unit};
 use machine::{Machine, Note, Seat};
 use relocation::Storage;
+use sequential::Entry;
 use std::alloc::Global;
 use word60::Word60;
 
@@ -63,4 +64,50 @@ pub(crate) fn note(unit: Unit, number: u64) -> Note {
 pub(crate) fn leave(seat: Seat) -> (Unit, u64) {
     let unit = seat.unit();
     (unit, seat.leave())
+}
+
+/// Whether a place is empty; a seat that stands there is left.
+pub(crate) fn is_empty(place: Option<Seat>) -> bool {
+    match place {
+        None => true,
+        Some(seat) => {
+            seat.leave();
+            false
+        }
+    }
+}
+
+/// An entry that a log is to have. A constant can't lend an `Entry`, which may hold a word.
+#[derive(Clone, Copy, Drop)]
+pub(crate) enum Wanted {
+    Exchange(u32),
+    Issued(u64),
+    PpRead(u32),
+    PpWrite(u32, u64),
+}
+
+impl Wanted {
+    fn is(&self, entry: &Entry) -> bool {
+        match entry {
+            Entry::Exchange(at) => matches!(self, Wanted::Exchange(wanted) if wanted == at),
+            Entry::Issued(count) => matches!(self, Wanted::Issued(wanted) if wanted == count),
+            Entry::PpRead(at) => matches!(self, Wanted::PpRead(wanted) if wanted == at),
+            Entry::PpWrite(at, word) => {
+                matches!(self, Wanted::PpWrite(wanted, number) if wanted == at && *number == word.get())
+            }
+        }
+    }
+}
+
+/// Whether the entries are those.
+pub(crate) fn are(entries: &[Entry], log: &[Wanted]) -> bool {
+    if entries.len() != log.len() {
+        return false;
+    }
+    for index in 0..log.len() {
+        if !log[index].is(&entries[index]) {
+            return false;
+        }
+    }
+    true
 }

@@ -3,7 +3,7 @@
 use super::test_program::Dump;
 use super::test_schedule::Schedule;
 
-pub const SCHEDULES: [Schedule; 7] = [
+pub const SCHEDULES: [Schedule; 8] = [
     Schedule {
         name: "a load returns before the product reads, and that before the sum stores",
         deck: "\
@@ -90,7 +90,7 @@ pub const SCHEDULES: [Schedule; 7] = [
             ("finish increment1", "ok"),
             ("store increment1", "ok"),
             ("store increment2", "ok"),
-            ("accept 1", "E14 older in bank"),
+            ("accept 1", "E14 older at address"),
             ("accept 0", "ok"),
             ("accept 1", "E13 bank busy 8"),
             ("bank 8", "ok"),
@@ -382,5 +382,47 @@ pub const SCHEDULES: [Schedule; 7] = [
             log: "E40 I2",
         },
         memory: &[(0o100, "51600004000000000000"), (0o400, "7")],
+    },
+    Schedule {
+        name: "a peripheral processor waits for a store, and then reads and writes its word",
+        deck: "\
+            core 256\n\
+            at 41\n\
+            word 00000100000000000000\n\
+            word 00000020000000000000\n\
+            at 56\n\
+            word 7\n\
+            at 100\n\
+            word 51600000100000000000\n\
+            start 40\n\
+            show 110 110\n\
+            end\n",
+        budget: 1_000_000,
+        steps: &[
+            ("ask 40", "ok"),
+            ("exchange", "ok"),
+            ("issue", "ok increment1 1"),
+            ("ppread 110", "E26 peripheral waits"),
+            ("read increment1", "ok"),
+            ("finish increment1", "ok"),
+            ("store increment1", "ok"),
+            ("ppread 110", "E26 peripheral waits"),
+            ("ppread 111", "ok 00000000000000000000"),
+            ("accept 0", "ok"),
+            ("ppread 110", "ok 00000000000000000007"),
+            ("ppwrite 110 5", "ok"),
+            ("ppread 400", "E27 peripheral range"),
+        ],
+        left: 0,
+        dump: Dump {
+            begins: "\
+                P 000000 PARCEL 2 HELD 51600000100000000000\n\
+                HALT running FAULT none\n\
+                RA 000100 FL 000020 EM 000000\n",
+            registers: &[("A6", "10"), ("X6", "7")],
+            shows: "M 000110 00000000000000000005\n",
+            log: "E40 I1 R111 R110 W110=5",
+        },
+        memory: &[(0o100, "51600000100000000000"), (0o110, "5")],
     },
 ];

@@ -4,7 +4,7 @@ ghost use Rattle.std.specs.Prelude.{◌≡◌};
 
 use crate::lock_tests::leave_all;
 use crate::queue_tests::{Sending, Taking};
-use crate::test_machines::{Words, booted, booted_over, note, word, x};
+use crate::test_machines::{Wanted, Words, are, booted, booted_over, is_empty, note, word, x};
 use instruction_table::{Digit, Halt, Refusal, Reg, Unit};
 use machine::{Machine, Note, Seat};
 use machine_lock::{Ground, Naming, Seen, Shared};
@@ -41,7 +41,7 @@ fn open_gates() -> Gates<Open> {
 }
 
 /// What registers of the package at 40 hold, X1, X2, X3 and X7, and a word of the program's memory.
-const REGISTERS: [(u32, &str); 5] = [
+pub(crate) const REGISTERS: [(u32, &str); 5] = [
     (0o51, "7"),
     (0o52, "6"),
     (0o53, "4"),
@@ -230,9 +230,9 @@ fn shows(registers: &RegisterFile, run: &Run<'_>) -> bool {
 
 /// Whether a run ended as it is to.
 fn is_end_of(ended: &Ended, run: &Run<'_>) -> bool {
-    let log = [FIRST, Entry::Issued(run.issues)];
+    let log = [FIRST, Wanted::Issued(run.issues)];
     let state = ended.snapshot.state();
-    entries(ended) == log.as_slice()
+    are(entries(ended), log.as_slice())
         && state.halt == Some(Halt::Stop)
         && shows(&state.registers, run)
         && stored(&ended.tallies) == Some(run.stored)
@@ -256,7 +256,7 @@ fn ends<G: Gate + Send, R: Threads + Wait + Sync>(
 
 /// One reservation that isn't computed until another is stored.
 #[derive(Drop)]
-struct Hold {
+pub(crate) struct Hold {
     held: Note,
     until: Note,
     /// 1 once the other is stored.
@@ -266,13 +266,32 @@ struct Hold {
 }
 
 impl Hold {
-    fn new(held: Note, until: Note) -> Hold {
+    pub(crate) fn new(held: Note, until: Note) -> Hold {
         Hold {
             held,
             until,
             stored: AtomicU64::new(0),
             released: AtomicU64::new(0),
         }
+    }
+
+    /// Waits until the other is stored, if this is the reservation that is held.
+    pub(crate) fn before(&self, unit: Unit, number: u64) {
+        if self.held == note(unit, number) {
+            self.wait();
+        }
+    }
+
+    /// Lets the reservation go on, if this is the other.
+    pub(crate) fn stored(&self, unit: Unit, number: u64) {
+        if self.until == note(unit, number) {
+            self.stored.store(1, Ordering::SeqCst);
+        }
+    }
+
+    /// Whether it went on when the other was stored.
+    pub(crate) fn is_released(&self) -> bool {
+        self.released.load(Ordering::SeqCst) > 0
     }
 
     fn wait(&self) {
@@ -289,7 +308,7 @@ impl Hold {
 /// Whether all that were held went on when the others were stored.
 fn are_released(holds: &[Hold]) -> bool {
     for hold in holds {
-        if hold.released.load(Ordering::SeqCst) == 0 {
+        if !hold.is_released() {
             return false;
         }
     }
@@ -303,17 +322,13 @@ struct Holding<'a>(&'a [Hold]);
 impl Gate for Holding<'_> {
     fn before(&mut self, unit: Unit, number: u64) {
         for hold in self.0 {
-            if hold.held == note(unit, number) {
-                hold.wait();
-            }
+            hold.before(unit, number);
         }
     }
 
     fn stored(&mut self, unit: Unit, number: u64) {
         for hold in self.0 {
-            if hold.until == note(unit, number) {
-                hold.stored.store(1, Ordering::SeqCst);
-            }
+            hold.stored(unit, number);
         }
     }
 }
@@ -436,34 +451,34 @@ fn entries(ended: &Ended) -> &[Entry] {
     ended.snapshot.log().entries()
 }
 
-const FIRST: Entry = Entry::Exchange(0o40);
+const FIRST: Wanted = Wanted::Exchange(0o40);
 
-const SECOND: Entry = Entry::Exchange(0o60);
+const SECOND: Wanted = Wanted::Exchange(0o60);
 
-const LAST: Entry = Entry::Issued(1);
+const LAST: Wanted = Wanted::Issued(1);
 
 /// After how many instructions, if not at any time, and the logs that the run may have.
-const EXCHANGES: [(Option<u64>, &[&[Entry]]); 4] = [
-    (Some(1), &[&[FIRST, Entry::Issued(4), SECOND, LAST]]),
-    (Some(5), &[&[FIRST, Entry::Issued(5), SECOND, LAST]]),
-    (Some(7), &[&[FIRST, Entry::Issued(5)]]),
+const EXCHANGES: [(Option<u64>, &[&[Wanted]]); 4] = [
+    (Some(1), &[&[FIRST, Wanted::Issued(4), SECOND, LAST]]),
+    (Some(5), &[&[FIRST, Wanted::Issued(5), SECOND, LAST]]),
+    (Some(7), &[&[FIRST, Wanted::Issued(5)]]),
     (
         None,
         &[
             &[FIRST, SECOND, LAST],
-            &[FIRST, Entry::Issued(4), SECOND, LAST],
-            &[FIRST, Entry::Issued(5), SECOND, LAST],
+            &[FIRST, Wanted::Issued(4), SECOND, LAST],
+            &[FIRST, Wanted::Issued(5), SECOND, LAST],
         ],
     ),
 ];
 
 /// Whether the run ended, with one of these logs.
-fn has_log_of(ran: Result<Ended, Refusal>, logs: &[&[Entry]]) -> bool {
+fn has_log_of(ran: Result<Ended, Refusal>, logs: &[&[Wanted]]) -> bool {
     let Ok(ended) = ran else {
         return false;
     };
     for log in logs {
-        if entries(&ended) == *log {
+        if are(entries(&ended), log) {
             return true;
         }
     }
@@ -523,10 +538,10 @@ impl Gate for Count {
 }
 
 /// What two issues answer.
-type Started = Result<[Option<Note>; 2], Refusal>;
+pub(crate) type Started = Result<[Option<Note>; 2], Refusal>;
 
 /// Makes the exchange with the package at 40, and issues twice.
-fn start<K: Naming, R: Wait>(rt: &R, shared: &Shared<K>, seen: &mut Seen<K>) -> Started {
+pub(crate) fn start<K: Naming, R: Wait>(rt: &R, shared: &Shared<K>, seen: &mut Seen<K>) -> Started {
     shared.ask(rt, seen, 0o40)?;
     shared.exchange(rt, seen)?;
     let first = shared.issue(rt, seen)?;
@@ -555,10 +570,10 @@ fn of_boolean(seats: [Seat; 7]) -> Seat {
 }
 
 /// BX1 X2, LX3 1, NO, PS.
-const BOTH: [(u32, &str); 1] = [(0o100, "10120203014600000000")];
+pub(crate) const BOTH: [(u32, &str); 1] = [(0o100, "10120203014600000000")];
 
 /// What `start` answers over these words.
-const NOTES: Started = Ok([
+pub(crate) const NOTES: Started = Ok([
     Some(Note {
         unit: Unit::Boolean,
         number: 1,
@@ -675,17 +690,6 @@ fn strange_tally<K: Naming + Send + Sync, R: Threads + Wait + Sync>(
         sent.join(rt);
         tally
     })
-}
-
-/// Whether a place is empty; a seat that stands there is left.
-fn is_empty(place: Option<Seat>) -> bool {
-    match place {
-        None => true,
-        Some(seat) => {
-            seat.leave();
-            false
-        }
-    }
 }
 
 /// A note that was stored already, and another unit's note, are counted as strange.

@@ -31,10 +31,12 @@ code_of Running = 5
 code_of OutOfMemory = 6
 code_of Device = 7
 
--- why the program ends where this is refused: `E20`, `E19`, `E21`, `E22` or `E23`; the other refusals never come
+-- why the program ends where this is refused: `E20`, `E19`, `E27`, `E21`, `E22` or `E23`; the other
+-- refusals never come
 abbrev pub fault_of : Refusal → ProgramFault
 fault_of (refusals.Deck line fault) = faults.Deck line fault
 fault_of refusals.PackageRange = faults.PackageRange
+fault_of refusals.PeripheralRange = faults.PeripheralRange
 fault_of refusals.OutOfMemory = faults.OutOfMemory
 fault_of refusals.Read = faults.Read
 fault_of refusals.Write = faults.Write
@@ -44,6 +46,7 @@ fault_of other = faults.Stuck
 abbrev pub fault_status : ProgramFault → Status
 fault_status (faults.Deck line fault) = Refused
 fault_status faults.PackageRange = Usage
+fault_status faults.PeripheralRange = Usage
 fault_status faults.BadLog = Usage
 fault_status faults.OutOfMemory = OutOfMemory
 fault_status faults.Read = Device

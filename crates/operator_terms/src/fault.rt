@@ -11,6 +11,8 @@ pub enum ProgramFault {
     Deck { line: u32, fault: DeckFault },
     #[error("E19 package range")]
     PackageRange,
+    #[error("E27 peripheral range")]
+    PeripheralRange,
     #[error("bad log")]
     BadLog,
     #[error("E21 out of memory")]
@@ -34,6 +36,7 @@ impl ProgramFault {
         match refusal {
             Refusal::Deck { line, fault } => ProgramFault::Deck { line, fault },
             Refusal::PackageRange => ProgramFault::PackageRange,
+            Refusal::PeripheralRange => ProgramFault::PeripheralRange,
             Refusal::OutOfMemory => ProgramFault::OutOfMemory,
             Refusal::Read => ProgramFault::Read,
             Refusal::Write => ProgramFault::Write,
@@ -48,6 +51,7 @@ impl ProgramFault {
         match self {
             ProgramFault::Deck { .. } => Status::Refused,
             ProgramFault::PackageRange => Status::Usage,
+            ProgramFault::PeripheralRange => Status::Usage,
             ProgramFault::BadLog => Status::Usage,
             ProgramFault::OutOfMemory => Status::OutOfMemory,
             ProgramFault::Read => Status::Device,

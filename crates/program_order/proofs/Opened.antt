@@ -5,7 +5,8 @@ use Rattle.in_flight.specs.Pending.{has_read, has_turn, is_branch, progress_of, 
 use Rattle.in_flight.specs.Lookup.{in_phase}
 use Rattle.in_flight.proofs.asking.Asked.{reads}
 use Rattle.in_flight.proofs.asking.Phases.{before_and, reads_in, to_come_in}
-use Rattle.program_order.specs.Refusals.{is_accept_refusal, is_ask_refusal, is_exchange_refusal, is_issue_refusal}
+use Rattle.program_order.specs.Refusals.{is_accept_refusal, is_access_refusal, is_ask_refusal, is_exchange_refusal}
+use Rattle.program_order.specs.Refusals.{is_issue_refusal}
 use Rattle.program_order.specs.Refusals.{is_nothing, is_read_refusal, is_return_refusal, is_store_refusal, may_refuse}
 
 -- the results of an instruction that are still to come, by its phase
@@ -30,5 +31,5 @@ working_refusals = tt
 
 -- which refusals each event may answer
 unfoldable pub refusals_by_event : Unit {0}
-unfolding may_refuse working_refusals is_issue_refusal is_ask_refusal is_exchange_refusal
+unfolding may_refuse working_refusals is_issue_refusal is_ask_refusal is_exchange_refusal is_access_refusal
 refusals_by_event = tt

@@ -2,3 +2,4 @@
 pub mod Effects
 pub mod OnePending
 pub mod Completing
+pub mod Passing

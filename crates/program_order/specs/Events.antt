@@ -9,7 +9,7 @@ use Rattle.sequential.specs.Log.{issued}
 use Rattle.in_flight.specs.declared.pending.Pending.{Pending}
 use Rattle.program_order.specs.declared.event.Event.{Event}
 use Rattle.program_order.specs.declared.event.Event.TheVariants.{Issue, Read, Finish, Store, Accept, Return, BankFree}
-use Rattle.program_order.specs.declared.event.Event.TheVariants.{Ask, Exchange}
+use Rattle.program_order.specs.declared.event.Event.TheVariants.{Ask, Exchange, PpRead, PpWrite}
 use Rattle.in_flight.specs.Tests.{free_tests, return_tests, Test, refusal_of, tests_found, read_tests, accept_tests}
 use Rattle.in_flight.specs.Lookup.{stage_at, entry_at, arrival_at}
 use Rattle.program_order.specs.Processor.{Processor}
@@ -17,6 +17,7 @@ use Rattle.program_order.specs.Issue.{issue_tests, after_issue}
 use Rattle.program_order.specs.Units.{finish_tests, store_tests, after_read, after_finish, after_store}
 use Rattle.program_order.specs.Memory.{after_accept, after_return}
 use Rattle.program_order.specs.Exchange.{ask_tests, exchange_tests, after_exchange}
+use Rattle.program_order.specs.Peripheral.{access_tests, after_pp_read, after_pp_write}
 
 -- ---- Allowed ----
 
@@ -32,6 +33,8 @@ tests_of w (Return c) = tests_found (seek (arrival_at c) w.pending) (λ f. retur
 tests_of w (BankFree k) = free_tests w.busy k
 tests_of w (Ask n) = ask_tests w.asked w.request (length w.state.memory) n
 tests_of w Exchange = exchange_tests w.request w.pending w.state
+tests_of w (PpRead a) = access_tests w.accessed w.pending (length w.state.memory) a
+tests_of w (PpWrite a v) = access_tests w.accessed w.pending (length w.state.memory) a
 
 -- the first refusal that applies to an event, if there is one
 unfoldable pub allowed : Processor → Event → Option Refusal
@@ -56,3 +59,5 @@ after w (Return c) = after_found w (seek (arrival_at c) w.pending) (after_return
 after w (BankFree k) = record w { busy = slice_set w.busy k false }
 after w (Ask n) = record w { request = Some n; asked = suc w.asked }
 after w Exchange = after_exchange w w.request
+after w (PpRead a) = after_pp_read w a
+after w (PpWrite a v) = after_pp_write w a v

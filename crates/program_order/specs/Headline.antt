@@ -1,20 +1,20 @@
 -- What every run of events promises of the machine. Source: ours.
-use Rattle.std.specs.Prelude.{◌≡◌, ℕ, zero, suc, ◌<◌, ◌≤◌, Bool, true, false, not, ◌&&◌, if◌then◌else◌, List, [], ◌∷◌}
-use Rattle.std.specs.Prelude.{◌++◌, Option, Some, None, Result, Ok, Err, length}
+use Rattle.std.specs.Prelude.{◌≡◌, ℕ, Bool, true, false, not, ◌&&◌, List, [], ◌∷◌, ◌++◌, Option, Some, None, Result}
+use Rattle.std.specs.Prelude.{Ok, Err, slice_index_or}
+use Rattle.std.specs.List.{list_any, list_all}
 use Rattle.instructions.specs.declared.refusal.Halt.{Halt}
 use Rattle.instructions.specs.declared.refusal.Refusal.{Refusal}
 use Rattle.instructions.specs.declared.refusal.Refusal.TheVariants.{Halted, Faulted}
-use Rattle.relocation.specs.Relocation.{package_fits}
 use Rattle.sequential.specs.declared.state.State.{State}
-use Rattle.sequential.specs.Replay.{LogStep, Issued, Exchanged, replay, boot}
-use Rattle.sequential.specs.Step.{step}
-use Rattle.sequential.specs.Swap.{swap}
+use Rattle.sequential.specs.Replay.{LogStep, Issued, Exchanged, ReadAt, Wrote, replay, boot}
 use Rattle.program_order.specs.declared.event.Done.{Done}
+use Rattle.program_order.specs.declared.event.Done.TheVariants.{Word}
 use Rattle.program_order.specs.declared.event.Event.{Event}
 use Rattle.program_order.specs.declared.event.Event.TheVariants.{Issue, Read, Finish, Store, Accept, Return, BankFree}
-use Rattle.program_order.specs.declared.event.Event.TheVariants.{Ask, Exchange}
+use Rattle.program_order.specs.declared.event.Event.TheVariants.{Ask, Exchange, PpRead, PpWrite}
 use Rattle.program_order.specs.Processor.{Processor}
 use Rattle.program_order.specs.Events.{allowed, after}
+use Rattle.program_order.specs.Run.{done_by}
 
 -- ---- the log ----
 
@@ -23,7 +23,8 @@ unfoldable pub exchange_step : Option ℕ → List LogStep
 exchange_step None = []
 exchange_step (Some n) = Exchanged n ∷ []
 
--- what a made event adds to the log: an issue adds an instruction, an exchange its package address, any other nothing
+-- what a made event adds to the log: an issue adds an instruction, an exchange its package address, a peripheral access
+-- its address and the word that it wrote, any other nothing
 unfoldable pub made_steps : Option ℕ → Event → List LogStep
 made_steps r Issue = Issued ∷ []
 made_steps r Exchange = exchange_step r
@@ -34,6 +35,8 @@ made_steps r (Accept p) = []
 made_steps r (Return c) = []
 made_steps r (BankFree k) = []
 made_steps r (Ask n) = []
+made_steps r (PpRead a) = ReadAt a ∷ []
+made_steps r (PpWrite a v) = Wrote a v ∷ []
 
 -- the request after a made event: one that asks leaves its own, and an exchange leaves none
 unfoldable pub made_request : Option ℕ → Event → Option ℕ
@@ -46,6 +49,8 @@ made_request r (Accept p) = r
 made_request r (Return c) = r
 made_request r (BankFree k) = r
 made_request r (Ask n) = Some n
+made_request r (PpRead a) = r
+made_request r (PpWrite a v) = r
 
 -- what an event with that answer adds to the log; a refused event adds nothing
 unfoldable pub steps_by : Result Done Refusal → Option ℕ → Event → List LogStep
@@ -57,7 +62,7 @@ unfoldable pub request_by : Result Done Refusal → Option ℕ → Event → Opt
 request_by (Ok done) r e = made_request r e
 request_by (Err refusal) r e = r
 
--- the instructions issued and the exchanges made, in their order
+-- the instructions issued, and the exchanges and peripheral accesses made, in their order
 unfoldable pub logged : Option ℕ → List Event → List (Result Done Refusal) → List LogStep
 logged r [] answers = []
 logged r (e ∷ events) [] = []
@@ -65,54 +70,44 @@ logged r (e ∷ events) (a ∷ answers) = steps_by a r e ++ logged (request_by a
 
 -- ---- the program's run ----
 
--- the state after so many instructions, done one at a time
-unfoldable pub steps : ℕ → State → State
-steps zero s = s
-steps (suc n) s = step (steps n s)
+-- the step is an exchange
+unfoldable pub is_exchanged : LogStep → Bool
+is_exchanged Issued = false
+is_exchanged (Exchanged n) = true
+is_exchanged (ReadAt a) = false
+is_exchanged (Wrote a w) = false
 
--- a state, and so many instructions after it
-pub record Course : Type 0 where
-  -- at boot, or after the last exchange
-  pub start : State
-  pub count : ℕ
+-- there is no step, or the last one is an exchange
+unfoldable pub ends_exchanged : List LogStep → Bool
+ends_exchanged [] = true
+ends_exchanged (x ∷ []) = is_exchanged x
+ends_exchanged (x ∷ y ∷ xs) = ends_exchanged (y ∷ xs)
 
--- the state to which a course has come
-unfoldable pub item : Course → State
-item c = steps c.count c.start
-
--- the course since the last exchange; it starts at the state after that exchange, whose package has to lie in memory
-unfoldable pub course_after : Course → LogStep → Option Course
-course_after c Issued = Some (record { start = c.start; count = suc c.count })
-course_after c (Exchanged n) =
-    if package_fits n (length (item c).memory) then Some (record { start = swap n (item c); count = 0 }) else None
-
--- a course goes on, if there is one
-unfoldable pub then_course : Option Course → (Course → Option Course) → Option Course
-then_course None f = None
-then_course (Some c) f = f c
-
--- the course after all steps of a log
-unfoldable pub course_of : Course → List LogStep → Option Course
-course_of c [] = Some c
-course_of c (x ∷ xs) = then_course (course_after c x) (λ d. course_of d xs)
-
--- after a fault: a beginning of the program's run since the last exchange, in which the instruction that
--- sets the fault first was issued
+-- after a fault: a beginning of the program's run since the last exchange, in which the instruction that sets the fault
+-- first was issued. The run is what the log has since then: the instructions, and the peripheral accesses at their
+-- places
 pub record IsFaultedRun (log : List LogStep) (memory : List ℕ) (s : State) : Type 0 where
-  pub course : Course
-  -- the log leads to this course, from boot on, and the machine's state is where it has come to
-  pub is_course : course_of (record { start = boot memory; count = 0 }) log ≡ Some course
-  pub is_item : s ≡ item course
-  pub no_fault_at_start : course.start.fault ≡ false
-  -- how many instructions of the course come before the one that sets the fault first
-  pub earlier : ℕ
-  pub issued : earlier < course.count
-  -- the fault is not set before that instruction, and set after it
-  pub before : (steps earlier course.start).fault ≡ false
-  pub after : (steps (suc earlier) course.start).fault ≡ true
-  -- it is the first: before it the fault is never set, and after it always
-  pub never_before : (n : ℕ) → n ≤ earlier → (steps n course.start).fault ≡ false
-  pub always_after : (n : ℕ) → earlier < n → (steps n course.start).fault ≡ true
+  -- the steps up to the last exchange lead from boot to the state with which the run starts
+  pub before : List LogStep
+  pub start : State
+  pub ends : ends_exchanged before ≡ true
+  pub starts : replay (boot memory) before ≡ Some start
+  pub no_fault_at_start : start.fault ≡ false
+  -- the steps since then lead from there to the machine's state
+  pub run : List LogStep
+  pub log_is : log ≡ before ++ run
+  pub no_exchange : list_any is_exchanged run ≡ false
+  pub leads : replay start run ≡ Some s
+  -- one of them is the instruction that sets the fault
+  pub earlier : List LogStep
+  pub later : List LogStep
+  pub run_is : run ≡ earlier ++ Issued ∷ later
+  -- before it the fault is never set
+  pub never_before : (front rest : List LogStep) → earlier ≡ front ++ rest → (t : State) → replay start front ≡ Some t
+      → t.fault ≡ false
+  -- and after it always, whatever comes but an exchange
+  pub always_after : (more : List LogStep) → list_any is_exchanged more ≡ false → (t : State)
+      → replay start (earlier ++ Issued ∷ more) ≡ Some t → t.fault ≡ true
 
 -- the event is an exchange
 unfoldable pub is_exchange : Event → Bool
@@ -125,6 +120,8 @@ is_exchange (Accept p) = false
 is_exchange (Return c) = false
 is_exchange (BankFree k) = false
 is_exchange (Ask n) = false
+is_exchange (PpRead a) = false
+is_exchange (PpWrite a v) = false
 
 -- the event is an exchange, and was made
 unfoldable pub exchanges : Event → Result Done Refusal → Bool
@@ -136,6 +133,19 @@ unfoldable pub makes_no_exchange : List Event → List (Result Done Refusal) →
 makes_no_exchange [] answers = true
 makes_no_exchange (e ∷ events) [] = true
 makes_no_exchange (e ∷ events) (a ∷ answers) = not (exchanges e a) && makes_no_exchange events answers
+
+-- the step is a peripheral access
+unfoldable pub is_access : LogStep → Bool
+is_access Issued = false
+is_access (Exchanged n) = false
+is_access (ReadAt a) = true
+is_access (Wrote a w) = true
+
+-- the one log is the other with peripheral accesses more, and nothing else
+pub record GainsAccesses (old new : List LogStep) : Type 0 where
+  pub more : List LogStep
+  pub accesses : list_all is_access more ≡ true
+  pub gained : new ≡ old ++ more
 
 -- what an issue is refused for while the fault is set: E1, halted, where the machine has halted too, and else E2,
 -- faulted
@@ -152,12 +162,16 @@ log_of events answers = logged None events answers
 -- what holds of a machine to which these events with these answers have led from boot
 pub record IsFaithful (memory : List ℕ) (events : List Event) (answers : List (Result Done Refusal))
     (w : Processor) : Type 0 where
-  -- whenever it is drained, its whole state is the replay of what was issued and exchanged
+  -- whenever it is drained, its whole state is the replay of what was issued, exchanged and accessed
   pub replays : w.pending ≡ [] → replay (boot memory) (log_of events answers) ≡ Some w.state
   -- its log is just that
   pub log : w.log ≡ log_of events answers
   -- and its boot memory is the memory with which it was booted
   pub boot_memory : w.boot_memory ≡ memory
+  -- drained or not, a word that a peripheral processor reads of it is that of the replay
+  pub reads : (a : ℕ) → allowed w (PpRead a) ≡ None → (s : State)
+      × (replay (boot memory) (log_of events answers) ≡ Some s)
+      × (done_by w (PpRead a) ≡ Word (slice_index_or s.memory a 0))
   -- where it is drained with the fault set, its state lies on the program's run since the last exchange
   pub fault : w.pending ≡ [] → w.state.fault ≡ true → IsFaultedRun (log_of events answers) memory w.state
   -- while the fault is set nothing is issued, and only an exchange clears it

@@ -7,6 +7,8 @@ pub mod Issue
 pub mod Units
 pub mod Memory
 pub mod Exchange
+pub mod Peripheral
+pub mod Passing
 pub mod Events
 pub mod Sound
 pub mod Run
@@ -15,3 +17,4 @@ pub mod Working
 pub mod Reached
 pub mod Refusals
 pub mod Telling
+pub mod Snapped

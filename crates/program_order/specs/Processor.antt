@@ -17,12 +17,14 @@ pub record Processor : Type 0 where
   pub busy : List Bool
   -- the package address of the exchange that was asked for
   pub request : Option ℕ
-  -- the instructions issued and the exchanges made since boot
+  -- the instructions issued, and the exchanges and peripheral accesses made, since boot
   pub log : List LogStep
   -- how many instructions may be issued
   pub budget : ℕ
   -- how many requests were accepted
   pub asked : ℕ
+  -- how many peripheral accesses were accepted
+  pub accessed : ℕ
   -- the number of the last reservation
   pub last : ℕ
   -- the memory with which it was booted
@@ -43,6 +45,7 @@ boot_processor memory budget =
       log = [];
       budget = budget;
       asked = 0;
+      accessed = 0;
       last = 0;
       boot_memory = memory;
       seats_given = false;

@@ -33,7 +33,7 @@ StaysReached w v =
     (memory : List ℕ) → (budget : ℕ) → (events : List Event) → (answers : List (Result Done Refusal))
     → IsReached memory budget events answers w → IsReached memory budget events answers v
 
--- what leads to the machine, with so many events more, each made and none an issue or about an exchange
+-- what leads to the machine, with so many events more, each made and each one that works on what is pending
 pub record IsReachedByWork (memory : List ℕ) (budget : ℕ) (events : List Event) (answers : List (Result Done Refusal))
     (count : ℕ) (w : Processor) : Type 0 where
   pub more : List Event

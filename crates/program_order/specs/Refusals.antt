@@ -4,12 +4,13 @@ use Rattle.instructions.specs.declared.refusal.Refusal.{Refusal}
 use Rattle.instructions.specs.declared.refusal.Refusal.TheVariants.{Halted, Faulted, Budget, BranchPending}
 use Rattle.instructions.specs.declared.refusal.Refusal.TheVariants.{ExchangeWaiting, FetchWait, UnitBusy}
 use Rattle.instructions.specs.declared.refusal.Refusal.TheVariants.{ResultReserved, OperandAwaited, ResultHeld}
-use Rattle.instructions.specs.declared.refusal.Refusal.TheVariants.{HopperFull, OutOfTurn, BankBusy, OlderInBank}
+use Rattle.instructions.specs.declared.refusal.Refusal.TheVariants.{HopperFull, OutOfTurn, BankBusy, OlderAtAddress}
 use Rattle.instructions.specs.declared.refusal.Refusal.TheVariants.{Nothing, Stranger, ExchangeBusy, NotDrained}
-use Rattle.instructions.specs.declared.refusal.Refusal.TheVariants.{PackageRange, OutOfMemory, MidWord}
+use Rattle.instructions.specs.declared.refusal.Refusal.TheVariants.{PackageRange, OutOfMemory, MidWord, PeripheralWait}
+use Rattle.instructions.specs.declared.refusal.Refusal.TheVariants.{PeripheralRange}
 use Rattle.program_order.specs.declared.event.Event.{Event}
 use Rattle.program_order.specs.declared.event.Event.TheVariants.{Issue, Read, Finish, Store, Accept, Return, BankFree}
-use Rattle.program_order.specs.declared.event.Event.TheVariants.{Ask, Exchange}
+use Rattle.program_order.specs.declared.event.Event.TheVariants.{Ask, Exchange, PpRead, PpWrite}
 
 -- E1 to E8: what an issue may be refused for
 unfoldable pub is_issue_refusal : Refusal → Bool
@@ -35,10 +36,10 @@ is_store_refusal HopperFull = true
 is_store_refusal OutOfTurn = true
 is_store_refusal _ = false
 
--- E13, bank busy; E14, older in bank: what an acceptance may be refused for, besides E15
+-- E13, bank busy; E14, older at address: what an acceptance may be refused for, besides E15
 unfoldable pub is_accept_refusal : Refusal → Bool
 is_accept_refusal (BankBusy bank) = true
-is_accept_refusal OlderInBank = true
+is_accept_refusal OlderAtAddress = true
 is_accept_refusal _ = false
 
 -- E10, result held: what the return of a load may be refused for, besides E15
@@ -61,6 +62,15 @@ is_exchange_refusal NotDrained = true
 is_exchange_refusal MidWord = true
 is_exchange_refusal _ = false
 
+-- E3, budget; E26, peripheral waits; E27, peripheral range; E21, out of memory: what a peripheral access may be refused
+-- for
+unfoldable pub is_access_refusal : Refusal → Bool
+is_access_refusal Budget = true
+is_access_refusal PeripheralWait = true
+is_access_refusal PeripheralRange = true
+is_access_refusal OutOfMemory = true
+is_access_refusal _ = false
+
 -- E15, nothing: there is nothing that the event could act on
 unfoldable pub is_nothing : Refusal → Bool
 is_nothing Nothing = true
@@ -82,3 +92,5 @@ may_refuse (Return c) k = is_nothing k || is_return_refusal k
 may_refuse (BankFree b) k = is_nothing k
 may_refuse (Ask n) k = is_ask_refusal k
 may_refuse Exchange k = is_exchange_refusal k
+may_refuse (PpRead a) k = is_access_refusal k
+may_refuse (PpWrite a v) k = is_access_refusal k

@@ -10,13 +10,14 @@ use Rattle.sequential.specs.declared.fetching.Fetched.TheVariants.{Halting, Pass
 use Rattle.sequential.specs.State.{bounds_of}
 use Rattle.sequential.specs.Step.{fetch}
 use Rattle.program_order.specs.declared.event.Done.{Done}
-use Rattle.program_order.specs.declared.event.Done.TheVariants.{Issued as DoneIssue, Made}
+use Rattle.program_order.specs.declared.event.Done.TheVariants.{Issued as DoneIssue, Word, Made}
 use Rattle.program_order.specs.declared.event.Event.{Event}
 use Rattle.program_order.specs.declared.event.Event.TheVariants.{Issue, Read, Finish, Store, Accept, Return, BankFree}
-use Rattle.program_order.specs.declared.event.Event.TheVariants.{Ask, Exchange}
+use Rattle.program_order.specs.declared.event.Event.TheVariants.{Ask, Exchange, PpRead, PpWrite}
 use Rattle.program_order.specs.declared.event.Note.{Note}
 use Rattle.program_order.specs.Processor.{Processor}
 use Rattle.program_order.specs.Events.{allowed, after}
+use Rattle.program_order.specs.Peripheral.{word_read}
 use Rattle.in_flight.specs.Tests.{unit_for}
 
 -- an instruction with a unit is answered with its reservation
@@ -26,7 +27,7 @@ note_by w (Passing place) = None
 note_by w (Taking i place) =
     Some (record { unit = unwrap_or (unit_for w.pending (uses i).unit) Branch; number = suc w.last })
 
--- what a made event is answered: an issue's reservation, or that the event was made
+-- what a made event is answered: an issue's reservation, the word that was read, or that the event was made
 unfoldable pub done_by : Processor → Event → Done
 done_by w Issue = DoneIssue (note_by w (fetch (bounds_of w.state) w.state.memory w.state.place))
 done_by w (Read u) = Made
@@ -37,6 +38,8 @@ done_by w (Return c) = Made
 done_by w (BankFree k) = Made
 done_by w (Ask n) = Made
 done_by w Exchange = Made
+done_by w (PpRead a) = Word (word_read w a)
+done_by w (PpWrite a v) = Made
 
 -- the refusal, if there is one, or else what was done
 unfoldable pub answer_by : Done → Option Refusal → Result Done Refusal
@@ -47,22 +50,24 @@ answer_by done (Some refusal) = Err refusal
 unfoldable pub answer_of : Processor → Event → Result Done Refusal
 answer_of w e = answer_by (done_by w e) (allowed w e)
 
--- the event is a request for an exchange
-unfoldable pub is_ask : Event → Bool
-is_ask (Ask n) = true
-is_ask Issue = false
-is_ask (Read u) = false
-is_ask (Finish u) = false
-is_ask (Store u) = false
-is_ask (Accept p) = false
-is_ask (Return c) = false
-is_ask (BankFree k) = false
-is_ask Exchange = false
+-- the event makes room in the log, for itself and those that follow: a request for an exchange, or a peripheral access
+unfoldable pub makes_room : Event → Bool
+makes_room (Ask n) = true
+makes_room (PpRead a) = true
+makes_room (PpWrite a v) = true
+makes_room Issue = false
+makes_room (Read u) = false
+makes_room (Finish u) = false
+makes_room (Store u) = false
+makes_room (Accept p) = false
+makes_room (Return c) = false
+makes_room (BankFree k) = false
+makes_room Exchange = false
 
--- E21, out of memory: a request that is allowed, but for which the log could not grow
+-- E21, out of memory: an event that is allowed, but for which the log could not grow
 pub record IsRefusedGrowth (w : Processor) (e : Event) (answer : Result Done Refusal) : Type 0 where
   pub want : answer ≡ Err OutOfMemory
-  pub ask : is_ask e ≡ true
+  pub growing : makes_room e ≡ true
   pub otherwise_allowed : allowed w e ≡ None
 
 -- an answer that may be given

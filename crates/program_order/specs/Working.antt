@@ -7,7 +7,7 @@ use Rattle.relocation.specs.declared.area.Access.TheVariants.{Load as LoadInto, 
 use Rattle.hopper.specs.Hopper.{bank_of}
 use Rattle.program_order.specs.declared.event.Event.{Event}
 use Rattle.program_order.specs.declared.event.Event.TheVariants.{Issue, Read, Finish, Store, Accept, Return, BankFree}
-use Rattle.program_order.specs.declared.event.Event.TheVariants.{Ask, Exchange}
+use Rattle.program_order.specs.declared.event.Event.TheVariants.{Ask, Exchange, PpRead, PpWrite}
 use Rattle.in_flight.specs.declared.pending.Stage.{Stage}
 use Rattle.in_flight.specs.declared.pending.Stage.TheVariants.{Waiting, Read as HasRead, Finished}
 use Rattle.in_flight.specs.declared.pending.Outstanding.{Outstanding}
@@ -18,7 +18,7 @@ use Rattle.in_flight.specs.declared.pending.Pending.{Pending}
 use Rattle.program_order.specs.Processor.{Processor}
 use Rattle.program_order.specs.Events.{allowed, after}
 
--- neither an issue nor about an exchange
+-- neither an issue, nor about an exchange, nor a peripheral access
 unfoldable pub is_work : Event → Bool
 is_work Issue = false
 is_work (Read u) = true
@@ -29,6 +29,8 @@ is_work (Return c) = true
 is_work (BankFree k) = true
 is_work (Ask n) = false
 is_work Exchange = false
+is_work (PpRead a) = false
+is_work (PpWrite a v) = false
 
 -- the events are accepted one after another, and each works on what is pending
 abbrev pub Accepts : Processor → List Event → Type 0

@@ -3,35 +3,52 @@ ghost use Rattle.std.specs.Prelude.{is_some, Some, None};
 ghost use Rattle.instructions.specs.declared.refusal.Refusal.{Refusal};
 ghost use Rattle.program_order.specs.declared.event.Event.{Event as SomeEvent};
 ghost use Rattle.program_order.specs.declared.event.Done.{Done as SomeDone};
+ghost use Rattle.relocation.specs.declared.area.Access.{Access as SomeAccess};
+ghost use Rattle.hopper.specs.Hopper.{keep_order};
+ghost use Rattle.sequential.specs.declared.state.State.{State as SomeState};
+ghost use Rattle.sequential.specs.State.{access_at};
 ghost use Rattle.sequential.specs.Log.{issued};
 ghost use Rattle.program_order.specs.declared.event.Event.TheVariants.{Issue, Exchange as MakeExchange};
-ghost use Rattle.program_order.specs.Headline.{IsFaithful, makes_no_exchange};
+ghost use Rattle.program_order.specs.Headline.{IsFaithful, GainsAccesses, makes_no_exchange};
+ghost use Rattle.program_order.specs.Passing.{same_register};
 ghost use Rattle.program_order.specs.Reached.{IsReached};
 ghost use Rattle.program_order.specs.Run.{IsAnswered, settled_all};
 ghost use Rattle.program_order.specs.Processor.{Processor as SomeProcessor};
 ghost use Rattle.program_order.specs.Events.{allowed};
 ghost use Rattle.in_flight.specs.Lookup.{is_pending};
 
-/// Whatever led from boot to a machine, by whichever of its calls, its log is what was issued and exchanged; and where
-/// it is drained, it is the machine that does one instruction at a time, after that log.
+/// Whatever led from boot to a machine, by whichever of its calls, its log is what was issued, exchanged and accessed by
+/// peripheral processors; where it is drained, it is the machine that does one instruction at a time, after that log;
+/// and drained or not, a peripheral processor reads the words of that machine.
 pub fn what_is_reached_is_faithful()
     ensures { (memory : List ℕ) → (budget : ℕ) → (events : List SomeEvent) → (answers : List (Result SomeDone Refusal))
         → (w : SomeProcessor)
         → IsReached memory budget events answers w → IsFaithful memory events answers w }
 {}
 
-/// While the fault is set and no exchange is made, nothing is added to the log and the fault stays set: in a run from
-/// any machine, and between two machines that were reached one after the other.
-pub fn a_fault_stops_the_log()
+/// While the fault is set and no exchange is made, nothing is issued, so that the log gains peripheral accesses alone,
+/// and the fault stays set: in a run from any machine, and between two machines that were reached one after the other.
+pub fn a_fault_stops_the_program()
     ensures run { (w : SomeProcessor) → (events : List SomeEvent) → (answers : List (Result SomeDone Refusal))
         → w.state.fault ≡ true → IsAnswered w events answers → makes_no_exchange events answers ≡ true
-        → ((settled_all w events answers).log ≡ w.log) × ((settled_all w events answers).state.fault ≡ true) }
+        → GainsAccesses w.log (settled_all w events answers).log
+        × ((settled_all w events answers).state.fault ≡ true) }
     ensures reached { (memory : List ℕ) → (budget : ℕ) → (events : List SomeEvent) → (more : List SomeEvent)
         → (answers : List (Result SomeDone Refusal)) → (given : List (Result SomeDone Refusal)) → (w : SomeProcessor)
         → (v : SomeProcessor)
         → IsReached memory budget events answers w → w.state.fault ≡ true
         → IsReached memory budget (events ++ more) (answers ++ given) v → makes_no_exchange more given ≡ true
-        → (v.log ≡ w.log) × (v.state.fault ≡ true) }
+        → GainsAccesses w.log v.log × (v.state.fault ≡ true) }
+{}
+
+/// References that needn't keep their order may pass each other: made in either order they leave the same state. Those
+/// that wait load into different registers, since a register that is to be loaded is reserved.
+pub fn references_that_pass_commute()
+    ensures { (s : SomeState) → (address : ℕ) → (access : SomeAccess) → (other_address : ℕ)
+        → (other_access : SomeAccess) → keep_order address access other_address other_access ≡ false
+        → same_register access other_access ≡ false
+        → access_at (access_at s address access) other_address other_access
+        ≡ access_at (access_at s other_address other_access) address access }
 {}
 
 /// A drained machine goes on. Where it runs without fault and has budget left it accepts an issue, unless an

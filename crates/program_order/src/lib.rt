@@ -1,11 +1,17 @@
 //! The machine with instructions in flight, as an architect sees it: its events, what each is refused for and leaves,
 //! and the theorem that it does its program in order, one instruction at a time.
 //!
-//! `specs` has the definitions, which know nothing of how a machine keeps its fields; `law` states the theorem.
+//! `specs` has the definitions, which know nothing of how a machine keeps its fields; `law` states the theorem, and
+//! `snapshot` is what a drained machine shows.
 #![tactic(auto)]
 
 mod event;
 mod law;
+mod snapshot;
 
 pub use event::{Answer, Done, Event, Note};
-pub use law::{a_drained_machine_goes_on, a_fault_stops_the_log, what_is_reached_is_faithful};
+pub use law::{
+    a_drained_machine_goes_on, a_fault_stops_the_program, references_that_pass_commute,
+    what_is_reached_is_faithful,
+};
+pub use snapshot::Snapshot;

@@ -4,7 +4,7 @@ ghost use Rattle.std.specs.Prelude.{◌≡◌, ◌<◌, ◌+◌, ◌^◌, [], Is
 ghost use Rattle.std.specs.List.{list_any};
 ghost use Rattle.instructions.specs.Finding.{seek, replaced};
 ghost use Rattle.instructions.specs.Operands.{uses};
-ghost use Rattle.scoreboard.specs.Reservations.{is_branch, has_store_turn};
+ghost use Rattle.scoreboard.specs.Reservations.{is_branch, has_turn, has_store_turn};
 ghost use Rattle.scoreboard.specs.Units.{unit_number};
 ghost use Rattle.scoreboard.specs.Issued.{reservation_of};
 ghost use Rattle.scoreboard.specs.Conflicts.{unit_for};
@@ -12,8 +12,8 @@ ghost use Rattle.scoreboard.specs.Answers.{held_in, returning_by, read_answer, s
 ghost use Rattle.scoreboard.specs.Answers.{turn_answer, reserve_answer, reserved, read, left, gone, with_issued};
 
 use crate::fields::{
-    any_store, any_turn, any_writer, expect, first_produced, first_to_be_read, first_unit,
-    forget_in_taken, free_unit_for, is_taken, is_to_be_read, put_left,
+    any_reference, any_store, any_turn, any_writer, expect, first_produced, first_to_be_read,
+    first_unit, forget_in_taken, free_unit_for, is_taken, is_to_be_read, put_left,
 };
 use crate::{Issued, Progress, Writer, Writers, unit_number};
 use instructions::{Digit, Instr, Refusal, Reg, Unit, results, sources};
@@ -219,6 +219,13 @@ impl Board {
     {
         // Branch takes no other instructions than branches.
         is_taken(&self.units, Unit::Branch)
+    }
+
+    /// Whether an instruction was issued whose reference hasn't come to its store event.
+    pub fn has_reference_to_come(&self) -> bool
+        ensures { result ≡ list_any (λ x. has_turn x.reservation) self.now.issued }
+    {
+        any_reference(&self.units)
     }
 
     /// Whether an SA6 or SA7 was issued that hasn't come to its store event. A return jump isn't counted: it

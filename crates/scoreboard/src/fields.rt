@@ -7,7 +7,7 @@ ghost use Rattle.instructions.specs.declared.instr.Unit.TheVariants.{Branch};
 ghost use Rattle.instructions.specs.Operands.{uses};
 ghost use Rattle.scoreboard.specs.Conflicts.{first_free};
 ghost use Rattle.scoreboard.specs.Units.{units_of, first_unit};
-ghost use Rattle.scoreboard.specs.Reservations.{has_store_turn};
+ghost use Rattle.scoreboard.specs.Reservations.{has_turn, has_store_turn};
 ghost use Rattle.scoreboard.specs.inner.Fields.{seat_at, in_increment, is_taken, seat_is, seat_waits, seat_reads};
 ghost use Rattle.scoreboard.specs.inner.Fields.{seat_has_turn, free_for, channels_with, writers_with, forget_in_taken};
 ghost use Rattle.instructions.specs.Shape.{shape_of, puts_of};
@@ -119,6 +119,29 @@ pub(crate) fn any_turn(units: &[Option<Issued>], number: u64) -> bool
     unit_has_turn(units, Unit::Branch, number)
         || unit_has_turn(units, Unit::Increment1, number)
         || unit_has_turn(units, Unit::Increment2, number)
+}
+
+/// Whether the unit's instruction has a reference that hasn't come to its store event.
+#[tactic(auto, unfolding(crate::specs::inner::Fields::seat_is))]
+fn unit_has_reference(units: &[Option<Issued>], unit: Unit) -> bool
+    requires { length units.now ≡ 10 }
+    ensures { result ≡ seat_is has_turn (seat_at units.now unit) }
+{
+    match &units[usize::from(unit_number(unit))] {
+        None => false,
+        Some(issued) => issued.reservation.has_turn(),
+    }
+}
+
+/// Whether an instruction has a reference that hasn't come to its store event. Only Branch and the Increment units take
+/// such instructions.
+pub(crate) fn any_reference(units: &[Option<Issued>]) -> bool
+    requires { length units.now ≡ 10 }
+    ensures { result ≡ (seat_is has_turn (seat_at units.now Branch) || in_increment (seat_is has_turn) units.now) }
+{
+    unit_has_reference(units, Unit::Branch)
+        || unit_has_reference(units, Unit::Increment1)
+        || unit_has_reference(units, Unit::Increment2)
 }
 
 /// Whether the unit's instruction is an SA6 or SA7 that hasn't come to its store event.

@@ -3,9 +3,55 @@ use Rattle.std.proofs.Common.{◌≡◌, ◌<◌, ◌≤◌, ◌+◌, ◌-◌, �
 use Rattle.std.proofs.Common.{length, refl, sym, ap, subst, ◌∙◌, append_assoc, append-nil, arith}
 use Rattle.std.specs.Prelude.{Bool, if◌then◌else◌, replicate, slice_get, slice_set}
 use Rattle.sequential.specs.declared.log.Entry.{Entry}
-use Rattle.sequential.specs.declared.log.Entry.TheVariants.{Issued as Count, Exchange}
+use Rattle.sequential.specs.declared.log.Entry.TheVariants.{Issued as Count, Exchange, PpRead, PpWrite}
 use Rattle.sequential.specs.Log.{Logged, steps_of, entries_of, one_before, more_after, ends_open, ends_issuing, issued}
-use Rattle.sequential.specs.Replay.{LogStep, Issued, Exchanged}
+use Rattle.sequential.specs.Replay.{LogStep, Issued, Exchanged, ReadAt, Wrote}
+
+-- an entry that is no count, with the one step that it stands for
+pub record IsSingle (x : LogStep) (e : Entry) : Type 0 where
+  pub steps : (es : List Entry) → steps_of (e ∷ es) ≡ x ∷ steps_of es
+  pub entries : (xs : List LogStep) → entries_of (x ∷ xs) ≡ e ∷ entries_of xs
+  pub alone : (es : List Entry) → one_before (e ∷ es) ≡ Count 1 ∷ e ∷ es
+  pub followed : (n : ℕ) → more_after n (e ∷ []) ≡ e ∷ Count n ∷ []
+  pub closed : ends_open (e ∷ []) ≡ false
+  pub no_issue : ends_issuing (x ∷ []) ≡ false
+  pub uncounted : (xs : List LogStep) → issued (x ∷ xs) ≡ issued xs
+
+pub an_exchange : (n : ℕ) → IsSingle (Exchanged n) (Exchange n)
+unfolding steps_of entries_of more_after ends_open ends_issuing issued
+an_exchange n = record {
+  steps = λ es. refl;
+  entries = λ xs. refl;
+  alone = λ es. refl;
+  followed = λ k. refl;
+  closed = refl;
+  no_issue = refl;
+  uncounted = λ xs. refl;
+}
+
+pub a_read : (a : ℕ) → IsSingle (ReadAt a) (PpRead a)
+unfolding steps_of entries_of more_after ends_open ends_issuing issued
+a_read a = record {
+  steps = λ es. refl;
+  entries = λ xs. refl;
+  alone = λ es. refl;
+  followed = λ k. refl;
+  closed = refl;
+  no_issue = refl;
+  uncounted = λ xs. refl;
+}
+
+pub a_write : (a w : ℕ) → IsSingle (Wrote a w) (PpWrite a w)
+unfolding steps_of entries_of more_after ends_open ends_issuing issued
+a_write a w = record {
+  steps = λ es. refl;
+  entries = λ xs. refl;
+  alone = λ es. refl;
+  followed = λ k. refl;
+  closed = refl;
+  no_issue = refl;
+  uncounted = λ xs. refl;
+}
 
 pub steps-append : (es fs : List Entry) → steps_of (es ++ fs) ≡ steps_of es ++ steps_of fs
 unfolding steps_of
@@ -13,6 +59,8 @@ steps-append [] fs = refl
 steps-append (Count n ∷ es) fs = ap (λ l. replicate n Issued ++ l) (steps-append es fs)
     ∙ sym (append_assoc (replicate n Issued) (steps_of es) (steps_of fs))
 steps-append (Exchange n ∷ es) fs = ap (λ l. Exchanged n ∷ l) (steps-append es fs)
+steps-append (PpRead a ∷ es) fs = ap (λ l. ReadAt a ∷ l) (steps-append es fs)
+steps-append (PpWrite a w ∷ es) fs = ap (λ l. Wrote a w ∷ l) (steps-append es fs)
 
 pub issued-append : (xs ys : List LogStep) → issued (xs ++ ys) ≡ issued xs + issued ys
 unfolding issued
@@ -20,15 +68,18 @@ issued-append [] ys = let e : issued ys ≡ 0 + issued ys = omega arith in e
 issued-append (Issued ∷ xs) ys =
     let e : issued (xs ++ ys) ≡ issued xs + issued ys = issued-append xs ys in omega (arith, e)
 issued-append (Exchanged n ∷ xs) ys = issued-append xs ys
+issued-append (ReadAt a ∷ xs) ys = issued-append xs ys
+issued-append (Wrote a w ∷ xs) ys = issued-append xs ys
 
 pub issued-replicate : (n : ℕ) → issued (replicate n Issued) ≡ n
 unfolding issued
 issued-replicate zero = refl
 issued-replicate (suc n) = ap suc (issued-replicate n)
 
-exchange_passed : (xs : List LogStep) (k n : ℕ) → n ≤ issued xs → n ≤ issued (Exchanged k ∷ xs)
-unfolding issued
-exchange_passed xs k n h = h
+single_passed : (x : LogStep) (e : Entry) → IsSingle x e → (es : List Entry) (n : ℕ) → n ≤ issued (steps_of es)
+    → n ≤ issued (steps_of (e ∷ es))
+single_passed x e s es n h =
+    subst (λ k. n ≤ k) (sym (s.uncounted (steps_of es)) ∙ ap issued (sym (s.steps es))) h
 
 -- a count that is the last entry is among the instructions
 pub count_within : (es : List Entry) (i n : ℕ) → slice_get es i ≡ Some (Count n) → n ≤ issued (steps_of es)
@@ -40,15 +91,23 @@ count_within (Count k ∷ es) zero n h =
     let b = issued-replicate k in
     omega (arith, a, b, e)
 count_within (Exchange k ∷ es) zero n h = cc
+count_within (PpRead a ∷ es) zero n h = cc
+count_within (PpWrite a w ∷ es) zero n h = cc
 count_within (Count k ∷ es) (suc i) n h =
     let a = issued-append (replicate k Issued) (steps_of es) in
     let b = count_within es i n h in
     omega (arith, a, b)
-count_within (Exchange k ∷ es) (suc i) n h = exchange_passed (steps_of es) k n (count_within es i n h)
+count_within (Exchange k ∷ es) (suc i) n h =
+    single_passed (Exchanged k) (Exchange k) (an_exchange k) es n (count_within es i n h)
+count_within (PpRead a ∷ es) (suc i) n h =
+    single_passed (ReadAt a) (PpRead a) (a_read a) es n (count_within es i n h)
+count_within (PpWrite a w ∷ es) (suc i) n h =
+    single_passed (Wrote a w) (PpWrite a w) (a_write a w) es n (count_within es i n h)
 
-pub exchange_added : (es : List Entry) (n : ℕ) → steps_of (es ++ Exchange n ∷ []) ≡ steps_of es ++ Exchanged n ∷ []
+pub single_added : (x : LogStep) (e : Entry) → IsSingle x e → (es : List Entry)
+    → steps_of (es ++ e ∷ []) ≡ steps_of es ++ x ∷ []
 unfolding steps_of
-exchange_added es n = steps-append es (Exchange n ∷ [])
+single_added x e s es = steps-append es (e ∷ []) ∙ ap (λ l. steps_of es ++ l) (s.steps [])
 
 pub count_added : (es : List Entry) (n : ℕ) → steps_of (es ++ Count n ∷ []) ≡ steps_of es ++ replicate n Issued
 unfolding steps_of
@@ -61,18 +120,18 @@ open-push [] e = refl
 open-push (f ∷ []) e = refl
 open-push (f ∷ g ∷ es) e = open-push (g ∷ es) e
 
-pub closed_by_exchange : (es : List Entry) (n : ℕ) → ends_open (es ++ Exchange n ∷ []) ≡ false
-unfolding ends_open
-closed_by_exchange es n = open-push es (Exchange n)
-
 pub opened_by_count : (es : List Entry) (n : ℕ) → ends_open (es ++ Count n ∷ []) ≡ true
 unfolding ends_open
 opened_by_count es n = open-push es (Count n)
 
-pub issued-exchange : (es : List Entry) (n : ℕ) → issued (steps_of (es ++ Exchange n ∷ [])) ≡ issued (steps_of es)
+pub issued-single : (x : LogStep) (e : Entry) → IsSingle x e → (es : List Entry)
+    → issued (steps_of (es ++ e ∷ [])) ≡ issued (steps_of es)
 unfolding issued
-issued-exchange es n = ap issued (exchange_added es n) ∙ issued-append (steps_of es) (Exchanged n ∷ [])
-    ∙ (let e : issued (steps_of es) + 0 ≡ issued (steps_of es) = omega arith in e)
+issued-single x e s es =
+    ap issued (single_added x e s es)
+    ∙ issued-append (steps_of es) (x ∷ [])
+    ∙ ap (λ k. issued (steps_of es) + k) (s.uncounted [])
+    ∙ (let k : issued (steps_of es) + 0 ≡ issued (steps_of es) = omega arith in k)
 
 pub issued-more : (xs : List LogStep) → issued (xs ++ Issued ∷ []) ≡ issued xs + 1
 unfolding issued
@@ -127,11 +186,11 @@ open_at_count es i n l h =
     let r = ends_at es i (Count n) l h in
     ap ends_open r.1 ∙ opened_by_count r.0 n
 
-pub closed_at_exchange : (es : List Entry) (i n : ℕ) → length es ≡ suc i → slice_get es i ≡ Some (Exchange n)
-    → ends_open es ≡ false
-closed_at_exchange es i n l h =
-    let r = ends_at es i (Exchange n) l h in
-    ap ends_open r.1 ∙ closed_by_exchange r.0 n
+pub closed_at_single : (x : LogStep) (e : Entry) → IsSingle x e → (es : List Entry) (i : ℕ) → length es ≡ suc i
+    → slice_get es i ≡ Some e → ends_open es ≡ false
+closed_at_single x e s es i l h =
+    let r = ends_at es i e l h in
+    ap ends_open r.1 ∙ open-push r.0 e ∙ s.closed
 
 -- no last element
 pub none_last : (es : List Entry) → slice_get es (length es - 1) ≡ None → ends_open es ≡ false
@@ -158,30 +217,41 @@ last_place es e h = let k = read_within es (length es - 1) e h in omega (arith, 
 
 -- ---- the shortest entries ----
 
-exchange_past : (es : List Entry) (n : ℕ) → one_before (es ++ Exchange n ∷ []) ≡ one_before es ++ Exchange n ∷ []
-exchange_past [] n = refl
-exchange_past (Count k ∷ es) n = refl
-exchange_past (Exchange k ∷ es) n = refl
+single_past : (x : LogStep) (e : Entry) → IsSingle x e → (es : List Entry)
+    → one_before (es ++ e ∷ []) ≡ one_before es ++ e ∷ []
+single_past x e s [] = s.alone []
+single_past x e s (Count k ∷ es) = refl
+single_past x e s (Exchange k ∷ es) = refl
+single_past x e s (PpRead a ∷ es) = refl
+single_past x e s (PpWrite a w ∷ es) = refl
 
-pub shortest_exchange : (steps : List LogStep) (n : ℕ) → entries_of (steps ++ Exchanged n ∷ []) ≡ entries_of steps
-    ++ Exchange n ∷ []
+pub shortest_single : (x : LogStep) (e : Entry) → IsSingle x e → (steps : List LogStep)
+    → entries_of (steps ++ x ∷ []) ≡ entries_of steps ++ e ∷ []
 unfolding entries_of
-shortest_exchange [] n = refl
-shortest_exchange (Issued ∷ steps) n = ap one_before (shortest_exchange steps n) ∙ exchange_past (entries_of steps) n
-shortest_exchange (Exchanged k ∷ steps) n = ap (λ l. Exchange k ∷ l) (shortest_exchange steps n)
+shortest_single x e s [] = s.entries []
+shortest_single x e s (Issued ∷ steps) =
+    ap one_before (shortest_single x e s steps) ∙ single_past x e s (entries_of steps)
+shortest_single x e s (Exchanged k ∷ steps) = ap (λ l. Exchange k ∷ l) (shortest_single x e s steps)
+shortest_single x e s (ReadAt a ∷ steps) = ap (λ l. PpRead a ∷ l) (shortest_single x e s steps)
+shortest_single x e s (Wrote a w ∷ steps) = ap (λ l. PpWrite a w ∷ l) (shortest_single x e s steps)
 
-past_exchange : (n k : ℕ) (es : List Entry) → Exchange k ∷ more_after n es ≡ more_after n (Exchange k ∷ es)
+past_single : (x : LogStep) (e : Entry) → IsSingle x e → (n : ℕ) (es : List Entry)
+    → e ∷ more_after n es ≡ more_after n (e ∷ es)
 unfolding more_after
-past_exchange n k [] = refl
-past_exchange n k (e ∷ es) = refl
+past_single x e s n [] = sym (s.followed n)
+past_single x e s n (f ∷ es) = refl
 
 before_and_after : (n : ℕ) (es : List Entry) → one_before (more_after n es) ≡ more_after n (one_before es)
 unfolding more_after
 before_and_after n [] = ap (λ k. Count k ∷ []) (let e : n + 1 ≡ 1 + n = omega arith in e)
 before_and_after n (Count k ∷ []) = ap (λ m. Count m ∷ []) (let e : k + n + 1 ≡ k + 1 + n = omega arith in e)
 before_and_after n (Exchange k ∷ []) = refl
+before_and_after n (PpRead a ∷ []) = refl
+before_and_after n (PpWrite a w ∷ []) = refl
 before_and_after n (Count k ∷ e ∷ es) = refl
 before_and_after n (Exchange k ∷ e ∷ es) = refl
+before_and_after n (PpRead a ∷ e ∷ es) = refl
+before_and_after n (PpWrite a w ∷ e ∷ es) = refl
 
 entries_of_issues : (n : ℕ) → entries_of (replicate (suc n) Issued) ≡ Count (suc n) ∷ []
 unfolding entries_of
@@ -196,13 +266,22 @@ shortest_issues [] n = entries_of_issues n
 shortest_issues (Issued ∷ steps) n =
     ap one_before (shortest_issues steps n) ∙ before_and_after (suc n) (entries_of steps)
 shortest_issues (Exchanged k ∷ steps) n =
-    ap (λ l. Exchange k ∷ l) (shortest_issues steps n) ∙ past_exchange (suc n) k (entries_of steps)
+    ap (λ l. Exchange k ∷ l) (shortest_issues steps n)
+    ∙ past_single (Exchanged k) (Exchange k) (an_exchange k) (suc n) (entries_of steps)
+shortest_issues (ReadAt a ∷ steps) n =
+    ap (λ l. PpRead a ∷ l) (shortest_issues steps n)
+    ∙ past_single (ReadAt a) (PpRead a) (a_read a) (suc n) (entries_of steps)
+shortest_issues (Wrote a w ∷ steps) n =
+    ap (λ l. PpWrite a w ∷ l) (shortest_issues steps n)
+    ∙ past_single (Wrote a w) (PpWrite a w) (a_write a w) (suc n) (entries_of steps)
 
 last_after : (before : List Entry) (k n : ℕ) → more_after n (before ++ Count k ∷ []) ≡ before ++ Count (k + n) ∷ []
 unfolding more_after
 last_after [] k n = refl
 last_after (Count m ∷ []) k n = refl
 last_after (Exchange m ∷ []) k n = refl
+last_after (PpRead a ∷ []) k n = refl
+last_after (PpWrite a w ∷ []) k n = refl
 last_after (e ∷ f ∷ es) k n = ap (λ l. e ∷ l) (last_after (f ∷ es) k n)
 
 -- the last count, so much higher
@@ -218,6 +297,8 @@ unfolding more_after ends_open
 added_after [] n h = refl
 added_after (Count k ∷ []) n h = cc
 added_after (Exchange k ∷ []) n h = refl
+added_after (PpRead a ∷ []) n h = refl
+added_after (PpWrite a w ∷ []) n h = refl
 added_after (e ∷ f ∷ es) n h = ap (λ l. e ∷ l) (added_after (f ∷ es) n h)
 
 -- the entries stay the shortest ones
@@ -227,10 +308,10 @@ shortest_after_issues es fs zero z h p q = absurd (omega (arith, z))
 shortest_after_issues es fs (suc n) z h p q =
     p ∙ ap (more_after (suc n)) h ∙ sym (shortest_issues (steps_of es) n) ∙ ap entries_of (sym q)
 
-pub shortest_after_exchange : (es fs : List Entry) (n : ℕ) → es ≡ entries_of (steps_of es) → fs ≡ es ++ Exchange n ∷ []
-    → fs ≡ entries_of (steps_of fs)
-shortest_after_exchange es fs n h p = p ∙ ap (λ l. l ++ Exchange n ∷ []) h ∙ sym (shortest_exchange (steps_of es) n)
-    ∙ ap entries_of (sym (exchange_added es n)) ∙ ap (λ l. entries_of (steps_of l)) (sym p)
+pub shortest_after_single : (x : LogStep) (e : Entry) → IsSingle x e → (es fs : List Entry)
+    → es ≡ entries_of (steps_of es) → fs ≡ es ++ e ∷ [] → fs ≡ entries_of (steps_of fs)
+shortest_after_single x e s es fs h p = p ∙ ap (λ l. l ++ e ∷ []) h ∙ sym (shortest_single x e s (steps_of es))
+    ∙ ap entries_of (sym (single_added x e s es)) ∙ ap (λ l. entries_of (steps_of l)) (sym p)
 
 -- ---- whether the last step is an instruction ----
 
@@ -238,30 +319,48 @@ an_entry_before : (es : List Entry) → (e : Entry) × (fs : List Entry) × (one
 an_entry_before [] = (Count 1, [], refl)
 an_entry_before (Count n ∷ es) = (Count (n + 1), es, refl)
 an_entry_before (Exchange n ∷ es) = (Count 1, Exchange n ∷ es, refl)
+an_entry_before (PpRead a ∷ es) = (Count 1, PpRead a ∷ es, refl)
+an_entry_before (PpWrite a w ∷ es) = (Count 1, PpWrite a w ∷ es, refl)
 
 an_entry : (s : LogStep) (steps : List LogStep) → (e : Entry) × (es : List Entry) × (entries_of (s ∷ steps) ≡ e ∷ es)
 unfolding entries_of
 an_entry Issued steps = an_entry_before (entries_of steps)
 an_entry (Exchanged n) steps = (Exchange n, entries_of steps, refl)
+an_entry (ReadAt a) steps = (PpRead a, entries_of steps, refl)
+an_entry (Wrote a w) steps = (PpWrite a w, entries_of steps, refl)
 
 open_before : (e : Entry) (es : List Entry) → ends_open (one_before (e ∷ es)) ≡ ends_open (e ∷ es)
 unfolding ends_open
 open_before (Count n) [] = refl
 open_before (Exchange n) [] = refl
+open_before (PpRead a) [] = refl
+open_before (PpWrite a w) [] = refl
 open_before (Count n) (f ∷ es) = refl
 open_before (Exchange n) (f ∷ es) = refl
+open_before (PpRead a) (f ∷ es) = refl
+open_before (PpWrite a w) (f ∷ es) = refl
+
+open_past : (e : Entry) (s : LogStep) (steps : List LogStep) → ends_open (entries_of (s ∷ steps)) ≡ ends_issuing
+    (s ∷ steps)
+    → ends_open (e ∷ entries_of (s ∷ steps)) ≡ ends_issuing (s ∷ steps)
+unfolding ends_open
+open_past e s steps h =
+    let r = an_entry s steps in
+    ap (λ l. ends_open (e ∷ l)) r.2 ∙ ap ends_open (sym r.2) ∙ h
 
 shortest_open : (steps : List LogStep) → ends_open (entries_of steps) ≡ ends_issuing steps
 unfolding ends_open ends_issuing entries_of
 shortest_open [] = refl
 shortest_open (Issued ∷ []) = refl
 shortest_open (Exchanged n ∷ []) = refl
+shortest_open (ReadAt a ∷ []) = refl
+shortest_open (Wrote a w ∷ []) = refl
 shortest_open (Issued ∷ s ∷ steps) =
     let r = an_entry s steps in
     ap (λ l. ends_open (one_before l)) r.2 ∙ open_before r.0 r.1 ∙ ap ends_open (sym r.2) ∙ shortest_open (s ∷ steps)
-shortest_open (Exchanged n ∷ s ∷ steps) =
-    let r = an_entry s steps in
-    ap (λ l. ends_open (Exchange n ∷ l)) r.2 ∙ ap ends_open (sym r.2) ∙ shortest_open (s ∷ steps)
+shortest_open (Exchanged n ∷ s ∷ steps) = open_past (Exchange n) s steps (shortest_open (s ∷ steps))
+shortest_open (ReadAt a ∷ s ∷ steps) = open_past (PpRead a) s steps (shortest_open (s ∷ steps))
+shortest_open (Wrote a w ∷ s ∷ steps) = open_past (PpWrite a w) s steps (shortest_open (s ∷ steps))
 
 -- the last entry is a count where the last step is an instruction, as the entries are the shortest ones
 pub open_as_issuing : (es : List Entry) → es ≡ entries_of (steps_of es) → ends_open es ≡ ends_issuing (steps_of es)
@@ -291,11 +390,12 @@ room_after_count es log length capacity new h e asked k =
     (ap (λ b. capacity - new + (if b then 0 else 1)) (sym (open_as_issuing es h))
     ∙ spent (ends_open es) length capacity new k (room_for_count es log (capacity - length) h e asked))
 
-pub issuing_no_more : (steps : List LogStep) (n : ℕ) → ends_issuing (steps ++ Exchanged n ∷ []) ≡ false
+pub issuing_no_more : (x : LogStep) (e : Entry) → IsSingle x e → (steps : List LogStep)
+    → ends_issuing (steps ++ x ∷ []) ≡ false
 unfolding ends_issuing
-issuing_no_more [] n = refl
-issuing_no_more (s ∷ []) n = refl
-issuing_no_more (s ∷ t ∷ steps) n = issuing_no_more (t ∷ steps) n
+issuing_no_more x e s [] = s.no_issue
+issuing_no_more x e s (y ∷ []) = s.no_issue
+issuing_no_more x e s (y ∷ z ∷ steps) = issuing_no_more x e s (z ∷ steps)
 
 pub issuing_after : (steps : List LogStep) → ends_issuing (steps ++ Issued ∷ []) ≡ true
 unfolding ends_issuing

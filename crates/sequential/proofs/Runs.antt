@@ -1,17 +1,19 @@
 -- Runs of steps, and the entries of a log one after another.
 use Rattle.std.proofs.Common.{◌≡◌, ◌<◌, ◌≤◌, ◌+◌, ◌-◌, ℕ, zero, suc, true, false, cond, List, [], ◌∷◌, ◌++◌, Option}
 use Rattle.std.proofs.Common.{Some, None, length, take, drop, get_or, is_some, refl, sym, ap, ◌∙◌, append_assoc}
-use Rattle.std.proofs.Common.{append-nil, subst, add-one, arith}
+use Rattle.std.proofs.Common.{Bool, append-nil, add-one, arith, ltb}
 use Rattle.std.specs.Prelude.{replicate, Result, Ok, Err, MatchResult, OnOk, IfErr}
 use Rattle.relocation.specs.Relocation.{package_fits}
 use Rattle.instructions.specs.declared.refusal.Halt.{Halt}
 use Rattle.instructions.specs.declared.refusal.Refusal.{Refusal}
-use Rattle.instructions.specs.declared.refusal.Refusal.TheVariants.{PackageRange}
+use Rattle.instructions.specs.declared.refusal.Refusal.TheVariants.{PackageRange, PeripheralRange}
 use Rattle.sequential.specs.declared.log.Entry.{Entry}
-use Rattle.sequential.specs.declared.log.Entry.TheVariants.{Issued as Count, Exchange}
+use Rattle.sequential.specs.declared.log.Entry.TheVariants.{Issued as Count}
 use Rattle.sequential.specs.declared.state.State.{State}
 use Rattle.sequential.specs.Log.{steps_of}
-use Rattle.sequential.specs.Replay.{LogStep, Issued, Exchanged, IsRefusedAt, do_log_step, replay, then_replay}
+use Rattle.sequential.specs.Replay.{LogStep, Issued, Exchanged, ReadAt, Wrote, IsRefusedAt, do_log_step, replay}
+use Rattle.sequential.specs.Replay.{step_refusal, then_replay}
+use Rattle.sequential.specs.State.{poke}
 use Rattle.sequential.specs.Step.{step, step_unless}
 use Rattle.sequential.specs.Swap.{swap}
 use Rattle.sequential.proofs.Entries.{steps-append}
@@ -63,40 +65,38 @@ pub issues_done : (s t : State) (n : ℕ) (e : Entry) → e ≡ Count n → repl
 unfolding steps_of
 issues_done s t n e m h = ap (λ x. replay s (steps_of (x ∷ []))) m ∙ ap (replay s) (append-nil (replicate n Issued)) ∙ h
 
-pub exchange_done : (s t : State) (n : ℕ) → package_fits n (length s.memory) ≡ true → t ≡ swap n s
-    → replay s (steps_of (Exchange n ∷ [])) ≡ Some t
-unfolding replay then_replay do_log_step steps_of
-exchange_done s t n f e = ap (λ b. then_replay (cond b (Some (swap n s)) None) (λ u. Some u)) f ∙ ap Some (sym e)
+-- an entry of one step, which was made or refused
+pub single_answered : {K : Type 0} (r : Result K Refusal) (s t v : State) (x : LogStep) (e : Entry) (b : Bool)
+    (k : Refusal) → steps_of (e ∷ []) ≡ x ∷ [] → do_log_step s x ≡ cond b (Some v) None
+    → MatchResult r (λ y. b ≡ true) (λ refusal. (b ≡ false) × (refusal ≡ k))
+    → MatchResult r (λ y. t ≡ v) (λ refusal. t ≡ s) → OnOk r (replay s (steps_of (e ∷ [])) ≡ Some t)
+unfolding replay then_replay
+single_answered (Ok y) s t v x e b k m d a h =
+    ap (replay s) m
+    ∙ ap (λ o. then_replay o (λ u. Some u)) (d ∙ ap (λ c. cond c (Some v) None) a)
+    ∙ ap Some (sym h)
+single_answered (Err y) s t v x e b k m d a h = tt
 
-pub exchange_refused : (s t : State) (n : ℕ) → package_fits n (length s.memory) ≡ false → t ≡ s
-    → IsRefusedAt s (steps_of (Exchange n ∷ [])) t
-unfolding replay steps_of
-exchange_refused s t n f e = record {
+pub single_refused : {K : Type 0} (r : Result K Refusal) (s t v : State) (x : LogStep) (e : Entry) (b : Bool)
+    (k : Refusal) → steps_of (e ∷ []) ≡ x ∷ [] → step_refusal (length s.memory) x ≡ cond b None (Some k)
+    → MatchResult r (λ y. b ≡ true) (λ refusal. (b ≡ false) × (refusal ≡ k))
+    → MatchResult r (λ y. t ≡ v) (λ refusal. t ≡ s)
+    → IfErr r (λ refusal. IsRefusedAt s (steps_of (e ∷ [])) t refusal)
+unfolding replay
+single_refused (Ok y) s t v x e b k m d a h = tt
+single_refused (Err y) s t v x e b k m d a h = record {
   before = [];
-  at = n;
+  at = x;
   after = [];
-  steps_are = refl;
-  reached = ap Some (sym e);
-  outside = ap (λ u. package_fits n (length u.memory)) e ∙ f;
+  steps_are = m;
+  reached = ap Some (sym h);
+  refused = ap (λ u. step_refusal (length u.memory) x) h ∙ d ∙ ap (λ c. cond c None (Some k)) a.0
+      ∙ ap Some (sym a.1);
 }
 
--- an exchange that was made, or refused
-pub exchange_answered : {K : Type 0} (r : Result K Refusal) (s t : State) (n : ℕ) (e : Entry) → e ≡ Exchange n
-    → MatchResult r (λ k. package_fits n (length s.memory) ≡ true)
-    (λ refusal. (package_fits n (length s.memory) ≡ false) × (refusal ≡ PackageRange))
-    → MatchResult r (λ k. t ≡ swap n s) (λ refusal. t ≡ s)
-    → OnOk r (replay s (steps_of (e ∷ [])) ≡ Some t)
-exchange_answered (Ok k) s t n e m a b = ap (λ x. replay s (steps_of (x ∷ []))) m ∙ exchange_done s t n a b
-exchange_answered (Err k) s t n e m a b = tt
-
-pub exchange_not_made : {K : Type 0} (r : Result K Refusal) (s t : State) (n : ℕ) (e : Entry) → e ≡ Exchange n
-    → MatchResult r (λ k. package_fits n (length s.memory) ≡ true)
-    (λ refusal. (package_fits n (length s.memory) ≡ false) × (refusal ≡ PackageRange))
-    → MatchResult r (λ k. t ≡ swap n s) (λ refusal. t ≡ s)
-    → IfErr r (λ refusal. (refusal ≡ PackageRange) × IsRefusedAt s (steps_of (e ∷ [])) t)
-exchange_not_made (Ok k) s t n e m a b = tt
-exchange_not_made (Err k) s t n e m a b =
-    (a.1, subst (λ x. IsRefusedAt s (steps_of (x ∷ [])) t) (sym m) (exchange_refused s t n a.0 b))
+pub either_way : {K : Type 0} (r : Result K Refusal) (s : State) → MatchResult r (λ y. s ≡ s) (λ refusal. s ≡ s)
+either_way (Ok y) s = refl
+either_way (Err y) s = refl
 
 -- ---- entries one after another ----
 
@@ -155,32 +155,46 @@ replay_more s t u es i d e l k h j =
     ∙ ap (λ x. replay t (steps_of (x ∷ []))) (sym k)
     ∙ j
 
--- ---- a refused exchange ----
+-- ---- a refused step ----
 
--- steps of which an exchange is refused lead nowhere
-pub refused_replay : (s t : State) (xs : List LogStep) → IsRefusedAt s xs t → replay s xs ≡ None
-unfolding replay then_replay do_log_step
-refused_replay s t xs r =
+unfit : (b : Bool) (j k : Refusal) → cond b None (Some j) ≡ Some k → b ≡ false
+unfit true j k h = cc
+unfit false j k h = refl
+
+refused_step : (s : State) (x : LogStep) (k : Refusal) → step_refusal (length s.memory) x ≡ Some k
+    → do_log_step s x ≡ None
+unfolding do_log_step step_refusal
+refused_step s Issued k h = cc
+refused_step s (Exchanged n) k h =
+    ap (λ b. cond b (Some (swap n s)) None) (unfit (package_fits n (length s.memory)) PackageRange k h)
+refused_step s (ReadAt a) k h = ap (λ b. cond b (Some s) None) (unfit (ltb a (length s.memory)) PeripheralRange k h)
+refused_step s (Wrote a w) k h =
+    ap (λ b. cond b (Some (poke s a w)) None) (unfit (ltb a (length s.memory)) PeripheralRange k h)
+
+-- steps of which one is refused lead nowhere
+pub refused_replay : (s t : State) (xs : List LogStep) (k : Refusal) → IsRefusedAt s xs t k → replay s xs ≡ None
+unfolding replay then_replay
+refused_replay s t xs k r =
     ap (replay s) r.steps_are
-    ∙ replay_on s t r.before (Exchanged r.at ∷ r.after) r.reached
-    ∙ ap (λ b. then_replay (cond b (Some (swap r.at t)) None) (λ u. replay u r.after)) r.outside
+    ∙ replay_on s t r.before (r.at ∷ r.after) r.reached
+    ∙ ap (λ o. then_replay o (λ u. replay u r.after)) (refused_step t r.at k r.refused)
 
 -- the entry of a list at which it is refused
-pub refused_at : (s t u : State) (es : List Entry) (xs : List LogStep) (i : ℕ) (d e : Entry) → i < length es
-    → e ≡ get_or es i d → steps_of es ≡ xs → replay s (steps_of (take i es)) ≡ Some t
-    → IsRefusedAt t (steps_of (e ∷ [])) u → IsRefusedAt s xs u
-refused_at s t u es xs i d e l k m h r = record {
+pub refused_at : (s t u : State) (es : List Entry) (xs : List LogStep) (i : ℕ) (d e : Entry) (k : Refusal)
+    → i < length es → e ≡ get_or es i d → steps_of es ≡ xs → replay s (steps_of (take i es)) ≡ Some t
+    → IsRefusedAt t (steps_of (e ∷ [])) u k → IsRefusedAt s xs u k
+refused_at s t u es xs i d e k l n m h r = record {
   before = steps_of (take i es) ++ r.before;
   at = r.at;
   after = r.after ++ steps_of (drop (suc i) es);
   steps_are =
       sym m
       ∙ split_steps es i d l
-      ∙ ap (λ x. steps_of (take i es) ++ (steps_of (x ∷ []) ++ steps_of (drop (suc i) es))) (sym k)
+      ∙ ap (λ x. steps_of (take i es) ++ (steps_of (x ∷ []) ++ steps_of (drop (suc i) es))) (sym n)
       ∙ ap (λ y. steps_of (take i es) ++ (y ++ steps_of (drop (suc i) es))) r.steps_are
       ∙ ap (λ y. steps_of (take i es) ++ y)
-      (append_assoc r.before (Exchanged r.at ∷ r.after) (steps_of (drop (suc i) es)))
-      ∙ sym (append_assoc (steps_of (take i es)) r.before (Exchanged r.at ∷ (r.after ++ steps_of (drop (suc i) es))));
+      (append_assoc r.before (r.at ∷ r.after) (steps_of (drop (suc i) es)))
+      ∙ sym (append_assoc (steps_of (take i es)) r.before (r.at ∷ (r.after ++ steps_of (drop (suc i) es))));
   reached = replay_on s t (steps_of (take i es)) r.before h ∙ r.reached;
-  outside = r.outside;
+  refused = r.refused;
 }

@@ -2,12 +2,12 @@
 -- Source: ours.
 use Rattle.std.specs.Prelude.{ℕ, suc, ◌+◌, Bool, true, false, List, [], ◌∷◌, ◌++◌, replicate}
 use Rattle.sequential.specs.declared.log.Entry.{Entry}
-use Rattle.sequential.specs.declared.log.Entry.TheVariants.{Issued as Count, Exchange}
-use Rattle.sequential.specs.Replay.{LogStep, Issued, Exchanged}
+use Rattle.sequential.specs.declared.log.Entry.TheVariants.{Issued as Count, Exchange, PpRead, PpWrite}
+use Rattle.sequential.specs.Replay.{LogStep, Issued, Exchanged, ReadAt, Wrote}
 
 -- a log: what the machine did, step by step, and its room
 pub record Logged : Type 0 where
-  -- instructions and exchanges, in the order in which they were made
+  -- instructions, exchanges and peripheral accesses, in the order in which they were made
   pub steps : List LogStep
   -- how many entries can be added without memory
   pub room : ℕ
@@ -17,24 +17,32 @@ unfoldable pub steps_of : List Entry → List LogStep
 steps_of [] = []
 steps_of (Count n ∷ es) = replicate n Issued ++ steps_of es
 steps_of (Exchange n ∷ es) = Exchanged n ∷ steps_of es
+steps_of (PpRead a ∷ es) = ReadAt a ∷ steps_of es
+steps_of (PpWrite a w ∷ es) = Wrote a w ∷ steps_of es
 
 -- an instruction goes to the count that comes first, or is a count of its own
 abbrev pub one_before : List Entry → List Entry
 one_before [] = Count 1 ∷ []
 one_before (Count n ∷ es) = Count (n + 1) ∷ es
 one_before (Exchange n ∷ es) = Count 1 ∷ Exchange n ∷ es
+one_before (PpRead a ∷ es) = Count 1 ∷ PpRead a ∷ es
+one_before (PpWrite a w ∷ es) = Count 1 ∷ PpWrite a w ∷ es
 
 -- the shortest entries of these steps: no count is 0, and no two stand side by side
 unfoldable pub entries_of : List LogStep → List Entry
 entries_of [] = []
 entries_of (Issued ∷ steps) = one_before (entries_of steps)
 entries_of (Exchanged n ∷ steps) = Exchange n ∷ entries_of steps
+entries_of (ReadAt a ∷ steps) = PpRead a ∷ entries_of steps
+entries_of (Wrote a w ∷ steps) = PpWrite a w ∷ entries_of steps
 
 -- the entries with so many more instructions at the end
 unfoldable pub more_after : ℕ → List Entry → List Entry
 more_after n [] = Count n ∷ []
 more_after n (Count k ∷ []) = Count (k + n) ∷ []
 more_after n (Exchange k ∷ []) = Exchange k ∷ Count n ∷ []
+more_after n (PpRead a ∷ []) = PpRead a ∷ Count n ∷ []
+more_after n (PpWrite a w ∷ []) = PpWrite a w ∷ Count n ∷ []
 more_after n (e ∷ f ∷ es) = e ∷ more_after n (f ∷ es)
 
 -- the last entry is a count of instructions
@@ -42,6 +50,8 @@ unfoldable pub ends_open : List Entry → Bool
 ends_open [] = false
 ends_open (Count n ∷ []) = true
 ends_open (Exchange n ∷ []) = false
+ends_open (PpRead a ∷ []) = false
+ends_open (PpWrite a w ∷ []) = false
 ends_open (e ∷ f ∷ es) = ends_open (f ∷ es)
 
 -- the last step is an instruction, so that one more needs no entry of its own
@@ -49,6 +59,8 @@ unfoldable pub ends_issuing : List LogStep → Bool
 ends_issuing [] = false
 ends_issuing (Issued ∷ []) = true
 ends_issuing (Exchanged n ∷ []) = false
+ends_issuing (ReadAt a ∷ []) = false
+ends_issuing (Wrote a w ∷ []) = false
 ends_issuing (s ∷ t ∷ steps) = ends_issuing (t ∷ steps)
 
 -- how many instructions there are; E3 budget compares this number with the budget
@@ -56,3 +68,5 @@ unfoldable pub issued : List LogStep → ℕ
 issued [] = 0
 issued (Issued ∷ xs) = suc (issued xs)
 issued (Exchanged n ∷ xs) = issued xs
+issued (ReadAt a ∷ xs) = issued xs
+issued (Wrote a w ∷ xs) = issued xs

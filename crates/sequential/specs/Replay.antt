@@ -1,50 +1,67 @@
 -- The log, and the machine that goes through it step by step.
 -- Source: ours.
-use Rattle.std.specs.Prelude.{ℕ, ◌≡◌, false, if◌then◌else◌, List, [], ◌∷◌, ◌++◌, Option, Some, None, length, replicate}
+use Rattle.std.specs.Prelude.{ℕ, ◌≡◌, false, nat_lt, if◌then◌else◌, List, [], ◌∷◌, ◌++◌, Option, Some, None, length}
+use Rattle.std.specs.Prelude.{replicate}
 use Rattle.instructions.specs.declared.refusal.Halt.TheVariants.{Stop}
+use Rattle.instructions.specs.declared.refusal.Refusal.{Refusal}
+use Rattle.instructions.specs.declared.refusal.Refusal.TheVariants.{PackageRange, PeripheralRange}
 use Rattle.relocation.specs.Relocation.{package_fits}
 use Rattle.sequential.specs.declared.state.State.{State}
 use Rattle.sequential.specs.Place.{beginning}
+use Rattle.sequential.specs.State.{poke}
 use Rattle.sequential.specs.Step.{step}
 use Rattle.sequential.specs.Swap.{swap}
 
--- one step of a log: an instruction or an exchange
+-- one step of a log: an instruction, an exchange or a peripheral access
 pub data LogStep : Type 0 where
   -- an instruction
   Issued : LogStep
   -- an exchange at an absolute address
   Exchanged : (n : ℕ) → LogStep
+  -- a peripheral processor read the word at an absolute address
+  ReadAt : (a : ℕ) → LogStep
+  -- a peripheral processor wrote a word to an absolute address
+  Wrote : (a w : ℕ) → LogStep
 
--- the state after one step of a log, none for an exchange whose sixteen words don't lie in memory
+-- what a step of a log is refused for in a memory of that size, if it is: E19, package range, for an exchange whose
+-- sixteen words don't lie in memory; E27, peripheral range, for a peripheral access to no word of it
+unfoldable pub step_refusal : ℕ → LogStep → Option Refusal
+step_refusal size Issued = None
+step_refusal size (Exchanged n) = if package_fits n size then None else Some PackageRange
+step_refusal size (ReadAt a) = if nat_lt a size then None else Some PeripheralRange
+step_refusal size (Wrote a w) = if nat_lt a size then None else Some PeripheralRange
+
+-- the state after one step of a log, none for one that is refused; that a word was read changes nothing
 unfoldable pub do_log_step : State → LogStep → Option State
 do_log_step s Issued = Some (step s)
 do_log_step s (Exchanged n) = if package_fits n (length s.memory) then Some (swap n s) else None
+do_log_step s (ReadAt a) = if nat_lt a (length s.memory) then Some s else None
+do_log_step s (Wrote a w) = if nat_lt a (length s.memory) then Some (poke s a w) else None
 
 -- the steps that remain are made where a state was reached
 unfoldable pub then_replay : Option State → (State → Option State) → Option State
 then_replay None f = None
 then_replay (Some s) f = f s
 
--- the state after all steps of a log, none where an exchange's sixteen words don't lie in memory
+-- the state after all steps of a log, none where one of them is refused
 unfoldable pub replay : State → List LogStep → Option State
 replay s [] = Some s
 replay s (x ∷ xs) = then_replay (do_log_step s x) (λ t. replay t xs)
 
--- the steps are refused as E19 package range: those before one of their exchanges lead to the state `end`, in whose
--- memory its sixteen words don't lie
-pub record IsRefusedAt (start : State) (steps : List LogStep) (end : State) : Type 0 where
-  -- the steps before that exchange
+-- the first of the steps that is refused, and for what: those before it lead to the state `end`, in whose memory an
+-- exchange's sixteen words or the word of a peripheral access don't lie
+pub record IsRefusedAt (start : State) (steps : List LogStep) (end : State) (refusal : Refusal) : Type 0 where
+  -- the steps before it
   pub before : List LogStep
-  -- the address of its package
-  pub at : ℕ
+  pub at : LogStep
   -- the steps after it, which aren't made
   pub after : List LogStep
   -- these make up all the steps
-  pub steps_are : steps ≡ before ++ (Exchanged at ∷ after)
+  pub steps_are : steps ≡ before ++ (at ∷ after)
   -- the steps before it lead to the state `end`
   pub reached : replay start before ≡ Some end
-  -- the package doesn't lie in memory there
-  pub outside : package_fits at (length end.memory) ≡ false
+  -- it is refused there
+  pub refused : step_refusal (length end.memory) at ≡ Some refusal
 
 -- the state at boot: registers, P, RA, FL and mode +0, halted by a stop, without fault
 unfoldable pub boot : List ℕ → State

@@ -8,7 +8,7 @@ use Rattle.sequential.specs.declared.fetching.Fetched.TheVariants.{Halting, Pass
 use Rattle.sequential.specs.declared.state.State.{State}
 use Rattle.sequential.specs.State.{bounds_of}
 use Rattle.sequential.specs.Step.{fetch}
-use Rattle.sequential.specs.Replay.{LogStep, Issued, Exchanged, do_log_step}
+use Rattle.sequential.specs.Replay.{LogStep, Issued, Exchanged, ReadAt, Wrote, do_log_step}
 
 -- the instruction that goes to a unit, if one was fetched
 unfoldable pub taken_by : Fetched → Option Instr
@@ -34,6 +34,8 @@ one_for (Some instr) = 1
 unfoldable pub taken_at : State → LogStep → ℕ
 taken_at s Issued = one_for (taken_in s)
 taken_at s (Exchanged n) = 0
+taken_at s (ReadAt a) = 0
+taken_at s (Wrote a w) = 0
 
 -- the steps that remain are counted where a state was reached
 unfoldable pub then_taken : Option State → (State → ℕ) → ℕ

@@ -4,11 +4,12 @@ ghost use Rattle.instructions.specs.declared.refusal.Refusal.TheVariants.{OutOfM
 ghost use Rattle.sequential.specs.Log.{issued, steps_of, entries_of, more_after, ends_open, ends_issuing};
 ghost use Rattle.sequential.specs.declared.log.Entry.TheVariants.{Issued as Count};
 ghost use Rattle.std.specs.Vec.{vec_len, vec_capacity};
-ghost use Rattle.sequential.specs.Replay.{Issued, Exchanged};
+ghost use Rattle.sequential.specs.Replay.{Issued, Exchanged, ReadAt, Wrote};
 
 use instruction_table::Refusal;
 use std::alloc::Global;
 use std::marker::Model;
+use word60::Word60;
 
 /// An entry of the log.
 #[derive(Clone, Copy, Debug, Drop, PartialEq, Eq)]
@@ -17,6 +18,10 @@ pub enum Entry {
     Exchange(u32),
     /// So many instructions, one after another.
     Issued(u64),
+    /// A peripheral processor read the word at this absolute address.
+    PpRead(u32),
+    /// A peripheral processor wrote this word to this absolute address.
+    PpWrite(u32, Word60),
 }
 
 /// The count that the last entry is, if it is one.
@@ -28,6 +33,8 @@ fn last_count(entries: &[Entry]) -> Option<u64>
     match entries.last() {
         Some(Entry::Issued(count)) => Some(*count),
         Some(Entry::Exchange(_)) => None,
+        Some(Entry::PpRead(_)) => None,
+        Some(Entry::PpWrite(_, _)) => None,
         None => None,
     }
 }
@@ -61,7 +68,7 @@ fn add(entries: &mut Vec<Entry>, more: u64)
     }
 }
 
-/// What a machine did, in order: instructions and exchanges.
+/// What a machine did, in order: instructions, exchanges and peripheral accesses.
 #[derive(Drop)]
 pub struct Log {
     entries: Vec<Entry>,
@@ -152,6 +159,26 @@ impl Log {
         ensures issuing { ends_issuing self.new.steps ≡ false }
     {
         self.entries.push_reserved(Entry::Exchange(at));
+    }
+
+    /// Adds that a peripheral processor read the word at an absolute address.
+    pub fn read_at(&mut self, at: u32)
+        requires { 0 < self.old.room }
+        ensures steps { self.new.steps ≡ self.old.steps ++ ReadAt at ∷ [] }
+        ensures room { self.new.room + 1 ≡ self.old.room }
+        ensures issuing { ends_issuing self.new.steps ≡ false }
+    {
+        self.entries.push_reserved(Entry::PpRead(at));
+    }
+
+    /// Adds that a peripheral processor wrote a word to an absolute address.
+    pub fn wrote(&mut self, at: u32, word: Word60)
+        requires { 0 < self.old.room }
+        ensures steps { self.new.steps ≡ self.old.steps ++ Wrote at word ∷ [] }
+        ensures room { self.new.room + 1 ≡ self.old.room }
+        ensures issuing { ends_issuing self.new.steps ≡ false }
+    {
+        self.entries.push_reserved(Entry::PpWrite(at, word));
     }
 
     /// Adds an instruction: one more to the last count, or else an entry of its own.

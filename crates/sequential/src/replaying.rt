@@ -1,10 +1,13 @@
-ghost use Rattle.std.specs.Prelude.{◌≡◌, Some, None, replicate, IfErr, OnOk, MatchResult, [], ◌∷◌};
-ghost use Rattle.instructions.specs.declared.refusal.Refusal.TheVariants.{PackageRange};
+ghost use Rattle.std.specs.Prelude.{◌≡◌, Some, None, true, false, nat_lt, length, replicate, IfErr, OnOk, MatchResult};
+ghost use Rattle.std.specs.Prelude.{[], ◌∷◌};
+ghost use Rattle.instructions.specs.declared.refusal.Refusal.TheVariants.{PeripheralRange};
 ghost use Rattle.sequential.specs.Log.{steps_of};
+ghost use Rattle.sequential.specs.State.{poke};
 ghost use Rattle.sequential.specs.Replay.{Issued, replay, IsRefusedAt};
 
 use crate::{Entry, Log, State, step};
 use instruction_table::Refusal;
+use word60::Word60;
 
 /// So many steps, one after another. Once the machine is halted no further step changes it.
 #[inline(never)]
@@ -19,11 +22,38 @@ fn issue_many(state: &mut State, count: u64)
     }
 }
 
+/// Whether a peripheral processor may go to the word at the absolute address.
+fn peripheral_range(state: &State, at: u32) -> Result<(), Refusal>
+    ensures { MatchResult result (λ _. nat_lt at (length state.now.memory) ≡ true)
+        (λ refusal. (nat_lt at (length state.now.memory) ≡ false) × (refusal ≡ PeripheralRange)) }
+{
+    if at < state.memory.size() {
+        Ok(())
+    } else {
+        Err(Refusal::PeripheralRange)
+    }
+}
+
+/// A peripheral processor writes a word to the absolute address.
+#[tactic(auto, unfolding(crate::specs::State::poke))]
+fn peripheral_write(state: &mut State, at: u32, word: Word60) -> Result<(), Refusal>
+    ensures answer { MatchResult result (λ _. nat_lt at (length state.old.memory) ≡ true)
+        (λ refusal. (nat_lt at (length state.old.memory) ≡ false) × (refusal ≡ PeripheralRange)) }
+    ensures after { MatchResult result (λ _. state.new ≡ poke state.old at word) (λ _. state.new ≡ state.old) }
+{
+    if at < state.memory.size() {
+        state.memory.store(at, word);
+        Ok(())
+    } else {
+        Err(Refusal::PeripheralRange)
+    }
+}
+
 /// The steps of an entry.
 fn replay_entry(state: &mut State, entry: &Entry) -> Result<(), Refusal>
     ensures done { OnOk result (replay state.old (steps_of (entry.now ∷ [])) ≡ Some state.new) }
     ensures refused { IfErr result
-        (λ refusal. (refusal ≡ PackageRange) × (IsRefusedAt state.old (steps_of (entry.now ∷ [])) state.new)) }
+        (λ refusal. IsRefusedAt state.old (steps_of (entry.now ∷ [])) state.new refusal) }
 {
     match *entry {
         Entry::Issued(count) => {
@@ -31,18 +61,21 @@ fn replay_entry(state: &mut State, entry: &Entry) -> Result<(), Refusal>
             Ok(())
         }
         Entry::Exchange(at) => state.exchange(at),
+        Entry::PpRead(at) => peripheral_range(state, at),
+        Entry::PpWrite(at, word) => peripheral_write(state, at, word),
     }
 }
 
-/// Goes through the steps of a log: each instruction and each exchange, in order.
+/// Goes through the steps of a log: each instruction, each exchange and each peripheral access, in order.
 ///
 /// # Errors
-/// `PackageRange` where an exchange's sixteen words don't lie in memory; the steps before it are done then.
+/// What the first step that is refused is refused for; the steps before it are done then. `PackageRange` where an
+/// exchange's sixteen words don't lie in memory, `PeripheralRange` where the word of a peripheral access doesn't.
 pub fn replay(state: &mut State, log: &Log) -> Result<(), Refusal>
     ensures answer { MatchResult result
         (λ _. replay state.old log.now.steps ≡ Some state.new)
-        (λ refusal. (replay state.old log.now.steps ≡ None) × (refusal ≡ PackageRange)) }
-    ensures refused { IfErr result (λ refusal. IsRefusedAt state.old log.now.steps state.new) }
+        (λ refusal. replay state.old log.now.steps ≡ None) }
+    ensures refused { IfErr result (λ refusal. IsRefusedAt state.old log.now.steps state.new refusal) }
 {
     for entry in log.entries() {
         if let Err(refusal) = replay_entry(state, entry) {

@@ -121,11 +121,13 @@ fn dumps(rt: HostRuntime) -> Result<(), Fail> {
 }
 
 /// A text, how many entries its log has, and how many instructions.
-const LOGS: [(&str, usize, u64); 4] = [
+const LOGS: [(&str, usize, u64); 6] = [
     ("none", 0, 0),
     ("E40 I4", 2, 4),
     ("I10000000", 1, 10_000_000),
     ("E0 I1 E777777 I9999999", 4, 10_000_000),
+    ("E40 I1 R111 R110 W110=5 I2", 6, 3),
+    ("R0 W777777=77777777777777777777 W0=0", 3, 0),
 ];
 
 #[test]
@@ -144,7 +146,7 @@ fn reads_logs(rt: HostRuntime) -> Result<(), Fail> {
 }
 
 /// Texts that are no logs.
-const NO_LOGS: [&str; 19] = [
+const NO_LOGS: [&str; 35] = [
     "",
     " ",
     "none ",
@@ -164,6 +166,22 @@ const NO_LOGS: [&str; 19] = [
     "I10000001",
     "I9999999 E0 I2",
     "I100000000",
+    "R",
+    "R01",
+    "R8",
+    "R1234567",
+    "r1",
+    "R1=1",
+    "W",
+    "W1",
+    "W1=",
+    "W=1",
+    "W01=1",
+    "W1=01",
+    "W1=8",
+    "W1=1=1",
+    "W1234567=1",
+    "W1=100000000000000000000",
 ];
 
 #[test]

@@ -4,13 +4,13 @@ use Rattle.std.specs.Prelude.{◌≡◌, ◌≢◌, ◌<◌, ◌&&◌, ◌-◌, 
 use Rattle.std.specs.Prelude.{Result, Ok, Err, is_some, length, map, slice_index_or}
 use Rattle.std.specs.List.{list_any}
 use Rattle.instructions.specs.declared.refusal.Refusal.{Refusal}
-use Rattle.instructions.specs.declared.refusal.Refusal.TheVariants.{BankBusy, OlderInBank, Nothing}
+use Rattle.instructions.specs.declared.refusal.Refusal.TheVariants.{BankBusy, OlderAtAddress, Nothing}
 use Rattle.instructions.specs.Each.{Each, Pairs}
 use Rattle.instructions.specs.Order.{sort_by, somes, IsSeated}
 use Rattle.hopper.specs.declared.entered.Entered.{Entered}
 use Rattle.hopper.specs.declared.waiting.Waiting.{Waiting}
 use Rattle.hopper.specs.Hopper.{bank_of}
-use Rattle.hopper.specs.Queue.{Queue, waits_for_bank, stores_here}
+use Rattle.hopper.specs.Queue.{Queue, holds_back, is_for, stores_here}
 
 -- the reference with its place
 abbrev pub entered_in : Waiting → Entered
@@ -50,14 +50,19 @@ unfoldable pub one_if_taken : Option Waiting → ℕ
 one_if_taken None = 0
 one_if_taken (Some w) = 1
 
--- it entered before the one with that many before it, and waits for the bank
-abbrev pub is_older : ℕ → ℕ → Waiting → Bool
-is_older number bank w = nat_lt w.before number && waits_for_bank bank w.entered
+-- it entered before a later one, and holds it back
+abbrev pub is_older : Waiting → Waiting → Bool
+is_older later w = nat_lt w.before later.before && holds_back later.entered.reference w.entered
 
--- what stands in the place entered before the one with that many before it, and waits for the bank
-unfoldable pub holds_older : ℕ → ℕ → Option Waiting → Bool
-holds_older number bank None = false
-holds_older number bank (Some w) = is_older number bank w
+-- what stands in the place entered before a later one, and holds it back
+unfoldable pub holds_older : Waiting → Option Waiting → Bool
+holds_older later None = false
+holds_older later (Some w) = is_older later w
+
+-- in the place stands a reference to the absolute address
+unfoldable pub holds_for : ℕ → Option Waiting → Bool
+holds_for address None = false
+holds_for address (Some w) = is_for address w.entered
 
 -- in the place stands a store to the absolute address
 unfoldable pub holds_store : ℕ → Option Waiting → Bool
@@ -77,12 +82,11 @@ unfoldable pub lowered : ℕ → Option Waiting → Option Waiting
 lowered number None = None
 lowered number (Some w) = Some (lower number w)
 
--- E15, nothing, where the place is empty; E13, bank busy; E14, older in bank, where an older one waits for that bank;
--- else what stands there and may leave
+-- E15, nothing, where the place is empty; E13, bank busy; E14, older at address, where an older one holds it back; else
+-- what stands there and may leave
 unfoldable pub acceptance : List (Option Waiting) → List Bool → Option Waiting → Result Waiting Refusal
 acceptance places busy None = Err Nothing
 acceptance places busy (Some w) =
     if slice_index_or busy (bank_of w.entered.reference.address) false
     then Err (BankBusy (bank_of w.entered.reference.address))
-    else (
-    if list_any (holds_older w.before (bank_of w.entered.reference.address)) places then Err OlderInBank else Ok w)
+    else (if list_any (holds_older w) places then Err OlderAtAddress else Ok w)

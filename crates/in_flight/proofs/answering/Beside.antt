@@ -21,7 +21,9 @@ use Rattle.instructions.specs.Shape.{shape_of, results, is_branch_shape, has_sto
 use Rattle.instructions.proofs.Lists.{each_left, each_right, each_append, each_map, each_of_any, pairs_before, or_false}
 use Rattle.instructions.proofs.Lists.{any_same}
 use Rattle.hopper.specs.Hopper.{free_place, stores_to}
-use Rattle.hopper.specs.Queue.{Queue, stands_at, stores_here, place_for as free_in, is_taken as taken_in, free_answer}
+use Rattle.hopper.specs.Queue.{Queue, stands_at, is_for, stores_here, place_for as free_in, is_taken as taken_in}
+use Rattle.hopper.specs.Queue.{free_answer}
+use Rattle.hopper.specs.declared.entered.Entered.{Entered}
 use Rattle.hopper.proofs.Standing.{first_same}
 use Rattle.scoreboard.specs.declared.issued.Issued.{Issued}
 use Rattle.scoreboard.specs.declared.reservation.Progress.TheVariants.{Left}
@@ -55,7 +57,7 @@ use Rattle.in_flight.specs.Flight.{Flight, flight_of, waiting_in, waiting, reser
 use Rattle.in_flight.specs.inner.Board.{IsTied}
 use Rattle.in_flight.specs.Pending.{has_read, reservation_of, progress_of, to_come, awaited, is_branch}
 use Rattle.in_flight.specs.Pending.{has_turn}
-use Rattle.in_flight.specs.Pending.{stores_in, delays_fetch}
+use Rattle.in_flight.specs.Pending.{stores_in, waits_in, delays_fetch, delays_access}
 use Rattle.in_flight.proofs.asking.Asked.{comes}
 use Rattle.in_flight.proofs.Opened.{coming}
 use Rattle.in_flight.specs.Lookup.{sought, stage_at, stage_in, arrival_at, arrival_in, entry_at, entry_in, in_place}
@@ -65,7 +67,8 @@ use Rattle.in_flight.specs.inner.Seats.{has_none}
 use Rattle.in_flight.specs.Apart.{IsApart}
 use Rattle.instructions.proofs.Finding.{seek_splits, seek_nobody}
 use Rattle.in_flight.proofs.asking.Finding.{stage_found}
-use Rattle.in_flight.proofs.answering.Boarding.{arrival_in_there, board_any, read_of_all, store_of_all, turn_of_all}
+use Rattle.in_flight.proofs.answering.Boarding.{arrival_in_there, board_any, no_turn, read_of_all, store_of_all}
+use Rattle.in_flight.proofs.answering.Boarding.{turn_of_all}
 use Rattle.in_flight.proofs.answering.Boarding.{return_of_all, read_follows, stage_follows, return_follows}
 use Rattle.in_flight.proofs.answering.Boarding.{issue_follows, same_free, same_awaited}
 
@@ -121,11 +124,6 @@ pub branch_held : (ms : List Pending) → list_any (λ x. board.is_branch x.rese
 unfolding reservation_of_issued is_branch
 branch_held ms = board_any board.is_branch no_branch ms
 
-store_held : (ms : List Pending)
-    → list_any (λ x. has_store_turn x.reservation) (on_board ms) ≡ list_any (λ m. has_store_turn (reservation_of m)) ms
-unfolding reservation_of_issued
-store_held ms = board_any has_store_turn no_store ms
-
 pub any-append : {K : Type 0} (f : K → Bool) (xs ys : List K) → list_any f (xs ++ ys) ≡ (list_any f xs || list_any f ys)
 any-append f [] ys = refl
 any-append f (x ∷ xs) ys = ap (λ b. f x || b) (any-append f xs ys) ∙ or_assoc (f x) (list_any f xs) (list_any f ys)
@@ -134,18 +132,26 @@ any-append f (x ∷ xs) ys = ap (λ b. f x || b) (any-append f xs ys) ∙ or_ass
     or_assoc true b c = refl
     or_assoc false b c = refl
 
-store_waits : (a : ℕ) (ms : List Pending)
-    → list_any (stores_here a) (waiting ms) ≡ list_any (λ m. stores_in a m.phase) ms
-unfolding waiting waiting_in stores_in stores_here
-store_waits a [] = refl
-store_waits a (m ∷ ms) = any-append (stores_here a) (waiting_in m.phase) (waiting ms)
-    ∙ ap (λ b. b || list_any (stores_here a) (waiting ms)) (in_phase_of m.phase)
-    ∙ ap (λ b. stores_in a m.phase || b) (store_waits a ms)
-  where
-    in_phase_of : (p : Phase) → list_any (stores_here a) (waiting_in p) ≡ stores_in a p
-    in_phase_of (Before t) = refl
-    in_phase_of (After (HasEntered place k access)) = or_false (stores_to a k access)
-    in_phase_of (After (Accepted n w)) = refl
+-- a test of a reference that waits, asked of all that wait
+waiting_any : (f : Entered → Bool) (g : Phase → Bool) → ((p : Phase) → list_any f (waiting_in p) ≡ g p)
+    → (ms : List Pending) → list_any f (waiting ms) ≡ list_any (λ m. g m.phase) ms
+unfolding waiting
+waiting_any f g h [] = refl
+waiting_any f g h (m ∷ ms) = any-append f (waiting_in m.phase) (waiting ms)
+    ∙ ap (λ b. b || list_any f (waiting ms)) (h m.phase)
+    ∙ ap (λ b. g m.phase || b) (waiting_any f g h ms)
+
+stores_in_phase : (a : ℕ) (p : Phase) → list_any (stores_here a) (waiting_in p) ≡ stores_in a p
+unfolding waiting_in stores_in stores_here
+stores_in_phase a (Before t) = refl
+stores_in_phase a (After (HasEntered place k access)) = or_false (stores_to a k access)
+stores_in_phase a (After (Accepted n w)) = refl
+
+waits_in_phase : (a : ℕ) (p : Phase) → list_any (is_for a) (waiting_in p) ≡ waits_in a p
+unfolding waiting_in waits_in is_for
+waits_in_phase a (Before t) = refl
+waits_in_phase a (After (HasEntered place k access)) = or_false (eqb k a)
+waits_in_phase a (After (Accepted n w)) = refl
 
 any_either : {K : Type 0} (f g : K → Bool) (xs : List K)
     → list_any (λ x. f x || g x) xs ≡ (list_any f xs || list_any g xs)
@@ -160,17 +166,34 @@ any_either f g (x ∷ xs) =
     exchange false false true d = refl
     exchange false false false d = refl
 
+-- a test of what the board has, or one of what waits in the hopper, is a test of each pending instruction
+delayed_by : (t : Reservation → Bool) (f : Entered → Bool) (g : Phase → Bool)
+    → ((reservation : Reservation) → reservation.progress ≡ Left None → t reservation ≡ false)
+    → ((p : Phase) → list_any f (waiting_in p) ≡ g p) → (ms : List Pending) (queue : Queue) (standing : Standing)
+    → IsTied ms queue standing
+    → (list_any (λ x. t x.reservation) standing.issued || list_any f queue.entered)
+    ≡ list_any (λ m. t (reservation_of m) || g m.phase) ms
+unfolding reservation_of_issued
+delayed_by t f g none h ms queue standing tied =
+    ap (λ xs. list_any (λ (x : Issued). t x.reservation) xs || list_any f queue.entered) tied.boarded
+    ∙ ap (λ b. b || list_any f queue.entered) (board_any t none ms)
+    ∙ ap (λ es. list_any (λ m. t (reservation_of m)) ms || list_any f es) tied.entered
+    ∙ ap (λ b. list_any (λ m. t (reservation_of m)) ms || b) (waiting_any f g h ms)
+    ∙ sym (any_either (λ m. t (reservation_of m)) (λ m. g m.phase) ms)
+
 pub fetch_delayed : (a : ℕ) (ms : List Pending) (queue : Queue) (standing : Standing) → IsTied ms queue standing
     → (list_any (λ x. has_store_turn x.reservation) standing.issued || list_any (stores_here a) queue.entered)
     ≡ list_any (delays_fetch a) ms
 unfolding delays_fetch
 fetch_delayed a ms queue standing tied =
-    ap (λ xs. list_any (λ (x : Issued). has_store_turn x.reservation) xs || list_any (stores_here a) queue.entered)
-    tied.boarded
-    ∙ ap (λ b. b || list_any (stores_here a) queue.entered) (store_held ms)
-    ∙ ap (λ es. list_any (λ m. has_store_turn (reservation_of m)) ms || list_any (stores_here a) es) tied.entered
-    ∙ ap (λ b. list_any (λ m. has_store_turn (reservation_of m)) ms || b) (store_waits a ms)
-    ∙ sym (any_either (λ m. has_store_turn (reservation_of m)) (λ m. stores_in a m.phase) ms)
+    delayed_by has_store_turn (stores_here a) (stores_in a) no_store (stores_in_phase a) ms queue standing tied
+
+pub access_delayed : (a : ℕ) (ms : List Pending) (queue : Queue) (standing : Standing) → IsTied ms queue standing
+    → (list_any (λ x. board.has_turn x.reservation) standing.issued || list_any (is_for a) queue.entered)
+    ≡ list_any (delays_access a) ms
+unfolding delays_access
+access_delayed a ms queue standing tied =
+    delayed_by board.has_turn (is_for a) (waits_in a) no_turn (waits_in_phase a) ms queue standing tied
 
 -- ---- what waits in the hopper ----
 

@@ -9,7 +9,7 @@ use Rattle.instructions.specs.declared.instr.Reg.{Reg}
 use Rattle.instructions.specs.declared.instr.Reg.TheVariants.{X, A}
 use Rattle.instructions.specs.declared.instr.Unit.{Unit as FunctionalUnit}
 use Rattle.instructions.specs.declared.refusal.Refusal.{Refusal}
-use Rattle.instructions.specs.declared.refusal.Refusal.TheVariants.{BankBusy, OlderInBank}
+use Rattle.instructions.specs.declared.refusal.Refusal.TheVariants.{BankBusy, OlderAtAddress}
 use Rattle.instructions.specs.Each.{Each, Pairs}
 use Rattle.instructions.specs.Finding.{Found as FoundIn, seek as seek_in, put_back as put_back_of, replaced, Found}
 use Rattle.instructions.specs.Finding.{seek, found_here, found_further, put_back}
@@ -21,8 +21,9 @@ use Rattle.instructions.proofs.Lists.{any_right, each_append, each_map, each_of_
 use Rattle.instructions.proofs.Lists.{or_false}
 use Rattle.relocation.specs.declared.area.Access.{Access}
 use Rattle.relocation.specs.declared.area.Access.TheVariants.{Load, Store}
-use Rattle.hopper.specs.Hopper.{bank_of}
-use Rattle.hopper.specs.Queue.{Queue, reference_at, waits_for_bank, accept_answer, accepted, place_for as free_in}
+use Rattle.hopper.specs.Hopper.{bank_of, keep_order}
+use Rattle.hopper.specs.Queue.{Queue, reference_at, holds_back as keeps_back, accept_answer, accepted}
+use Rattle.hopper.specs.Queue.{place_for as free_in}
 use Rattle.hopper.specs.declared.entered.Entered.{Entered}
 use Rattle.hopper.specs.declared.reference.Reference.{Reference}
 use Rattle.scoreboard.specs.Reservations as board
@@ -47,8 +48,8 @@ use Rattle.in_flight.specs.Flight.{left_by, Flight, flight_of, waiting_in, waiti
 use Rattle.in_flight.specs.inner.Board.{IsTied}
 use Rattle.in_flight.specs.Flight.{entered_at, rest_at, queue_with, queue_after, with_pending}
 use Rattle.in_flight.specs.Pending.{reservation_of, progress_of, returning, to_come, has_turn, is_entered, entered_in}
-use Rattle.in_flight.specs.Pending.{in_bank}
-use Rattle.in_flight.specs.Pending.{in_bank_in}
+use Rattle.in_flight.specs.Pending.{holds_back}
+use Rattle.in_flight.specs.Pending.{holds_back_in}
 use Rattle.in_flight.specs.inner.Slots.{IsSlotted, IsChannel, IsPlaced}
 use Rattle.in_flight.specs.inner.Seats.{seat_in, seat_of, AreElsewhere, HasRoom}
 use Rattle.in_flight.specs.Lookup.{sought, stage_at, entry_at, entry_in, in_place, place_for, enters, in_phase, kept}
@@ -149,18 +150,20 @@ pub queue_nobody : (p : ℕ) (ms : List Pending) → seek (entry_at p) ms ≡ No
     → seek_in (reference_at p) (waiting ms) ≡ None
 queue_nobody p ms h = seek_nobody (reference_at p) (waiting ms) (none_waiting p ms (seek_silent (entry_at p) ms h))
 
-bank_in : (k : ℕ) (q : Phase) → list_any (waits_for_bank k) (waiting_in q) ≡ in_bank_in k q
-unfolding waiting_in waits_for_bank in_bank_in
-bank_in k (Before t) = refl
-bank_in k (After (HasEntered place a access)) = or_false (eqb (bank_of a) k)
-bank_in k (After (Accepted n w)) = refl
+back_in : (r : Reference) (q : Phase)
+    → list_any (keeps_back r) (waiting_in q) ≡ holds_back_in r.address r.access q
+unfolding waiting_in keeps_back holds_back_in
+back_in r (Before t) = refl
+back_in r (After (HasEntered place a x)) = or_false (keep_order r.address r.access a x)
+back_in r (After (Accepted n w)) = refl
 
-bank_waits : (k : ℕ) (es : List Pending) → list_any (waits_for_bank k) (waiting es) ≡ list_any (in_bank k) es
-unfolding waiting in_bank
-bank_waits k [] = refl
-bank_waits k (m ∷ es) = any-append (waits_for_bank k) (waiting_in m.phase) (waiting es)
-    ∙ ap (λ b. b || list_any (waits_for_bank k) (waiting es)) (bank_in k m.phase)
-    ∙ ap (λ b. in_bank_in k m.phase || b) (bank_waits k es)
+back_waits : (r : Reference) (es : List Pending)
+    → list_any (keeps_back r) (waiting es) ≡ list_any (holds_back r.address r.access) es
+unfolding waiting holds_back
+back_waits r [] = refl
+back_waits r (m ∷ es) = any-append (keeps_back r) (waiting_in m.phase) (waiting es)
+    ∙ ap (λ b. b || list_any (keeps_back r) (waiting es)) (back_in r m.phase)
+    ∙ ap (λ b. holds_back_in r.address r.access m.phase || b) (back_waits r es)
 
 tests_answer : (x y : Bool) (j k : Refusal) (r : Reference)
     → refusal_of (record { fails = x; refusal = j } ∷ record { fails = y; refusal = k } ∷ [])
@@ -178,10 +181,10 @@ some_answer : (busy : List Bool) (p : ℕ) (f : Found Pending HopperEntry)
     → refusal_of (accept_tests busy f.earlier f.answer) ≡ refusal_in (accept_answer busy (Some (in_queue p f)))
 unfolding accept_tests accept_answer
 some_answer busy p f =
-    tests_answer (get_or busy (bank_of f.answer.a) false) (list_any (in_bank (bank_of f.answer.a)) f.earlier)
-    (BankBusy (bank_of f.answer.a)) OlderInBank (reference_of f.answer)
+    tests_answer (get_or busy (bank_of f.answer.a) false) (list_any (holds_back f.answer.a f.answer.access) f.earlier)
+    (BankBusy (bank_of f.answer.a)) OlderAtAddress (reference_of f.answer)
     ∙ ap (λ y. refusal_in (cond (get_or busy (bank_of f.answer.a) false) (Err (BankBusy (bank_of f.answer.a)))
-    (cond y (Err OlderInBank) (Ok (reference_of f.answer))))) (sym (bank_waits (bank_of f.answer.a) f.earlier))
+    (cond y (Err OlderAtAddress) (Ok (reference_of f.answer))))) (sym (back_waits (reference_of f.answer) f.earlier))
 
 nothing_taken : (busy : List Bool) (r : Reference) → accept_answer busy None ≡ Ok r → ⊥
 unfolding accept_answer
@@ -194,9 +197,9 @@ taken_is : (busy : List Bool) (f : FoundIn Entered Reference) (r : Reference) �
     → f.answer ≡ r
 unfolding accept_answer
 taken_is busy f r h = by_tests (get_or busy (bank_of f.answer.address) false)
-    (list_any (waits_for_bank (bank_of f.answer.address)) f.earlier) (BankBusy (bank_of f.answer.address)) h
+    (list_any (keeps_back f.answer) f.earlier) (BankBusy (bank_of f.answer.address)) h
   where
-    by_tests : (x y : Bool) (j : Refusal) → cond x (Err j) (cond y (Err OlderInBank) (Ok f.answer)) ≡ Ok r
+    by_tests : (x y : Bool) (j : Refusal) → cond x (Err j) (cond y (Err OlderAtAddress) (Ok f.answer)) ≡ Ok r
         → f.answer ≡ r
     by_tests true y j k = cc
     by_tests false true j k = cc

@@ -6,14 +6,14 @@ use Rattle.job_deck.specs.Schedule.{spoken_of}
 use Rattle.job_deck.specs.declared.schedule.Spoken.TheVariants.{Faulty}
 use Rattle.instructions.specs.declared.refusal.DeckFault.TheVariants as faults
 
-three_onto : (w a : List ℕ) (x : ℕ) (parts : List (List ℕ))
-    → spoken_of (w ∷ a ∷ onto_first x parts) ≡ Faulty faults.Unknown
-three_onto w a x [] = refl
-three_onto w a x (part ∷ parts) = refl
+four_onto : (w a b : List ℕ) (x : ℕ) (parts : List (List ℕ))
+    → spoken_of (w ∷ a ∷ b ∷ onto_first x parts) ≡ Faulty faults.Unknown
+four_onto w a b x [] = refl
+four_onto w a b x (part ∷ parts) = refl
 
--- three fields say nothing
-pub three_fields : (w a rest : List ℕ) → spoken_of (w ∷ a ∷ fields_of rest) ≡ Faulty faults.Unknown
-three_fields w a [] = refl
-three_fields w a (x ∷ xs) =
-    elim (eqb x 32) as (λ v. spoken_of (w ∷ a ∷ cond v ([] ∷ fields_of xs) (onto_first x (fields_of xs)))
-    ≡ Faulty faults.Unknown) [ true ↦ refl | false ↦ three_onto w a x (fields_of xs) ]
+-- four fields say nothing
+pub four_fields : (w a b rest : List ℕ) → spoken_of (w ∷ a ∷ b ∷ fields_of rest) ≡ Faulty faults.Unknown
+four_fields w a b [] = refl
+four_fields w a b (x ∷ xs) =
+    elim (eqb x 32) as (λ v. spoken_of (w ∷ a ∷ b ∷ cond v ([] ∷ fields_of xs) (onto_first x (fields_of xs)))
+    ≡ Faulty faults.Unknown) [ true ↦ refl | false ↦ four_onto w a b x (fields_of xs) ]

@@ -27,7 +27,7 @@ use Rattle.sequential.specs.State.{Bounds, bounds_of, write, write_all, go, mark
 use Rattle.sequential.specs.Work.{operands, same_for, fault_of, jump_for, reference_for, number_in, work_of, do_now}
 use Rattle.sequential.specs.Step.{fetch}
 use Rattle.sequential.specs.Swap.{swap}
-use Rattle.sequential.specs.Replay.{LogStep, Issued, Exchanged, boot, replay}
+use Rattle.sequential.specs.Replay.{LogStep, Issued, Exchanged, ReadAt, Wrote, boot, replay}
 use Rattle.sequential.specs.Log.{Logged, ends_issuing, issued}
 use Rattle.in_flight.specs.declared.flight.Rest.{Rest}
 use Rattle.program_order.specs.declared.event.Note.{Note}
@@ -37,7 +37,7 @@ use Rattle.program_order.specs.declared.event.Done.{Done}
 use Rattle.program_order.specs.declared.event.Done.TheVariants.{Issued as DoneIssue}
 use Rattle.program_order.specs.declared.event.Event.{Event}
 use Rattle.program_order.specs.declared.event.Event.TheVariants.{Issue, Read, Finish, Store as StoreResult, Accept}
-use Rattle.program_order.specs.declared.event.Event.TheVariants.{Return, BankFree, Ask, Exchange}
+use Rattle.program_order.specs.declared.event.Event.TheVariants.{Return, BankFree, Ask, Exchange, PpRead, PpWrite}
 use Rattle.in_flight.specs.declared.pending.Arrival.{Arrival}
 use Rattle.in_flight.specs.declared.pending.HopperEntry.{HopperEntry}
 use Rattle.in_flight.specs.declared.pending.Outstanding.{Outstanding}
@@ -56,6 +56,7 @@ use Rattle.program_order.specs.Processor.{Processor, boot_processor, completed, 
 use Rattle.program_order.specs.Units.{finish_tests, store_tests, rest_of, stage_after_read, stage_after_finish}
 use Rattle.program_order.specs.Units.{after_read, after_finish, after_work, after_store}
 use Rattle.program_order.specs.Exchange.{ask_tests, exchange_tests, after_exchange}
+use Rattle.program_order.specs.Peripheral.{access_tests, after_pp_read, after_pp_write}
 use Rattle.program_order.specs.Issue.{issue_tests, after_issue}
 use Rattle.program_order.specs.Events.{tests_of, allowed, after_found, after}
 use Rattle.program_order.specs.Memory.{after_accept, after_return}
@@ -175,6 +176,11 @@ pub ask_judged : (w : Processor) (n size : ℕ) (r : Result (Unit {0}) Refusal) 
     → allowed w (Ask n) ≡ o
 unfolding allowed tests_of
 ask_judged w n size r o z h e = ap (λ k. refusal_of (ask_tests w.asked w.request k n)) (sym z) ∙ h ∙ e
+
+pub access_judged : (w : Processor) (a size : ℕ) (r : Result (Unit {0}) Refusal) (o : Option Refusal)
+    → size ≡ length w.state.memory → refusal_of (access_tests w.accessed w.pending size a) ≡ refusal_in r
+    → refusal_in r ≡ o → refusal_of (access_tests w.accessed w.pending (length w.state.memory) a) ≡ o
+access_judged w a size r o z h e = ap (λ k. refusal_of (access_tests w.accessed w.pending k a)) (sym z) ∙ h ∙ e
 
 pub exchange_judged : (w : Processor) (r o : Option Refusal)
     → refusal_of (exchange_tests w.request w.pending w.state) ≡ r → r ≡ o → allowed w Exchange ≡ o
@@ -360,6 +366,22 @@ exchange_made w n s log e es el =
     ∙ ap (λ t. record w { state = t; log = w.log ++ Exchanged n ∷ []; request = None }) es
     ∙ ap (λ r. after_exchange w r) (sym e)
 
+pub read_word_made : (w : Processor) (a : ℕ) (log : List LogStep) → log ≡ w.log ++ ReadAt a ∷ []
+    → record w { log = log; accessed = w.accessed + 1 } ≡ after w (PpRead a)
+unfolding after after_pp_read
+read_word_made w a log e = ap (λ l. record w { log = l; accessed = w.accessed + 1 }) e
+    ∙ ap (λ k. record w { log = w.log ++ ReadAt a ∷ []; accessed = k }) (add-one w.accessed)
+
+pub write_word_made : (w : Processor) (a v : ℕ) (s : State) (log : List LogStep)
+    → s ≡ record w.state { memory = (access_at w.state a (StoreWord v)).memory } → log ≡ w.log ++ Wrote a v ∷ []
+    → record w { state = s; log = log; accessed = w.accessed + 1 } ≡ after w (PpWrite a v)
+unfolding after after_pp_write access_at poke
+write_word_made w a v s log es el =
+    ap (λ t. record w { state = t; log = log; accessed = w.accessed + 1 }) es
+    ∙ ap (λ l. record w { state = poke w.state a v; log = l; accessed = w.accessed + 1 }) el
+    ∙ ap (λ k. record w { state = poke w.state a v; log = w.log ++ Wrote a v ∷ []; accessed = k })
+    (add-one w.accessed)
+
 -- what an issue leaves, but for its entry in the log, and the reservation that it answers
 pub record IsIssued (w : Processor) (before : Logged) (g : Fetched) (v : Processor) (log : Logged)
     (given : Option Note) : Type 0 where
@@ -466,12 +488,13 @@ owed_issued false true (Some n) old new spent h e k i = omega (arith, h, k, i)
 pub numbered_still : (last : ℕ) (old new : List LogStep) → new ≡ old → last ≤ issued old → last ≤ issued new
 numbered_still last old new e h = subst (λ l. last ≤ issued l) (sym e) h
 
-pub numbered_exchange : (last : ℕ) (old new : List LogStep) (n : ℕ) → new ≡ old ++ Exchanged n ∷ [] → last ≤ issued old
-    → last ≤ issued new
-numbered_exchange last old new n e h = subst (λ l. last ≤ issued l) (sym e) (after old h)
+-- one more step that is no instruction
+pub numbered_other : (last : ℕ) (old new : List LogStep) (x : LogStep) → issued (x ∷ []) ≡ 0 → new ≡ old ++ x ∷ []
+    → last ≤ issued old → last ≤ issued new
+numbered_other last old new x z e h = subst (λ l. last ≤ issued l) (sym e) (after old h)
   where
-    after : (xs : List LogStep) → last ≤ issued xs → last ≤ issued (xs ++ Exchanged n ∷ [])
-    after xs k = let a = issued-append xs (Exchanged n ∷ []) in omega (arith, a, k)
+    after : (xs : List LogStep) → last ≤ issued xs → last ≤ issued (xs ++ x ∷ [])
+    after xs k = let a = issued-append xs (x ∷ []) in omega (arith, a, k, z)
 
 pub numbered_issue : (before last : ℕ) (old new : List LogStep) → new ≡ old ++ Issued ∷ [] → before ≤ issued old
     → last ≤ suc before → last ≤ issued new
@@ -516,7 +539,7 @@ store_parts w u size m v q written rs number jump s place fault rest g p ez eq e
 
 pub booted : (memory copy : List ℕ) (s : State) (g : Flight) (log : Logged) (budget : ℕ) → s ≡ boot memory
     → copy ≡ memory → g ≡ record { pending = []; busy = replicate 32 false; last = 0 } → log.steps ≡ []
-    → processor_of s g.pending g.busy None log budget 0 g.last copy false ≡ boot_processor memory budget
+    → processor_of s g.pending g.busy None log budget 0 0 g.last copy false ≡ boot_processor memory budget
 unfolding boot_processor
 booted memory copy s g log budget es ec em el =
     ap (λ x. record {
@@ -527,6 +550,7 @@ booted memory copy s g log budget es ec em el =
       log = log.steps;
       budget = budget;
       asked = 0;
+      accessed = 0;
       last = g.last;
       boot_memory = copy;
       seats_given = false;
@@ -539,6 +563,7 @@ booted memory copy s g log budget es ec em el =
       log = log.steps;
       budget = budget;
       asked = 0;
+      accessed = 0;
       last = x.last;
       boot_memory = copy;
       seats_given = false;
@@ -551,6 +576,7 @@ booted memory copy s g log budget es ec em el =
       log = x;
       budget = budget;
       asked = 0;
+      accessed = 0;
       last = 0;
       boot_memory = copy;
       seats_given = false;
@@ -563,6 +589,7 @@ booted memory copy s g log budget es ec em el =
       log = [];
       budget = budget;
       asked = 0;
+      accessed = 0;
       last = 0;
       boot_memory = x;
       seats_given = false;

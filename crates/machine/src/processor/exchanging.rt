@@ -8,7 +8,7 @@ use crate::{Answer, Done, Machine};
 use relocation::PACKAGE_WORDS;
 
 impl Machine {
-    /// An exchange is asked for. Room is made in the log for three entries, so that no other event takes
+    /// An exchange is asked for. Room is made in the log for three entries, so that issues and exchanges take no
     /// memory.
     pub(crate) fn ask(&mut self, at: u32) -> Answer
         ensures answer { IsAnswer self.old (Ask at) result }

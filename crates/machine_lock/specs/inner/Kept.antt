@@ -2,9 +2,10 @@
 use Rattle.std.specs.Prelude.{◌≡◌, ℕ, Bool, true, false, Some}
 use Rattle.atomic_table.specs.Seated.{TableId}
 use Rattle.atomic_table.specs.declared.shared.Seat.{Seat}
+use Rattle.sequential.specs.Replay.{LogStep, Issued, ReadAt, Wrote}
 use Rattle.program_order.specs.declared.event.Event.{Event}
 use Rattle.program_order.specs.declared.event.Event.TheVariants.{Issue, Read, Finish, Store, Accept, Return, BankFree}
-use Rattle.program_order.specs.declared.event.Event.TheVariants.{Ask, Exchange}
+use Rattle.program_order.specs.declared.event.Event.TheVariants.{Ask, Exchange, PpRead, PpWrite}
 use Rattle.program_order.specs.Processor.{Processor, replayed, completed}
 use Rattle.machine_lock.specs.Known.{Known}
 use Rattle.machine_lock.specs.inner.Rules.{Knowing, IsKeeper, past}
@@ -42,3 +43,25 @@ is_of_memory (Return c) = true
 is_of_memory (BankFree b) = true
 is_of_memory (Ask n) = false
 is_of_memory Exchange = false
+is_of_memory (PpRead a) = false
+is_of_memory (PpWrite a v) = false
+
+-- the event is a peripheral access
+abbrev pub is_access : Event → Bool
+is_access Issue = false
+is_access (Read u) = false
+is_access (Finish u) = false
+is_access (Store u) = false
+is_access (Accept p) = false
+is_access (Return c) = false
+is_access (BankFree b) = false
+is_access (Ask n) = false
+is_access Exchange = false
+is_access (PpRead a) = true
+is_access (PpWrite a v) = true
+
+-- the step that a peripheral access adds to the log
+abbrev pub access_step : Event → LogStep
+access_step (PpRead a) = ReadAt a
+access_step (PpWrite a v) = Wrote a v
+access_step _ = Issued

@@ -10,20 +10,22 @@ use Rattle.sequential.specs.declared.fetching.Fetched.TheVariants.{Halting, Pass
 use Rattle.program_order.specs.declared.event.Done.{Done}
 use Rattle.program_order.specs.declared.event.Event.{Event}
 use Rattle.program_order.specs.declared.event.Event.TheVariants.{Issue, Read, Finish, Store, Accept, Return, BankFree}
-use Rattle.program_order.specs.declared.event.Event.TheVariants.{Ask, Exchange}
+use Rattle.program_order.specs.declared.event.Event.TheVariants.{Ask, Exchange, PpRead, PpWrite}
 use Rattle.in_flight.specs.declared.pending.Pending.{Pending}
 use Rattle.in_flight.specs.declared.pending.Stage.{Stage}
 use Rattle.in_flight.specs.declared.pending.Stage.TheVariants.{Waiting, Read as HasRead, Finished}
 use Rattle.instructions.specs.Each.{Each}
-use Rattle.program_order.specs.Refusals.{is_accept_refusal, is_ask_refusal, is_exchange_refusal, is_issue_refusal}
+use Rattle.program_order.specs.Refusals.{is_accept_refusal, is_access_refusal, is_ask_refusal, is_exchange_refusal}
+use Rattle.program_order.specs.Refusals.{is_issue_refusal}
 use Rattle.program_order.specs.Refusals.{is_nothing, is_read_refusal, is_return_refusal, is_store_refusal, may_refuse}
-use Rattle.program_order.specs.Run.{IsAnswer, answer_by, answer_of, is_ask}
+use Rattle.program_order.specs.Run.{IsAnswer, answer_by, answer_of, makes_room}
 use Rattle.instructions.specs.Finding.{Found, seek}
 use Rattle.in_flight.specs.Tests.{Test, accept_tests, free_tests, nothing, read_tests, refusal_of, return_tests}
 use Rattle.in_flight.specs.Tests.{reservation_tests, tests_found}
 use Rattle.program_order.specs.Processor.{Processor}
 use Rattle.program_order.specs.Events.{allowed, tests_of}
 use Rattle.program_order.specs.Exchange.{ask_tests, exchange_tests}
+use Rattle.program_order.specs.Peripheral.{access_tests}
 use Rattle.program_order.specs.Units.{finish_tests, store_tests}
 use Rattle.program_order.specs.Issue.{issue_tests}
 use Rattle.in_flight.specs.Lookup.{stage_at}
@@ -84,6 +86,7 @@ or_false false h = cc
 
 pub refusal_named : (w : Processor) (e : Event) (k : Refusal) → allowed w e ≡ Some k → may_refuse e k ≡ true
 unfolding refusals_by_event allowed tests_of issue_tests accept_tests return_tests free_tests ask_tests exchange_tests
+    access_tests
 refusal_named w Issue k h = one_of is_issue_refusal (issue_tests w.state w.pending w.request w.budget _) k
     (refl, (refl, (refl, (refl, (refl, (refl, reservation_named w.pending _)))))) h
 refusal_named w (Read u) k h =
@@ -99,19 +102,25 @@ refusal_named w (BankFree b) k h = one_of is_nothing (free_tests w.busy b) k (re
 refusal_named w (Ask n) k h = one_of is_ask_refusal (ask_tests w.asked w.request _ n) k (refl, (refl, (refl, tt))) h
 refusal_named w Exchange k h =
     one_of is_exchange_refusal (exchange_tests w.request w.pending w.state) k (refl, (refl, (refl, tt))) h
+refusal_named w (PpRead a) k h =
+    one_of is_access_refusal (access_tests w.accessed w.pending _ a) k (refl, (refl, (refl, tt))) h
+refusal_named w (PpWrite a v) k h =
+    one_of is_access_refusal (access_tests w.accessed w.pending _ a) k (refl, (refl, (refl, tt))) h
 
--- only a request wants memory
-ask_named : (e : Event) → is_ask e ≡ true → may_refuse e OutOfMemory ≡ true
-unfolding is_ask may_refuse is_ask_refusal
-ask_named (Ask n) h = refl
-ask_named Issue h = cc
-ask_named (Read u) h = cc
-ask_named (Finish u) h = cc
-ask_named (Store u) h = cc
-ask_named (Accept p) h = cc
-ask_named (Return c) h = cc
-ask_named (BankFree b) h = cc
-ask_named Exchange h = cc
+-- only an event that makes room in the log wants memory
+room_named : (e : Event) → makes_room e ≡ true → may_refuse e OutOfMemory ≡ true
+unfolding makes_room may_refuse is_ask_refusal is_access_refusal
+room_named (Ask n) h = refl
+room_named (PpRead a) h = refl
+room_named (PpWrite a v) h = refl
+room_named Issue h = cc
+room_named (Read u) h = cc
+room_named (Finish u) h = cc
+room_named (Store u) h = cc
+room_named (Accept p) h = cc
+room_named (Return c) h = cc
+room_named (BankFree b) h = cc
+room_named Exchange h = cc
 
 err_inj : (k : Refusal) → ◌≡◌ {A = Result Done Refusal} (Err k) (Err OutOfMemory) → OutOfMemory ≡ k
 err_inj k i = cc
@@ -126,4 +135,4 @@ pub answer_named : (w : Processor) (e : Event) (a : Result Done Refusal) → IsA
 unfolding answer_of answer_by
 answer_named w e (Ok d) h = tt
 answer_named w e (Err k) (inl h) = refusal_named w e k (answered_err _ (allowed w e) k h)
-answer_named w e (Err k) (inr r) = subst (λ x. may_refuse e x ≡ true) (err_inj k r.want) (ask_named e r.ask)
+answer_named w e (Err k) (inr r) = subst (λ x. may_refuse e x ≡ true) (err_inj k r.want) (room_named e r.growing)

@@ -16,7 +16,8 @@ use Rattle.scoreboard.specs.Units.{may_take}
 use Rattle.sequential.specs.declared.fetching.Fetched.{Fetched}
 use Rattle.sequential.specs.declared.fetching.Fetched.TheVariants.{Halting, Passing, Taking}
 use Rattle.sequential.specs.declared.place.Place.{Place}
-use Rattle.sequential.specs.Replay.{Issued, Exchanged, boot}
+use Rattle.sequential.specs.declared.state.State.{State}
+use Rattle.sequential.specs.Replay.{LogStep, Issued, Exchanged, ReadAt, Wrote, boot}
 use Rattle.sequential.specs.State.{bounds_of}
 use Rattle.sequential.specs.Step.{fetch}
 use Rattle.sequential.specs.Taken.{taken_by, taken_unless, taken_in, one_for, taken_at, taken}
@@ -32,11 +33,12 @@ use Rattle.program_order.specs.declared.event.Done.{Done}
 use Rattle.program_order.specs.declared.event.Done.TheVariants.{Issued as DoneIssue}
 use Rattle.program_order.specs.declared.event.Event.{Event}
 use Rattle.program_order.specs.declared.event.Event.TheVariants.{Issue, Read, Finish, Store as StoreResult, Accept}
-use Rattle.program_order.specs.declared.event.Event.TheVariants.{Return, BankFree, Ask, Exchange}
+use Rattle.program_order.specs.declared.event.Event.TheVariants.{Return, BankFree, Ask, Exchange, PpRead, PpWrite}
 use Rattle.program_order.specs.declared.event.Note.{Note}
 use Rattle.program_order.specs.Complete.{complete}
 use Rattle.program_order.specs.Events.{after, after_found, allowed, tests_of}
 use Rattle.program_order.specs.Exchange.{after_exchange}
+use Rattle.program_order.specs.Peripheral.{after_pp_read, after_pp_write}
 use Rattle.program_order.specs.Issue.{after_issue, fetch_waits, issue_tests}
 use Rattle.program_order.specs.Memory.{after_accept, after_return}
 use Rattle.program_order.specs.Processor.{Processor, boot_processor, completed, replayed}
@@ -82,11 +84,19 @@ unfolding after_accept
 numbers_accept w f a (LoadInto n) h = h
 numbers_accept w f a (StoreWord v) h = h
 
+-- one more step that is no instruction
+numbers_step : (w : Processor) (x : LogStep) → ((s : State) → taken_at s x ≡ 0) → IsReplay w → IsNumbered w
+    → w.last ≡ taken (boot w.boot_memory) (w.log ++ x ∷ [])
+unfolding replayed
+numbers_step w x z r h =
+    let e = taken-push (boot w.boot_memory) (completed w) w.log x r in
+    let k = z (completed w) in
+    omega (arith, e, h, k)
+
 numbers_exchange : (w : Processor) (o : Option ℕ) → IsReplay w → IsNumbered w → IsNumbered (after_exchange w o)
-unfolding after_exchange replayed taken_at
+unfolding after_exchange taken_at
 numbers_exchange w None r h = h
-numbers_exchange w (Some n) r h =
-    let e = taken-push (boot w.boot_memory) (completed w) w.log (Exchanged n) r in omega (arith, e, h)
+numbers_exchange w (Some n) r h = numbers_step w (Exchanged n) (λ s. refl) r h
 
 -- one more issue
 issued_count : (w : Processor) (g : Fetched) → IsReplay w → taken_in (completed w) ≡ taken_by g
@@ -112,7 +122,7 @@ issue_taken w h =
 
 pub numbers_kept : (w : Processor) (e : Event) → allowed w e ≡ None → IsReplay w → IsNumbered w
     → IsNumbered (after w e)
-unfolding after after_read after_finish after_return
+unfolding after after_read after_finish after_return after_pp_read after_pp_write taken_at
 numbers_kept w Issue a r h = numbers_issue w _ r h (issue_taken w a)
 numbers_kept w (Read u) a r h = numbers_found w _ _ (λ f. h) h
 numbers_kept w (Finish u) a r h = numbers_found w _ _ (λ f. h) h
@@ -122,6 +132,8 @@ numbers_kept w (Return c) a r h = numbers_found w _ _ (λ f. h) h
 numbers_kept w (BankFree k) a r h = h
 numbers_kept w (Ask n) a r h = h
 numbers_kept w Exchange a r h = numbers_exchange w w.request r h
+numbers_kept w (PpRead k) a r h = numbers_step w (ReadAt k) (λ s. refl) r h
+numbers_kept w (PpWrite k v) a r h = numbers_step w (Wrote k v) (λ s. refl) r h
 
 pub boot_numbered : (memory : List ℕ) (budget : ℕ) → IsNumbered (boot_processor memory budget)
 unfolding boot_processor taken
@@ -171,7 +183,7 @@ issue_reservations : (w : Processor) → allowed w Issue ≡ None
 unfolding allowed tests_of issue_tests
 issue_reservations w h = (refusal_none _ h).1.1.1.1.1.1
 
-ok_done : (w : Processor) (e : Event) (d : Done) → IsAnswer w e (Ok d) → allowed w e ≡ None → d ≡ done_by w e
+pub ok_done : (w : Processor) (e : Event) (d : Done) → IsAnswer w e (Ok d) → allowed w e ≡ None → d ≡ done_by w e
 unfolding answer_of answer_by
 ok_done w e d (inl h) a = let k = h ∙ ap (answer_by (done_by w e)) a in cc
 ok_done w e d (inr h) a = let k = h.want in absurd (cc)
@@ -187,6 +199,8 @@ is_issue w (Return c) o h = absurd (cc)
 is_issue w (BankFree k) o h = absurd (cc)
 is_issue w (Ask n) o h = absurd (cc)
 is_issue w Exchange o h = absurd (cc)
+is_issue w (PpRead a) o h = absurd (cc)
+is_issue w (PpWrite a v) o h = absurd (cc)
 
 note_is : (w : Processor) (note : Option Note) → DoneIssue note ≡ done_by w Issue
     → note ≡ note_by w (fetch (bounds_of w.state) w.state.memory w.state.place)

@@ -1,6 +1,7 @@
 -- Memory keeps its size, and the package of a request lies in it.
 use Rattle.std.proofs.Common.{◌≡◌, ◌≤◌, ◌+◌, ℕ, Bool, true, false, List, [], ◌∷◌, Option, Some, None, cond, length}
-use Rattle.std.proofs.Common.{refl, sym, ap, ◌∙◌, subst}
+use Rattle.std.proofs.Common.{refl, sym, ap, ◌∙◌, subst, ltb}
+use Rattle.std.proofs.lemmas.List.{length-set}
 use Rattle.std.specs.Prelude.{is_some, unwrap_or}
 use Rattle.std.proofs.lemmas.Bool.{false≢true, leb-true}
 use Rattle.instructions.specs.declared.refusal.Halt.{Halt}
@@ -10,8 +11,9 @@ use Rattle.relocation.proofs.Overwriting.{length-overwritten}
 use Rattle.sequential.specs.declared.fetching.Fetched.{Fetched}
 use Rattle.sequential.specs.declared.fetching.Fetched.TheVariants.{Halting, Passing, Taking}
 use Rattle.sequential.specs.declared.state.State.{State}
-use Rattle.sequential.specs.Replay.{LogStep, Issued, Exchanged, do_log_step, replay, then_replay, boot}
-use Rattle.sequential.specs.State.{Bounds, bounds_of, halt_by, move_to}
+use Rattle.sequential.specs.Replay.{LogStep, Issued, Exchanged, ReadAt, Wrote, do_log_step, replay, then_replay}
+use Rattle.sequential.specs.Replay.{boot}
+use Rattle.sequential.specs.State.{Bounds, bounds_of, halt_by, move_to, poke}
 use Rattle.sequential.specs.Step.{do_fetched, do_instruction, fetch, step, step_unless}
 use Rattle.sequential.specs.Swap.{begun, package_of, swap}
 use Rattle.program_order.specs.Sound.{Fits, IsReplay}
@@ -42,8 +44,13 @@ pub swap_size : (s : State) (n : ℕ) → package_fits n (length s.memory) ≡ t
 unfolding swap begun words_of
 swap_size s n h = length-overwritten s.memory n (words_of (package_of s)) (package_within n (length s.memory) h)
 
+if_within : (b : Bool) (s u t : State) → cond b (Some u) None ≡ Some t → length u.memory ≡ length s.memory
+    → length t.memory ≡ length s.memory
+if_within true s u t e k = sym (ap (λ o. length (unwrap_or o s).memory) e) ∙ k
+if_within false s u t e k = absurd (false≢true (ap is_some e))
+
 log_step_size : (s : State) (x : LogStep) (t : State) → do_log_step s x ≡ Some t → length t.memory ≡ length s.memory
-unfolding do_log_step
+unfolding do_log_step poke
 log_step_size s Issued t h = sym (ap (λ o. length (unwrap_or o s).memory) h) ∙ step_size s
 log_step_size s (Exchanged n) t h = by_fit (package_fits n (length s.memory)) refl h
   where
@@ -51,6 +58,8 @@ log_step_size s (Exchanged n) t h = by_fit (package_fits n (length s.memory)) re
         → length t.memory ≡ length s.memory
     by_fit true f e = sym (ap (λ o. length (unwrap_or o s).memory) e) ∙ swap_size s n f
     by_fit false f e = absurd (false≢true (ap is_some e))
+log_step_size s (ReadAt a) t h = if_within (ltb a (length s.memory)) s s t h refl
+log_step_size s (Wrote a w) t h = if_within (ltb a (length s.memory)) s (poke s a w) t h (length-set s.memory a w)
 
 pub replay_size : (s : State) (xs : List LogStep) (t : State) → replay s xs ≡ Some t → length t.memory ≡ length s.memory
 unfolding replay then_replay

@@ -28,7 +28,8 @@ use Rattle.sequential.specs.Work.{reference_for, work_of}
 use Rattle.unit_ops.specs.declared.UnitValue.{UnitValue}
 use Rattle.program_order.specs.declared.event.Event.{Event}
 use Rattle.program_order.specs.declared.event.Event.TheVariants.{Issue, Read, Finish, Store as StoreResult, Accept}
-use Rattle.program_order.specs.declared.event.Event.TheVariants.{Return, BankFree, Ask, Exchange}
+use Rattle.program_order.specs.declared.event.Event.TheVariants.{Return, BankFree, Ask, Exchange, PpRead, PpWrite}
+use Rattle.program_order.specs.Peripheral.{after_pp_read, after_pp_write}
 use Rattle.in_flight.specs.declared.pending.Arrival.{Arrival}
 use Rattle.in_flight.specs.declared.pending.HopperEntry.{HopperEntry}
 use Rattle.in_flight.specs.declared.pending.Outstanding.{Outstanding}
@@ -343,7 +344,7 @@ exchange_slotted w None e h = h
 exchange_slotted w (Some n) e h = subst (IsSlotted _) (sym e) (record { apart = tt; proper = tt })
 
 pub event_slotted : (w : Processor) (e : Event) → allowed w e ≡ None → IsSlottedWhole w → IsSlottedWhole (after w e)
-unfolding allowed tests_of after issue_tests exchange_tests
+unfolding allowed tests_of after after_pp_read after_pp_write poke issue_tests exchange_tests
 event_slotted w Issue h s = issue_slotted w _ (refusal_none _ h).1.1.1.1.1.1 s
 event_slotted w (Read u) h s = read_slotted w u (seek (stage_at u) w.pending) refl s
 event_slotted w (Finish u) h s = finish_slotted w u (seek (stage_at u) w.pending) refl s
@@ -353,3 +354,6 @@ event_slotted w (Return c) h s = return_slotted w c (seek (arrival_at c) w.pendi
 event_slotted w (BankFree k) h s = s
 event_slotted w (Ask n) h s = s
 event_slotted w Exchange h s = exchange_slotted w w.request (not_pending w.pending (refusal_none _ h).1.0) s
+event_slotted w (PpRead a) h s = s
+event_slotted w (PpWrite a v) h s =
+    from_size (length w.state.memory) _ _ (length-set w.state.memory a v) s

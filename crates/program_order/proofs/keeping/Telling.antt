@@ -1,6 +1,6 @@
 -- What a refusal tells of the state to which the log leads.
 use Rattle.std.proofs.Common.{◌≡◌, ◌⊎◌, ◌||◌, ℕ, Bool, true, false, List, [], ◌∷◌, Option, Some, None, cond, refl}
-use Rattle.std.proofs.Common.{sym, ap, ◌∙◌, inl, inr, ⊎_elim}
+use Rattle.std.proofs.Common.{sym, ap, ◌∙◌, subst, get_or, inl, inr, ⊎_elim}
 use Rattle.std.proofs.lemmas.Bool.{and_parts}
 use Rattle.std.specs.Prelude.{◌&&◌, not, is_some, is_none, unwrap_or, Result, Ok, Err, IfErr}
 use Rattle.instructions.specs.declared.refusal.Halt.{Halt}
@@ -17,22 +17,25 @@ use Rattle.in_flight.specs.Lookup.{is_pending}
 use Rattle.in_flight.specs.Tests.{Test, refusal_of, reservation_tests}
 use Rattle.in_flight.proofs.asking.Finding.{refusal_none}
 use Rattle.program_order.specs.declared.event.Done.{Done}
+use Rattle.program_order.specs.declared.event.Done.TheVariants.{Word}
 use Rattle.program_order.specs.declared.event.Event.{Event}
 use Rattle.program_order.specs.declared.event.Event.TheVariants.{Issue, Read, Finish, Store as StoreResult, Accept}
-use Rattle.program_order.specs.declared.event.Event.TheVariants.{Return, BankFree, Ask, Exchange}
+use Rattle.program_order.specs.declared.event.Event.TheVariants.{Return, BankFree, Ask, Exchange, PpRead, PpWrite}
 use Rattle.program_order.specs.Complete.{complete}
-use Rattle.program_order.specs.Events.{allowed, tests_of}
+use Rattle.program_order.specs.Events.{after, allowed, tests_of}
 use Rattle.program_order.specs.Exchange.{exchange_tests}
 use Rattle.program_order.specs.Issue.{issue_tests}
 use Rattle.program_order.specs.Processor.{Processor, completed}
 use Rattle.program_order.specs.Refusals.{may_refuse}
-use Rattle.program_order.specs.Run.{IsAnswer, answer_of}
+use Rattle.program_order.specs.Peripheral.{after_pp_read}
+use Rattle.program_order.specs.Run.{IsAnswer, answer_of, done_by, settled}
 use Rattle.program_order.specs.Telling.{IsWhy}
 use Rattle.program_order.proofs.Opened.{refusals_by_event}
 use Rattle.program_order.proofs.effects.Completing.{complete-change, complete-halted, each_all}
 use Rattle.program_order.proofs.effects.OnePending.{run-mark}
 use Rattle.program_order.proofs.keeping.Naming.{answered_err, one_of, refusal_named}
-use Rattle.program_order.proofs.theorem.Theorem.{drained_completed, not_pending}
+use Rattle.program_order.proofs.keeping.Numbering.{ok_done}
+use Rattle.program_order.proofs.theorem.Theorem.{completed_read, drained_completed, made_allowed, not_pending}
 
 -- ---- a fault stays to the completed state ----
 
@@ -158,6 +161,8 @@ halted_issue (Return c) h i = absurd (cc)
 halted_issue (BankFree k) h i = absurd (cc)
 halted_issue (Ask n) h i = absurd (cc)
 halted_issue Exchange h i = absurd (cc)
+halted_issue (PpRead a) h i = absurd (cc)
+halted_issue (PpWrite a v) h i = absurd (cc)
 
 faulted_issue : (e : Event) → may_refuse e Faulted ≡ true → e ≡ Issue
 unfolding refusals_by_event
@@ -170,6 +175,8 @@ faulted_issue (Return c) i = absurd (cc)
 faulted_issue (BankFree k) i = absurd (cc)
 faulted_issue (Ask n) i = absurd (cc)
 faulted_issue Exchange i = absurd (cc)
+faulted_issue (PpRead a) i = absurd (cc)
+faulted_issue (PpWrite a v) i = absurd (cc)
 
 mid_word_exchange : (e : Event) → may_refuse e MidWord ≡ true → e ≡ Exchange
 unfolding refusals_by_event
@@ -182,6 +189,8 @@ mid_word_exchange (Return c) i = absurd (cc)
 mid_word_exchange (BankFree k) i = absurd (cc)
 mid_word_exchange (Ask n) i = absurd (cc)
 mid_word_exchange Exchange i = refl
+mid_word_exchange (PpRead a) i = absurd (cc)
+mid_word_exchange (PpWrite a v) i = absurd (cc)
 
 why : (w : Processor) (e : Event) (k : Refusal) → allowed w e ≡ Some k → IsWhy (completed w) k
 unfolding completed
@@ -225,3 +234,14 @@ exchange_asked w h = by_request w.request refl (refusal_none _ h).0
     by_request : (o : Option ℕ) → w.request ≡ o → is_none o ≡ false → (n : ℕ) × (w.request ≡ Some n)
     by_request None e k = absurd (cc)
     by_request (Some n) e k = (n, e)
+
+-- the word that a peripheral processor read is that of the state to which the log leads
+pub word_told : (w v : Processor) (a : ℕ) (r : Result Done Refusal) (d : Done) → IsAnswer w (PpRead a) r
+    → v ≡ settled w (PpRead a) r → r ≡ Ok d → d ≡ Word (get_or (completed v).memory a 0)
+unfolding done_by settled after after_pp_read completed
+word_told w v a r d i s o =
+    let k : IsAnswer w (PpRead a) (Ok d) = subst (IsAnswer w (PpRead a)) o i in
+    let free = made_allowed w (PpRead a) d k in
+    ok_done w (PpRead a) d k free
+    ∙ ap Word (completed_read w a free)
+    ∙ ap (λ x. Word (get_or (completed x).memory a 0)) (sym (s ∙ ap (settled w (PpRead a)) o))

@@ -9,8 +9,8 @@ use Rattle.program_order.specs.declared.event.Done.{Done}
 use Rattle.program_order.specs.declared.event.Done.TheVariants.{Made}
 use Rattle.program_order.specs.declared.event.Event.{Event}
 use Rattle.program_order.specs.declared.event.Event.TheVariants.{Issue, Read, Finish, Store as StoreResult, Accept}
-use Rattle.program_order.specs.declared.event.Event.TheVariants.{Return, BankFree, Ask, Exchange}
-use Rattle.program_order.specs.Headline.{makes_no_exchange}
+use Rattle.program_order.specs.declared.event.Event.TheVariants.{Return, BankFree, Ask, Exchange, PpRead, PpWrite}
+use Rattle.program_order.specs.Headline.{GainsAccesses, makes_no_exchange}
 use Rattle.program_order.specs.Reached.{GoesOn, GoesOnByWork, IsReached, without_seats}
 use Rattle.program_order.specs.Run.{IsAnswer, IsAnswered, IsRun, answer_by, answer_of, done_by, settled, settled_all}
 use Rattle.program_order.specs.Processor.{Processor, boot_processor}
@@ -56,6 +56,8 @@ work_done w (Return c) h = refl
 work_done w (BankFree k) h = refl
 work_done w (Ask n) h = cc
 work_done w Exchange h = cc
+work_done w (PpRead a) h = cc
+work_done w (PpWrite a v) h = cc
 
 -- an allowed event that works on what is pending is answered that it was made
 work_answer : (w : Processor) (e : Event) → is_work e ≡ true → allowed w e ≡ None → IsAnswer w e (Ok Made)
@@ -121,14 +123,13 @@ goes_on_then w x v es fs given more g h memory budget events answers r =
 pub fault_reached : (memory : List ℕ) (budget : ℕ) (events more : List Event)
     (answers given : List (Result Done Refusal)) (w v : Processor) → IsReached memory budget events answers w
     → w.state.fault ≡ true → IsReached memory budget (events ++ more) (answers ++ given) v
-    → makes_no_exchange more given ≡ true → (v.log ≡ w.log) × (v.state.fault ≡ true)
+    → makes_no_exchange more given ≡ true → GainsAccesses w.log v.log × (v.state.fault ≡ true)
 fault_reached memory budget events more answers given w v r f s n =
     let first = settled_all (boot_processor memory budget) events answers in
     let k = fault_run first more given (ap (λ (x : Processor). x.state.fault) (sym r.left) ∙ f)
     (answered_rest (boot_processor memory budget) events more answers given r.answered s.answered) n in
     let l : without_seats v ≡ settled_all first more given =
     s.left ∙ sym (settled_append (boot_processor memory budget) events more answers given r.answered) in (
-      ap (λ (x : Processor). x.log) l ∙ k.0
-          ∙ ap (λ (x : Processor). x.log) (sym r.left),
+      subst₂ GainsAccesses (ap (λ (x : Processor). x.log) (sym r.left)) (ap (λ (x : Processor). x.log) (sym l)) k.0,
       ap (λ (x : Processor). x.state.fault) l ∙ k.1,
     )

@@ -8,8 +8,8 @@ use Rattle.instructions.specs.declared.refusal.Refusal.{Refusal}
 use Rattle.program_order.specs.declared.event.Done.{Done}
 use Rattle.program_order.specs.declared.event.Event.{Event}
 use Rattle.program_order.specs.declared.event.Event.TheVariants.{Issue, Read, Finish, Store as StoreResult, Accept}
-use Rattle.program_order.specs.declared.event.Event.TheVariants.{Return, BankFree, Ask, Exchange}
-use Rattle.program_order.specs.Run.{answer_by, done_by, answer_of, is_ask, IsAnswer, settled, IsAnswered, settled_all}
+use Rattle.program_order.specs.declared.event.Event.TheVariants.{Return, BankFree, Ask, Exchange, PpRead, PpWrite}
+use Rattle.program_order.specs.Run.{answer_by, done_by, answer_of, makes_room, IsAnswer, settled, IsAnswered, settled_all}
 use Rattle.program_order.specs.Run.{IsRun}
 use Rattle.program_order.specs.Processor.{Processor}
 use Rattle.program_order.specs.Events.{allowed, after}
@@ -145,24 +145,26 @@ some_event : (o : Option Event) (e : Event) (v : Processor) → o ≡ next_of v.
     → next_of v.pending v.busy ≡ Some e
 some_event o e v h k = sym h ∙ k
 
-no_request : (e : Event) → is_work e ≡ true → is_ask e ≡ true → ⊥
-unfolding is_work is_ask
-no_request Issue h k = cc
-no_request (Read u) h k = cc
-no_request (Finish u) h k = cc
-no_request (StoreResult u) h k = cc
-no_request (Accept p) h k = cc
-no_request (Return n) h k = cc
-no_request (BankFree b) h k = cc
-no_request (Ask n) h k = cc
-no_request Exchange h k = cc
+no_growth : (e : Event) → is_work e ≡ true → makes_room e ≡ true → ⊥
+unfolding is_work makes_room
+no_growth Issue h k = cc
+no_growth (Read u) h k = cc
+no_growth (Finish u) h k = cc
+no_growth (StoreResult u) h k = cc
+no_growth (Accept p) h k = cc
+no_growth (Return n) h k = cc
+no_growth (BankFree b) h k = cc
+no_growth (Ask n) h k = cc
+no_growth Exchange h k = cc
+no_growth (PpRead a) h k = cc
+no_growth (PpWrite a v) h k = cc
 
 -- an allowed event that works on what is pending is made
 surely_made : (v : Processor) (e : Event) (a : Result Done Refusal) → allowed v e ≡ None → is_work e ≡ true
     → IsAnswer v e a → a ≡ Ok (done_by v e)
 unfolding answer_of answer_by
 surely_made v e a h i (inl k) = k ∙ ap (answer_by (done_by v e)) h
-surely_made v e a h i (inr k) = absurd (no_request e i k.ask)
+surely_made v e a h i (inr k) = absurd (no_growth e i k.growing)
 
 pub draining_more : (w v x : Processor) (n : ℕ) (o : Option Event) (e : Event) (a : Result Done Refusal)
     → Draining w v n → n < 40 → work_left v.pending ≤ 40 → allowed v e ≡ None → o ≡ next_of v.pending v.busy

@@ -11,7 +11,7 @@ use Rattle.program_order.specs.declared.event.Done.{Done}
 use Rattle.program_order.specs.declared.event.Done.TheVariants.{Issued as DoneIssue}
 use Rattle.program_order.specs.declared.event.Event.{Event}
 use Rattle.program_order.specs.declared.event.Event.TheVariants.{Issue, Read, Finish, Store, Accept, Return, BankFree}
-use Rattle.program_order.specs.declared.event.Event.TheVariants.{Ask, Exchange}
+use Rattle.program_order.specs.declared.event.Event.TheVariants.{Ask, Exchange, PpRead, PpWrite}
 use Rattle.in_flight.specs.declared.pending.Stage.{Stage}
 use Rattle.in_flight.specs.declared.pending.Stage.TheVariants.{Waiting, Read as HasRead, Finished}
 use Rattle.in_flight.specs.declared.pending.HopperEntry.{HopperEntry}
@@ -21,6 +21,7 @@ use Rattle.program_order.specs.Processor.{Processor}
 use Rattle.program_order.specs.Events.{after, after_found, allowed, tests_of}
 use Rattle.program_order.specs.Memory.{after_accept, after_return}
 use Rattle.program_order.specs.Exchange.{after_exchange}
+use Rattle.program_order.specs.Peripheral.{after_pp_read, after_pp_write, word_read}
 use Rattle.program_order.specs.Units.{after_finish, after_read, after_store, after_work}
 use Rattle.program_order.specs.Issue.{after_issue}
 
@@ -35,7 +36,7 @@ same_note b w (Passing place) = refl
 same_note b w (Taking i place) = refl
 
 same_done : (b : Bool) (w : Processor) (e : Event) → done_by (seated b w) e ≡ done_by w e
-unfolding done_by
+unfolding done_by word_read
 same_done b w Issue = ap DoneIssue (same_note b w _)
 same_done b w (Read u) = refl
 same_done b w (Finish u) = refl
@@ -45,6 +46,8 @@ same_done b w (Return c) = refl
 same_done b w (BankFree k) = refl
 same_done b w (Ask n) = refl
 same_done b w Exchange = refl
+same_done b w (PpRead a) = refl
+same_done b w (PpWrite a v) = refl
 
 same_allowed : (b : Bool) (w : Processor) (e : Event) → allowed (seated b w) e ≡ allowed w e
 unfolding allowed tests_of
@@ -57,6 +60,8 @@ same_allowed b w (Return c) = refl
 same_allowed b w (BankFree k) = refl
 same_allowed b w (Ask n) = refl
 same_allowed b w Exchange = refl
+same_allowed b w (PpRead a) = refl
+same_allowed b w (PpWrite a v) = refl
 
 same_answer : (b : Bool) (w : Processor) (e : Event) → answer_of (seated b w) e ≡ answer_of w e
 unfolding answer_of
@@ -97,7 +102,7 @@ exchange_after b w None = refl
 exchange_after b w (Some n) = refl
 
 same_after : (b : Bool) (w : Processor) (e : Event) → after (seated b w) e ≡ seated b (after w e)
-unfolding after after_read after_finish after_return
+unfolding after after_read after_finish after_return after_pp_read after_pp_write
 same_after b w Issue = issue_after b w _
 same_after b w (Read u) = found_after b w _ _ _ (λ x. refl)
 same_after b w (Finish u) = found_after b w _ _ _ (λ x. refl)
@@ -107,6 +112,8 @@ same_after b w (Return c) = found_after b w _ _ _ (λ x. refl)
 same_after b w (BankFree k) = refl
 same_after b w (Ask n) = refl
 same_after b w Exchange = exchange_after b w w.request
+same_after b w (PpRead a) = refl
+same_after b w (PpWrite a v) = refl
 
 same_settled : (b : Bool) (w : Processor) (e : Event) (a : Result Done Refusal)
     → settled (seated b w) e a ≡ seated b (settled w e a)
@@ -127,7 +134,7 @@ seated_answer : (b : Bool) (w : Processor) (e : Event) (a : Result Done Refusal)
     → IsAnswer (seated b w) e a
 seated_answer b w e a (inl h) = inl (h ∙ sym (same_answer b w e))
 seated_answer b w e a (inr r) =
-    inr (record { want = r.want; ask = r.ask; otherwise_allowed = same_allowed b w e ∙ r.otherwise_allowed })
+    inr (record { want = r.want; growing = r.growing; otherwise_allowed = same_allowed b w e ∙ r.otherwise_allowed })
 
 pub seated_answers : (b : Bool) (w : Processor) (events : List Event) (answers : List (Result Done Refusal))
     → IsAnswered w events answers → IsAnswered (seated b w) events answers

@@ -1,15 +1,14 @@
 -- What the tests of an event, and that pending instructions are apart, give for the earlier ones.
 use Rattle.scoreboard.specs.Conflicts as conflict
 use Rattle.scoreboard.specs.Reservations as board
-use Rattle.in_flight.specs.Pending.{progress_of, reservation_of, awaited, entered_in, has_turn, in_bank}
-use Rattle.in_flight.specs.Pending.{in_bank_in, is_branch, is_entered, to_be_read, to_come}
+use Rattle.in_flight.specs.Pending.{progress_of, reservation_of, awaited, entered_in, has_turn, holds_back}
+use Rattle.in_flight.specs.Pending.{holds_back_in, is_branch, is_entered, to_be_read, to_come, waits_in, delays_access}
 use Rattle.in_flight.proofs.asking.Asked.{comes, reads_it}
 use Rattle.in_flight.proofs.asking.Phases.{before_and, may_store, may_store_in, target_of, to_come_in}
 use Rattle.scoreboard.specs.Reservations.{is_reserved}
 use Rattle.std.proofs.Common.{◌≡◌, ℕ, Bool, true, false, List, [], ◌∷◌, ◌++◌, Option, Some, None, refl, sym, ap, ◌∙◌}
-use Rattle.std.proofs.Common.{eqb}
 use Rattle.std.specs.Prelude.{◌&&◌}
-use Rattle.std.proofs.lemmas.Bool.{eqb-false, ne_eqb}
+use Rattle.std.proofs.lemmas.Bool.{or_parts}
 use Rattle.std.specs.List.{list_any}
 use Rattle.instructions.proofs.Lists.{any_left, any_right, each_of_any, any_of_each, each_map, each_both, pairs_before}
 use Rattle.instructions.proofs.Lists.{pairs_with}
@@ -17,7 +16,7 @@ use Rattle.program_order.proofs.Opened.{operands_to_read, results_to_come, turns
 use Rattle.program_order.proofs.effects.Effects.{later_touches, no_reference}
 use Rattle.program_order.proofs.effects.OnePending.{touches_in, touches}
 use Rattle.program_order.proofs.effects.Completing.{IsFree, IsNoBranch}
-use Rattle.hopper.specs.Hopper.{bank_of}
+use Rattle.hopper.specs.Hopper.{is_store, keep_order}
 use Rattle.instructions.specs.RegisterLists.{is_in, overlap}
 use Rattle.instructions.specs.Shape.{Jumps, Links, Loads, Puts, Shape, Stores, has_reference, has_store}
 use Rattle.instructions.specs.Shape.{is_branch_shape, loads_of, puts_of, results, shape_of}
@@ -121,15 +120,19 @@ free_to_return es m c w e apart h =
 
 -- ---- references ----
 
-same_bank : (k a : ℕ) → eqb (bank_of k) (bank_of a) ≡ false → eqb k a ≡ false
-same_bank k a h = ne_eqb k a (λ e. eqb-false (bank_of k) (bank_of a) h (ap bank_of e))
-
-touches-from : (f : Bool) (a : ℕ) (p : Phase) → before_and f p ≡ false → in_bank_in (bank_of a) p ≡ false
-    → touches_in f a p ≡ false
-unfolding before_and in_bank_in touches_in later_touches is_reserved progress_of
+touches-from : (f : Bool) (a : ℕ) (p : Phase) → before_and f p ≡ false → waits_in a p ≡ false → touches_in f a p ≡ false
+unfolding before_and waits_in touches_in later_touches is_reserved progress_of
 touches-from f a (Before t) h k = h
-touches-from f a (After (Entered slot x access)) h k = same_bank x a k
+touches-from f a (After (Entered slot x access)) h k = k
 touches-from f a (After (Accepted n w)) h k = refl
+
+-- a store keeps its order beside all references to its address, so what doesn't hold it back is elsewhere
+touches-unless-held : (f : Bool) (a v : ℕ) (p : Phase) → before_and f p ≡ false
+    → holds_back_in a (StoreWord v) p ≡ false → touches_in f a p ≡ false
+unfolding before_and holds_back_in keep_order is_store touches_in later_touches is_reserved progress_of
+touches-unless-held f a v (Before t) h k = h
+touches-unless-held f a v (After (Entered slot x access)) h k = k
+touches-unless-held f a v (After (Accepted n w)) h k = refl
 
 store_from_reference : (h : Shape) → has_reference h ≡ false → has_store h ≡ false
 unfolding has_reference has_store
@@ -139,13 +142,22 @@ store_from_reference (Stores n) e = e
 store_from_reference Jumps e = refl
 store_from_reference Links e = e
 
-may_store-from : (h : Shape) (a : ℕ) (p : Phase) → before_and (has_reference h) p ≡ false
-    → in_bank_in (bank_of a) p ≡ false → may_store_in (has_store h) a p ≡ false
-unfolding before_and in_bank_in may_store_in is_reserved progress_of
+may_store-from : (h : Shape) (a : ℕ) (p : Phase) → before_and (has_reference h) p ≡ false → waits_in a p ≡ false
+    → may_store_in (has_store h) a p ≡ false
+unfolding before_and waits_in may_store_in is_reserved progress_of
 may_store-from h a (Before t) i k = store_from_reference h i
 may_store-from h a (After (Entered slot x (LoadInto n))) i k = refl
-may_store-from h a (After (Entered slot x (StoreWord w))) i k = same_bank x a k
+may_store-from h a (After (Entered slot x (StoreWord w))) i k = k
 may_store-from h a (After (Accepted n w)) i k = refl
+
+-- a load keeps its order beside stores to its address; another load of it may go before or after
+may_store-unless-held : (h : Shape) (a n : ℕ) (p : Phase) → before_and (has_reference h) p ≡ false
+    → holds_back_in a (LoadInto n) p ≡ false → may_store_in (has_store h) a p ≡ false
+unfolding before_and holds_back_in keep_order is_store may_store_in is_reserved progress_of
+may_store-unless-held h a n (Before t) i k = store_from_reference h i
+may_store-unless-held h a n (After (Entered slot x (LoadInto m))) i k = refl
+may_store-unless-held h a n (After (Entered slot x (StoreWord w))) i k = k
+may_store-unless-held h a n (After (Accepted m w)) i k = refl
 
 and_true : (f : Bool) → (true && f) ≡ false → f ≡ false
 and_true f h = h
@@ -158,21 +170,44 @@ turns_past es m slot a access e apart =
     each_map (λ y. IsApart y m) (λ y. has_turn y ≡ false)
     (λ y k. and_true (has_turn y) (ap (λ p. entered_in p && has_turn y) (sym e) ∙ k.in_turn)) es apart
 
-pub untouched : (es : List Pending) (a : ℕ) → Each (λ e. has_turn e ≡ false) es
-    → list_any (in_bank (bank_of a)) es ≡ false → Each (λ e. touches a e ≡ false) es
-unfolding has_turn in_bank touches board.has_turn reservation_of before_and is_reserved progress_of
-untouched es a h k =
-    each_both (λ y. has_turn y ≡ false) (λ y. in_bank (bank_of a) y ≡ false) (λ y. touches a y ≡ false)
-    (λ y i j. touches-from _ a y.phase i j) es h
-    (each_of_any (in_bank (bank_of a)) (λ y. in_bank (bank_of a) y ≡ false) (λ y i. i) es k)
+pub untouched : (es : List Pending) (a v : ℕ) → Each (λ e. has_turn e ≡ false) es
+    → list_any (holds_back a (StoreWord v)) es ≡ false → Each (λ e. touches a e ≡ false) es
+unfolding has_turn holds_back touches board.has_turn reservation_of before_and is_reserved progress_of
+untouched es a v h k =
+    each_both (λ y. has_turn y ≡ false) (λ y. holds_back a (StoreWord v) y ≡ false) (λ y. touches a y ≡ false)
+    (λ y i j. touches-unless-held _ a v y.phase i j) es h
+    (each_of_any (holds_back a (StoreWord v)) (λ y. holds_back a (StoreWord v) y ≡ false) (λ y i. i) es k)
 
-pub unstored : (es : List Pending) (a : ℕ) → Each (λ e. has_turn e ≡ false) es
-    → list_any (in_bank (bank_of a)) es ≡ false → Each (λ e. may_store a e ≡ false) es
-unfolding has_turn in_bank may_store board.has_turn reservation_of before_and is_reserved progress_of
-unstored es a h k =
-    each_both (λ y. has_turn y ≡ false) (λ y. in_bank (bank_of a) y ≡ false) (λ y. may_store a y ≡ false)
-    (λ y i j. may_store-from (shape_of y.instr) a y.phase i j) es h
-    (each_of_any (in_bank (bank_of a)) (λ y. in_bank (bank_of a) y ≡ false) (λ y i. i) es k)
+pub unstored : (es : List Pending) (a n : ℕ) → Each (λ e. has_turn e ≡ false) es
+    → list_any (holds_back a (LoadInto n)) es ≡ false → Each (λ e. may_store a e ≡ false) es
+unfolding has_turn holds_back may_store board.has_turn reservation_of before_and is_reserved progress_of
+unstored es a n h k =
+    each_both (λ y. has_turn y ≡ false) (λ y. holds_back a (LoadInto n) y ≡ false) (λ y. may_store a y ≡ false)
+    (λ y i j. may_store-unless-held (shape_of y.instr) a n y.phase i j) es h
+    (each_of_any (holds_back a (LoadInto n)) (λ y. holds_back a (LoadInto n) y ≡ false) (λ y i. i) es k)
+
+-- ---- peripheral accesses ----
+
+abbrev DelaysNone : ℕ → Pending → Type 0
+DelaysNone a m = delays_access a m ≡ false
+
+delaying_none : (ms : List Pending) (a : ℕ) → list_any (delays_access a) ms ≡ false → Each (DelaysNone a) ms
+delaying_none ms a h = each_of_any (delays_access a) (DelaysNone a) (λ m k. k) ms h
+
+-- no pending instruction may read or write a word that a peripheral processor may go to
+pub untouched_by_access : (ms : List Pending) (a : ℕ) → list_any (delays_access a) ms ≡ false
+    → Each (λ m. touches a m ≡ false) ms
+unfolding delays_access has_turn touches board.has_turn reservation_of before_and is_reserved progress_of
+untouched_by_access ms a h =
+    each_map (DelaysNone a) (λ m. touches a m ≡ false)
+    (λ m k. let p = or_parts _ _ k in touches-from _ a m.phase p.0 p.1) ms (delaying_none ms a h)
+
+pub unstored_by_access : (ms : List Pending) (a : ℕ) → list_any (delays_access a) ms ≡ false
+    → Each (λ m. may_store a m ≡ false) ms
+unfolding delays_access has_turn may_store board.has_turn reservation_of before_and is_reserved progress_of
+unstored_by_access ms a h =
+    each_map (DelaysNone a) (λ m. may_store a m ≡ false)
+    (λ m k. let p = or_parts _ _ k in may_store-from (shape_of m.instr) a m.phase p.0 p.1) ms (delaying_none ms a h)
 
 -- ---- branches ----
 

@@ -15,12 +15,11 @@ use Rattle.program_order.proofs.theorem.Moves.{run-accept_store, run-return}
 use Rattle.program_order.proofs.theorem.Apart.{not_awaited, free_to_put, free_to_return, turns_past, untouched}
 use Rattle.program_order.proofs.theorem.Apart.{unstored, no_branches, pairs_less, less_before, less_after}
 use Rattle.program_order.proofs.theorem.Apart.{less_accepted, turns_at_store}
-use Rattle.hopper.specs.Hopper.{bank_of}
 use Rattle.instructions.specs.Shape.{has_reference, puts_of, shape_of}
 use Rattle.instructions.specs.Operands.{sources_of}
 use Rattle.instructions.specs.declared.instr.Reg.TheVariants.{X}
 use Rattle.instructions.specs.Each.{Each, Pairs}
-use Rattle.in_flight.specs.Pending.{awaited, entered_in, has_turn, in_bank, is_entered, to_be_read}
+use Rattle.in_flight.specs.Pending.{awaited, entered_in, has_turn, holds_back, is_entered, to_be_read}
 use Rattle.in_flight.proofs.asking.Asked.{comes}
 use Rattle.program_order.specs.Complete.{complete}
 use Rattle.in_flight.specs.Apart.{IsApart}
@@ -105,29 +104,29 @@ store_event b s es m ls v slot e held turn apart =
     }
 
 pub accept_load_event : (b : Bounds) (s : State) (es : List Pending) (m : Pending) (ls : List Pending) (slot a n : ℕ)
-    → m.phase ≡ After (Entered slot a (LoadInto n)) → list_any (in_bank (bank_of a)) es ≡ false
+    → m.phase ≡ After (Entered slot a (LoadInto n)) → list_any (holds_back a (LoadInto n)) es ≡ false
     → Pairs IsApart (es ++ m ∷ ls)
     → IsKept b s s (es ++ m ∷ ls) (es ++ (in_phase m (After (Accepted n (get_or s.memory a 0))) ∷ [] ++ ls))
 unfolding is_entered entered_in in_phase complete
-accept_load_event b s es m ls slot a n e bank apart =
+accept_load_event b s es m ls slot a n e first apart =
     let turns = turns_past es m slot a _ e (pairs_before IsApart es m ls apart) in
     record {
       apart = pairs_less es (in_phase m (After (Accepted n (get_or s.memory a 0)))) m ls (less_accepted m slot a n _ e)
           (not_entered es (in_phase m (After (Accepted n (get_or s.memory a 0)))) refl) apart;
       same = complete-put_back b s s es ((in_phase m (After (Accepted n (get_or s.memory a 0)))) ∷ []) m ls
           (run-accept_load b (complete b s es) m slot a n _ e
-          (sym (complete-word b s es a (unstored es a turns bank))));
+          (sym (complete-word b s es a (unstored es a n turns first))));
     }
 
 pub accept_store_event : (b : Bounds) (s : State) (es : List Pending) (m : Pending) (ls : List Pending) (slot a v : ℕ)
-    → m.phase ≡ After (Entered slot a (StoreWord v)) → list_any (in_bank (bank_of a)) es ≡ false
+    → m.phase ≡ After (Entered slot a (StoreWord v)) → list_any (holds_back a (StoreWord v)) es ≡ false
     → Pairs IsApart (es ++ m ∷ ls) → IsKept b s (poke s a v) (es ++ m ∷ ls) (es ++ ([] ++ ls))
-accept_store_event b s es m ls slot a v e bank apart =
+accept_store_event b s es m ls slot a v e first apart =
     let turns = turns_past es m slot a _ e (pairs_before IsApart es m ls apart) in
     record {
       apart = pairs_without IsApart es m ls apart;
       same = complete-put_back b s (poke s a v) es [] m ls
-          (ap (λ x. complete b x []) (complete-poke b s es a v (untouched es a turns bank))
+          (ap (λ x. complete b x []) (complete-poke b s es a v (untouched es a v turns first))
           ∙ run-accept_store b (complete b s es) m slot a v e);
     }
 

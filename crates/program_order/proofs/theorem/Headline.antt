@@ -1,37 +1,45 @@
 -- The headline: the log is what was issued and exchanged, and a fault's run.
 use Rattle.sequential.specs.Place.{gone}
-use Rattle.std.proofs.Common.{◌≡◌, ℕ, zero, suc, ◌+◌, ◌-◌, ◌<◌, ◌≤◌, Bool, true, false, List, [], ◌∷◌, ◌++◌, Option}
-use Rattle.std.proofs.Common.{Some, None, cond, refl, sym, ap, ◌∙◌, subst, drop, length, append_assoc, arith}
-use Rattle.std.proofs.Common.{append-nil}
-use Rattle.std.proofs.lemmas.Bool.{and_parts, not-true, or_left}
+use Rattle.std.proofs.Common.{◌≡◌, ℕ, Bool, true, false, ◌||◌, List, [], ◌∷◌, ◌++◌, Option, Some, None, cond, refl, sym}
+use Rattle.std.proofs.Common.{ap, ◌∙◌, subst, subst₂, drop, length, append_assoc, append-nil, get_or, ltb}
+use Rattle.std.specs.List.{list_any, list_all}
+use Rattle.std.specs.Prelude.{◌&&◌}
+use Rattle.std.proofs.lemmas.Bool.{and_parts, or_parts, not-true, or_left, false≢true}
+use Rattle.std.proofs.lemmas.Option.{same_Some}
+use Rattle.instructions.proofs.Lists.{or_false}
+use Rattle.sequential.proofs.Runs.{replay_on}
+use Rattle.program_order.proofs.theorem.Issuing.{replay_more}
 use Rattle.in_flight.specs.declared.pending.Pending.{Pending}
 use Rattle.program_order.proofs.effects.Effects.{write_all_rest, do_option, do_parts, do_work-is}
-use Rattle.program_order.proofs.theorem.Theorem.{IsRight, run_kept, boot_right, drained_replay, made_allowed}
+use Rattle.program_order.proofs.theorem.Theorem.{IsRight, run_kept, boot_right, drained_completed, completed_read}
+use Rattle.program_order.proofs.theorem.Theorem.{made_allowed}
 use Rattle.relocation.specs.Relocation.{package_fits}
 use Rattle.instructions.specs.declared.refusal.Halt.{Halt}
 use Rattle.instructions.specs.declared.refusal.Halt.TheVariants.{Stop}
 use Rattle.instructions.specs.declared.refusal.Refusal.{Refusal}
 use Rattle.instructions.specs.declared.refusal.Refusal.TheVariants.{Faulted, Halted}
 use Rattle.in_flight.specs.Tests.{Test, refusal_of}
-use Rattle.program_order.specs.Headline.{Course, IsFaithful, IsFaultedRun, course_after, course_of, exchange_step}
-use Rattle.program_order.specs.Headline.{exchanges, is_exchange, item, log_of, logged, made_request, made_steps}
-use Rattle.program_order.specs.Headline.{makes_no_exchange, refusal_at_fault, request_by, steps, steps_by, then_course}
+use Rattle.program_order.specs.Headline.{GainsAccesses, IsFaithful, IsFaultedRun, ends_exchanged, exchange_step}
+use Rattle.program_order.specs.Headline.{exchanges, is_access, is_exchange, is_exchanged, log_of, logged, made_request}
+use Rattle.program_order.specs.Headline.{made_steps, makes_no_exchange, refusal_at_fault, request_by, steps_by}
 use Rattle.program_order.specs.Reached.{IsReached, without_seats}
 use Rattle.program_order.specs.Complete.{do_outstanding}
 use Rattle.program_order.specs.declared.event.Done.{Done}
-use Rattle.program_order.specs.Run.{settled, IsAnswer, IsAnswered, settled_all}
+use Rattle.program_order.specs.declared.event.Done.TheVariants.{Word}
+use Rattle.program_order.specs.Run.{done_by, settled, IsAnswer, IsAnswered, settled_all}
 use Rattle.sequential.specs.Swap.{begun, swap}
 use Rattle.std.specs.Prelude.{not, is_some, unwrap_or, Result, Ok, Err}
 use Rattle.instructions.specs.Finding.{Found}
-use Rattle.program_order.specs.Processor.{Processor, boot_processor}
+use Rattle.program_order.specs.Processor.{Processor, boot_processor, completed, replayed}
 use Rattle.program_order.specs.Events.{after, after_found, allowed, tests_of}
 use Rattle.program_order.specs.Memory.{after_accept, after_return}
 use Rattle.program_order.specs.Exchange.{after_exchange}
+use Rattle.program_order.specs.Peripheral.{after_pp_read, after_pp_write}
 use Rattle.program_order.specs.Units.{after_finish, after_read, after_store, after_work}
 use Rattle.program_order.specs.Issue.{after_issue, issue_tests}
 use Rattle.program_order.specs.declared.event.Event.{Event}
 use Rattle.program_order.specs.declared.event.Event.TheVariants.{Accept, Ask, BankFree, Exchange, Finish, Issue, Read}
-use Rattle.program_order.specs.declared.event.Event.TheVariants.{Return, Store as StoreResult}
+use Rattle.program_order.specs.declared.event.Event.TheVariants.{Return, Store as StoreResult, PpRead, PpWrite}
 use Rattle.in_flight.specs.declared.pending.HopperEntry.{HopperEntry}
 use Rattle.in_flight.specs.declared.pending.Outstanding.{Outstanding}
 use Rattle.in_flight.specs.declared.pending.Outstanding.TheVariants.{Accepted, Entered}
@@ -40,7 +48,8 @@ use Rattle.in_flight.specs.declared.pending.Stage.TheVariants.{Finished, Read as
 use Rattle.relocation.specs.declared.area.Access.{Access}
 use Rattle.relocation.specs.declared.area.Access.TheVariants.{Load as LoadInto, Store as StoreWord}
 use Rattle.sequential.specs.Log.{issued}
-use Rattle.sequential.specs.Replay.{Exchanged, Issued, LogStep, boot, do_log_step, replay, then_replay}
+use Rattle.sequential.specs.Replay.{Exchanged, Issued, LogStep, ReadAt, Wrote, boot, do_log_step, replay}
+use Rattle.sequential.specs.Replay.{then_replay}
 use Rattle.sequential.specs.State.{Bounds, access_at, bounds_of, go, halt_by, mark, move_to, poke, write}
 use Rattle.sequential.specs.Step.{do_fetched, do_instruction, step, step_unless}
 use Rattle.sequential.specs.Work.{Work, do_now}
@@ -89,7 +98,7 @@ books_exchange w None e = record { log = sym (append-nil w.log); request = e; bo
 books_exchange w (Some n) e = record { log = refl; request = refl; boot = refl }
 
 pub books_after : (w : Processor) (e : Event) → Books w (after w e) (made_request w.request e) (made_steps w.request e)
-unfolding after made_request made_steps after_read after_finish after_return
+unfolding after made_request made_steps after_read after_finish after_return after_pp_read after_pp_write
 books_after w Issue = books_issue w _
 books_after w (Read u) = books_found w _ _ (λ f. books_same w _ refl refl refl)
 books_after w (Finish u) = books_found w _ _ (λ f. books_same w _ refl refl refl)
@@ -99,6 +108,8 @@ books_after w (Return c) = books_found w _ _ (λ f. books_same w _ refl refl ref
 books_after w (BankFree k) = books_same w _ refl refl refl
 books_after w (Ask n) = record { log = sym (append-nil w.log); request = refl; boot = refl }
 books_after w Exchange = books_exchange w w.request refl
+books_after w (PpRead a) = record { log = refl; request = refl; boot = refl }
+books_after w (PpWrite a v) = record { log = refl; request = refl; boot = refl }
 
 pub books_by : (w : Processor) (e : Event) (a : Result Done Refusal)
     → Books w (settled w e a) (request_by a w.request e) (steps_by a w.request e)
@@ -124,45 +135,6 @@ unfolding settled_all
 run_boot w [] given = refl
 run_boot w (e ∷ es) [] = refl
 run_boot w (e ∷ es) (a ∷ given) = run_boot (settled w e a) es given ∙ (books_by w e a).boot
-
--- ---- the course since the last exchange ----
-
-pub swap-no_fault : (n : ℕ) (s : State) → (swap n s).fault ≡ false
-unfolding swap begun
-swap-no_fault n s = refl
-
-pub record IsCourse (c : Course) (xs : List LogStep) (t : State) : Type 0 where
-  pub course : Course
-  pub is_course : course_of c xs ≡ Some course
-  pub is_item : t ≡ item course
-  pub no_fault : course.start.fault ≡ false
-
-pub replay_course : (c : Course) (xs : List LogStep) (t : State) → c.start.fault ≡ false → replay (item c) xs ≡ Some t
-    → IsCourse c xs t
-unfolding replay course_of then_replay then_course course_after do_log_step item steps
-replay_course c [] t f h = record { course = c; is_course = refl; is_item = cc; no_fault = f }
-replay_course c (x ∷ xs) t f h = next x (λ d g k. replay_course d xs t g k) h
-  where
-    by_test : (n : ℕ) (b : Bool) → ((d : Course) → d.start.fault ≡ false → replay (item d) xs ≡ Some t
-        → IsCourse d xs t) → then_replay (cond b (Some (swap n (item c))) None) (λ u. replay u
-        xs) ≡ Some t → IsCourse (record { start = swap n (item c); count = 0 }) xs t × (b ≡ true)
-    by_test n true ih k = (ih (record { start = swap n (item c); count = 0 }) (swap-no_fault n (item c)) k, refl)
-    by_test n false ih k = cc
-
-    next : (y : LogStep) → ((d : Course) → d.start.fault ≡ false → replay (item d) xs ≡ Some t → IsCourse d xs t)
-        → then_replay (do_log_step (item c) y) (λ u. replay u xs) ≡ Some t → IsCourse c (y ∷ xs) t
-    next Issued ih k =
-        let r = ih (record { start = c.start; count = suc c.count }) f k in
-        record { course = r.course; is_course = r.is_course; is_item = r.is_item; no_fault = r.no_fault }
-    next (Exchanged n) ih k =
-        let r = by_test n (package_fits n (length (item c).memory)) ih k in
-        record {
-          course = r.0.course;
-          is_course = ap (λ b. then_course (cond b (Some (record { start = swap n (item c); count = 0 })) None)
-              (λ d. course_of d xs)) r.1 ∙ r.0.is_course;
-          is_item = r.0.is_item;
-          no_fault = r.0.no_fault;
-        }
 
 -- ---- a fault stays ----
 
@@ -197,44 +169,218 @@ step-fault s h = by_halt s.halt
     by_halt None = do_fetched-fault _ s _ _ h
     by_halt (Some k) = h
 
--- once set, it stays through all later steps
-steps-fault : (s : State) (n k : ℕ) → (steps n s).fault ≡ true → (steps (k + n) s).fault ≡ true
-unfolding steps
-steps-fault s n zero h = subst (λ m. (steps m s).fault ≡ true) (let e : n ≡ 0 + n = omega arith in e) h
-steps-fault s n (suc k) h = subst (λ m. (steps m s).fault ≡ true) (let e : suc (k + n) ≡ suc k + n = omega arith in e)
-    (step-fault (steps (k + n) s) (steps-fault s n k h))
+-- the state that a test lets through is that one
+let_through : (b : Bool) (s t : State) → cond b (Some s) None ≡ Some t → s ≡ t
+let_through true s t h = cc
+let_through false s t h = cc
 
-steps-fault_from : (s : State) (n m : ℕ) → n ≤ m → (steps n s).fault ≡ true → (steps m s).fault ≡ true
-steps-fault_from s n m l h =
-    subst (λ k. (steps k s).fault ≡ true) (let e : (m - n) + n ≡ m = omega arith in e) (steps-fault s n (m - n) h)
+log_step-fault : (s : State) (x : LogStep) (t : State) → is_exchanged x ≡ false → do_log_step s x ≡ Some t
+    → s.fault ≡ true → t.fault ≡ true
+unfolding do_log_step is_exchanged poke
+log_step-fault s Issued t n h f = ap (λ (y : State). y.fault) (sym (same_Some (step s) t h)) ∙ step-fault s f
+log_step-fault s (Exchanged k) t n h f = cc
+log_step-fault s (ReadAt a) t n h f =
+    ap (λ (y : State). y.fault) (sym (let_through (ltb a (length s.memory)) s t h)) ∙ f
+log_step-fault s (Wrote a w) t n h f =
+    ap (λ (y : State). y.fault) (sym (let_through (ltb a (length s.memory)) (poke s a w) t h)) ∙ f
 
-steps-no_fault_until : (s : State) (n m : ℕ) → n ≤ m → (steps m s).fault ≡ false → (steps n s).fault ≡ false
-steps-no_fault_until s n m l h = by_test (steps n s).fault refl
+-- once set, it stays through all later steps but an exchange
+replay-fault : (s : State) (xs : List LogStep) (t : State) → list_any is_exchanged xs ≡ false → replay s xs ≡ Some t
+    → s.fault ≡ true → t.fault ≡ true
+unfolding replay then_replay
+replay-fault s [] t n h f = ap (λ (y : State). y.fault) (sym (same_Some s t h)) ∙ f
+replay-fault s (x ∷ xs) t n h f =
+    let p = or_parts (is_exchanged x) (list_any is_exchanged xs) n in
+    after (do_log_step s x) refl (λ u k g. replay-fault u xs t p.1 k g) p.0 h
   where
-    by_test : (b : Bool) → (steps n s).fault ≡ b → (steps n s).fault ≡ false
-    by_test false e = e
-    by_test true e = let k = steps-fault_from s n m l e in cc
+    after : (o : Option State) → do_log_step s x ≡ o → ((u : State) → replay u xs ≡ Some t → u.fault ≡ true
+        → t.fault ≡ true) → is_exchanged x ≡ false → then_replay o (λ u. replay u xs) ≡ Some t → t.fault ≡ true
+    after None e ih q k = cc
+    after (Some u) e ih q k = ih u k (log_step-fault s x u q e f)
 
-pub record FirstFault (n : ℕ) (s : State) : Type 0 where
-  pub earlier : ℕ
-  pub issued : earlier < n
-  pub before : (steps earlier s).fault ≡ false
-  pub after : (steps (suc earlier) s).fault ≡ true
+-- ---- the first instruction that sets the fault ----
 
-pub first_fault : (n : ℕ) (s : State) → s.fault ≡ false → (steps n s).fault ≡ true → FirstFault n s
-unfolding steps
-first_fault zero s f h = cc
-first_fault (suc n) s f h = by_test (steps n s).fault refl (first_fault n s f)
+-- an instruction of a run that starts without fault is the first after which the fault is set
+pub record FirstFault (s : State) (xs : List LogStep) : Type 0 where
+  pub earlier : List LogStep
+  pub later : List LogStep
+  pub run_is : xs ≡ earlier ++ Issued ∷ later
+  pub never_before : (front rest : List LogStep) → earlier ≡ front ++ rest → (t : State) → replay s front ≡ Some t
+      → t.fault ≡ false
+  pub always_after : (more : List LogStep) → list_any is_exchanged more ≡ false → (t : State)
+      → replay s (earlier ++ Issued ∷ more) ≡ Some t → t.fault ≡ true
+
+-- the first step sets it: no exchange and no peripheral access does
+set_at_once : (s u : State) (x : LogStep) (xs : List LogStep) → s.fault ≡ false → is_exchanged x ≡ false
+    → do_log_step s x ≡ Some u → u.fault ≡ true → FirstFault s (x ∷ xs)
+unfolding do_log_step is_exchanged poke replay then_replay
+set_at_once s u Issued xs f n h g = record {
+  earlier = [];
+  later = xs;
+  run_is = refl;
+  never_before = λ front rest e t k. none_before front rest e t k;
+  always_after = λ more q t k. replay-fault (step s) more t q k
+      (ap (λ (y : State). y.fault) (same_Some (step s) u h) ∙ g);
+}
   where
-    by_test : (b : Bool) → (steps n s).fault ≡ b → ((steps n s).fault ≡ true → FirstFault n s) → FirstFault (suc n) s
-    by_test false e ih = record { earlier = n; issued = omega arith; before = e; after = h }
-    by_test true e ih = let r = ih e
-        in record {
-          earlier = r.earlier;
-          issued = let k : r.earlier < n = r.issued in omega arith;
-          before = r.before;
-          after = r.after;
-        }
+    none_before : (front rest : List LogStep) → [] ≡ front ++ rest → (t : State) → replay s front ≡ Some t
+        → t.fault ≡ false
+    none_before [] rest e t k = ap (λ (y : State). y.fault) (sym (same_Some s t k)) ∙ f
+    none_before (y ∷ front) rest e t k = cc
+set_at_once s u (Exchanged k) xs f n h g = cc
+set_at_once s u (ReadAt a) xs f n h g =
+    absurd (false≢true (sym f ∙ ap (λ (y : State). y.fault) (let_through (ltb a (length s.memory)) s u h) ∙ g))
+set_at_once s u (Wrote a w) xs f n h g =
+    absurd (false≢true (sym f
+    ∙ ap (λ (y : State). y.fault) (let_through (ltb a (length s.memory)) (poke s a w) u h) ∙ g))
+
+-- the first step doesn't set it
+set_later : (s u : State) (x : LogStep) (xs : List LogStep) → s.fault ≡ false → do_log_step s x ≡ Some u
+    → FirstFault u xs → FirstFault s (x ∷ xs)
+unfolding replay then_replay
+set_later s u x xs f h r = record {
+  earlier = x ∷ r.earlier;
+  later = r.later;
+  run_is = ap (λ l. x ∷ l) r.run_is;
+  never_before = λ front rest e t k. not_before front rest e t k;
+  always_after = λ more q t k. r.always_after more q t (onward (r.earlier ++ Issued ∷ more) t k);
+}
+  where
+    onward : (ys : List LogStep) (t : State) → then_replay (do_log_step s x) (λ v. replay v ys) ≡ Some t
+        → replay u ys ≡ Some t
+    onward ys t k = sym (ap (λ o. then_replay o (λ v. replay v ys)) h) ∙ k
+
+    not_before : (front rest : List LogStep) → x ∷ r.earlier ≡ front ++ rest → (t : State) → replay s front ≡ Some t
+        → t.fault ≡ false
+    not_before [] rest e t k = ap (λ (y : State). y.fault) (sym (same_Some s t k)) ∙ f
+    not_before (y ∷ front) rest e t k =
+        let head : y ≡ x = cc in
+        let tail : r.earlier ≡ front ++ rest = cc in
+        r.never_before front rest tail t
+        (onward front t (ap (λ z. then_replay (do_log_step s z) (λ v. replay v front)) (sym head) ∙ k))
+
+first_fault : (s : State) (xs : List LogStep) (t : State) → list_any is_exchanged xs ≡ false → replay s xs ≡ Some t
+    → s.fault ≡ false → t.fault ≡ true → FirstFault s xs
+unfolding replay then_replay
+first_fault s [] t n h f g =
+    absurd (false≢true (sym f ∙ ap (λ (y : State). y.fault) (same_Some s t h) ∙ g))
+first_fault s (x ∷ xs) t n h f g =
+    let p = or_parts (is_exchanged x) (list_any is_exchanged xs) n in
+    after (do_log_step s x) refl (λ u k e. first_fault u xs t p.1 k e g) p.0 h
+  where
+    by_fault : (u : State) (b : Bool) → u.fault ≡ b → do_log_step s x ≡ Some u
+        → (u.fault ≡ false → FirstFault u xs) → is_exchanged x ≡ false → FirstFault s (x ∷ xs)
+    by_fault u true i e ih q = set_at_once s u x xs f q e i
+    by_fault u false i e ih q = set_later s u x xs f e (ih i)
+
+    after : (o : Option State) → do_log_step s x ≡ o
+        → ((u : State) → replay u xs ≡ Some t → u.fault ≡ false → FirstFault u xs) → is_exchanged x ≡ false
+        → then_replay o (λ u. replay u xs) ≡ Some t → FirstFault s (x ∷ xs)
+    after None e ih q k = cc
+    after (Some u) e ih q k = by_fault u u.fault refl e (ih u k) q
+
+-- ---- the run since the last exchange ----
+
+exchanged_last : (xs : List LogStep) (n : ℕ) → ends_exchanged (xs ++ Exchanged n ∷ []) ≡ true
+unfolding ends_exchanged is_exchanged
+exchanged_last [] n = refl
+exchanged_last (x ∷ []) n = refl
+exchanged_last (x ∷ y ∷ xs) n = exchanged_last (y ∷ xs) n
+
+no_exchange_more : (xs : List LogStep) (x : LogStep) → list_any is_exchanged xs ≡ false → is_exchanged x ≡ false
+    → list_any is_exchanged (xs ++ x ∷ []) ≡ false
+no_exchange_more [] x h k = or_false (is_exchanged x) ∙ k
+no_exchange_more (y ∷ xs) x h k =
+    let p = or_parts (is_exchanged y) (list_any is_exchanged xs) h in
+    ap (λ b. b || list_any is_exchanged (xs ++ x ∷ [])) p.0 ∙ no_exchange_more xs x p.1 k
+
+pub swap-no_fault : (n : ℕ) (s : State) → (swap n s).fault ≡ false
+unfolding swap begun
+swap-no_fault n s = refl
+
+-- a log up to its last exchange, and its steps since then
+record IsSplit (memory : List ℕ) (log : List LogStep) (s : State) : Type 0 where
+  before : List LogStep
+  start : State
+  ends : ends_exchanged before ≡ true
+  starts : replay (boot memory) before ≡ Some start
+  no_fault : start.fault ≡ false
+  run : List LogStep
+  log_is : log ≡ before ++ run
+  no_exchange : list_any is_exchanged run ≡ false
+  leads : replay start run ≡ Some s
+
+-- one step more: an exchange
+split_exchange : (memory : List ℕ) (log : List LogStep) (s t : State) (n : ℕ) → IsSplit memory log s
+    → do_log_step s (Exchanged n) ≡ Some t → IsSplit memory (log ++ Exchanged n ∷ []) t
+unfolding replay do_log_step
+split_exchange memory log s t n p h = record {
+  before = log ++ Exchanged n ∷ [];
+  start = t;
+  ends = exchanged_last log n;
+  starts = replay_more (boot memory) s log (Exchanged n)
+      (ap (replay (boot memory)) p.log_is ∙ replay_on (boot memory) p.start p.before p.run p.starts ∙ p.leads) ∙ h;
+  no_fault = ap (λ (y : State). y.fault) (sym (let_through (package_fits n (length s.memory)) (swap n s) t h))
+      ∙ swap-no_fault n s;
+  run = [];
+  log_is = sym (append-nil (log ++ Exchanged n ∷ []));
+  no_exchange = refl;
+  leads = refl;
+}
+
+-- an instruction or a peripheral access
+split_other : (memory : List ℕ) (log : List LogStep) (s t : State) (x : LogStep) → IsSplit memory log s
+    → do_log_step s x ≡ Some t → is_exchanged x ≡ false → IsSplit memory (log ++ x ∷ []) t
+split_other memory log s t x p h n = record {
+  before = p.before;
+  start = p.start;
+  ends = p.ends;
+  starts = p.starts;
+  no_fault = p.no_fault;
+  run = p.run ++ x ∷ [];
+  log_is = ap (λ l. l ++ x ∷ []) p.log_is ∙ append_assoc p.before p.run (x ∷ []);
+  no_exchange = no_exchange_more p.run x p.no_exchange n;
+  leads = replay_more p.start s p.run x p.leads ∙ h;
+}
+
+split_more : (memory : List ℕ) (log : List LogStep) (s t : State) (x : LogStep) → IsSplit memory log s
+    → do_log_step s x ≡ Some t → IsSplit memory (log ++ x ∷ []) t
+unfolding is_exchanged
+split_more memory log s t Issued p h = split_other memory log s t Issued p h refl
+split_more memory log s t (Exchanged n) p h = split_exchange memory log s t n p h
+split_more memory log s t (ReadAt a) p h = split_other memory log s t (ReadAt a) p h refl
+split_more memory log s t (Wrote a w) p h = split_other memory log s t (Wrote a w) p h refl
+
+split_all : (memory : List ℕ) (log more : List LogStep) (s t : State) → IsSplit memory log s → replay s more ≡ Some t
+    → IsSplit memory (log ++ more) t
+unfolding replay then_replay
+split_all memory log [] s t p h = subst₂ (IsSplit memory) (sym (append-nil log)) (same_Some s t h) p
+split_all memory log (x ∷ xs) s t p h =
+    after (do_log_step s x) refl (λ u q k. split_all memory (log ++ x ∷ []) xs u t q k) h
+  where
+    after : (o : Option State) → do_log_step s x ≡ o
+        → ((u : State) → IsSplit memory (log ++ x ∷ []) u → replay u xs ≡ Some t
+        → IsSplit memory ((log ++ x ∷ []) ++ xs) t) → then_replay o (λ u. replay u xs) ≡ Some t
+        → IsSplit memory (log ++ x ∷ xs) t
+    after None e ih k = cc
+    after (Some u) e ih k =
+        subst (λ l. IsSplit memory l t) (append_assoc log (x ∷ []) xs) (ih u (split_more memory log s u x p e) k)
+
+split_boot : (memory : List ℕ) → IsSplit memory [] (boot memory)
+unfolding boot replay ends_exchanged
+split_boot memory = record {
+  before = [];
+  start = boot memory;
+  ends = refl;
+  starts = refl;
+  no_fault = refl;
+  run = [];
+  log_is = refl;
+  no_exchange = refl;
+  leads = refl;
+}
+
+-- ---- a fault stays in the machine ----
 
 fault_found : {K : Type 0} (w : Processor) (o : Option (Found Pending K)) (f : Found Pending K → Processor)
     → ((x : Found Pending K) → (f x).state.fault ≡ true) → w.state.fault ≡ true → (after_found w o f).state.fault ≡ true
@@ -263,7 +409,7 @@ fault_issue w (Taking i place) h = h
 
 pub fault_after : (w : Processor) (e : Event) → is_exchange e ≡ false → w.state.fault ≡ true
     → (after w e).state.fault ≡ true
-unfolding after is_exchange after_read after_finish after_return write
+unfolding after is_exchange after_read after_finish after_return after_pp_read after_pp_write write poke
 fault_after w Issue n h = fault_issue w _ h
 fault_after w (Read u) n h = fault_found w _ _ (λ f. h) h
 fault_after w (Finish u) n h = fault_found w _ _ (λ f. h) h
@@ -273,6 +419,8 @@ fault_after w (Return c) n h = fault_found w _ _ (λ f. h) h
 fault_after w (BankFree k) n h = h
 fault_after w (Ask k) n h = h
 fault_after w Exchange n h = cc
+fault_after w (PpRead a) n h = h
+fault_after w (PpWrite a v) n h = h
 
 -- what an issue is refused for while the fault is set
 issue_at_fault : (w : Processor) → w.state.fault ≡ true → allowed w Issue ≡ Some (refusal_at_fault w.state.halt)
@@ -289,46 +437,69 @@ issue_at_fault w h =
 
 -- ---- no exchange while the fault is set ----
 
--- an allowed event that is no exchange adds nothing to the log while the fault is set
-no_steps : (w : Processor) (r : Option ℕ) (e : Event) → w.state.fault ≡ true → allowed w e ≡ None
-    → is_exchange e ≡ false → made_steps r e ≡ []
-unfolding made_steps is_exchange
-no_steps w r Issue f h n = let k : Some (refusal_at_fault w.state.halt) ≡ None = sym (issue_at_fault w f) ∙ h in cc
-no_steps w r (Read u) f h n = refl
-no_steps w r (Finish u) f h n = refl
-no_steps w r (StoreResult u) f h n = refl
-no_steps w r (Accept p) f h n = refl
-no_steps w r (Return c) f h n = refl
-no_steps w r (BankFree k) f h n = refl
-no_steps w r (Ask k) f h n = refl
-no_steps w r Exchange f h n = cc
+-- an allowed event that is no exchange adds peripheral accesses alone to the log while the fault is set
+accesses_alone : (w : Processor) (r : Option ℕ) (e : Event) → w.state.fault ≡ true → allowed w e ≡ None
+    → is_exchange e ≡ false → list_all is_access (made_steps r e) ≡ true
+unfolding made_steps is_exchange is_access
+accesses_alone w r Issue f h n =
+    let k : Some (refusal_at_fault w.state.halt) ≡ None = sym (issue_at_fault w f) ∙ h in cc
+accesses_alone w r (Read u) f h n = refl
+accesses_alone w r (Finish u) f h n = refl
+accesses_alone w r (StoreResult u) f h n = refl
+accesses_alone w r (Accept p) f h n = refl
+accesses_alone w r (Return c) f h n = refl
+accesses_alone w r (BankFree k) f h n = refl
+accesses_alone w r (Ask k) f h n = refl
+accesses_alone w r Exchange f h n = cc
+accesses_alone w r (PpRead a) f h n = refl
+accesses_alone w r (PpWrite a v) f h n = refl
 
--- the log is as it was, and the fault is set
+-- the log gains nothing but peripheral accesses, and the fault is set
 abbrev StaysFaulted : Processor → Processor → Type 0
-StaysFaulted w v = (v.log ≡ w.log) × (v.state.fault ≡ true)
+StaysFaulted w v = GainsAccesses w.log v.log × (v.state.fault ≡ true)
+
+gains_nothing : (xs : List LogStep) → GainsAccesses xs xs
+gains_nothing xs = record { more = []; accesses = refl; gained = sym (append-nil xs) }
+
+all-append : {K : Type 0} (f : K → Bool) (xs ys : List K) → list_all f xs ≡ true → list_all f ys ≡ true
+    → list_all f (xs ++ ys) ≡ true
+all-append f [] ys h k = k
+all-append f (x ∷ xs) ys h k =
+    let p = and_parts (f x) (list_all f xs) h in
+    ap (λ b. b && list_all f (xs ++ ys)) p.0 ∙ all-append f xs ys p.1 k
+
+gains_both : (xs ys zs : List LogStep) → GainsAccesses xs ys → GainsAccesses ys zs → GainsAccesses xs zs
+gains_both xs ys zs g h = record {
+  more = g.more ++ h.more;
+  accesses = all-append is_access g.more h.more g.accesses h.accesses;
+  gained = h.gained ∙ ap (λ l. l ++ h.more) g.gained ∙ append_assoc xs g.more h.more;
+}
 
 fault_settled : (w : Processor) (e : Event) (a : Result Done Refusal) → w.state.fault ≡ true → IsAnswer w e a
     → exchanges e a ≡ false → StaysFaulted w (settled w e a)
 unfolding settled exchanges
 fault_settled w e (Ok done) f h n =
     let none = made_allowed w e done h in (
-      (books_after w e).log ∙ ap (λ xs. w.log ++ xs) (no_steps w w.request e f none n)
-          ∙ append-nil w.log,
+      record {
+        more = made_steps w.request e;
+        accesses = accesses_alone w w.request e f none n;
+        gained = (books_after w e).log;
+      },
       fault_after w e n f,
     )
-fault_settled w e (Err k) f h n = (refl, f)
+fault_settled w e (Err k) f h n = (gains_nothing w.log, f)
 
 pub fault_run : (w : Processor) (es : List Event) (given : List (Result Done Refusal)) → w.state.fault ≡ true
-    → IsAnswered w es given → makes_no_exchange es given ≡ true → ((settled_all w es given).log ≡ w.log)
+    → IsAnswered w es given → makes_no_exchange es given ≡ true → GainsAccesses w.log (settled_all w es given).log
     × ((settled_all w es given).state.fault ≡ true)
 unfolding settled_all makes_no_exchange
-fault_run w [] given f h n = (refl, f)
-fault_run w (e ∷ es) [] f h n = (refl, f)
+fault_run w [] given f h n = (gains_nothing w.log, f)
+fault_run w (e ∷ es) [] f h n = (gains_nothing w.log, f)
 fault_run w (e ∷ es) (a ∷ given) f h n =
     let p = and_parts (not (exchanges e a)) (makes_no_exchange es given) n in
     let k = fault_settled w e a f h.0 (not-true (exchanges e a) p.0) in
     let r = fault_run (settled w e a) es given k.1 h.1 p.1 in
-    (r.0 ∙ k.0, r.1)
+    (gains_both w.log (settled w e a).log _ k.0 r.0, r.1)
 
 -- ---- the headline ----
 
@@ -342,56 +513,65 @@ boot_memory_from_boot : (memory : List ℕ) (budget : ℕ) (events : List Event)
 unfolding boot_processor
 boot_memory_from_boot memory budget events given = run_boot (boot_processor memory budget) events given
 
+-- whatever was reached, the pending instructions come to the replay of what was logged
 run_from_boot : (memory : List ℕ) (budget : ℕ) (events : List Event) (given : List (Result Done Refusal))
     (w : Processor) → IsAnswered (boot_processor memory budget) events given
-    → w ≡ settled_all (boot_processor memory budget) events given → w.pending ≡ []
-    → replay (boot memory) (log_of events given) ≡ Some w.state
-run_from_boot memory budget events given w h l e =
+    → w ≡ settled_all (boot_processor memory budget) events given
+    → replay (boot memory) (log_of events given) ≡ Some (completed w)
+unfolding replayed
+run_from_boot memory budget events given w h l =
     ap (replay (boot memory)) (sym (ap (λ x. x.log) l ∙ run_log_from_boot memory budget events given))
     ∙ ap (λ m. replay (boot m) w.log)
     (sym (ap (λ x. x.boot_memory) l ∙ boot_memory_from_boot memory budget events given))
-    ∙ drained_replay w (subst IsRight (sym l)
-    (run_kept (boot_processor memory budget) events given h (boot_right memory budget))) e
+    ∙ (subst IsRight (sym l)
+    (run_kept (boot_processor memory budget) events given h (boot_right memory budget))).1
 
-course_from_boot : (memory : List ℕ) (log : List LogStep) (t : State) → replay (boot memory) log ≡ Some t
-    → IsCourse (record { start = boot memory; count = 0 }) log t
-unfolding boot item steps
-course_from_boot memory log t h = replay_course (record { start = boot memory; count = 0 }) log t refl h
-
-faulted_run : (log : List LogStep) (memory : List ℕ) (t : State) → t.fault ≡ true
-    → IsCourse (record { start = boot memory; count = 0 }) log t → IsFaultedRun log memory t
-unfolding item
-faulted_run log memory t f c =
-    let k = first_fault c.course.count c.course.start c.no_fault (ap (λ s. s.fault) (sym c.is_item) ∙ f) in
+faulted_run : (log : List LogStep) (memory : List ℕ) (t : State) → t.fault ≡ true → IsSplit memory log t
+    → IsFaultedRun log memory t
+faulted_run log memory t f p =
+    let k = first_fault p.start p.run t p.no_exchange p.leads p.no_fault f in
     record {
-      course = c.course;
-      is_course = c.is_course;
-      is_item = c.is_item;
-      no_fault_at_start = c.no_fault;
+      before = p.before;
+      start = p.start;
+      ends = p.ends;
+      starts = p.starts;
+      no_fault_at_start = p.no_fault;
+      run = p.run;
+      log_is = p.log_is;
+      no_exchange = p.no_exchange;
+      leads = p.leads;
       earlier = k.earlier;
-      issued = k.issued;
-      before = k.before;
-      after = k.after;
-      never_before =
-          λ n l. steps-no_fault_until c.course.start n k.earlier l k.before;
-      always_after =
-          λ n l. steps-fault_from c.course.start (suc k.earlier) n l k.after;
+      later = k.later;
+      run_is = k.run_is;
+      never_before = k.never_before;
+      always_after = k.always_after;
     }
 
 -- a state with the fault lies on such a run whenever it is the replay of the log: nothing else need be known of it
 pub replay_faulted : (log : List LogStep) (memory : List ℕ) (t : State) → replay (boot memory) log ≡ Some t
     → t.fault ≡ true → IsFaultedRun log memory t
-replay_faulted log memory t h f = faulted_run log memory t f (course_from_boot memory log t h)
+replay_faulted log memory t h f =
+    faulted_run log memory t f (split_all memory [] log (boot memory) t (split_boot memory) h)
+
+-- the word that is read of a machine is that of the state to which its pending instructions come
+read_done : (w : Processor) (a : ℕ) → allowed w (PpRead a) ≡ None
+    → done_by w (PpRead a) ≡ Word (get_or (completed w).memory a 0)
+unfolding done_by
+read_done w a h = ap Word (completed_read w a h)
 
 pub faithful : (memory : List ℕ) (budget : ℕ) (events : List Event) (given : List (Result Done Refusal))
     (w : Processor) → IsReached memory budget events given w → IsFaithful memory events given w
+unfolding completed
 faithful memory budget events given w r =
-    let replays : w.pending ≡ [] → replay (boot memory) (log_of events given) ≡ Some w.state =
+    let comes : replay (boot memory) (log_of events given) ≡ Some (completed w) =
     run_from_boot memory budget events given (without_seats w) r.answered r.left in
+    let replays : w.pending ≡ [] → replay (boot memory) (log_of events given) ≡ Some w.state =
+    λ e. comes ∙ ap Some (drained_completed w e) in
     record {
       replays = replays;
       log = ap (λ (x : Processor). x.log) r.left ∙ run_log_from_boot memory budget events given;
       boot_memory = ap (λ (x : Processor). x.boot_memory) r.left ∙ boot_memory_from_boot memory budget events given;
+      reads = λ a h. (completed w, comes, read_done w a h);
       fault = λ e f. replay_faulted (log_of events given) memory w.state (replays e) f;
       held = λ f. (issue_at_fault w f, λ e n. fault_after w e n f);
     }

@@ -1,12 +1,15 @@
 -- Each event keeps the pending instructions apart, and keeps the completed state the replay of the log.
 use Rattle.std.proofs.Common.{Bool, ◌≡◌, ℕ, false, List, [], ◌∷◌, ◌++◌, Option, Some, None, cond, refl, sym, ap, ◌∙◌}
 use Rattle.std.proofs.Common.{subst, subst₂, length, inl, inr}
+use Rattle.std.proofs.Common.{true, not, ltb, get_or}
 use Rattle.std.specs.Prelude.{is_some, Result, Ok, Err}
 use Rattle.std.proofs.lemmas.List.{length-set}
 use Rattle.std.specs.List.{list_any}
 use Rattle.std.proofs.lemmas.Bool.{not-false}
 use Rattle.program_order.proofs.effects.Effects.{do_now-bounds}
-use Rattle.program_order.proofs.effects.Completing.{each_no_branch, complete-move}
+use Rattle.program_order.proofs.effects.Completing.{each_no_branch, complete-bounds, complete-move, complete-poke}
+use Rattle.program_order.proofs.effects.Completing.{complete-word}
+use Rattle.program_order.proofs.theorem.Apart.{untouched_by_access, unstored_by_access}
 use Rattle.in_flight.proofs.asking.Finding.{refusal_none, not_nothing, stage_found, entry_found, arrival_found}
 use Rattle.instructions.proofs.Finding.{seek_splits}
 use Rattle.program_order.proofs.theorem.Events.{IsKept, read_event, finish_event, store_event, accept_load_event}
@@ -17,7 +20,7 @@ use Rattle.instructions.specs.Operands.{sources_of}
 use Rattle.instructions.specs.declared.instr.Instr.{Instr}
 use Rattle.instructions.specs.declared.refusal.Refusal.{Refusal}
 use Rattle.instructions.specs.Each.{Each, Pairs}
-use Rattle.in_flight.specs.Pending.{awaited, has_turn, is_branch}
+use Rattle.in_flight.specs.Pending.{awaited, delays_access, has_turn, is_branch}
 use Rattle.program_order.specs.Complete.{complete}
 use Rattle.program_order.specs.Sound.{Fits, IsReplay, IsSound}
 use Rattle.in_flight.specs.Apart.{IsApart}
@@ -28,6 +31,7 @@ use Rattle.program_order.specs.Run.{answer_by, done_by, answer_of, IsAnswer, set
 use Rattle.sequential.specs.Log.{issued}
 use Rattle.instructions.specs.Finding.{Found, put_back, seek}
 use Rattle.program_order.specs.Exchange.{ask_tests, exchange_tests, after_exchange}
+use Rattle.program_order.specs.Peripheral.{access_tests, after_pp_read, after_pp_write, word_read}
 use Rattle.program_order.specs.Processor.{Processor, boot_processor, completed, replayed}
 use Rattle.program_order.specs.Events.{after, after_found, allowed, tests_of}
 use Rattle.program_order.specs.Memory.{after_accept, after_return}
@@ -38,7 +42,7 @@ use Rattle.in_flight.specs.Tests.{tests_found}
 use Rattle.in_flight.specs.Lookup.{arrival_at, entry_at, is_pending, stage_at}
 use Rattle.program_order.specs.declared.event.Event.{Event}
 use Rattle.program_order.specs.declared.event.Event.TheVariants.{Accept, Ask, BankFree, Exchange, Finish, Issue, Read}
-use Rattle.program_order.specs.declared.event.Event.TheVariants.{Return, Store as StoreResult}
+use Rattle.program_order.specs.declared.event.Event.TheVariants.{Return, Store as StoreResult, PpRead, PpWrite}
 use Rattle.in_flight.specs.declared.pending.HopperEntry.{HopperEntry}
 use Rattle.in_flight.specs.declared.pending.Outstanding.TheVariants.{Entered}
 use Rattle.in_flight.specs.declared.pending.Pending.{Pending}
@@ -47,7 +51,7 @@ use Rattle.in_flight.specs.declared.pending.Stage.{Stage}
 use Rattle.in_flight.specs.declared.pending.Stage.TheVariants.{Finished, Read as HasRead, Waiting}
 use Rattle.relocation.specs.declared.area.Access.{Access}
 use Rattle.relocation.specs.declared.area.Access.TheVariants.{Load as LoadInto, Store as StoreWord}
-use Rattle.sequential.specs.Replay.{Exchanged, Issued, boot, do_log_step, replay}
+use Rattle.sequential.specs.Replay.{Exchanged, Issued, ReadAt, Wrote, boot, do_log_step, replay}
 use Rattle.sequential.specs.State.{Bounds, bounds_of, halt_by, move_to, poke, write}
 use Rattle.sequential.specs.Step.{do_fetched, fetch, step}
 use Rattle.sequential.specs.Swap.{swap}
@@ -245,6 +249,57 @@ exchange_at w (Some n) e f r = (
       ∙ ap Some (sym (drained_completed _ e)),
 )
 
+-- ---- peripheral access ----
+
+within : (a n : ℕ) → not (ltb a n) ≡ false → ltb a n ≡ true
+within a n h = not-false _ h
+
+-- the completed memory is of the same size
+completed_within : (w : Processor) (a : ℕ) → not (ltb a (length w.state.memory)) ≡ false
+    → ltb a (length (completed w).memory) ≡ true
+unfolding completed bounds_of
+completed_within w a h =
+    ap (λ (b : Bounds). ltb a b.size) (complete-bounds (bounds_of w.state) w.state w.pending)
+    ∙ within a (length w.state.memory) h
+
+-- a word that is written is written after all that is still to come as well as before it
+completed_write : (w : Processor) (a v : ℕ) → list_any (delays_access a) w.pending ≡ false
+    → completed (after_pp_write w a v) ≡ poke (completed w) a v
+unfolding completed after_pp_write
+completed_write w a v h =
+    ap (λ b. complete b (poke w.state a v) w.pending) (poke-bounds w.state a v)
+    ∙ complete-poke (bounds_of w.state) w.state w.pending a v (untouched_by_access w.pending a h)
+
+-- a word that is read is that of the completed memory
+pub completed_read : (w : Processor) (a : ℕ) → allowed w (PpRead a) ≡ None
+    → word_read w a ≡ get_or (completed w).memory a 0
+unfolding allowed tests_of access_tests completed word_read
+completed_read w a h =
+    sym (complete-word (bounds_of w.state) w.state w.pending a
+    (unstored_by_access w.pending a (refusal_none _ h).1.0))
+
+pp_read_kept : (w : Processor) (a : ℕ) → allowed w (PpRead a) ≡ None → IsRight w → IsRight (after_pp_read w a)
+unfolding allowed tests_of access_tests after_pp_read completed replayed do_log_step
+pp_read_kept w a h r = (
+  record { apart = r.0.apart; request_fits = r.0.request_fits },
+  replay_more _ (completed w) w.log (ReadAt a) r.1
+      ∙ ap (λ b. cond b (Some (completed w)) None) (completed_within w a (refusal_none _ h).1.1.0),
+)
+
+pp_write_kept : (w : Processor) (a v : ℕ) → allowed w (PpWrite a v) ≡ None → IsRight w
+    → IsRight (after_pp_write w a v)
+unfolding allowed tests_of access_tests after_pp_write replayed do_log_step bounds_of
+pp_write_kept w a v h r = (
+  record {
+    apart = r.0.apart;
+    request_fits = subst (Fits w.request) (sym (ap (λ (b : Bounds). b.size) (poke-bounds w.state a v)))
+        r.0.request_fits;
+  },
+  replay_more _ (completed w) w.log (Wrote a v) r.1
+      ∙ ap (λ b. cond b (Some (poke (completed w) a v)) None) (completed_within w a (refusal_none _ h).1.1.0)
+      ∙ ap Some (sym (completed_write w a v (refusal_none _ h).1.0)),
+)
+
 -- ---- any event ----
 
 pub event_kept : (w : Processor) (e : Event) → allowed w e ≡ None → IsRight w → IsRight (after w e)
@@ -258,6 +313,8 @@ event_kept w (Return c) h r = return_kept w c (seek (arrival_at c) w.pending) re
 event_kept w (BankFree k) h r = (record { apart = r.0.apart; request_fits = r.0.request_fits }, r.1)
 event_kept w (Ask n) h r = (record { apart = r.0.apart; request_fits = not-false _ (refusal_none _ h).1.1.0 }, r.1)
 event_kept w Exchange h r = exchange_at w w.request (not_pending w.pending (refusal_none _ h).1.0) r.0.request_fits r
+event_kept w (PpRead a) h r = pp_read_kept w a h r
+event_kept w (PpWrite a v) h r = pp_write_kept w a v h r
 
 not_refused : (d done : Done) (r : Refusal) → Ok done ≡ answer_by d (Some r) → ⊥
 unfolding answer_by

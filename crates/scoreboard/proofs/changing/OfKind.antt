@@ -424,6 +424,23 @@ store_found units channels producers ws last right =
     ∙ in_increments t (seat_is has_store_turn) refl (λ y. refl) units channels right.all_units)
 
 -- a reference is in Branch or in an Increment unit
+pub reference_found : (units channels : List (Option Issued)) (producers : List (List (Option Writer))) (ws : Writers)
+    (last : ℕ) → IsRight units channels producers ws last
+    → (seat_is has_turn (seat_at units Branch) || in_increment (seat_is has_turn) units)
+    ≡ list_any (λ y. has_turn y.reservation) (sort_by number_of (seated units channels))
+unfolding seated seat_is
+reference_found units channels producers ws last right =
+    let t : Issued → Bool = λ y. has_turn y.reservation in
+    sym (any_sort number_of t (somes (units ++ channels))
+    ∙ seats_any t (seat_is has_turn) refl (λ y. refl)
+    (unit_number Branch ∷ unit_number Increment1 ∷ unit_number Increment2 ∷ []) IsOfKind (units ++ channels) right.sits
+    right.kinds (λ y k l. turn_silent y k l.0 l.1.0 l.1.1.0)
+    ∙ ap (λ o. seat_is has_turn o || list_any (λ i. seat_is has_turn (get_or (units ++ channels) i None))
+    (unit_number Increment1 ∷ unit_number Increment2 ∷ [])) (seat_same units channels Branch right.all_units)
+    ∙ ap (λ b. seat_is has_turn (seat_at units Branch) || b)
+    (in_increments t (seat_is has_turn) refl (λ y. refl) units channels right.all_units))
+
+-- and one of a lower number
 pub turn_found : (n : ℕ) (units channels : List (Option Issued)) → length units ≡ 10
     → IsSeated seat_of 0 (units ++ channels) → Each IsOfKind (somes (units ++ channels))
     → (seat_has_turn n (seat_at units Branch) || in_increment (seat_has_turn n) units)

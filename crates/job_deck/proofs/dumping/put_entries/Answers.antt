@@ -9,14 +9,14 @@ returns-in_err-put_pieces-clause-written g c =
     let p = err_from_is_err_and c.from_residual.result c.from_residual.ensures.1 in
     rw p.1 (each_cut spaced_entry c.args.entries.now c.loop-entry.entry-index _ _ _
     (g.O.Output.contents c.put_pieces.new.output) _ c.loop-entry-test.true c.loop-entry.invariant.written
-    (rw c.spaced_entry.ensures at c.in_err-put_pieces.ensures.written))
+    (rw (c.spaced_entry.ensures, c.entry-item.is) at c.in_err-put_pieces.ensures.written))
 
 pub loop-entry-preserved : goal.loop-entry-preserved
 loop-entry-preserved g c =
     record {
       written = each_written spaced_entry c.args.entries.now c.loop-entry.entry-index _ _ _
           (g.O.Output.contents c.put_pieces.new.output) _ c.loop-entry-test.true c.loop-entry.invariant.written
-          (rw c.spaced_entry.ensures at c.in_ok-put_pieces.ensures.written);
+          (rw (c.spaced_entry.ensures, c.entry-item.is) at c.in_ok-put_pieces.ensures.written);
       same = search rules;
       failures = search rules;
     }

@@ -1,7 +1,5 @@
-use Rattle.std.proofs.Common.{sym}
-use Rattle.job_deck.proofs.sessions.Speaking.{three_fields}
 use Rattle.job_deck.proofs.schedule.spoken_of.Goals as goal
 
 pub returns-in_default-Some : goal.returns-in_default-Some
 returns-in_default-Some c = rw (c.in-Some.is, c.first_field.ensures, c.in_default-Some.is-1)
-    (sym (three_fields c.args.word.now c.first_field.result.0.now c.in_default-Some.field-0-1.now))
+    (rw c.in_default-Some.more-is at c.spoken_further.ensures)

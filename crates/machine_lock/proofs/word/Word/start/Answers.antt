@@ -18,7 +18,7 @@ loop-entry-preserved g c =
     let e = c.record_entry.ensures in
     record {
       at = e.pass.0;
-      pass = started_more _ _ _ _ _ _ c.loop-entry.invariant.pass e.pass.1
+      pass = started_more _ _ _ _ _ _ c.loop-entry.invariant.pass (rw c.entry-item.is at e.pass.1)
           c.loop-entry-test.true;
       nobody_at = e.me.0;
       nobody = e.me.1;

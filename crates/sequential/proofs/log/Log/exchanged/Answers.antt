@@ -1,23 +1,26 @@
 use Rattle.std.proofs.Common.{sym, ap, ◌∙◌, ◌∷◌, [], ◌++◌}
+use Rattle.sequential.specs.declared.log.Entry.TheVariants.{Exchange}
 use Rattle.sequential.specs.Log.{Logged, steps_of, ends_issuing, issued}
 use Rattle.sequential.specs.Replay.{Exchanged}
-use Rattle.sequential.proofs.Entries.{exchange_added, issuing_no_more, issued-exchange, shortest_after_exchange}
+use Rattle.sequential.proofs.Entries.{an_exchange, single_added, issuing_no_more, issued-single, shortest_after_single}
 use Rattle.sequential.proofs.log.Log.exchanged.Goals as goal
 
 pub invariant_of-self : goal.invariant_of-self
 invariant_of-self c =
     record {
-      count = c.self.invariant.count ∙ sym (issued-exchange c.self.inside.entries.items c.args.at)
+      count = c.self.invariant.count
+          ∙ sym (issued-single (Exchanged c.args.at) (Exchange c.args.at) (an_exchange c.args.at) c.self.inside.entries.items)
           ∙ ap (λ es. issued (steps_of es)) (sym c.push_reserved.ensures.items);
-      shortest = shortest_after_exchange c.self.inside.entries.items _ c.args.at c.self.invariant.shortest
-          c.push_reserved.ensures.items;
+      shortest = shortest_after_single (Exchanged c.args.at) (Exchange c.args.at) (an_exchange c.args.at)
+          c.self.inside.entries.items _ c.self.invariant.shortest c.push_reserved.ensures.items;
     }
 
 pub returns-clause-steps : goal.returns-clause-steps
 returns-clause-steps c = ap steps_of c.push_reserved.ensures.items
-    ∙ exchange_added c.self.inside.entries.items c.args.at
+    ∙ single_added (Exchanged c.args.at) (Exchange c.args.at) (an_exchange c.args.at) c.self.inside.entries.items
     ∙ ap (λ (l : Logged). l.steps ++ Exchanged c.args.at ∷ []) c.self.view_is
 
 pub returns-clause-issuing : goal.returns-clause-issuing
 returns-clause-issuing c =
-    ap ends_issuing (returns-clause-steps c) ∙ issuing_no_more c.args.self.now.steps c.args.at
+    ap ends_issuing (returns-clause-steps c)
+    ∙ issuing_no_more (Exchanged c.args.at) (Exchange c.args.at) (an_exchange c.args.at) c.args.self.now.steps

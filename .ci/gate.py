@@ -1,0 +1,134 @@
+"""The gate. Its last line is a count, `N passed, M failed`, and the lines before it say what each part took.
+
+    .ci/run           everything, from nothing
+    .ci/run quick     a look while something is changed: the small checks, and what changed since the last look is
+                      proved. It tries no wrong body and runs no test
+
+The parts, in their order:
+
+- small checks, which take no time: that docs/definitions.md names what is there, docs/safety.md each public call,
+  docs/threads.md its example and docs/crates.md the sizes;
+- `rt ci`: every proof and every test from nothing, the wrong bodies of `must-fail`, and the program's stored run;
+- wrong bodies: those of `must-fail` again and all others, in groups (tools/wrong-bodies);
+- decks: what the program prints for them, for the largest ones, for those that are cut and bent, and where calls fail,
+  and that forgotten tokens are refused.
+
+A small check and a check of decks that finds nothing says nothing. Where `rt ci` fails nothing more is tried.
+"""
+
+import os
+import re
+import resource
+import subprocess
+import sys
+import time
+from concurrent.futures import ThreadPoolExecutor
+from pathlib import Path
+
+ROOT = Path(__file__).resolve().parent.parent
+SMALL = (".ci/definitions", ".ci/safety", ".ci/examples", ".ci/sizes")
+DECKS = ("decks/check", "decks/large", "decks/mutations", "decks/failures", ".ci/spent-tokens")
+PROOFS = re.compile(r"(\d+) passed, (\d+) failed")
+BODIES = re.compile(r"(\d+) wrong bodies, (\d+) not refused")
+# A check takes up to 4.3 GB.
+MEMORY_OF_A_CHECK = 5_000_000
+
+
+def processor_seconds():
+    """What all commands that have ended took."""
+    used = resource.getrusage(resource.RUSAGE_CHILDREN)
+    return used.ru_utime + used.ru_stime
+
+
+def is_silent(command):
+    """Whether a check finds nothing: it ends with 0. What it says is printed where it doesn't."""
+    ran = subprocess.run(command, stdout=subprocess.PIPE, stderr=subprocess.STDOUT, text=True, errors="replace", check=False)
+    if ran.returncode:
+        print(f"{command}:\n{ran.stdout}", end="", flush=True)
+    return ran.returncode == 0
+
+
+def counted(words, pattern, environment=None):
+    """Runs a command, prints what it says, and gives the two numbers of its last line. One that ends in another way has
+    failed once."""
+    numbers = None
+    with subprocess.Popen(words, stdout=subprocess.PIPE, stderr=subprocess.STDOUT, text=True, errors="replace", env=environment) as ran:
+        for line in ran.stdout:
+            print(line, end="", flush=True)
+            numbers = pattern.fullmatch(line.strip())
+    if not numbers:
+        return 0, 1
+    passed, failed = int(numbers[1]), int(numbers[2])
+    return passed, failed or (1 if ran.returncode else 0)
+
+
+class Gate:
+    """The parts that were gone through: what passed, what failed, and how long each took."""
+
+    def __init__(self):
+        self.passed, self.failed, self.took = 0, 0, []
+
+    def part(self, name, work):
+        """Goes through a part, whose work gives what passed and what failed."""
+        begun, used = time.monotonic(), processor_seconds()
+        passed, failed = work()
+        self.passed += passed
+        self.failed += failed
+        self.took.append((name, time.monotonic() - begun, processor_seconds() - used))
+
+    def end(self):
+        """Prints the times and the count; the status."""
+        for name, seconds, used in self.took:
+            print(f"{name}: {seconds / 60:.1f} minutes, {used / 60:.1f} of processors")
+        print(f"{self.passed} passed, {self.failed} failed", flush=True)
+        return 1 if self.failed else 0
+
+
+def silent(commands):
+    """How many of the checks, side by side, find nothing, and how many do."""
+    with ThreadPoolExecutor(len(commands)) as pool:
+        found = list(pool.map(is_silent, commands))
+    return found.count(True), found.count(False)
+
+
+def proofs():
+    """`rt ci` starts a check only where there is memory for what it may need at most, by its size. With the two largest
+    beside each other processors stay idle; where there is memory for a check on each, all are used."""
+    environment, processors = dict(os.environ), len(os.sched_getaffinity(0))
+    available = re.search(r"MemAvailable:\s+(\d+)", Path("/proc/meminfo").read_text(encoding="ascii"))
+    if available and int(available[1]) >= processors * MEMORY_OF_A_CHECK:
+        environment.setdefault("RT_JOBS", str(processors))
+    return counted(["rt", "ci"], PROOFS, environment)
+
+
+def bodies():
+    """The runner's own tests, and then all wrong bodies: how many were refused, and how many weren't."""
+    passed, failed = silent(["tools/wrong-bodies-test"])
+    tried, let_through = counted(["tools/wrong-bodies"], BODIES)
+    return passed + tried - let_through, failed + let_through
+
+
+def changed():
+    """What changed since the last look, by the work that was kept of it."""
+    ended = subprocess.run(["rt", "all", "check"], check=False).returncode
+    return (0, 1) if ended else (1, 0)
+
+
+def main():
+    os.chdir(ROOT)
+    gate = Gate()
+    gate.part("small checks", lambda: silent(SMALL))
+    if sys.argv[1:] == ["quick"]:
+        gate.part("what changed", changed)
+    elif sys.argv[1:]:
+        print("usage: .ci/run [quick]", file=sys.stderr)
+        return 2
+    elif not gate.failed:
+        gate.part("proofs and tests", proofs)
+        if not gate.failed:
+            gate.part("wrong bodies", bodies)
+            gate.part("decks", lambda: silent(DECKS))
+    return gate.end()
+
+
+sys.exit(main())

@@ -1,0 +1,7 @@
+use Rattle.std.proofs.Common.{sym}
+use Rattle.job_deck.proofs.sessions.Speaking.{four_fields}
+use Rattle.job_deck.proofs.schedule.spoken_further.Goals as goal
+
+pub returns-in_default-Some : goal.returns-in_default-Some
+returns-in_default-Some c = rw (c.first_field.ensures, c.in_default-Some.is-1)
+    (sym (four_fields c.args.word.now c.args.field.now c.first_field.result.0.now c.in_default-Some.field-0-1.now))

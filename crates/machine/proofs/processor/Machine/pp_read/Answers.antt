@@ -1,0 +1,78 @@
+use Rattle.std.proofs.Common.{◌≡◌, ◌+◌, ◌∷◌, ◌++◌, [], ap, refl, inl, inr, ◌∙◌, sym, None, List}
+use Rattle.std.proofs.Common.{arith}
+use Rattle.std.specs.Prelude.{Err}
+use Rattle.sequential.specs.Log.{ends_issuing, issued}
+use Rattle.sequential.specs.Replay.{LogStep, ReadAt}
+use Rattle.program_order.specs.declared.event.Done.TheVariants.{Word}
+use Rattle.program_order.specs.declared.event.Event.TheVariants.{PpRead}
+use Rattle.in_flight.specs.Tests.{refusal_in}
+use Rattle.program_order.specs.Run.{done_by, makes_room, settled}
+use Rattle.program_order.specs.Peripheral.{word_read}
+use Rattle.program_order.specs.Events.{allowed, after, tests_of}
+use Rattle.machine.specs.contracts.processor.Machine.{the_view}
+use Rattle.machine.proofs.making.Making.{still_kept, err_answer, err_after, ok_answer, ok_after, access_judged}
+use Rattle.machine.proofs.making.Making.{read_word_made, owed_at_most, numbered_other}
+use Rattle.machine.proofs.processor.Machine.pp_read.Goals.{After-self-1}
+use Rattle.machine.proofs.processor.Machine.pp_read.Goals as goal
+
+pub returns-in-Err-clause-answer : goal.returns-in-Err-clause-answer
+unfolding allowed tests_of
+returns-in-Err-clause-answer c =
+    inl (err_answer (the_view c.self.inside) c.args.self.now (PpRead c.args.at) c.in-Err.refusal c.self.view_is
+    (access_judged (the_view c.self.inside) c.args.at c.size-size.result c.judge_access.result _
+    c.size-size.ensures.value c.judge_access.ensures.answer (ap refusal_in c.in-Err.is)))
+
+pub returns-in-Err-clause-after : goal.returns-in-Err-clause-after
+returns-in-Err-clause-after c = err_after c.args.self.now _ (PpRead c.args.at) c.in-Err.refusal refl
+
+made_allowed : (c : After-self-1) → allowed (the_view c.self.inside) (PpRead c.args.at) ≡ None
+unfolding allowed tests_of
+made_allowed c = access_judged (the_view c.self.inside) c.args.at c.size-size.result c.judge_access.result _
+    c.size-size.ensures.value c.judge_access.ensures.answer (ap refusal_in c.in_default.is)
+
+logged_after : (c : After-self-1) → c.read_at.new.self.steps ≡ c.self.inside.log.steps ++ ReadAt c.args.at ∷ []
+logged_after c = c.read_at.ensures.steps ∙ ap (λ (l : List LogStep). l ++ ReadAt c.args.at ∷ []) c.reserve.ensures.steps
+
+new_processor : (c : After-self-1)
+    → record (the_view c.self.inside) {
+      log = c.read_at.new.self.steps;
+      accessed = c.self.inside.accessed + 1;
+    } ≡ after (the_view c.self.inside) (PpRead c.args.at)
+new_processor c = read_word_made (the_view c.self.inside) c.args.at c.read_at.new.self.steps (logged_after c)
+
+pub invariant_of-self-2 : goal.invariant_of-self-2
+unfolding issued
+invariant_of-self-2 c =
+    let made = c.in_default-reserve.ensures.room in
+    let spent = c.read_at.ensures.room in
+    still_kept (the_view c.self.inside) _ (PpRead c.args.at) c.self.inside.log c.read_at.new.self (made_allowed c)
+    (new_processor c) c.self.invariant
+    (owed_at_most (ends_issuing c.read_at.new.self.steps) c.self.inside.request c.read_at.new.self.room
+    (omega (arith, made, spent)))
+    (numbered_other c.self.inside.in_flight.last c.self.inside.log.steps c.read_at.new.self.steps
+    (ReadAt c.args.at) refl (logged_after c) c.self.invariant.numbered) c.self.invariant.limit
+
+pub returns-clause-answer : goal.returns-clause-answer
+unfolding done_by word_read
+returns-clause-answer c =
+    inl (ok_answer (the_view c.self.inside) c.args.self.now (PpRead c.args.at) (Word c.load-word.result) c.self.view_is (made_allowed c)
+    (ap Word c.load-word.ensures))
+
+pub returns-clause-after : goal.returns-clause-after
+returns-clause-after c =
+    ok_after (the_view c.self.inside) c.args.self.now _ (PpRead c.args.at) (Word c.load-word.result) c.self.view_is (new_processor c)
+
+pub returns-in-Err-reserve-clause-answer : goal.returns-in-Err-reserve-clause-answer
+unfolding makes_room allowed tests_of
+returns-in-Err-reserve-clause-answer c = inr (record {
+  want = ap Err c.in-Err-reserve.ensures.room;
+  growing = refl;
+  otherwise_allowed = ap (λ x. allowed x (PpRead c.args.at)) (sym c.self.view_is)
+      ∙ access_judged (the_view c.self.inside) c.args.at c.size-size.result c.judge_access.result _
+      c.size-size.ensures.value c.judge_access.ensures.answer (ap refusal_in c.in_default.is);
+})
+
+pub returns-in-Err-reserve-clause-after : goal.returns-in-Err-reserve-clause-after
+unfolding settled
+returns-in-Err-reserve-clause-after c =
+    ap (λ (l : List LogStep). record (the_view c.self.inside) { log = l }) c.reserve.ensures.steps ∙ c.self.view_is

@@ -1,0 +1,26 @@
+use Rattle.std.proofs.Common.{sym, ap, ◌∙◌, ◌∷◌, [], ◌++◌}
+use Rattle.sequential.specs.declared.log.Entry.TheVariants.{PpWrite}
+use Rattle.sequential.specs.Log.{Logged, steps_of, ends_issuing, issued}
+use Rattle.sequential.specs.Replay.{Wrote}
+use Rattle.sequential.proofs.Entries.{a_write, single_added, issuing_no_more, issued-single, shortest_after_single}
+use Rattle.sequential.proofs.log.Log.wrote.Goals as goal
+
+pub invariant_of-self : goal.invariant_of-self
+invariant_of-self c =
+    record {
+      count = c.self.invariant.count
+          ∙ sym (issued-single (Wrote c.args.at c.args.word) (PpWrite c.args.at c.args.word) (a_write c.args.at c.args.word) c.self.inside.entries.items)
+          ∙ ap (λ es. issued (steps_of es)) (sym c.push_reserved.ensures.items);
+      shortest = shortest_after_single (Wrote c.args.at c.args.word) (PpWrite c.args.at c.args.word) (a_write c.args.at c.args.word)
+          c.self.inside.entries.items _ c.self.invariant.shortest c.push_reserved.ensures.items;
+    }
+
+pub returns-clause-steps : goal.returns-clause-steps
+returns-clause-steps c = ap steps_of c.push_reserved.ensures.items
+    ∙ single_added (Wrote c.args.at c.args.word) (PpWrite c.args.at c.args.word) (a_write c.args.at c.args.word) c.self.inside.entries.items
+    ∙ ap (λ (l : Logged). l.steps ++ Wrote c.args.at c.args.word ∷ []) c.self.view_is
+
+pub returns-clause-issuing : goal.returns-clause-issuing
+returns-clause-issuing c =
+    ap ends_issuing (returns-clause-steps c)
+    ∙ issuing_no_more (Wrote c.args.at c.args.word) (PpWrite c.args.at c.args.word) (a_write c.args.at c.args.word) c.args.self.now.steps

@@ -1,0 +1,193 @@
+"""Tries the wrong bodies of crates: builds the libraries that they stand on, and checks group after group.
+
+Where a crate is built as a library for others, its groups run side by side, each in a copy that begins with what that
+build kept. A crate that nothing above needs isn't built: its groups run in turn in one copy, over one another's work,
+and only the functions that they name are ever proved.
+"""
+
+import tempfile
+import threading
+from concurrent.futures import FIRST_COMPLETED, ThreadPoolExecutor, wait
+from dataclasses import dataclass, field
+from pathlib import Path
+
+from . import machine
+from .groups import grouped
+from .kept import Kept, sum_of
+from .source import Source, Unreadable, merged, module_of, read_bodies
+from .verdicts import CALLS, Verdict, verdict_of
+from .workspaces import Workspace, stop_all
+
+
+@dataclass
+class Crate:
+    """A crate whose bodies are tried: what is left to try, and what came of it. Its groups may run side by side."""
+
+    name: str
+    source: Source
+    bodies: list
+    kept: Kept
+    groups: list = field(default_factory=list)
+    verdicts: dict = field(default_factory=dict)  # by the name of the body
+    faults: list = field(default_factory=list)
+    seconds: float = 0.0
+    idle: list = field(default_factory=list)  # the copies in which no group is being checked
+    lock: threading.Lock = field(default_factory=threading.Lock)
+
+    def tell(self, body, verdict):
+        with self.lock:
+            self.verdicts[body.name] = verdict
+            if verdict.refused:
+                self.kept.keep(body, verdict.words)
+
+    def spent(self, seconds):
+        with self.lock:
+            self.seconds += seconds
+
+
+def read_crate(table, name, identity, anew):
+    """Reads a crate's bodies, and takes the verdicts that were kept of the very same text."""
+    source = Source.read(table.folder(name))
+    bodies, faults = read_bodies(table.folder(name), source)
+    crate = Crate(name, source, bodies, Kept(name, sum_of(table, name, identity), anew), faults=faults)
+    for body in bodies:
+        goal = crate.kept.goal(body)
+        if goal:
+            crate.verdicts[body.name] = Verdict(True, f"{goal} (kept)")
+    crate.groups = grouped([body for body in bodies if body.name not in crate.verdicts], source)
+    return crate
+
+
+def paths_of(group, source):
+    """What `rt check --only` is to prove for a group, or nothing where a path isn't known and all has to be proved."""
+    found = {path_of(item, source) for body in group for item in body.touched}
+    return [] if None in found else sorted(found)
+
+
+def path_of(item, source):
+    """A function's path below its crate. A method has the module of its type. One of a trait's, and one of a type at some
+    arguments alone, isn't found by the type's name: its path is the whole module."""
+    if not item.owner:
+        return "::".join([*module_of(item.path), item.name])
+    modules = source.types.get(item.owner, [])
+    if len(modules) != 1:
+        return None
+    is_part = item.trait or item.is_instance
+    return "::".join([*modules[0], *([] if is_part else [item.owner, item.name])]) or None
+
+
+class Tries:
+    """The run: the libraries that are built, and the tasks that are left, each with the names of those it waits for."""
+
+    def __init__(self, table, crates, room, at_once):
+        self.table, self.room, self.at_once = table, Path(room), at_once
+        self.libraries, self.broken, self.tasks, self.library_seconds = {}, {}, {}, 0.0
+        tried = [crate for crate in crates if crate.groups]
+        self.groups = {crate.name: {(crate.name, number) for number in range(len(crate.groups))} for crate in tried}
+        needed = {name for crate in tried for name in table.below(crate.name)}
+        for name in (name for name in table.lines if name in needed):
+            self.tasks["library", name] = ([("library", it) for it in table.below(name)], lambda name=name: self.build(name))
+        for crate in tried:
+            self.plan(crate, crate.name in needed)
+
+    def plan(self, crate, is_built):
+        before = [("library", it) for it in self.table.below(crate.name)] + [("library", crate.name)] * is_built
+        for number, group in enumerate(crate.groups):
+            waits = before if is_built or not number else [(crate.name, number - 1)]
+            self.tasks[crate.name, number] = (waits, lambda crate=crate, group=group: self.judge(crate, group, is_built))
+
+    def build(self, name):
+        """Builds a library, over what the checkout's own checks kept of it."""
+        lacking = next((it for it in self.table.below(name) if it in self.broken), None)
+        if lacking:
+            self.broken[name] = self.broken[lacking]
+            return
+        try:
+            workspace = Workspace(self.table, tempfile.mkdtemp(prefix=f"{name}-", dir=self.room), name, self.libraries)
+            if (self.table.folder(name) / "out/rlib/stamp").is_file():
+                workspace.take_kept(self.table.folder(name), "rlib")
+            workspace.take_kept(self.table.folder(name), "incremental")
+            self.library_seconds += workspace.build_library()
+            self.libraries[name] = workspace
+        except (Unreadable, OSError) as fault:
+            self.broken[name] = str(fault)
+
+    def workspace_of(self, crate, is_built):
+        """A copy for a group's check: one that an earlier group has left, or a new one over what was kept of the crate."""
+        with crate.lock:
+            if crate.idle:
+                return crate.idle.pop()
+        workspace = Workspace(self.table, tempfile.mkdtemp(prefix=f"{crate.name}-", dir=self.room), crate.name, self.libraries)
+        workspace.take_kept(self.libraries[crate.name].folder if is_built else self.table.folder(crate.name), "incremental")
+        return workspace
+
+    def judge(self, crate, group, is_built):
+        """Checks a group and tells each body's verdict."""
+        lacking = next((it for it in [*self.table.below(crate.name), crate.name] if it in self.broken), None)
+        try:
+            if lacking:
+                raise Unreadable(self.broken[lacking])
+            workspace = self.workspace_of(crate, is_built)
+            self.judge_in(workspace, crate, group)
+            with crate.lock:
+                crate.idle.append(workspace)
+        except (Unreadable, OSError) as fault:
+            for body in group:
+                crate.tell(body, Verdict(False, f"it wasn't tried: {fault}"))
+
+    def judge_in(self, workspace, crate, group):
+        """Checks a group. A body that isn't refused in it is checked once more by itself, since the fault may be another's.
+
+        But where the check says of a body that it only calls what isn't proved, the grouping missed a call, and is told."""
+        found = self.verdicts(crate, group, workspace)
+        for body in group:
+            verdict = found[body.name]
+            if not verdict.refused and len(group) > 1 and CALLS.search(verdict.words):
+                verdict = Verdict(False, f"its group has a function that it calls, which the grouping missed: {verdict.words}")
+            elif not verdict.refused and len(group) > 1:
+                verdict = self.verdicts(crate, [body], workspace)[body.name]
+            crate.tell(body, verdict)
+
+    def verdicts(self, crate, group, workspace):
+        texts = merged(crate.source, group)
+        paths = paths_of(group, crate.source)
+        ran = workspace.check(texts, paths)
+        if paths and ran.status == 2:
+            # The check knows no function of such a path: then it proves all of the crate.
+            crate.spent(ran.seconds)
+            ran = workspace.check(texts, [])
+        workspace.write({path: crate.source.texts[path] for path in texts})
+        crate.spent(ran.seconds)
+        return {body.name: verdict_of(body, ran.said, ran.status, crate.name) for body in group}
+
+    def behind(self, key):
+        """How much waits for a task: libraries that stand below many come first, and then the largest crates."""
+        name = key[1] if key[0] == "library" else key[0]
+        above = [it for it in self.table.lines if name in self.table.below(it) and ("library", it) in self.tasks]
+        return key[0] == "library", len(above), len(self.table.below(name))
+
+    def run(self, is_tried):
+        """Runs the tasks side by side, each once those that it waits for have ended and there is memory for it. It hands
+        out the name of each crate once all its groups are tried."""
+        left, done, busy = sorted(self.tasks, key=self.behind, reverse=True), set(), {}
+        with ThreadPoolExecutor(self.at_once) as pool:
+            try:
+                while left or busy:
+                    for key in self.ready(left, done, self.at_once - len(busy), not busy):
+                        left.remove(key)
+                        busy[pool.submit(self.tasks[key][1])] = key
+                    for ended in wait(busy, timeout=10, return_when=FIRST_COMPLETED).done:
+                        key = busy.pop(ended)
+                        ended.result()
+                        done.add(key)
+                        if self.groups.get(key[0], {key}) <= done and key[0] != "library":
+                            is_tried(key[0])
+            except BaseException:
+                stop_all()
+                raise
+
+    def ready(self, left, done, room, is_first):
+        """The tasks to start now: as many as there is room for, and one at least where nothing runs."""
+        found = [key for key in left if all(it in done for it in self.tasks[key][0])][:room]
+        memory = machine.free_memory() // machine.NEEDED
+        return found[: max(memory, 1 if is_first else 0)]
