@@ -1,6 +1,7 @@
 """The gate. Its last line is a count, `N passed, M failed`, and the lines before it say what each part took.
 
-    .ci/run           everything, from nothing
+    .ci/run           everything, but what an earlier run found of the very same text is kept
+    .ci/run --anew    everything, whatever was kept
     .ci/run quick     a look while something is changed: the small checks, and what changed since the last look is
                       proved. It tries no wrong body and runs no test
 
@@ -8,7 +9,8 @@ The parts, in their order:
 
 - small checks, which take no time: that docs/definitions.md names what is there, docs/safety.md each public call,
   docs/threads.md its example and docs/crates.md the sizes;
-- `rt ci`: every proof and every test from nothing, the wrong bodies of `must-fail`, and the program's stored run;
+- `rt ci`: every proof and every test from nothing, the wrong bodies of `must-fail`, and the program's stored run.
+  Where it ended well before, and nothing that it reads has changed, the tests and the program alone (proved.py);
 - wrong bodies: those of `must-fail` again and all others, in groups (tools/wrong-bodies);
 - decks: what the program prints for them, for the largest ones, for those that are cut and bent, and where calls fail,
   and that forgotten tokens are refused.
@@ -22,12 +24,17 @@ import resource
 import subprocess
 import sys
 import time
+
+sys.dont_write_bytecode = True
+
 from concurrent.futures import ThreadPoolExecutor
 from pathlib import Path
 
+from proved import Proved, Unreadable
+
 ROOT = Path(__file__).resolve().parent.parent
 SMALL = (".ci/definitions", ".ci/safety", ".ci/examples", ".ci/sizes")
-DECKS = ("decks/check", "decks/large", "decks/mutations", "decks/failures", ".ci/spent-tokens")
+DECKS = ("decks/check", "decks/schedules", "decks/large", "decks/mutations", "decks/failures", ".ci/spent-tokens")
 PROOFS = re.compile(r"(\d+) passed, (\d+) failed")
 BODIES = re.compile(r"(\d+) wrong bodies, (\d+) not refused")
 # A check takes up to 4.3 GB.
@@ -91,7 +98,22 @@ def silent(commands):
     return found.count(True), found.count(False)
 
 
-def proofs():
+def proofs(is_anew):
+    """`rt ci`, or what was kept of it."""
+    proved = Proved()
+    kept = None if is_anew else proved.count()
+    if kept is None:
+        passed, failed = proofs_anew()
+        if not failed:
+            proved.keep(passed)
+        return passed, failed
+    print(f"proofs: `rt ci` passed {kept} of these very sources before; the tests and the program are run again", flush=True)
+    proved.put_back()
+    failed = proved.run()
+    return kept - failed, failed
+
+
+def proofs_anew():
     """`rt ci` starts a check only where there is memory for what it may need at most, by its size. With the two largest
     beside each other processors stay idle; where there is memory for a check on each, all are used."""
     environment, processors = dict(os.environ), len(os.sched_getaffinity(0))
@@ -101,10 +123,10 @@ def proofs():
     return counted(["rt", "ci"], PROOFS, environment)
 
 
-def bodies():
+def bodies(is_anew):
     """The runner's own tests, and then all wrong bodies: how many were refused, and how many weren't."""
     passed, failed = silent(["tools/wrong-bodies-test"])
-    tried, let_through = counted(["tools/wrong-bodies"], BODIES)
+    tried, let_through = counted(["tools/wrong-bodies", *["--anew"] * is_anew], BODIES)
     return passed + tried - let_through, failed + let_through
 
 
@@ -114,21 +136,37 @@ def changed():
     return (0, 1) if ended else (1, 0)
 
 
+def whole(gate, is_anew):
+    """Every part, up to one in which something fails."""
+    gate.part("small checks", lambda: silent(SMALL))
+    if not gate.failed:
+        gate.part("proofs and tests", lambda: proofs(is_anew))
+    if not gate.failed:
+        gate.part("wrong bodies", lambda: bodies(is_anew))
+        gate.part("decks", lambda: silent(DECKS))
+
+
+def quick(gate):
+    """The parts of a look in between."""
+    gate.part("small checks", lambda: silent(SMALL))
+    gate.part("what changed", changed)
+
+
 def main():
     os.chdir(ROOT)
-    gate = Gate()
-    gate.part("small checks", lambda: silent(SMALL))
-    if sys.argv[1:] == ["quick"]:
-        gate.part("what changed", changed)
-    elif sys.argv[1:]:
-        print("usage: .ci/run [quick]", file=sys.stderr)
+    gate, words = Gate(), sys.argv[1:]
+    if words == ["quick"]:
+        quick(gate)
+    elif words in ([], ["--anew"]):
+        whole(gate, bool(words))
+    else:
+        print("usage: .ci/run [quick | --anew]", file=sys.stderr)
         return 2
-    elif not gate.failed:
-        gate.part("proofs and tests", proofs)
-        if not gate.failed:
-            gate.part("wrong bodies", bodies)
-            gate.part("decks", lambda: silent(DECKS))
     return gate.end()
 
 
-sys.exit(main())
+try:
+    sys.exit(main())
+except Unreadable as reason:
+    print(f"{reason}\n0 passed, 1 failed")
+    sys.exit(1)

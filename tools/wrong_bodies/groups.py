@@ -1,4 +1,4 @@
-"""Puts wrong bodies into groups that one check can judge.
+"""Puts wrong bodies that stand in the place of the right ones into groups that one check can judge.
 
 The prover takes of a call what the contract of the called function says, and never its body. So a wrong body makes
 its own function's goals false and no other's. But a function that calls one that isn't proved is not proved either,

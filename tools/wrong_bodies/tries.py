@@ -1,8 +1,9 @@
-"""Tries the wrong bodies of crates: builds the libraries that they stand on, and checks group after group.
+"""Tries the wrong bodies of crates: gets the libraries that they stand on, and checks group after group.
 
-Where a crate is built as a library for others, its groups run side by side, each in a copy that begins with what that
-build kept. A crate that nothing above needs isn't built: its groups run in turn in one copy, over one another's work,
-and only the functions that they name are ever proved.
+Libraries that `rt ci` has just proved are taken over, and others are built. Where a crate is built as a library for
+others, its groups run side by side, each in a copy that begins with what that build kept. A crate that isn't built
+begins with nothing: its groups run in turn in few copies, over one another's work, and only the functions that they
+name are ever proved.
 """
 
 import tempfile
@@ -12,11 +13,36 @@ from dataclasses import dataclass, field
 from pathlib import Path
 
 from . import machine
+from .copies import beside, can_stand_beside, copied
 from .groups import grouped
 from .kept import Kept, sum_of
+from .libraries import left_by_rt_ci
 from .source import Source, Unreadable, merged, module_of, read_bodies
 from .verdicts import CALLS, Verdict, verdict_of
 from .workspaces import Workspace, stop_all
+
+
+# How many groups are tried in one copy that began with nothing, where a crate has more.
+IN_A_COPY = 12
+
+
+@dataclass
+class Group:
+    """Wrong bodies that one check judges: in copies beside the right ones, or, where there are no copies, in their places."""
+
+    bodies: list
+    copies: list = field(default_factory=list)
+
+    def texts(self, source):
+        return beside(self.copies, source) if self.copies else merged(source, self.bodies)
+
+    def functions(self):
+        """The functions that are wrong."""
+        return [item for it in self.copies or self.bodies for item in it.touched]
+
+    def verdicts(self, said, status, crate):
+        """What the check says of each body."""
+        return {body.name: verdict_of(it.touched, said, status, crate) for body, it in zip(self.bodies, self.copies or self.bodies)}
 
 
 @dataclass
@@ -54,13 +80,21 @@ def read_crate(table, name, identity, anew):
         goal = crate.kept.goal(body)
         if goal:
             crate.verdicts[body.name] = Verdict(True, f"{goal} (kept)")
-    crate.groups = grouped([body for body in bodies if body.name not in crate.verdicts], source)
+    crate.groups = groups_of([body for body in bodies if body.name not in crate.verdicts], source, table.folder(name))
     return crate
+
+
+def groups_of(bodies, source, folder):
+    """The groups of bodies: copies of those that can stand beside the right ones, and the others in their places."""
+    beside_right = [body for body in bodies if can_stand_beside(body, source, folder)]
+    others = [body for body in bodies if body not in beside_right]
+    copies = [Group([copy.body for copy in part], part) for part in copied(beside_right, source, folder)]
+    return [*copies, *map(Group, grouped(others, source))]
 
 
 def paths_of(group, source):
     """What `rt check --only` is to prove for a group, or nothing where a path isn't known and all has to be proved."""
-    found = {path_of(item, source) for body in group for item in body.touched}
+    found = {path_of(item, source) for item in group.functions()}
     return [] if None in found else sorted(found)
 
 
@@ -85,29 +119,34 @@ class Tries:
         tried = [crate for crate in crates if crate.groups]
         self.groups = {crate.name: {(crate.name, number) for number in range(len(crate.groups))} for crate in tried}
         needed = {name for crate in tried for name in table.below(crate.name)}
+        self.left = left_by_rt_ci(table) if needed else {}
         for name in (name for name in table.lines if name in needed):
             self.tasks["library", name] = ([("library", it) for it in table.below(name)], lambda name=name: self.build(name))
         for crate in tried:
-            self.plan(crate, crate.name in needed)
+            self.plan(crate, crate.name in needed and crate.name not in self.left)
 
     def plan(self, crate, is_built):
         before = [("library", it) for it in self.table.below(crate.name)] + [("library", crate.name)] * is_built
+        copies = len(crate.groups) if is_built else -(-len(crate.groups) // IN_A_COPY)
         for number, group in enumerate(crate.groups):
-            waits = before if is_built or not number else [(crate.name, number - 1)]
+            waits = before if number < copies else [(crate.name, number - copies)]
             self.tasks[crate.name, number] = (waits, lambda crate=crate, group=group: self.judge(crate, group, is_built))
 
     def build(self, name):
-        """Builds a library, over what the checkout's own checks kept of it."""
+        """Gets a library: the one that `rt ci` left, or one that is built over what the checkout's own checks kept of it."""
         lacking = next((it for it in self.table.below(name) if it in self.broken), None)
         if lacking:
             self.broken[name] = self.broken[lacking]
             return
         try:
             workspace = Workspace(self.table, tempfile.mkdtemp(prefix=f"{name}-", dir=self.room), name, self.libraries)
-            if (self.table.folder(name) / "out/rlib/stamp").is_file():
-                workspace.take_kept(self.table.folder(name), "rlib")
-            workspace.take_kept(self.table.folder(name), "incremental")
-            self.library_seconds += workspace.build_library()
+            if name in self.left:
+                workspace.take_library(self.table.folder(name), self.left[name])
+            else:
+                workspace.take_kept(self.table.folder(name), "incremental")
+                if (self.table.folder(name) / "out/rlib/stamp").is_file():
+                    workspace.take_kept(self.table.folder(name), "rlib")
+                self.library_seconds += workspace.build_library()
             self.libraries[name] = workspace
         except (Unreadable, OSError) as fault:
             self.broken[name] = str(fault)
@@ -132,33 +171,33 @@ class Tries:
             with crate.lock:
                 crate.idle.append(workspace)
         except (Unreadable, OSError) as fault:
-            for body in group:
+            for body in group.bodies:
                 crate.tell(body, Verdict(False, f"it wasn't tried: {fault}"))
 
     def judge_in(self, workspace, crate, group):
-        """Checks a group. A body that isn't refused in it is checked once more by itself, since the fault may be another's.
+        """Checks a group. A body that isn't refused in it is tried once more in its place and by itself, since the fault may
+        be another's.
 
-        But where the check says of a body that it only calls what isn't proved, the grouping missed a call, and is told."""
-        found = self.verdicts(crate, group, workspace)
-        for body in group:
+        But where bodies in their places are tried together, and the check says of one that it only calls what isn't
+        proved, the grouping missed a call, and is told."""
+        found, is_alone = self.verdicts(crate, group, workspace), len(group.bodies) == 1 and not group.copies
+        for body in group.bodies:
             verdict = found[body.name]
-            if not verdict.refused and len(group) > 1 and CALLS.search(verdict.words):
+            if not (verdict.refused or is_alone or group.copies) and CALLS.search(verdict.words):
                 verdict = Verdict(False, f"its group has a function that it calls, which the grouping missed: {verdict.words}")
-            elif not verdict.refused and len(group) > 1:
-                verdict = self.verdicts(crate, [body], workspace)[body.name]
+            elif not (verdict.refused or is_alone):
+                verdict = self.verdicts(crate, Group([body]), workspace)[body.name]
             crate.tell(body, verdict)
 
     def verdicts(self, crate, group, workspace):
-        texts = merged(crate.source, group)
-        paths = paths_of(group, crate.source)
+        texts, paths = group.texts(crate.source), paths_of(group, crate.source)
         ran = workspace.check(texts, paths)
         if paths and ran.status == 2:
             # The check knows no function of such a path: then it proves all of the crate.
             crate.spent(ran.seconds)
             ran = workspace.check(texts, [])
-        workspace.write({path: crate.source.texts[path] for path in texts})
         crate.spent(ran.seconds)
-        return {body.name: verdict_of(body, ran.said, ran.status, crate.name) for body in group}
+        return group.verdicts(ran.said, ran.status, crate.name)
 
     def behind(self, key):
         """How much waits for a task: libraries that stand below many come first, and then the largest crates."""

@@ -30,6 +30,8 @@ RESTS = re.compile(FILE + r"\d+ declarations? that depends? on `([^`]+)`, which 
 # What is said of a proof file that names something which the edit took away, or that can't be read.
 NAMES = re.compile(r"has no field|is not in scope|has no `|was not admitted|is no name|operand is missing|expected the end|cannot continue")
 CALLS = re.compile(r"it calls `")
+# The end of the name of a copy (copies.py).
+NUMBERED = re.compile(r"_wrong_\d+$")
 ENDS = re.compile(r"only=(\d+) proved=(\d+)|logic=(proved|not-proved)\b.*")
 STOPS = re.compile(r"(?<!fatal )\berror(\[[\w-]+\])?:|^rattle: ")
 
@@ -101,22 +103,22 @@ def hold_to_verdict(lines, status):
     raise Unreadable(f"the check came to no verdict, and ended with status {status}: {reason}"[:300])
 
 
-def verdict_of(body, said, status, crate):
-    """The verdict on one body of those that the check read."""
-    lines, reasons, proved = said.split("\n"), [], 0
+def verdict_of(touched, said, status, crate):
+    """The verdict on one body of those that the check read, by the functions that it changes."""
+    lines, reasons = said.split("\n"), []
     try:
         hold_to_verdict(lines, status)
     except Unreadable as reason:
         return Verdict(False, str(reason))
-    for item in body.touched:
+    for item in touched:
         try:
             goal = own_goal(lines, item, crate)
         except Unreadable as reason:
             reasons.append(str(reason))
             continue
         if goal:
-            return Verdict(True, f"`{goal}` of {item.owner + '::' if item.owner else ''}{item.name}")
-        proved += 1
+            name = NUMBERED.sub("", item.name)
+            return Verdict(True, f"`{goal}` of {item.owner + '::' if item.owner else ''}{name}")
     if reasons:
         return Verdict(False, reasons[0])
-    return Verdict(False, f"it is PROVED: no clause of {body.touched[0].name} tells it from the right body")
+    return Verdict(False, f"it is PROVED: no clause of {NUMBERED.sub('', touched[0].name)} tells it from the right body")

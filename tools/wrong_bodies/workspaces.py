@@ -127,6 +127,11 @@ class Workspace:
         finally:
             os.close(held)
 
+    def take_library(self, folder, stamp):
+        """Takes the library that `rt ci` left there, and gives it the stamp by which `rt` sees that it is up to date."""
+        self.take_kept(folder, "rlib")
+        (self.rlib() / "stamp").write_text(stamp, encoding="utf-8")
+
     def build_library(self):
         """Proves and builds the crate as a library, or finds it built. Returns the seconds that it took."""
         ran = run(["rt", "lib", "--jobs", "1"], self.folder)
@@ -136,11 +141,19 @@ class Workspace:
         return ran.seconds
 
     def check(self, texts, paths):
-        """Checks the crate with these texts: the functions of these paths, or all where there are none."""
+        """Checks the crate with these texts: the functions of these paths, or all where there are none. Then it has its
+        own texts again, and no file more."""
+        right = {path: file.read_text(encoding="utf-8") for path in texts if (file := self.folder / path).is_file()}
         self.write(texts)
         only = [word for path in paths for word in ("--only", path)]
-        return run(["rt", "check", "--jobs", "1", *only], self.folder)
+        try:
+            return run(["rt", "check", "--jobs", "1", *only], self.folder)
+        finally:
+            for path in texts.keys() - right.keys():
+                shutil.rmtree((self.folder / path).parent, ignore_errors=True)
+            self.write(right)
 
     def write(self, texts):
         for path, text in texts.items():
+            (self.folder / path).parent.mkdir(parents=True, exist_ok=True)
             (self.folder / path).write_text(text, encoding="utf-8")

@@ -2,9 +2,7 @@
 //! the deck's words.
 #![tactic(auto)]
 
-mod arguments;
 mod program;
-mod running;
 
 use operator_terms::ProgramFault;
 use std::env;
@@ -31,36 +29,8 @@ fn main(rt: HostRuntime) -> ExitCode {
 }
 
 #[cfg(test)]
-mod access_tests;
-#[cfg(test)]
 mod command_tests;
 #[cfg(test)]
 mod device_tests;
 #[cfg(test)]
-mod example_tests;
-#[cfg(test)]
-mod lock_tests;
-#[cfg(test)]
-mod queue_tests;
-#[cfg(test)]
-mod schedule_tests;
-#[cfg(test)]
-mod signal_tests;
-#[cfg(test)]
-mod test_branches;
-#[cfg(test)]
-mod test_crew;
-#[cfg(test)]
-mod test_exchanges;
-#[cfg(test)]
-mod test_machines;
-#[cfg(test)]
 mod test_program;
-#[cfg(test)]
-mod test_references;
-#[cfg(test)]
-mod test_registers;
-#[cfg(test)]
-mod test_schedule;
-#[cfg(test)]
-mod thread_tests;

@@ -1,19 +1,10 @@
-ghost use Rattle.std.specs.Prelude.{◌≡◌, ◌||◌, OnOk, false};
-ghost use Rattle.deck.specs.Deck.{deck};
-ghost use Rattle.device_text.specs.Device.{Moves};
-ghost use Rattle.operator_main.specs.Running.{PrintsRun, Runs, EndsReplay, is_read_fault, is_write_fault};
-
-use super::arguments::{Request, read_arguments};
-use super::running::run;
 use arrayvec::ArrayVec;
 use clap::Error;
 use clap::error::ErrorKind;
-use deck::refusal;
-use job_deck::{
-    Deck, Input, Output, Tracked, WatchedBuffer, dump_to, events_to, list_to, read_deck_from,
-    replay_to,
-};
-use operator_terms::{Budget, ProgramFault, Status, end_status};
+use command_line::{Request, read_arguments};
+use deck_run::{replay_log, run_deck};
+use job_deck::{Tracked, WatchedBuffer, events_to, list_to};
+use operator_terms::{ProgramFault, Status};
 use std::alloc::Global;
 use std::io;
 use std::io::{BufReader, BufWriter, Read, Write};
@@ -54,77 +45,6 @@ fn unparsed<W: Write, F: Write>(output: &mut W, faults: &mut F, error: Error) ->
     match write!(output, "{error}") {
         Ok(()) => Status::Stopped.code(),
         Err(_) => refused(faults, ProgramFault::Write),
-    }
-}
-
-/// Runs a deck, prints the machine's dump and hands it on.
-///
-/// # Errors
-/// `OutOfMemory`, also where a thread couldn't be started, `Stuck`, and `Write`. Only at the last of these anything was
-/// written, a beginning of a dump.
-fn print_run<T: Threads + Wait + Sync, O: Output>(
-    rt: &T,
-    alloc: Global,
-    output: &mut O,
-    deck: &Deck,
-    budget: Budget,
-) -> Result<Status, ProgramFault>
-    ensures printed { PrintsRun result deck.now (O.contents output.old) (O.contents output.new) }
-    ensures write { O.has_failed output.new ≡ (O.has_failed output.old || is_write_fault result) }
-    ensures handed_on { OnOk result (O.waits output.new ≡ false) }
-{
-    let snapshot = run(rt, alloc, deck, budget)?;
-    match dump_to(output, snapshot.state(), snapshot.log(), deck) {
-        Ok(()) => Ok(end_status(snapshot.state())),
-        Err(_) => Err(ProgramFault::Write),
-    }
-}
-
-/// Reads a deck, runs it, prints the machine's dump and hands it on. What it prints, replaying the dump's log on the
-/// same deck prints too.
-///
-/// # Errors
-/// `Deck` with a line and its fault, `Read`, and those of `print_run`.
-fn run_deck<T: Threads + Wait + Sync, I: Input, O: Output>(
-    rt: &T,
-    alloc: Global,
-    input: &mut I,
-    output: &mut O,
-    budget: Budget,
-) -> Result<Status, ProgramFault>
-    ensures ran { Moves (I.remaining input.old) (I.remaining input.new)
-        (λ xs ys. Runs result (deck xs) ys (O.contents output.old) (O.contents output.new)) }
-    ensures read { I.has_failed input.new ≡ (I.has_failed input.old || is_read_fault result) }
-    ensures write { O.has_failed output.new ≡ (O.has_failed output.old || is_write_fault result) }
-    ensures handed_on { OnOk result (O.waits output.new ≡ false) }
-{
-    match read_deck_from(alloc, input) {
-        Ok((deck, _)) => print_run(rt, alloc, output, &deck, budget),
-        Err(error) => Err(ProgramFault::of(refusal(error))),
-    }
-}
-
-/// Goes through a log on a deck, prints the dump and hands it on.
-///
-/// # Errors
-/// `Deck` with a line and its fault, `BadLog`, `PackageRange` where the words of an exchange of the log don't lie in
-/// memory, `OutOfMemory`, `Read`, and `Write`. Only at the last of these anything was written, a beginning of the dump.
-fn replay_log<I: Input, O: Output>(
-    alloc: Global,
-    input: &mut I,
-    output: &mut O,
-    log: &str,
-) -> Result<Status, ProgramFault>
-    ensures replayed { Moves (I.remaining input.old) (I.remaining input.new)
-        (λ xs ys. EndsReplay result (deck xs) ys log.now (O.contents output.old) (O.contents output.new)) }
-    ensures read { I.has_failed input.new ≡ (I.has_failed input.old || is_read_fault result) }
-    ensures write { O.has_failed output.new ≡ (O.has_failed output.old || is_write_fault result) }
-    ensures handed_on { OnOk result (O.waits output.new ≡ false) }
-{
-    match replay_to(alloc, input, output, log) {
-        Ok(Some(state)) => Ok(end_status(&state)),
-        Ok(None) => Err(ProgramFault::BadLog),
-        Err(refusal) => Err(ProgramFault::of(refusal)),
     }
 }
 

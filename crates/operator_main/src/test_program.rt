@@ -1,4 +1,4 @@
-//! What the tests share: calls of the program, decks, and texts of dumps.
+//! What the tests share: calls of the program, and a deck.
 
 use super::program::program;
 use std::alloc::{AllocError, Global};
@@ -63,84 +63,6 @@ pub fn expect(
         case.name
     );
     Ok(())
-}
-
-/// What a dump has that isn't the same in each: the lines before the registers, the registers that aren't +0
-/// with their digits from the first that isn't 0 on, the words that are shown, and the log.
-#[derive(Clone, Copy, Drop)]
-pub struct Dump<'a> {
-    pub begins: &'a str,
-    pub registers: &'a [(&'a str, &'a str)],
-    pub shows: &'a str,
-    pub log: &'a str,
-}
-
-/// Digits with zeros before them.
-fn put_octal(text: &mut Vec<u8>, digits: &str, width: usize) -> Result<(), AllocError> {
-    for _ in digits.len()..width {
-        text.push(b'0')?;
-    }
-    text.extend_from_slice(digits.as_bytes())
-}
-
-/// A register's digits.
-fn put_register(
-    text: &mut Vec<u8>,
-    dump: Dump<'_>,
-    register: &str,
-    width: usize,
-) -> Result<(), AllocError> {
-    for (named, digits) in dump.registers {
-        if *named == register {
-            return put_octal(text, digits, width);
-        }
-    }
-    put_octal(text, "", width)
-}
-
-/// The line of the A or B registers.
-fn put_indexes(
-    text: &mut Vec<u8>,
-    dump: Dump<'_>,
-    letter: &str,
-    registers: [&str; 8],
-) -> Result<(), AllocError> {
-    text.extend_from_slice(letter.as_bytes())?;
-    for register in registers {
-        text.push(b' ')?;
-        put_register(text, dump, register, 6)?;
-    }
-    text.extend_from_slice(b"\n")
-}
-
-/// The lines of the X registers.
-fn put_words(text: &mut Vec<u8>, dump: Dump<'_>) -> Result<(), AllocError> {
-    for register in ["X0", "X1", "X2", "X3", "X4", "X5", "X6", "X7"] {
-        text.extend_from_slice(register.as_bytes())?;
-        text.push(b' ')?;
-        put_register(text, dump, register, 20)?;
-        text.push(b'\n')?;
-    }
-    Ok(())
-}
-
-/// The lines of all registers.
-fn put_registers(text: &mut Vec<u8>, dump: Dump<'_>) -> Result<(), AllocError> {
-    let a = ["A0", "A1", "A2", "A3", "A4", "A5", "A6", "A7"];
-    put_indexes(text, dump, "A", a)?;
-    let b = ["B0", "B1", "B2", "B3", "B4", "B5", "B6", "B7"];
-    put_indexes(text, dump, "B", b)?;
-    put_words(text, dump)
-}
-
-/// The text of a dump.
-pub fn dump_text(alloc: Global, dump: Dump<'_>) -> Result<Vec<u8>, AllocError> {
-    let mut text = Vec::from_slice(alloc, dump.begins.as_bytes())?;
-    put_registers(&mut text, dump)?;
-    for part in [dump.shows, "LOG ", dump.log, "\n"] {
-        text.extend_from_slice(part.as_bytes())?;
-    }
-    Ok(text)
 }
 
 /// A deck that adds 5 and 3, subtracts them and stops.

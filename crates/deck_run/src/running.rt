@@ -1,0 +1,89 @@
+//! A run of a deck by threads: a worker for each unit, one for memory, and this thread, which issues.
+ghost use Rattle.std.specs.Prelude.{◌≡◌, map, MatchResult, IfOk};
+ghost use Rattle.instructions.specs.declared.refusal.Refusal.TheVariants.{OutOfMemory};
+ghost use Rattle.program_order.specs.Processor.{boot_processor};
+ghost use Rattle.deck_run.specs.Running.{IsRun, EndsNoRun};
+
+use instruction_table::Refusal;
+use job_deck::Deck;
+use machine::{Machine, Snapshot};
+use operator_terms::{Budget, ProgramFault};
+use std::alloc::{AllocError, Global};
+use std::sync::Wait;
+use std::thread::Threads;
+use unit_workers::{Gates, Open, Orders, run_threads};
+
+/// What a run of this deck is to do: it starts with the package of `start`, and makes the requests of the `ask`
+/// lines, after so many instructions or at any time.
+///
+/// # Errors
+/// No memory was to be had.
+#[tactic(auto, using(std::proofs::lemmas::List::map_more))]
+fn orders(alloc: Global, deck: &Deck) -> Result<Orders, AllocError>
+    ensures start { IfOk result (λ orders. orders.start ≡ deck.now.start) }
+    ensures after { IfOk result (λ orders. orders.after.items
+        ≡ map (λ ask. (ask.at, ask.after)) deck.now.asks) }
+    ensures free { IfOk result (λ orders. orders.free.items ≡ deck.now.free) }
+{
+    let mut after = Vec::new(alloc);
+    for ask in deck.asks.as_slice() {
+        after.push((ask.at, u64::from(ask.after)))?;
+    }
+    Ok(Orders {
+        start: deck.start,
+        after,
+        free: Vec::from_slice(alloc, deck.free.as_slice())?,
+    })
+}
+
+/// A machine that was just booted with the deck's memory.
+///
+/// # Errors
+/// `OutOfMemory`.
+fn booted(alloc: Global, deck: &Deck, budget: Budget) -> Result<Machine, Refusal>
+    ensures machine { MatchResult result (λ machine. machine ≡ boot_processor deck.now.image.memory budget)
+        (λ refusal. refusal ≡ OutOfMemory) }
+{
+    let memory = deck.image.memory().copy()?;
+    Machine::boot(alloc, memory, budget.get())
+}
+
+/// A gate for each unit that holds nobody.
+fn open_gates() -> Gates<Open> {
+    Gates {
+        branch: Open,
+        boolean: Open,
+        shift: Open,
+        long_add: Open,
+        divide: Open,
+        increment1: Open,
+        increment2: Open,
+    }
+}
+
+/// Boots a machine with a deck's memory and runs it to the end by threads, with the deck's requests for exchanges. The
+/// machine that is answered has come to its state by its log on that memory.
+///
+/// # Errors
+/// `OutOfMemory`, also where a thread couldn't be started, and `Stuck` where the machine refused a step before the
+/// run's end.
+pub fn run<T: Threads + Wait + Sync>(
+    rt: &T,
+    alloc: Global,
+    deck: &Deck,
+    budget: Budget,
+) -> Result<Snapshot, ProgramFault>
+    ensures { MatchResult result (λ snapshot. IsRun deck.now.image.memory snapshot.log snapshot.state) EndsNoRun }
+{
+    let Ok(orders) = orders(alloc, deck) else {
+        return Err(ProgramFault::OutOfMemory);
+    };
+    let Ok(machine) = booted(alloc, deck, budget) else {
+        return Err(ProgramFault::OutOfMemory);
+    };
+    match run_threads(rt, alloc, machine, &orders, open_gates()) {
+        Ok(ended) => Ok(ended.snapshot),
+        Err(Refusal::OutOfMemory) => Err(ProgramFault::OutOfMemory),
+        Err(_) => Err(ProgramFault::Stuck),
+    }
+}

@@ -1,5 +1,0 @@
-use Rattle.operator_main.proofs.access_tests.two_peripheral_processors.Given as goal
-
--- the word that was just made
-abbrev pub ghosts-accesses_beside : goal.ghosts-accesses_beside
-ghosts-accesses_beside g a = record { table = a.ground }

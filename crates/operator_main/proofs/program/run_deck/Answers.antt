@@ -1,7 +1,0 @@
-use Rattle.operator_main.proofs.Runs.{runs_refused}
-use Rattle.operator_main.proofs.program.run_deck.Goals as goal
-
-pub returns-in-Err-clause-ran : goal.returns-in-Err-clause-ran
-returns-in-Err-clause-ran g c =
-    runs_refused _ _ c.in-Err.error c.refusal.result c.of.result (g.O.Output.contents c.args.output.now)
-    c.refusal.ensures c.of.ensures c.in-Err.ensures.deck

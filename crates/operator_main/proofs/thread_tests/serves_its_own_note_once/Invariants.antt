@@ -1,5 +1,0 @@
-use Rattle.operator_main.proofs.thread_tests.serves_its_own_note_once.Given as goal
-
--- the word that was just made
-abbrev pub ghosts-serves_once : goal.ghosts-serves_once
-ghosts-serves_once g a = record { table = a.ground }

@@ -1,0 +1,349 @@
+//! Each worked schedule by each way in which events are made: as the lines of a session, one by one, as one list, and
+//! by the calls of a machine under its lock.
+
+ghost use Rattle.std.specs.Prelude.{◌≡◌};
+
+use super::crew::Crew;
+use super::dump::dump_text;
+use super::schedule::Schedule;
+use super::{branch_schedules, exchange_schedules, reference_schedules, register_schedules};
+use instruction_table::{Refusal, Unit};
+use job_deck::{Deck, Spoken, Tracked, dump, events, put_answer, read_deck, spoken_in};
+use machine::{Answer, Event, Machine, Snapshot};
+use machine_lock::{Ground, Naming};
+use relocation::Storage;
+use std::alloc::{AllocError, Global};
+use std::marker::Brand;
+use std::process::Abort;
+use std::sync::Wait;
+use std::test::Fail;
+use word60::Word60;
+
+/// The lines of a session: the deck, the events and a drain.
+fn session_of(alloc: Global, schedule: &Schedule) -> Result<Vec<u8>, AllocError> {
+    let mut session = Vec::from_slice(alloc, schedule.deck.as_bytes())?;
+    for (event, _) in schedule.steps {
+        session.extend_from_slice(event.as_bytes())?;
+        session.push(b'\n')?;
+    }
+    session.extend_from_slice(b"drain\n")?;
+    Ok(session)
+}
+
+/// The lines that answer the events.
+fn answers_of(alloc: Global, schedule: &Schedule) -> Result<Vec<u8>, AllocError> {
+    let mut answers = Vec::new(alloc);
+    for (_, answer) in schedule.steps {
+        answers.extend_from_slice(answer.as_bytes())?;
+        answers.push(b'\n')?;
+    }
+    Ok(answers)
+}
+
+/// What the session prints: the answers, and what the drained machine shows.
+fn printed_by(alloc: Global, schedule: &Schedule) -> Result<Vec<u8>, AllocError> {
+    let mut printed = answers_of(alloc, schedule)?;
+    let dump = dump_text(alloc, schedule.dump)?;
+    printed.extend_from_slice(dump.as_slice())?;
+    Ok(printed)
+}
+
+/// The events that the lines say.
+fn events_of(alloc: Global, schedule: &Schedule) -> Result<Vec<Event>, Fail> {
+    let mut events = Vec::new(alloc);
+    for (line, _) in schedule.steps {
+        match spoken_in(line.as_bytes()) {
+            Spoken::Makes(event) => events.push(event)?,
+            _ => return Err(Fail::from(*line)),
+        }
+    }
+    Ok(events)
+}
+
+/// The lines that answers have in a session.
+fn text_of(alloc: Global, answers: &[Answer]) -> Result<Vec<u8>, Fail> {
+    let mut text = Vec::new(alloc);
+    let mut output = Tracked::new(&mut text);
+    for answer in answers {
+        put_answer(&mut output, answer)?;
+    }
+    Ok(text)
+}
+
+/// The deck of a schedule.
+fn deck_of(alloc: Global, schedule: &Schedule) -> Result<Deck, Fail> {
+    let mut text = schedule.deck.as_bytes();
+    match read_deck(alloc, &mut text) {
+        Ok(deck) => Ok(deck),
+        Err(_) => Err(Fail::from(schedule.name)),
+    }
+}
+
+/// A machine that was booted with the memory of a deck.
+fn booted(alloc: Global, deck: &Deck, schedule: &Schedule) -> Result<Machine, Fail> {
+    let memory = deck.image.memory().copy()?;
+    let budget = schedule.budget.min(10_000_000);
+    Ok(Machine::boot(alloc, memory, budget)?)
+}
+
+/// A memory of so many words in which these stand, and the status of the booted machine at 47 (octal), where no other
+/// word stands there.
+fn memory_of(alloc: Global, size: u32, words: &[(u32, &str)]) -> Result<Storage, Refusal> {
+    let mut memory = Storage::new(alloc, size)?;
+    memory.store(0o47 % size, Word60::from_bits(1 << 36));
+    for (address, octal) in words {
+        let word = Word60::from_octal(octal.as_bytes()).unwrap_or_default();
+        if *address < memory.size() {
+            memory.store(*address, word);
+        }
+    }
+    Ok(memory)
+}
+
+/// Whether two memories have the same words.
+fn is_same(one: &Storage, other: &Storage) -> bool {
+    let words = one.size().min(other.size());
+    (0..words).all(|address| one.load(address) == other.load(address)) && one.size() == other.size()
+}
+
+/// The drained machine shows what the schedule leaves, and boots from the deck's memory.
+fn expect_left(
+    rt: &(impl Abort + AllocGlobal),
+    schedule: &Schedule,
+    deck: &Deck,
+    snapshot: &Snapshot,
+) -> Result<(), Fail> {
+    let mut text = Vec::new(rt.alloc());
+    dump(snapshot.state(), snapshot.log(), deck, &mut text)?;
+    let wanted = dump_text(rt.alloc(), schedule.dump)?;
+    let memory = memory_of(rt.alloc(), deck.image.memory().size(), schedule.memory)?;
+    let is_left = is_same(&snapshot.state().memory, &memory);
+    let is_booted = is_same(snapshot.boot_memory(), deck.image.memory());
+    assert_eq!(rt;
+        (text, is_left, is_booted),
+        (wanted, true, true),
+        "{}",
+        schedule.name
+    );
+    Ok(())
+}
+
+/// A snapshot is given only when the machine is drained, which takes as many events as the schedule says; it shows
+/// what is left.
+fn expect_drained(
+    rt: &(impl Abort + AllocGlobal),
+    schedule: &Schedule,
+    deck: &Deck,
+    machine: &mut Machine,
+) -> Result<(), Fail> {
+    let is_pending = machine.snapshot().err() == Some(Refusal::NotDrained);
+    let left = machine.drain();
+    assert_eq!(rt;
+        (is_pending, left),
+        (schedule.left > 0, schedule.left),
+        "{}",
+        schedule.name
+    );
+    let snapshot = machine.snapshot()?;
+    let is_logged = machine.log().entries() == snapshot.log().entries();
+    assert!(rt; is_logged, "{}", schedule.name);
+    expect_left(rt, schedule, deck, &snapshot)
+}
+
+/// The answers have the lines that the schedule says.
+fn expect_answers(
+    rt: &(impl Abort + AllocGlobal),
+    schedule: &Schedule,
+    answers: &[Answer],
+) -> Result<(), Fail> {
+    let text = text_of(rt.alloc(), answers)?;
+    let wanted = answers_of(rt.alloc(), schedule)?;
+    assert_eq!(rt; text, wanted, "{}", schedule.name);
+    Ok(())
+}
+
+/// One event after another.
+fn expect_events(
+    rt: &(impl Abort + AllocGlobal),
+    schedule: &Schedule,
+    deck: &Deck,
+) -> Result<(), Fail> {
+    let mut machine = booted(rt.alloc(), deck, schedule)?;
+    let mut answers = Vec::new(rt.alloc());
+    for event in events_of(rt.alloc(), schedule)? {
+        answers.push(machine.apply(event))?;
+    }
+    expect_answers(rt, schedule, answers.as_slice())?;
+    expect_drained(rt, schedule, deck, &mut machine)
+}
+
+/// All events as one list.
+fn expect_one_run(
+    rt: &(impl Abort + AllocGlobal),
+    schedule: &Schedule,
+    deck: &Deck,
+) -> Result<(), Fail> {
+    let mut machine = booted(rt.alloc(), deck, schedule)?;
+    let events = events_of(rt.alloc(), schedule)?;
+    let mut answers = Vec::new(rt.alloc());
+    machine.run(events.as_slice(), &mut answers)?;
+    expect_answers(rt, schedule, answers.as_slice())?;
+    expect_drained(rt, schedule, deck, &mut machine)
+}
+
+/// The lines of a session, and a drain.
+fn expect_lines(rt: &(impl Abort + AllocGlobal), schedule: &Schedule) -> Result<(), Fail> {
+    let session = session_of(rt.alloc(), schedule)?;
+    let wanted = printed_by(rt.alloc(), schedule)?;
+    let mut left = session.as_slice();
+    let mut printed = Vec::new(rt.alloc());
+    events(
+        rt.alloc(),
+        &mut left,
+        &mut printed,
+        schedule.budget.min(10_000_000),
+    )?;
+    assert_eq!(rt; (printed, left.len()), (wanted, 0), "{}", schedule.name);
+    Ok(())
+}
+
+/// How many reservations the schedule stores with a unit.
+fn stored_with(schedule: &Schedule, store: &str) -> u64 {
+    let mut stored = 0u64;
+    for step in schedule.steps {
+        if *step == (store, "ok") {
+            stored = stored.saturating_add(1);
+        }
+    }
+    stored
+}
+
+/// What the seats are to tell: each its unit, and how many reservations were stored with it.
+fn stored_by_unit(schedule: &Schedule) -> [Option<(Unit, u64)>; 7] {
+    [
+        (Unit::Branch, "store branch"),
+        (Unit::Boolean, "store boolean"),
+        (Unit::Shift, "store shift"),
+        (Unit::LongAdd, "store longadd"),
+        (Unit::Divide, "store divide"),
+        (Unit::Increment1, "store increment1"),
+        (Unit::Increment2, "store increment2"),
+    ]
+    .map(|(unit, store)| Some((unit, stored_with(schedule, store))))
+}
+
+/// Makes an event by the call of its name, and on a machine of its own. Whether the answers are the same, and both
+/// machines drained or neither.
+fn is_alike<K: Naming>(
+    rt: &impl Wait,
+    crew: &mut Crew<K>,
+    machine: &mut Machine,
+    event: &Event,
+) -> bool {
+    crew.call(rt, *event) == machine.apply(*event) && crew.drained(rt) == machine.drained()
+}
+
+/// How many of the events are alike.
+fn count_alike<K: Naming>(
+    rt: &(impl AllocGlobal + Wait),
+    schedule: &Schedule,
+    deck: &Deck,
+    crew: &mut Crew<K>,
+) -> Result<usize, Fail> {
+    let mut machine = booted(rt.alloc(), deck, schedule)?;
+    let mut alike = 0usize;
+    for event in events_of(rt.alloc(), schedule)? {
+        if is_alike(rt, crew, &mut machine, &event) {
+            alike = alike.saturating_add(1);
+        }
+    }
+    Ok(alike)
+}
+
+/// How many of the events are alike, and what the seats and the snapshot tell after them; the seats are left.
+fn told_by<K: Naming>(
+    rt: &(impl AllocGlobal + Wait),
+    schedule: &Schedule,
+    deck: &Deck,
+    mut crew: Crew<K>,
+) -> Result<(usize, [Option<(Unit, u64)>; 7], Snapshot), Fail> {
+    let alike = count_alike(rt, schedule, deck, &mut crew);
+    let snapshot = crew.snapshot(rt);
+    let stored = crew.leave();
+    Ok((alike?, stored, snapshot?))
+}
+
+/// The calls of a locked machine, beside its progress word. The schedule leaves nothing pending.
+fn expect_calls_beside<K: Naming>(
+    rt: &(impl Abort + AllocGlobal + Wait),
+    schedule: &Schedule,
+    deck: &Deck,
+    ground: Ground,
+) -> Result<(), Fail>
+    requires { ground ≡ K.table }
+{
+    let machine = booted(rt.alloc(), deck, schedule)?;
+    let crew = Crew::<K>::open(rt.alloc(), ground, machine)?;
+    let (alike, stored, snapshot) = told_by(rt, schedule, deck, crew)?;
+    assert_eq!(rt;
+        (alike, stored),
+        (schedule.steps.len(), stored_by_unit(schedule)),
+        "{}",
+        schedule.name
+    );
+    expect_left(rt, schedule, deck, &snapshot)
+}
+
+/// The same beside a progress word of its own.
+fn expect_calls(
+    rt: &(impl Abort + AllocGlobal + Wait),
+    schedule: &Schedule,
+    deck: &Deck,
+) -> Result<(), Fail> {
+    let ground = Ground::new(rt.alloc())?;
+    expect_calls_beside::<Brand>(rt, schedule, deck, ground)
+}
+
+/// A schedule by each way.
+fn expect_each(rt: &(impl Abort + AllocGlobal + Wait), schedule: &Schedule) -> Result<(), Fail> {
+    expect_lines(rt, schedule)?;
+    let deck = deck_of(rt.alloc(), schedule)?;
+    expect_events(rt, schedule, &deck)?;
+    expect_one_run(rt, schedule, &deck)?;
+    if schedule.left == 0 {
+        expect_calls(rt, schedule, &deck)?;
+    }
+    Ok(())
+}
+
+/// Each of the schedules.
+fn expect_all(rt: &(impl Abort + AllocGlobal + Wait), schedules: &[Schedule]) -> Result<(), Fail> {
+    for schedule in schedules {
+        expect_each(rt, schedule)?;
+    }
+    Ok(())
+}
+
+/// Instructions that read and set registers alone.
+#[test]
+fn registers(rt: HostRuntime) -> Result<(), Fail> {
+    expect_all(&rt, register_schedules::SCHEDULES.as_slice())
+}
+
+/// Loads and stores.
+#[test]
+fn references(rt: HostRuntime) -> Result<(), Fail> {
+    expect_all(&rt, reference_schedules::SCHEDULES.as_slice())
+}
+
+/// Branches.
+#[test]
+fn branches(rt: HostRuntime) -> Result<(), Fail> {
+    expect_all(&rt, branch_schedules::SCHEDULES.as_slice())
+}
+
+/// Requests for exchanges.
+#[test]
+fn exchanges(rt: HostRuntime) -> Result<(), Fail> {
+    expect_all(&rt, exchange_schedules::SCHEDULES.as_slice())
+}

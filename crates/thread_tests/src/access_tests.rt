@@ -1,0 +1,222 @@
+//! Two peripheral processors, each a thread, that write and read one word while two units are at work.
+
+ghost use Rattle.std.specs.Prelude.{◌≡◌, IfOk};
+ghost use Rattle.machine_lock.specs.Known.{IsWordOf};
+
+use crate::fixtures::{Wanted, are, booted_over, is_empty, note, word, x};
+use crate::lock_tests::leave_all;
+use crate::thread_tests::{BOTH, Hold, NOTES, REGISTERS, Started, start};
+use instruction_table::{Refusal, Unit};
+use machine::{Machine, Note, Seat, Snapshot};
+use machine_lock::{Ground, Naming, Seen, Shared};
+use std::alloc::Global;
+use std::marker::Brand;
+use std::sync::Wait;
+use std::test::Fail;
+use std::thread::{Threads, join};
+use unit_workers::{Gate, serve};
+use word60::Word60;
+
+/// The address of the word.
+const AT: u32 = 0o210;
+
+/// What a peripheral processor reads, none before it has read.
+type WordRead = Option<Result<Word60, Refusal>>;
+
+/// A peripheral processor's part: it writes its word, and reads what stands there then. That is the word of the replay
+/// of the steps that it has seen.
+fn write_and_read<K: Naming, R: Wait>(
+    rt: &R,
+    shared: &Shared<K>,
+    seen: &mut Seen<K>,
+    at: u32,
+    word: Word60,
+) -> Result<Word60, Refusal>
+    ensures { IfOk result (λ read. IsWordOf seen.new at read) }
+{
+    if let Err(refusal) = shared.pp_write(rt, seen, at, word) {
+        return Err(refusal);
+    }
+    shared.pp_read(rt, seen, at)
+}
+
+/// A gate at which a peripheral processor does its part, ahead of computing; then the reservation may be held.
+#[derive(Drop)]
+struct Accessing<'r, 's, 'h, K: Naming, R: Wait> {
+    rt: &'r R,
+    shared: &'s Shared<K>,
+    hold: &'h Hold,
+    seen: Seen<K>,
+    word: Word60,
+    read: WordRead,
+}
+
+impl<K: Naming, R: Wait> Gate for Accessing<'_, '_, '_, K, R> {
+    fn before(&mut self, unit: Unit, number: u64) {
+        self.read = Some(write_and_read(self.rt, self.shared, &mut self.seen, AT, self.word));
+        self.hold.before(unit, number);
+    }
+
+    fn stored(&mut self, unit: Unit, number: u64) {
+        self.hold.stored(unit, number);
+    }
+}
+
+/// The seats of Boolean and Shift; the others are left.
+fn of_boolean_and_shift(seats: [Seat; 7]) -> (Seat, Seat) {
+    let [
+        branch,
+        boolean,
+        shift,
+        long_add,
+        divide,
+        increment1,
+        increment2,
+    ] = seats;
+    branch.leave();
+    long_add.leave();
+    divide.leave();
+    increment1.leave();
+    increment2.leave();
+    (boolean, shift)
+}
+
+/// One thread's part: with the seat of a place it serves a reservation, and at its gate it writes the word and reads.
+/// It gives back what it has seen, with what it read and whether the reservation was stored.
+fn serve_and_access<K: Naming, R: Wait>(
+    rt: &R,
+    shared: &Shared<K>,
+    hold: &Hold,
+    place: &mut Option<Seat>,
+    note: Note,
+    seen: Seen<K>,
+    word: Word60,
+) -> (Seen<K>, WordRead, bool) {
+    let mut gate = Accessing {
+        rt,
+        shared,
+        hold,
+        seen,
+        word,
+        read: None,
+    };
+    let Some(seat) = place.take() else {
+        return (gate.seen, None, false);
+    };
+    let (seat, is_stored) = serve(rt, shared, note, seat, &mut gate);
+    seat.leave();
+    (gate.seen, gate.read, is_stored)
+}
+
+/// The first thread's word, and the second's.
+const ONE: Wanted = Wanted::PpWrite(AT, 1);
+
+const TWO: Wanted = Wanted::PpWrite(AT, 2);
+
+const READ: Wanted = Wanted::PpRead(AT);
+
+/// The exchange with the package at 40, and the instructions before the accesses and after them.
+const START: Wanted = Wanted::Exchange(0o40);
+
+const TWO_ISSUES: Wanted = Wanted::Issued(2);
+
+/// The logs that there may be, each with the words that the first and the second thread then read.
+const LOGS: [([Wanted; 7], [u64; 2]); 4] = [
+    (
+        [START, TWO_ISSUES, ONE, READ, TWO, READ, TWO_ISSUES],
+        [1, 2],
+    ),
+    (
+        [START, TWO_ISSUES, TWO, READ, ONE, READ, TWO_ISSUES],
+        [1, 2],
+    ),
+    (
+        [START, TWO_ISSUES, ONE, TWO, READ, READ, TWO_ISSUES],
+        [2, 2],
+    ),
+    (
+        [START, TWO_ISSUES, TWO, ONE, READ, READ, TWO_ISSUES],
+        [1, 1],
+    ),
+];
+
+/// The number that was read, if any was.
+fn number_of(read: WordRead) -> Option<u64> {
+    match read {
+        Some(Ok(word)) => Some(word.get()),
+        _ => None,
+    }
+}
+
+/// Whether the log is one of those, and these are the words that the threads read by it.
+fn is_as_logged(snapshot: &Snapshot, first: WordRead, second: WordRead) -> bool {
+    for (log, words) in &LOGS {
+        if are(snapshot.log().entries(), log.as_slice()) {
+            return number_of(first) == Some(words[0]) && number_of(second) == Some(words[1]);
+        }
+    }
+    false
+}
+
+/// Whether X1 and X3 hold the values of both units.
+fn has_values(snapshot: &Snapshot) -> bool {
+    let registers = &snapshot.state().registers;
+    registers.get(x(1)) == word("6") && registers.get(x(3)) == word("10")
+}
+
+/// What the start answers; whether both reservations were stored, Boolean's after Shift's; what two further issues
+/// answer; and whether the snapshot then has the values, and the log what the threads read.
+type Accessed = (Started, bool, [Result<Option<Note>, Refusal>; 2], bool);
+
+/// Boolean's reservation 1 isn't computed until Shift's reservation 2 is stored. Each is served by a thread of its own,
+/// which writes its word and reads what stands there, ahead of computing.
+fn accesses_beside<K: Naming + Send + Sync, R: Threads + Wait + Sync>(
+    rt: &R,
+    alloc: Global,
+    ground: Ground,
+    machine: Machine,
+) -> Result<Accessed, Refusal>
+    requires { ground ≡ K.table }
+{
+    let (shared, seats, mut seen) = Shared::<K>::open(alloc, ground, machine)?;
+    let Ok(other) = seen.split() else {
+        leave_all(seats);
+        return Err(Refusal::OutOfMemory);
+    };
+    let started = start(rt, &shared, &mut seen);
+    let (boolean, shift) = of_boolean_and_shift(seats);
+    let mut of_boolean = Some(boolean);
+    let mut of_shift = Some(shift);
+    let held = note(Unit::Boolean, 1);
+    let until = note(Unit::Shift, 2);
+    let hold = Hold::new(held, until);
+    let one = Word60::from_bits(1);
+    let two = Word60::from_bits(2);
+    let ((mut seen, first, is_first), (other, second, is_second)) = join(
+        rt,
+        || serve_and_access(rt, &shared, &hold, &mut of_boolean, held, seen, one),
+        || serve_and_access(rt, &shared, &hold, &mut of_shift, until, other, two),
+    );
+    drop(other);
+    let was_taken = is_empty(of_boolean);
+    let are_stored = is_empty(of_shift) && was_taken && is_first && is_second;
+    let third = shared.issue(rt, &mut seen);
+    let fourth = shared.issue(rt, &mut seen);
+    let snapshot = shared.snapshot(rt, &mut seen)?;
+    let is_shown = has_values(&snapshot) && is_as_logged(&snapshot, first, second);
+    Ok((
+        started,
+        are_stored && hold.is_released(),
+        [third, fourth],
+        is_shown,
+    ))
+}
+
+#[test]
+fn two_peripheral_processors(rt: HostRuntime) -> Result<(), Fail> {
+    let machine = booted_over(rt.alloc(), &REGISTERS, &BOTH)?;
+    let ground = Ground::new(rt.alloc())?;
+    let accessed = accesses_beside::<Brand, _>(&rt, rt.alloc(), ground, machine)?;
+    assert_eq!(rt; accessed, (NOTES, true, [Ok(None), Ok(None)], true));
+    Ok(())
+}

@@ -1,0 +1,83 @@
+//! Two threads that drive one machine and meet, as docs/threads.md shows it.
+ghost use Rattle.std.specs.Prelude.{◌≡◌};
+ghost use Rattle.machine_lock.specs.Known.{AreApart, NumbersApart};
+
+use crate::fixtures::booted;
+use crate::lock_tests::leave_all;
+use instruction_table::Refusal;
+use machine::{Machine, Note, Snapshot};
+use machine_lock::{Ground, Naming, Seen, Shared};
+use sequential::Entry;
+use std::alloc::Global;
+use std::marker::Brand;
+use std::process::Abort;
+use std::sync::Wait;
+use std::test::Fail;
+use std::thread::{Threads, join};
+
+/// What two issues answer.
+type Twice = [Result<Option<Note>, Refusal>; 2];
+
+/// What a thread has seen at its end, and what its issues answered.
+type Issues<K> = (Seen<K>, Twice);
+
+/// One thread's part: it issues twice, with what it has seen so far.
+fn issue_twice<K: Naming, R: Wait>(rt: &R, shared: &Shared<K>, mut seen: Seen<K>) -> Issues<K> {
+    let first = shared.issue(rt, &mut seen);
+    let second = shared.issue(rt, &mut seen);
+    (seen, [first, second])
+}
+
+/// Two callers that meet know what neither could know alone: no step was made by both, and no reservation's number
+/// was answered to both.
+fn meet<K: Naming>(shared: &Shared<K>, one: &mut Seen<K>, other: &mut Seen<K>)
+    ensures apart { AreApart one.new.mine other.new.mine }
+    ensures numbers { NumbersApart one.new other.new }
+{
+    shared.meet(one, other);
+}
+
+/// The first exchange, and then two issues by each of two threads, which meet: what they answer, and what the machine
+/// shows.
+fn issue_by_two<K: Naming + Send + Sync, R: Threads + Wait + Sync>(
+    rt: &R,
+    shared: &Shared<K>,
+    mut seen: Seen<K>,
+) -> Result<([Twice; 2], Snapshot), Refusal> {
+    shared.ask(rt, &mut seen, 0o40)?;
+    shared.exchange(rt, &mut seen)?;
+    let other = seen.split()?;
+    let ((mut one, ones), (mut two, twos)) = join(
+        rt,
+        || issue_twice(rt, shared, seen),
+        || issue_twice(rt, shared, other),
+    );
+    meet(shared, &mut one, &mut two);
+    let snapshot = shared.snapshot(rt, &mut one)?;
+    Ok(([ones, twos], snapshot))
+}
+
+/// Four passes after the first exchange, two of which each of two threads issues.
+fn two_threads<K: Naming + Send + Sync, R: Threads + Wait + Sync + Abort>(
+    rt: &R,
+    alloc: Global,
+    ground: Ground,
+    machine: Machine,
+) -> Result<(), Fail>
+    requires { ground ≡ K.table }
+{
+    let (shared, seats, seen) = Shared::<K>::open(alloc, ground, machine)?;
+    leave_all(seats);
+    let (answers, snapshot) = issue_by_two(rt, &shared, seen)?;
+    let is_logged = snapshot.log().entries()
+        == [Entry::Exchange(0o40), Entry::Issued(4)].as_slice();
+    assert!(rt; answers == [[Ok(None), Ok(None)], [Ok(None), Ok(None)]] && is_logged);
+    Ok(())
+}
+
+#[test]
+fn two_threads_meet(rt: HostRuntime) -> Result<(), Fail> {
+    let machine = booted(rt.alloc(), &[(0o100, "46000460004600046000")])?;
+    let ground = Ground::new(rt.alloc())?;
+    two_threads::<Brand, _>(&rt, rt.alloc(), ground, machine)
+}

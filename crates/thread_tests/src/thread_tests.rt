@@ -1,0 +1,728 @@
+//! Runs by threads, a worker at work, and the order of requests.
+
+ghost use Rattle.std.specs.Prelude.{◌≡◌};
+
+use crate::fixtures::{Wanted, Words, are, booted, booted_over, is_empty, note, word, x};
+use crate::lock_tests::leave_all;
+use crate::queue_tests::{Sending, Taking};
+use instruction_table::{Digit, Halt, Refusal, Reg, Unit};
+use machine::{Machine, Note, Seat};
+use machine_lock::{Ground, Naming, Seen, Shared};
+use registers::RegisterFile;
+use sequential::Entry;
+use std::alloc::{AllocError, Global};
+use std::marker::Brand;
+use std::sync::Wait;
+use std::sync::atomic::{AtomicU64, Ordering};
+use std::test::Fail;
+use std::thread;
+use std::thread::Threads;
+use unit_queue::lane;
+use unit_workers::{Ended, Gate, Gates, Open, Orders, Tally, run_threads, serve, worker};
+
+fn orders(alloc: Global) -> Orders {
+    Orders {
+        start: 0o40,
+        after: Vec::new(alloc),
+        free: Vec::new(alloc),
+    }
+}
+
+fn open_gates() -> Gates<Open> {
+    Gates {
+        branch: Open,
+        boolean: Open,
+        shift: Open,
+        long_add: Open,
+        divide: Open,
+        increment1: Open,
+        increment2: Open,
+    }
+}
+
+/// What registers of the package at 40 hold, X1, X2, X3 and X7, and a word of the program's memory.
+pub(crate) const REGISTERS: [(u32, &str); 5] = [
+    (0o51, "7"),
+    (0o52, "6"),
+    (0o53, "4"),
+    (0o57, "3"),
+    (0o110, "5"),
+];
+
+/// A reservation: its unit and number.
+type Numbered = (Unit, u64);
+
+/// A run that asks for no exchange but the first, and its end.
+#[derive(Clone, Copy, Drop)]
+struct Run<'a> {
+    /// What it shows.
+    name: &'a str,
+    /// The words that stand over `REGISTERS`.
+    words: Words<'a>,
+    /// Reservations that aren't computed before another is stored: so both are in their units at the same time, in two
+    /// threads, and no lock is held while a unit computes.
+    holds: &'a [(Numbered, Numbered)],
+    /// How many instructions are issued, the last of which stops.
+    issues: u64,
+    /// How many reservations are stored: of Branch, Boolean, Shift, LongAdd, Divide, and both Increment units.
+    stored: [u64; 6],
+    /// Numbers of X registers, and what they hold at the end.
+    x: &'a [(u16, &'a str)],
+    /// The same of A registers.
+    a: &'a [(u16, &'a str)],
+}
+
+const RUNS: [Run<'static>; 11] = [
+    Run {
+        name: "SX1 B0+5, SX2 B0+3, IX3 X1+X2, IX4 X2-X1, NO, PS",
+        words: &[
+            (0o100, "71100000057120000003"),
+            (0o101, "36312374214600000000"),
+        ],
+        holds: &[],
+        issues: 6,
+        stored: [0, 0, 0, 2, 0, 2],
+        x: &[(3, "10"), (4, "77777777777777777775")],
+        a: &[],
+    },
+    Run {
+        name: "SA1 B0+17, which loads the word at 117, and SA2 B0+20, which is out of range",
+        words: &[
+            (0o100, "51100000175120000020"),
+            (0o101, "46000460004600000000"),
+            (0o117, "123"),
+        ],
+        holds: &[],
+        issues: 6,
+        stored: [0, 0, 0, 0, 0, 2],
+        x: &[(1, "123"), (2, "0")],
+        a: &[(1, "17"), (2, "20")],
+    },
+    Run {
+        name: "two stores, to the word that is held and to the one that is fetched next",
+        words: &[
+            (0o41, "00000100000000000001"),
+            (0o56, "76211000000000000000"),
+            (0o100, "56610567007611046000"),
+        ],
+        holds: &[],
+        issues: 6,
+        stored: [0, 0, 0, 0, 0, 4],
+        x: &[(1, "1"), (2, "2")],
+        a: &[],
+    },
+    Run {
+        name: "BX1 X2 is held until LX3 1 is stored",
+        words: &[(0o100, "10120203014600000000")],
+        holds: &[((Unit::Boolean, 1), (Unit::Shift, 2))],
+        issues: 4,
+        stored: [0, 1, 1, 0, 0, 0],
+        x: &[(1, "6"), (3, "10")],
+        a: &[],
+    },
+    Run {
+        name: "BX1 X2 is held until JP 1 is stored",
+        words: &[(0o100, "10120460000200000001")],
+        holds: &[((Unit::Boolean, 1), (Unit::Branch, 2))],
+        issues: 4,
+        stored: [1, 1, 0, 0, 0, 0],
+        x: &[(1, "6")],
+        a: &[],
+    },
+    Run {
+        name: "LX3 1 is held until JP 1 is stored",
+        words: &[(0o100, "20301460000200000001")],
+        holds: &[((Unit::Shift, 1), (Unit::Branch, 2))],
+        issues: 4,
+        stored: [1, 0, 1, 0, 0, 0],
+        x: &[(3, "10")],
+        a: &[],
+    },
+    Run {
+        name: "IX4 X2+X3 is held until JP 1 is stored",
+        words: &[(0o100, "36423460000200000001")],
+        holds: &[((Unit::LongAdd, 1), (Unit::Branch, 2))],
+        issues: 4,
+        stored: [1, 0, 0, 1, 0, 0],
+        x: &[(4, "12")],
+        a: &[],
+    },
+    Run {
+        name: "CX5 X2 is held until JP 1 is stored",
+        words: &[(0o100, "47502460000200000001")],
+        holds: &[((Unit::Divide, 1), (Unit::Branch, 2))],
+        issues: 4,
+        stored: [1, 0, 0, 0, 1, 0],
+        x: &[(5, "2")],
+        a: &[],
+    },
+    Run {
+        name: "SX1 B0+B0 is held until JP 1 is stored",
+        words: &[(0o100, "76100460000200000001")],
+        holds: &[((Unit::Increment1, 1), (Unit::Branch, 2))],
+        issues: 4,
+        stored: [1, 0, 0, 0, 0, 1],
+        x: &[(1, "0")],
+        a: &[],
+    },
+    Run {
+        name: "SX1 B0+B0 is held until SX7 B0+B0 is stored, and that until JP 1 is",
+        words: &[(0o100, "76100767000200000001")],
+        holds: &[
+            ((Unit::Increment1, 1), (Unit::Increment2, 2)),
+            ((Unit::Increment2, 2), (Unit::Branch, 3)),
+        ],
+        issues: 4,
+        stored: [1, 0, 0, 0, 0, 2],
+        x: &[(1, "0"), (7, "0")],
+        a: &[],
+    },
+    Run {
+        name: "BX1 X2 is held until LX3 1 is stored, which needs what SA3 B0+10 loads",
+        words: &[(0o100, "10120513000001020301")],
+        holds: &[((Unit::Boolean, 1), (Unit::Shift, 3))],
+        issues: 4,
+        stored: [0, 1, 1, 0, 0, 1],
+        x: &[(1, "6"), (3, "12")],
+        a: &[(3, "10")],
+    },
+];
+
+/// The units in the order of their tallies.
+const UNITS: [Unit; 7] = [
+    Unit::Branch,
+    Unit::Boolean,
+    Unit::Shift,
+    Unit::LongAdd,
+    Unit::Divide,
+    Unit::Increment1,
+    Unit::Increment2,
+];
+
+/// How many reservations were stored, as in a `Run`. None where a note was strange or a tally isn't at its place.
+fn stored(tallies: &[Tally; 7]) -> Option<[u64; 6]> {
+    let mut counts = [0u64; 6];
+    for index in 0..7usize {
+        let tally = &tallies[index];
+        if tally.unit() != UNITS[index] || tally.strange() != 0 {
+            return None;
+        }
+        let kind = index.min(5);
+        counts[kind] = counts[kind].saturating_add(tally.stored());
+    }
+    Some(counts)
+}
+
+/// Whether the registers that a run names hold what it says.
+fn shows(registers: &RegisterFile, run: &Run<'_>) -> bool {
+    for (number, octal) in run.x {
+        if registers.get(x(*number)) != word(octal) {
+            return false;
+        }
+    }
+    for (number, octal) in run.a {
+        if registers.get(Reg::A(Digit::low(*number))) != word(octal) {
+            return false;
+        }
+    }
+    true
+}
+
+/// Whether a run ended as it is to.
+fn is_end_of(ended: &Ended, run: &Run<'_>) -> bool {
+    let log = [FIRST, Wanted::Issued(run.issues)];
+    let state = ended.snapshot.state();
+    are(entries(ended), log.as_slice())
+        && state.halt == Some(Halt::Stop)
+        && shows(&state.registers, run)
+        && stored(&ended.tallies) == Some(run.stored)
+}
+
+/// Whether a run with these gates ends as it is to.
+fn ends<G: Gate + Send, R: Threads + Wait + Sync>(
+    rt: &R,
+    alloc: Global,
+    run: &Run<'_>,
+    gates: Gates<G>,
+) -> bool {
+    let Ok(machine) = booted_over(alloc, &REGISTERS, run.words) else {
+        return false;
+    };
+    match run_threads(rt, alloc, machine, &orders(alloc), gates) {
+        Ok(ended) => is_end_of(&ended, run),
+        Err(_) => false,
+    }
+}
+
+/// One reservation that isn't computed until another is stored.
+#[derive(Drop)]
+pub(crate) struct Hold {
+    held: Note,
+    until: Note,
+    /// 1 once the other is stored.
+    stored: AtomicU64,
+    /// 1 once the one goes on because of that, and not because it has waited for a million turns.
+    released: AtomicU64,
+}
+
+impl Hold {
+    pub(crate) fn new(held: Note, until: Note) -> Hold {
+        Hold {
+            held,
+            until,
+            stored: AtomicU64::new(0),
+            released: AtomicU64::new(0),
+        }
+    }
+
+    /// Waits until the other is stored, if this is the reservation that is held.
+    pub(crate) fn before(&self, unit: Unit, number: u64) {
+        if self.held == note(unit, number) {
+            self.wait();
+        }
+    }
+
+    /// Lets the reservation go on, if this is the other.
+    pub(crate) fn stored(&self, unit: Unit, number: u64) {
+        if self.until == note(unit, number) {
+            self.stored.store(1, Ordering::SeqCst);
+        }
+    }
+
+    /// Whether it went on when the other was stored.
+    pub(crate) fn is_released(&self) -> bool {
+        self.released.load(Ordering::SeqCst) > 0
+    }
+
+    fn wait(&self) {
+        for _ in 0..1_000_000u32 {
+            if self.stored.load(Ordering::SeqCst) > 0 {
+                self.released.store(1, Ordering::SeqCst);
+                return;
+            }
+            thread::yield_now();
+        }
+    }
+}
+
+/// Whether all that were held went on when the others were stored.
+fn are_released(holds: &[Hold]) -> bool {
+    for hold in holds {
+        if !hold.is_released() {
+            return false;
+        }
+    }
+    true
+}
+
+/// A gate that holds these.
+#[derive(Drop)]
+struct Holding<'a>(&'a [Hold]);
+
+impl Gate for Holding<'_> {
+    fn before(&mut self, unit: Unit, number: u64) {
+        for hold in self.0 {
+            hold.before(unit, number);
+        }
+    }
+
+    fn stored(&mut self, unit: Unit, number: u64) {
+        for hold in self.0 {
+            hold.stored(unit, number);
+        }
+    }
+}
+
+/// The reservations that a run holds.
+fn holds_of(alloc: Global, run: &Run<'_>) -> Result<Vec<Hold>, AllocError> {
+    let mut holds = Vec::new(alloc);
+    for (held, until) in run.holds {
+        holds.push(Hold::new(note(held.0, held.1), note(until.0, until.1)))?;
+    }
+    Ok(holds)
+}
+
+/// Whether a run in which these are held ends as it is to, and they went on when the others were stored.
+fn ends_held<R: Threads + Wait + Sync>(
+    rt: &R,
+    alloc: Global,
+    run: &Run<'_>,
+    holds: &[Hold],
+) -> bool {
+    let gates = Gates {
+        branch: Holding(holds),
+        boolean: Holding(holds),
+        shift: Holding(holds),
+        long_add: Holding(holds),
+        divide: Holding(holds),
+        increment1: Holding(holds),
+        increment2: Holding(holds),
+    };
+    ends(rt, alloc, run, gates) && are_released(holds)
+}
+
+#[test]
+fn runs(rt: HostRuntime) -> Result<(), Fail> {
+    for run in &RUNS {
+        let holds = holds_of(rt.alloc(), run)?;
+        assert!(rt;
+            ends_held(&rt, rt.alloc(), run, holds.as_slice()),
+            "{}",
+            run.name
+        );
+    }
+    Ok(())
+}
+
+/// A gate that lets the others run so often before each value is computed that all who wait for it sleep.
+#[derive(Drop)]
+struct Slow;
+
+impl Gate for Slow {
+    fn before(&mut self, _unit: Unit, _number: u64) {
+        for _ in 0..5000u32 {
+            thread::yield_now();
+        }
+    }
+
+    fn stored(&mut self, _unit: Unit, _number: u64) {}
+}
+
+/// SX1 B0+5, SX2 B0+3, IX3 X1+X2, IX4 X2-X1, SA1 B0+17 and a stop.
+const SLOW_RUN: Run<'static> = Run {
+    name: "whoever sleeps is woken or wakes by itself",
+    words: &[
+        (0o100, "71100000057120000003"),
+        (0o101, "36312374215110000017"),
+        (0o117, "123"),
+    ],
+    holds: &[],
+    issues: 6,
+    stored: [0, 0, 0, 2, 0, 3],
+    x: &[(1, "123"), (3, "10"), (4, "77777777777777777775")],
+    a: &[(1, "17")],
+};
+
+#[test]
+fn sleepers_get_on(rt: HostRuntime) -> Result<(), Fail> {
+    let gates = Gates {
+        branch: Slow,
+        boolean: Slow,
+        shift: Slow,
+        long_add: Slow,
+        divide: Slow,
+        increment1: Slow,
+        increment2: Slow,
+    };
+    assert!(rt;
+        ends(&rt, rt.alloc(), &SLOW_RUN, gates),
+        "{}",
+        SLOW_RUN.name
+    );
+    Ok(())
+}
+
+/// Runs BX1 X2, LX3 1, NO, NO and a stop, with an exchange for the package at 60, which begins at the stop: after so
+/// many instructions, or at any time.
+fn exchanging<R: Threads + Wait + Sync>(
+    rt: &R,
+    alloc: Global,
+    after: Option<u64>,
+) -> Result<Ended, Refusal> {
+    let words = [
+        (0o60, "00000001000000000000"),
+        (0o61, "00000100000000000000"),
+        (0o62, "00000020000000000000"),
+        (0o100, "10120203014600046000"),
+    ];
+    let machine = booted(alloc, &words)?;
+    let mut orders = orders(alloc);
+    let pushed = match after {
+        Some(count) => orders.after.push((0o60, count)).is_ok(),
+        None => orders.free.push(0o60).is_ok(),
+    };
+    if !pushed {
+        return Err(Refusal::OutOfMemory);
+    }
+    run_threads(rt, alloc, machine, &orders, open_gates())
+}
+
+fn entries(ended: &Ended) -> &[Entry] {
+    ended.snapshot.log().entries()
+}
+
+const FIRST: Wanted = Wanted::Exchange(0o40);
+
+const SECOND: Wanted = Wanted::Exchange(0o60);
+
+const LAST: Wanted = Wanted::Issued(1);
+
+/// After how many instructions, if not at any time, and the logs that the run may have.
+const EXCHANGES: [(Option<u64>, &[&[Wanted]]); 4] = [
+    (Some(1), &[&[FIRST, Wanted::Issued(4), SECOND, LAST]]),
+    (Some(5), &[&[FIRST, Wanted::Issued(5), SECOND, LAST]]),
+    (Some(7), &[&[FIRST, Wanted::Issued(5)]]),
+    (
+        None,
+        &[
+            &[FIRST, SECOND, LAST],
+            &[FIRST, Wanted::Issued(4), SECOND, LAST],
+            &[FIRST, Wanted::Issued(5), SECOND, LAST],
+        ],
+    ),
+];
+
+/// Whether the run ended, with one of these logs.
+fn has_log_of(ran: Result<Ended, Refusal>, logs: &[&[Wanted]]) -> bool {
+    let Ok(ended) = ran else {
+        return false;
+    };
+    for log in logs {
+        if are(entries(&ended), log) {
+            return true;
+        }
+    }
+    false
+}
+
+#[test]
+fn exchanges(rt: HostRuntime) -> Result<(), Fail> {
+    for (after, logs) in &EXCHANGES {
+        let ran = exchanging(&rt, rt.alloc(), *after);
+        assert!(rt; has_log_of(ran, logs), "{after:?}");
+    }
+    Ok(())
+}
+
+/// Why a run is refused, if it is.
+fn refusal(ran: Result<Ended, Refusal>) -> Option<Refusal> {
+    ran.err()
+}
+
+/// The first package has to lie in memory, and the seats have to be there. All threads have ended then, or the test
+/// wouldn't.
+#[test]
+fn refused_runs(rt: HostRuntime) -> Result<(), Fail> {
+    let alloc = rt.alloc();
+    let mut outside = orders(alloc);
+    outside.start = 241;
+    let machine = booted(alloc, &[])?;
+    let range = refusal(run_threads(&rt, alloc, machine, &outside, open_gates()));
+    let mut machine = booted(alloc, &[])?;
+    if let Some(seats) = machine.seats() {
+        leave_all(seats);
+    }
+    let seats = refusal(run_threads(&rt, alloc, machine, &orders(alloc), open_gates()));
+    assert_eq!(rt;
+        (range, seats),
+        (Some(Refusal::PackageRange), Some(Refusal::Nothing))
+    );
+    Ok(())
+}
+
+/// A gate that counts its calls.
+#[derive(Drop)]
+struct Count {
+    before: u64,
+    stored: u64,
+}
+
+impl Gate for Count {
+    fn before(&mut self, _unit: Unit, _number: u64) {
+        self.before = self.before.saturating_add(1);
+    }
+
+    fn stored(&mut self, _unit: Unit, _number: u64) {
+        self.stored = self.stored.saturating_add(1);
+    }
+}
+
+/// What two issues answer.
+pub(crate) type Started = Result<[Option<Note>; 2], Refusal>;
+
+/// Makes the exchange with the package at 40, and issues twice.
+pub(crate) fn start<K: Naming, R: Wait>(rt: &R, shared: &Shared<K>, seen: &mut Seen<K>) -> Started {
+    shared.ask(rt, seen, 0o40)?;
+    shared.exchange(rt, seen)?;
+    let first = shared.issue(rt, seen)?;
+    let second = shared.issue(rt, seen)?;
+    Ok([first, second])
+}
+
+/// Boolean's seat; the others are left.
+fn of_boolean(seats: [Seat; 7]) -> Seat {
+    let [
+        branch,
+        boolean,
+        shift,
+        long_add,
+        divide,
+        increment1,
+        increment2,
+    ] = seats;
+    branch.leave();
+    shift.leave();
+    long_add.leave();
+    divide.leave();
+    increment1.leave();
+    increment2.leave();
+    boolean
+}
+
+/// BX1 X2, LX3 1, NO, PS.
+pub(crate) const BOTH: [(u32, &str); 1] = [(0o100, "10120203014600000000")];
+
+/// What `start` answers over these words.
+pub(crate) const NOTES: Started = Ok([
+    Some(Note {
+        unit: Unit::Boolean,
+        number: 1,
+    }),
+    Some(Note {
+        unit: Unit::Shift,
+        number: 2,
+    }),
+]);
+
+/// A note that was never given, and another unit's note, are strangers'. With the seat that is given back the unit's
+/// own is served, once.
+#[test]
+fn serves_its_own_note_once(rt: HostRuntime) -> Result<(), Fail> {
+    let machine = booted(rt.alloc(), &BOTH)?;
+    let ground = Ground::new(rt.alloc())?;
+    let served = serves_once::<Brand, _>(&rt, rt.alloc(), ground, machine)?;
+    assert_eq!(rt; served, (NOTES, [false, false, true, false], [1, 1, 1]));
+    Ok(())
+}
+
+/// What `start` answers, which notes are served, and how many the seat, and the gate before and after, counted.
+fn serves_once<K: Naming, R: Wait>(
+    rt: &R,
+    alloc: Global,
+    ground: Ground,
+    machine: Machine,
+) -> Result<(Started, [bool; 4], [u64; 3]), Refusal>
+    requires { ground ≡ K.table }
+{
+    let (shared, seats, mut seen) = Shared::<K>::open(alloc, ground, machine)?;
+    let mut gate = Count {
+        before: 0,
+        stored: 0,
+    };
+    let boolean = of_boolean(seats);
+    let started = start(rt, &shared, &mut seen);
+    let (boolean, is_never) = serve(rt, &shared, note(Unit::Boolean, 3), boolean, &mut gate);
+    let (boolean, is_other) = serve(rt, &shared, note(Unit::Shift, 2), boolean, &mut gate);
+    let (boolean, is_own) = serve(rt, &shared, note(Unit::Boolean, 1), boolean, &mut gate);
+    let (boolean, is_again) = serve(rt, &shared, note(Unit::Boolean, 1), boolean, &mut gate);
+    let counts = [boolean.leave(), gate.before, gate.stored];
+    Ok((started, [is_never, is_other, is_own, is_again], counts))
+}
+
+/// A worker serves what its lane has, until it is closed, and its tally settles.
+#[test]
+fn works_until_closed(rt: HostRuntime) -> Result<(), Fail> {
+    let machine = booted(rt.alloc(), &BOTH)?;
+    let ground = Ground::new(rt.alloc())?;
+    let worked = works_until_closed_beside::<Brand, _>(&rt, rt.alloc(), ground, machine)?;
+    assert_eq!(rt; worked, (true, NOTES, Unit::Boolean, 1, 0));
+    Ok(())
+}
+
+/// Whether the lane took the note and was closed, what `start` answers, and the tally.
+fn works_until_closed_beside<K: Naming, R: Wait>(
+    rt: &R,
+    alloc: Global,
+    ground: Ground,
+    machine: Machine,
+) -> Result<(bool, Started, Unit, u64, u64), Refusal>
+    requires { ground ≡ K.table }
+{
+    let (lane, mut sender, taker) = lane(alloc, Unit::Boolean)?;
+    let (shared, seats, mut seen) = Shared::<K>::open(alloc, ground, machine)?;
+    let boolean = of_boolean(seats);
+    let started = start(rt, &shared, &mut seen);
+    let is_sent = lane.send(rt, &mut sender, note(Unit::Boolean, 1)).is_ok();
+    let is_closed = lane.close(rt, &mut sender);
+    let mut tally = worker(rt, &shared, &lane, taker, boolean, &mut Open);
+    tally.settle(rt, &lane, sender);
+    let (unit, stored, strange) = (tally.unit(), tally.stored(), tally.strange());
+    Ok((is_sent && is_closed, started, unit, stored, strange))
+}
+
+/// Sends Boolean's note twice and then Shift's on one lane, and closes it.
+fn send_strangers<R: Wait>(rt: &R, mut sending: Sending<'_>) {
+    sending.send(rt, note(Unit::Boolean, 1));
+    sending.send(rt, note(Unit::Boolean, 1));
+    sending.send(rt, note(Unit::Shift, 2));
+    sending.close(rt);
+}
+
+/// Works on a lane with the seat of a place, which is empty then: how many notes were stored, and how many strange.
+fn work_with<K: Naming, R: Wait>(
+    rt: &R,
+    shared: &Shared<K>,
+    taking: Taking<'_>,
+    place: &mut Option<Seat>,
+) -> Option<(u64, u64)> {
+    let tally = worker(
+        rt,
+        shared,
+        taking.lane,
+        taking.pass,
+        place.take()?,
+        &mut Open,
+    );
+    Some((tally.stored(), tally.strange()))
+}
+
+/// The same while another thread sends strangers' notes. None where it couldn't be started.
+fn strange_tally<K: Naming + Send + Sync, R: Threads + Wait + Sync>(
+    rt: &R,
+    shared: &Shared<K>,
+    sending: Sending<'_>,
+    taking: Taking<'_>,
+    place: &mut Option<Seat>,
+) -> Option<(u64, u64)> {
+    thread::scope(thread::scope_env(), rt, move |scope| {
+        let sent = scope.spawn(move || send_strangers(rt, sending)).ok()?;
+        let tally = work_with(rt, shared, taking, place);
+        sent.join(rt);
+        tally
+    })
+}
+
+/// A note that was stored already, and another unit's note, are counted as strange.
+#[test]
+fn counts_strangers(rt: HostRuntime) -> Result<(), Fail> {
+    let machine = booted(rt.alloc(), &BOTH)?;
+    let ground = Ground::new(rt.alloc())?;
+    let counted = counts_strangers_beside::<Brand, _>(&rt, rt.alloc(), ground, machine)?;
+    assert_eq!(rt; counted, (NOTES, true, Some((1, 2))));
+    Ok(())
+}
+
+/// What `start` answers, whether the worker took its seat, and how many notes it stored and how many were strange.
+fn counts_strangers_beside<K: Naming + Send + Sync, R: Threads + Wait + Sync>(
+    rt: &R,
+    alloc: Global,
+    ground: Ground,
+    machine: Machine,
+) -> Result<(Started, bool, Option<(u64, u64)>), Refusal>
+    requires { ground ≡ K.table }
+{
+    let (lane, sender, taker) = lane(alloc, Unit::Boolean)?;
+    let (shared, seats, mut seen) = Shared::<K>::open(alloc, ground, machine)?;
+    let mut place = Some(of_boolean(seats));
+    let started = start(rt, &shared, &mut seen);
+    let sending = Sending {
+        lane: &lane,
+        pass: sender,
+    };
+    let taking = Taking {
+        lane: &lane,
+        pass: taker,
+    };
+    let counts = strange_tally(rt, &shared, sending, taking, &mut place);
+    Ok((started, is_empty(place), counts))
+}

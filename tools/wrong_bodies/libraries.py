@@ -1,0 +1,51 @@
+"""Takes over the libraries that `rt ci` has just proved in the checkout.
+
+`rt ci` leaves them without the stamp by which `rt` sees that a library is up to date, since they have the statements
+of what was proved and not the proofs, and fit only one another. All that a crate stands on is taken over together or
+not at all, so here they do fit. The stamp is reckoned by the kit's own library, which isn't part of what the kit
+promises: where it has another form, nothing is taken over, and the run builds the libraries.
+"""
+
+import json
+import subprocess
+import sys
+
+from .kept import checker
+from .workspaces import PARTS
+
+RECKONING = """
+import json, os, sys
+sys.path.insert(0, sys.argv[1])
+import rtlib
+print(json.dumps({crate.name: crate.stamp() for crate in rtlib.crates_below(os.getcwd())}))
+"""
+
+
+def stamps(root):
+    """The stamp of each crate as it stands, or none at all where the kit can't be asked so."""
+    words = [sys.executable, "-B", "-c", RECKONING, str(checker().parent)]
+    ran = subprocess.run(words, cwd=root, stdin=subprocess.DEVNULL, capture_output=True, text=True, check=False)
+    try:
+        found = json.loads(ran.stdout) if not ran.returncode else {}
+    except ValueError:
+        return {}
+    return found if all(isinstance(it, str) for it in found.values()) else {}
+
+
+def is_newer(table, name):
+    """Whether the library was made after the last change of its crate and of all below it."""
+    made = table.folder(name) / "out/rlib" / f"{name}.rlib" / "format"
+    if not made.is_file():
+        return False
+    parts = (table.folder(it) / part for it in [*table.below(name), name] for part in PARTS)
+    return all(file.stat().st_mtime < made.stat().st_mtime for part in parts for file in part.rglob("*") if file.is_file())
+
+
+def left_by_rt_ci(table):
+    """The stamp of each crate whose library `rt ci` left, where it left those of all that stand below too."""
+    found = {
+        name: stamp
+        for name, stamp in stamps(table.root).items()
+        if name in table.lines and is_newer(table, name) and not (table.folder(name) / "out/rlib/stamp").exists()
+    }
+    return {name: stamp for name, stamp in found.items() if all(it in found for it in table.below(name))}
