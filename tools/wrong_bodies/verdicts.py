@@ -6,12 +6,10 @@ A body counts as refused only where the check names a goal of the body's own fun
     fn F: not proved                                      with an error of a proof file of F that names the goal:
     proofs/../F/Answers.antt:1:1: error: `GOAL`: ..       what the file says of the right code is false of this one
 
-GOAL is of what F ensures, of an invariant of a type that F makes or changes, or of a loop's invariant. Where no such goal
-is named it may be of what a call in F requires, as a constructor requires what its type promises: while that isn't
-met the check doesn't come to F's own clauses. A limit of an integer doesn't count. Nor does it count that F calls
-another function that isn't proved, that a proof file names what is gone from the code, or that the front end or the
-borrow checker refuses the text: none of that shows that a contract says enough. And silence never counts: each
-function has to have its line.
+GOAL is of what F ensures, of an invariant of a type that F makes or changes, or of a loop's invariant. What a call in F
+requires doesn't count, nor does a limit of an integer. Nor does it count that F calls another function that isn't
+proved, that a proof file names what is gone from the code, or that the front end or the borrow checker refuses the
+text: none of that shows that a contract says enough. And silence never counts: each function has to have its line.
 """
 
 import re
@@ -22,7 +20,6 @@ from .source import Unreadable, module_of
 LINE = re.compile(r"fn (\S+): (proved|not proved|no proof|could not tell|assumed|not assumed)\b(.*)")
 LEFT = re.compile(r"`search` did not prove ([^;]*)")
 CONTRACT = re.compile(r"(returns|invariant_of|loop)\b")
-REQUIRED = re.compile(r"[\w+-]+-requires\b")
 FILE = r"(?:\./)?proofs/(\S+)/(?:Answers|Invariants|Proof)\.antt:\d+:\d+: error: "
 ERROR = re.compile(FILE + r"`([^`]+)`: (.*)")
 # What is said of goals whose proof cites a step of the same file that isn't proved.
@@ -83,10 +80,9 @@ def own_goal(lines, item, crate):
     if all(found[2] == "proved" for found in said):
         return None
     goals, gone = goals_of(lines, said, item, crate)
-    for kind in (CONTRACT, REQUIRED):
-        own = next((goal for goal in goals if kind.match(goal)), None)
-        if own:
-            return own
+    own = next((goal for goal in goals if CONTRACT.match(goal)), None)
+    if own:
+        return own
     other = next(found for found in said if found[2] != "proved")
     reasons = [f"{other[2]}{other[3]}", *[f"at `{goal}`" for goal in goals], *gone]
     raise Unreadable(f"it is refused, but at no goal of the contract of {item.name}: {'; '.join(reasons)}"[:400])
