@@ -1,9 +1,9 @@
 """Tries the wrong bodies of crates: gets the libraries that they stand on, and checks group after group.
 
 Libraries that `rt ci` has just proved are taken over, and others are built. Where a crate is built as a library for
-others, its groups run side by side, each in a copy that begins with what that build kept. A crate that isn't built
-begins with nothing: its groups run in turn in few copies, over one another's work, and only the functions that they
-name are ever proved.
+others, its groups run side by side, each in a workspace that begins with what that build kept. A crate that isn't built
+begins with nothing: its groups run in turn in few workspaces, over one another's work, and only the functions that they
+name, and those that these call, are ever proved.
 """
 
 import tempfile
@@ -22,8 +22,8 @@ from .verdicts import CALLS, Verdict, verdict_of
 from .workspaces import Workspace, stop_all
 
 
-# How many groups are tried in one copy that began with nothing, where a crate has more.
-IN_A_COPY = 12
+# How many groups are tried in one workspace that began with nothing, where a crate has more.
+IN_A_WORKSPACE = 12
 
 
 @dataclass
@@ -57,7 +57,7 @@ class Crate:
     verdicts: dict = field(default_factory=dict)  # by the name of the body
     faults: list = field(default_factory=list)
     seconds: float = 0.0
-    idle: list = field(default_factory=list)  # the copies in which no group is being checked
+    idle: list = field(default_factory=list)  # the workspaces in which no group is being checked
     lock: threading.Lock = field(default_factory=threading.Lock)
 
     def tell(self, body, verdict):
@@ -117,6 +117,8 @@ class Tries:
         self.table, self.room, self.at_once = table, Path(room), at_once
         self.libraries, self.broken, self.tasks, self.library_seconds = {}, {}, {}, 0.0
         tried = [crate for crate in crates if crate.groups]
+        # How much there is to check of a crate, about: its functions and those of its wrong bodies.
+        self.sizes = {crate.name: len(crate.source.functions()) + 4 * len(crate.bodies) for crate in tried}
         self.groups = {crate.name: {(crate.name, number) for number in range(len(crate.groups))} for crate in tried}
         needed = {name for crate in tried for name in table.below(crate.name)}
         self.left = left_by_rt_ci(table) if needed else {}
@@ -127,9 +129,9 @@ class Tries:
 
     def plan(self, crate, is_built):
         before = [("library", it) for it in self.table.below(crate.name)] + [("library", crate.name)] * is_built
-        copies = len(crate.groups) if is_built else -(-len(crate.groups) // IN_A_COPY)
+        workspaces = len(crate.groups) if is_built else -(-len(crate.groups) // IN_A_WORKSPACE)
         for number, group in enumerate(crate.groups):
-            waits = before if number < copies else [(crate.name, number - copies)]
+            waits = before if number < workspaces else [(crate.name, number - workspaces)]
             self.tasks[crate.name, number] = (waits, lambda crate=crate, group=group: self.judge(crate, group, is_built))
 
     def build(self, name):
@@ -152,7 +154,7 @@ class Tries:
             self.broken[name] = str(fault)
 
     def workspace_of(self, crate, is_built):
-        """A copy for a group's check: one that an earlier group has left, or a new one over what was kept of the crate."""
+        """A workspace for a group's check: one that an earlier group has left, or a new one over what was kept of the crate."""
         with crate.lock:
             if crate.idle:
                 return crate.idle.pop()
@@ -200,10 +202,11 @@ class Tries:
         return group.verdicts(ran.said, ran.status, crate.name)
 
     def behind(self, key):
-        """How much waits for a task: libraries that stand below many come first, and then the largest crates."""
-        name = key[1] if key[0] == "library" else key[0]
-        above = [it for it in self.table.lines if name in self.table.below(it) and ("library", it) in self.tasks]
-        return key[0] == "library", len(above), len(self.table.below(name))
+        """How much waits for a task: libraries that stand below many come first, and then the crates with most to try."""
+        if key[0] == "library":
+            above = [it for it in self.table.lines if key[1] in self.table.below(it) and ("library", it) in self.tasks]
+            return True, len(above), len(self.table.below(key[1]))
+        return False, self.sizes[key[0]], -key[1]
 
     def run(self, is_tried):
         """Runs the tasks side by side, each once those that it waits for have ended and there is memory for it. It hands

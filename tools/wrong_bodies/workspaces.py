@@ -1,7 +1,7 @@
-"""Copies of the workspace outside the checkout, in which libraries are built and wrong bodies are checked by `rt`.
+"""Workspaces outside the checkout, in which libraries are built and wrong bodies are checked by `rt`.
 
-Each check has a copy of its own, so that none of them waits for another, and the checkout is never written to. The
-libraries below are built once, each in its copy, and given to the copies above by links to their files: `rt` finds by
+Each check has one of its own, so that none of them waits for another, and the checkout is never written to. The
+libraries below are built once, each in its workspace, and given to those above by links to their files: `rt` finds by
 its own stamp that they are up to date, wherever they lie.
 """
 
@@ -97,7 +97,7 @@ def stop_all():
 
 
 class Workspace:
-    """A copy of the workspace that has one crate and what it stands on."""
+    """A workspace that has one crate and what it stands on."""
 
     def __init__(self, table, room, crate, libraries):
         self.crate, self.room = crate, Path(room)
@@ -118,7 +118,7 @@ class Workspace:
         return self.folder / "out/rlib"
 
     def take_kept(self, folder, part):
-        """Takes what earlier checks of the crate kept, from the checkout or from another copy, once none is at work there."""
+        """Takes what earlier checks of the crate kept, from the checkout or another workspace, once none is at work there."""
         held = os.open(folder, os.O_RDONLY)
         try:
             fcntl.flock(held, fcntl.LOCK_SH)
