@@ -17,8 +17,7 @@ sys.dont_write_bytecode = True
 ROOT = Path(__file__).resolve().parent.parent
 sys.path.insert(0, str(ROOT / "tools"))
 
-from wrong_bodies.kept import checker, kit  # noqa: E402
-from wrong_bodies.source import Unreadable  # noqa: E402, F401
+from crates import Unreadable, checker, kit  # noqa: E402, F401
 
 PROGRAM = "operator_main"
 # The program as Rattle's own compiler builds it, where that can.

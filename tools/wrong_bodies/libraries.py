@@ -10,7 +10,8 @@ import json
 import subprocess
 import sys
 
-from .kept import checker
+from crates import checker
+
 from .workspaces import PARTS
 
 RECKONING = """

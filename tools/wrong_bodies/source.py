@@ -8,6 +8,8 @@ import re
 from dataclasses import dataclass, field
 from pathlib import Path
 
+from crates import Unreadable
+
 HEAD = re.compile(r"(\s*)(?:pub(?:\([^)]*\))?\s+)?(?:const\s+)?(?:unsafe\s+)?(?:extern\s+\S+\s+)?fn\s+(\w+)")
 CONSTANT = re.compile(r"\s*(?:pub(?:\([^)]*\))?\s+)?(?:const|static)\s+(\w+)\s*:")
 MACRO = re.compile(r"macro_rules!\s+(\w+)")
@@ -18,10 +20,6 @@ UNSEEN_CALLS = frozenset(
     "add sub mul div rem neg not bitand bitor bitxor shl shr add_assign sub_assign eq ne cmp partial_cmp lt le gt ge "
     "next into_iter deref deref_mut index index_mut from into clone default fmt hash drop".split()
 )
-
-
-class Unreadable(Exception):
-    """An edit, or an output, that can't be judged. Its text is the line for the user."""
 
 
 @dataclass(frozen=True)

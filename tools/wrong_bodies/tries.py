@@ -12,14 +12,17 @@ from concurrent.futures import FIRST_COMPLETED, ThreadPoolExecutor, wait
 from dataclasses import dataclass, field
 from pathlib import Path
 
-from . import machine
+import host
+from commands import stop_all
+from crates import Unreadable
+
 from .copies import beside, can_stand_beside, copied
 from .groups import grouped
 from .kept import Kept, sum_of
 from .libraries import left_by_rt_ci
-from .source import Source, Unreadable, merged, module_of, read_bodies
+from .source import Source, merged, module_of, read_bodies
 from .verdicts import CALLS, Verdict, verdict_of
-from .workspaces import Workspace, stop_all
+from .workspaces import Workspace
 
 
 # How many groups are tried in one workspace that began with nothing, where a crate has more.
@@ -231,5 +234,5 @@ class Tries:
     def ready(self, left, done, room, is_first):
         """The tasks to start now: as many as there is room for, and one at least where nothing runs."""
         found = [key for key in left if all(it in done for it in self.tasks[key][0])][:room]
-        memory = machine.free_memory() // machine.NEEDED
+        memory = host.free_memory() // host.NEEDED
         return found[: max(memory, 1 if is_first else 0)]

@@ -15,7 +15,9 @@ text: none of that shows that a contract says enough. And silence never counts: 
 import re
 from dataclasses import dataclass
 
-from .source import Unreadable, module_of
+from crates import Unreadable
+
+from .source import module_of
 
 LINE = re.compile(r"fn (\S+): (proved|not proved|no proof|could not tell|assumed|not assumed)\b(.*)")
 LEFT = re.compile(r"`search` did not prove ([^;]*)")

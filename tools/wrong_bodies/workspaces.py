@@ -8,92 +8,12 @@ its own stamp that they are up to date, wherever they lie.
 import fcntl
 import os
 import shutil
-import subprocess
-import threading
-from dataclasses import dataclass
 from pathlib import Path
 
-from .source import Unreadable
+from commands import run
+from crates import Unreadable
 
 PARTS = ("src", "specs", "proofs")
-
-
-class Running:
-    """The commands that run, so that all of them end when the run is ended, and no new one begins."""
-
-    def __init__(self):
-        self.lock, self.children, self.is_ended = threading.Lock(), set(), False
-
-    def start(self, words, folder, said):
-        with self.lock:
-            if self.is_ended:
-                raise Unreadable("the run was ended")
-            child = subprocess.Popen(words, cwd=folder, stdin=subprocess.DEVNULL, stdout=said, stderr=subprocess.STDOUT)
-            self.children.add(child)
-            return child
-
-    def forget(self, child):
-        with self.lock:
-            self.children.discard(child)
-
-    def end(self):
-        with self.lock:
-            self.is_ended = True
-            for child in self.children:
-                child.terminate()
-
-
-RUNNING = Running()
-
-
-class Table:
-    """The crates of crates.txt: the line of each, and which crates of the repository stand below it."""
-
-    def __init__(self, root):
-        self.root, self.lines, self.uses = Path(root), {}, {}
-        for line in (self.root / "crates.txt").read_text(encoding="utf-8").split("\n"):
-            if line.strip() and not line.startswith("#"):
-                head, _, names = line.partition(":")
-                name = head.split()[0]
-                self.lines[name], self.uses[name] = line, names.split()
-
-    def below(self, name):
-        """The crates of the repository that the crate stands on, each after those that it uses itself."""
-        found = []
-        for used in self.uses[name]:
-            if used in self.lines:
-                found += [it for it in [*self.below(used), used] if it not in found]
-        return found
-
-    def folder(self, name):
-        return self.root / "crates" / name
-
-
-@dataclass
-class Ran:
-    """How a command ended, what it said, and the seconds of processor time that it and all that it started took."""
-
-    status: int
-    said: str
-    seconds: float
-
-
-def run(words, folder):
-    """Runs a command to its end. What it started ends with it, since `rt` sees to that."""
-    with open(folder / "said", "w+", errors="replace", encoding="utf-8") as said:
-        child = RUNNING.start(words, folder, said)
-        try:
-            _, ended, used = os.wait4(child.pid, 0)
-            child.returncode = os.waitstatus_to_exitcode(ended)
-        finally:
-            RUNNING.forget(child)
-        said.seek(0)
-        return Ran(child.returncode, said.read(), used.ru_utime + used.ru_stime)
-
-
-def stop_all():
-    """Ends the commands that this process started."""
-    RUNNING.end()
 
 
 class Workspace:
