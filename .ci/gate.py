@@ -13,7 +13,7 @@ The parts, in their order:
   Where it ended well before, and nothing that it reads has changed, the tests and the program alone (proved.py);
 - wrong bodies: those of `must-fail` again and all others, in groups (tools/wrong-bodies);
 - decks: what the program prints for them, for the largest ones, for those that are cut and bent, and where calls fail,
-  and that forgotten tokens are refused.
+  that forgotten tokens are refused, and that `./cdc6600` builds no program of which a crate isn't proved.
 
 A small check and a check of decks that finds nothing says nothing. Where `rt ci` fails nothing more is tried.
 """
@@ -34,7 +34,8 @@ from proved import Proved, Unreadable
 
 ROOT = Path(__file__).resolve().parent.parent
 SMALL = (".ci/definitions", ".ci/safety", ".ci/examples", ".ci/sizes")
-DECKS = ("decks/check", "decks/schedules", "decks/large", "decks/mutations", "decks/failures", ".ci/spent-tokens")
+DECKS = tuple(f"decks/{name}" for name in ("check", "schedules", "large", "mutations", "failures"))
+TOOLS = (".ci/spent-tokens", "tools/build-program-test")
 PROOFS = re.compile(r"(\d+) passed, (\d+) failed")
 BODIES = re.compile(r"(\d+) wrong bodies, (\d+) not refused")
 # A check takes up to 4.3 GB.
@@ -143,7 +144,7 @@ def whole(gate, is_anew):
         gate.part("proofs and tests", lambda: proofs(is_anew))
     if not gate.failed:
         gate.part("wrong bodies", lambda: bodies(is_anew))
-        gate.part("decks", lambda: silent(DECKS))
+        gate.part("decks", lambda: silent(DECKS + TOOLS))
 
 
 def quick(gate):
