@@ -1,6 +1,6 @@
 """The gate. Its last line is a count, `N passed, M failed`, and the lines before it say what each part took.
 
-    .ci/run           everything, but what an earlier run found of the very same text is kept
+    .ci/run           everything, but what earlier runs found of the very same text is kept, crate by crate
     .ci/run --anew    everything, whatever was kept
     .ci/run quick     a look while something is changed: the small checks, and what changed since the last look is
                       proved. It tries no wrong body and runs no test
@@ -9,11 +9,14 @@ The parts, in their order:
 
 - small checks, which take no time: that docs/definitions.md names what is there, docs/safety.md each public call,
   docs/threads.md its example and docs/crates.md the sizes;
-- `rt ci`: every proof and every test from nothing, the wrong bodies of `must-fail`, and the program's stored run.
-  Where it ended well before, and nothing that it reads has changed, the tests and the program alone (proved.py);
-- wrong bodies: those of `must-fail` again and all others, in groups (tools/wrong-bodies);
+- `rt ci`: every proof from nothing, every test, the wrong bodies of `must-fail`, and the program's stored run. It keeps
+  beside the kit what it proved and tried, by the sums of all that it read, and so proves and tries again only what
+  changed, and what stands above that; tests and the program are run each time;
+- wrong bodies: those of `must-fail` again and all others, in groups, over the libraries that `rt ci` left
+  (tools/wrong-bodies, which keeps what it tried in the user's cache folder);
 - decks: what the program prints for them, for the largest ones, for those that are cut and bent, and where calls fail,
-  that forgotten tokens are refused, and that `./cdc6600` builds no program of which a crate isn't proved.
+  when requests of both kinds are made, which events take memory, that forgotten tokens are refused, and that
+  `./cdc6600` builds no program of which a crate isn't proved.
 
 A small check and a check of decks that finds nothing says nothing. Where `rt ci` fails nothing more is tried.
 """
@@ -30,11 +33,9 @@ sys.dont_write_bytecode = True
 from concurrent.futures import ThreadPoolExecutor
 from pathlib import Path
 
-from proved import Proved, Unreadable
-
 ROOT = Path(__file__).resolve().parent.parent
 SMALL = (".ci/definitions", ".ci/safety", ".ci/examples", ".ci/sizes")
-DECKS = tuple(f"decks/{name}" for name in ("check", "schedules", "large", "mutations", "failures"))
+DECKS = tuple(f"decks/{name}" for name in ("check", "schedules", "both-kinds", "large", "mutations", "failures", "allocations"))
 TOOLS = (".ci/spent-tokens", "tools/build-program-test")
 PROOFS = re.compile(r"(\d+) passed, (\d+) failed")
 BODIES = re.compile(r"(\d+) wrong bodies, (\d+) not refused")
@@ -100,34 +101,19 @@ def silent(commands):
 
 
 def proofs(is_anew):
-    """`rt ci`, or what was kept of it."""
-    proved = Proved()
-    kept = None if is_anew else proved.count()
-    if kept is None:
-        passed, failed = proofs_anew()
-        if not failed:
-            proved.keep(passed)
-        return passed, failed
-    print(f"proofs: `rt ci` passed {kept} of these very sources before; the tests and the program are run again", flush=True)
-    proved.put_back()
-    failed = proved.run()
-    return kept - failed, failed
-
-
-def proofs_anew():
     """`rt ci` starts a check only where there is memory for what it may need at most, by its size. With the two largest
     beside each other processors stay idle; where there is memory for a check on each, all are used."""
     environment, processors = dict(os.environ), len(os.sched_getaffinity(0))
     available = re.search(r"MemAvailable:\s+(\d+)", Path("/proc/meminfo").read_text(encoding="ascii"))
     if available and int(available[1]) >= processors * MEMORY_OF_A_CHECK:
         environment.setdefault("RT_JOBS", str(processors))
-    return counted(["rt", "ci"], PROOFS, environment)
+    return counted(["rt", "ci", *["--anew"] * is_anew], PROOFS, environment)
 
 
 def bodies(is_anew):
     """The runner's own tests, and then all wrong bodies: how many were refused, and how many weren't."""
     passed, failed = silent(["tools/wrong-bodies-test"])
-    tried, let_through = counted(["tools/wrong-bodies", *["--anew"] * is_anew], BODIES)
+    tried, let_through = counted(["tools/wrong-bodies", "--after-rt-ci", *["--anew"] * is_anew], BODIES)
     return passed + tried - let_through, failed + let_through
 
 
@@ -166,8 +152,4 @@ def main():
     return gate.end()
 
 
-try:
-    sys.exit(main())
-except Unreadable as reason:
-    print(f"{reason}\n0 passed, 1 failed")
-    sys.exit(1)
+sys.exit(main())

@@ -1,4 +1,4 @@
-/* Makes one call of a program fail, or each from one on; for decks/failures, which loads it with LD_PRELOAD.
+/* Makes one call of a program fail, or each from one on, and counts such calls; failing_calls.py loads it with LD_PRELOAD.
  *
  *     FAILING_CALL    memory (malloc, calloc, realloc and the like), thread (pthread_create), read (of standard input),
  *                     write (to standard output) or told (a write to standard error)
@@ -6,6 +6,7 @@
  *     FAILING_FROM    where it is set, each later one fails too
  *     FAILING_SHORT   where it is set, a read or write moves one byte at most
  *     FAILING_MARK    a file, which is made when a call fails
+ *     FAILING_COUNT   a file, to which the number of these calls is written at the program's end
  */
 #define _GNU_SOURCE
 #include <dlfcn.h>
@@ -14,6 +15,7 @@
 #include <pthread.h>
 #include <stdatomic.h>
 #include <stddef.h>
+#include <stdio.h>
 #include <stdlib.h>
 #include <string.h>
 #include <sys/syscall.h>
@@ -27,7 +29,7 @@ extern void *__libc_memalign(size_t, size_t);
 static const char *failing = "";
 static unsigned long failing_at;
 static int failing_from, moves_one;
-static const char *mark;
+static const char *mark, *counted;
 static atomic_ulong calls;
 
 __attribute__((constructor)) static void begin(void) {
@@ -36,13 +38,21 @@ __attribute__((constructor)) static void begin(void) {
     failing_from = getenv("FAILING_FROM") != NULL;
     moves_one = getenv("FAILING_SHORT") != NULL;
     mark = getenv("FAILING_MARK");
+    counted = getenv("FAILING_COUNT");
     failing = getenv("FAILING_CALL") ? getenv("FAILING_CALL") : "";
+}
+
+__attribute__((destructor)) static void end(void) {
+    unsigned long found = atomic_load(&calls);
+    FILE *file = counted ? fopen(counted, "w") : NULL;
+    if (file) fprintf(file, "%lu", found), fclose(file);
 }
 
 /* Whether this call, of the kind of that name, is to fail. */
 static int fails(const char *kind) {
-    if (failing_at == 0 || strcmp(failing, kind) != 0) return 0;
+    if (strcmp(failing, kind) != 0) return 0;
     unsigned long call = atomic_fetch_add(&calls, 1) + 1;
+    if (failing_at == 0) return 0;
     if (call != failing_at && !(failing_from && call > failing_at)) return 0;
     int file = mark ? syscall(SYS_openat, AT_FDCWD, mark, O_CREAT | O_WRONLY, 0600) : -1;
     if (file >= 0) syscall(SYS_close, file);

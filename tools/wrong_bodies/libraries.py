@@ -12,8 +12,6 @@ import sys
 
 from crates import checker
 
-from .workspaces import PARTS
-
 RECKONING = """
 import json, os, sys
 sys.path.insert(0, sys.argv[1])
@@ -33,20 +31,13 @@ def stamps(root):
     return found if all(isinstance(it, str) for it in found.values()) else {}
 
 
-def is_newer(table, name):
-    """Whether the library was made after the last change of its crate and of all below it."""
-    made = table.folder(name) / "out/rlib" / f"{name}.rlib" / "format"
-    if not made.is_file():
-        return False
-    parts = (table.folder(it) / part for it in [*table.below(name), name] for part in PARTS)
-    return all(file.stat().st_mtime < made.stat().st_mtime for part in parts for file in part.rglob("*") if file.is_file())
-
-
 def left_by_rt_ci(table):
-    """The stamp of each crate whose library `rt ci` left, where it left those of all that stand below too."""
-    found = {
-        name: stamp
-        for name, stamp in stamps(table.root).items()
-        if name in table.lines and is_newer(table, name) and not (table.folder(name) / "out/rlib/stamp").exists()
-    }
+    """The stamp of each crate whose library `rt ci` left, where it left those of all that stand below too. That it ended
+    well here, and that nothing was changed since, its caller has to know."""
+    found = {name: stamp for name, stamp in stamps(table.root).items() if name in table.lines and is_left(table.folder(name), name)}
     return {name: stamp for name, stamp in found.items() if all(it in found for it in table.below(name))}
+
+
+def is_left(folder, name):
+    """Whether a crate's library stands there without a stamp."""
+    return (folder / "out/rlib" / f"{name}.rlib" / "format").is_file() and not (folder / "out/rlib/stamp").exists()

@@ -116,7 +116,7 @@ def path_of(item, source):
 class Tries:
     """The run: the libraries that are built, and the tasks that are left, each with the names of those it waits for."""
 
-    def __init__(self, table, crates, room, at_once):
+    def __init__(self, table, crates, room, at_once, is_after_rt_ci):
         self.table, self.room, self.at_once = table, Path(room), at_once
         self.libraries, self.broken, self.tasks, self.library_seconds = {}, {}, {}, 0.0
         tried = [crate for crate in crates if crate.groups]
@@ -124,7 +124,7 @@ class Tries:
         self.sizes = {crate.name: len(crate.source.functions()) + 4 * len(crate.bodies) for crate in tried}
         self.groups = {crate.name: {(crate.name, number) for number in range(len(crate.groups))} for crate in tried}
         needed = {name for crate in tried for name in table.below(crate.name)}
-        self.left = left_by_rt_ci(table) if needed else {}
+        self.left = left_by_rt_ci(table) if needed and is_after_rt_ci else {}
         for name in (name for name in table.lines if name in needed):
             self.tasks["library", name] = ([("library", it) for it in table.below(name)], lambda name=name: self.build(name))
         for crate in tried:
