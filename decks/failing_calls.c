@@ -46,6 +46,13 @@ __attribute__((destructor)) static void end(void) {
     unsigned long found = atomic_load(&calls);
     FILE *file = counted ? fopen(counted, "w") : NULL;
     if (file) fprintf(file, "%lu", found), fclose(file);
+    counted = NULL;
+}
+
+/* The program ends by this call, past the destructors. */
+void _exit(int status) {
+    end();
+    for (;;) syscall(SYS_exit_group, status);
 }
 
 /* Whether this call, of the kind of that name, is to fail. */
