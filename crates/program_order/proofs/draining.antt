@@ -3,3 +3,4 @@ pub mod Pigeons
 pub mod Counting
 pub mod Draining
 pub mod GoingOn
+pub mod Accounts

@@ -50,6 +50,18 @@ pub record Works (w v : Processor) (count : ℕ) : Type 0 where
   pub counted : length events ≡ count
   pub limit : count ≤ 40
 
+-- what no work on what is pending changes: nothing is issued, asked for, exchanged or accessed by a peripheral processor,
+-- and what was given at boot, and whether the seats were given out, is as it was
+pub record KeepsAccounts (w v : Processor) : Type 0 where
+  pub log : v.log ≡ w.log
+  pub request : v.request ≡ w.request
+  pub budget : v.budget ≡ w.budget
+  pub asked : v.asked ≡ w.asked
+  pub accessed : v.accessed ≡ w.accessed
+  pub last : v.last ≡ w.last
+  pub boot_memory : v.boot_memory ≡ w.boot_memory
+  pub seats_given : v.seats_given ≡ w.seats_given
+
 -- ---- what is next to be done ----
 
 -- the next event of an instruction that waits for no other: a busy bank is freed before its reference is accepted
