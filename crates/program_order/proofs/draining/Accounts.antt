@@ -15,7 +15,8 @@ use Rattle.program_order.specs.Events.{after, after_found}
 use Rattle.program_order.specs.Memory.{after_accept, after_return}
 use Rattle.program_order.specs.Processor.{Processor}
 use Rattle.program_order.specs.Units.{after_finish, after_read, after_store, after_work}
-use Rattle.program_order.specs.Working.{Accepts, KeepsAccounts, Works, is_work, leads_to}
+use Rattle.program_order.specs.Working.{Accepts, KeepsAccounts, Works, leads_to}
+use Rattle.program_order.proofs.draining.OnPending.{is_work, on_pending}
 
 -- the state, the pending instructions and the busy banks are no part of the accounts
 kept_accounts : (w : Processor) (state : State) (pending : List Pending) (busy : List Bool)
@@ -82,7 +83,7 @@ all_accounts : (w : Processor) (events : List Event) → Accepts w events → Ke
 unfolding leads_to
 all_accounts w [] h = same_accounts w
 all_accounts w (e ∷ events) h =
-    then_accounts w (after w e) (leads_to (after w e) events) (work_accounts w e h.1)
+    then_accounts w (after w e) (leads_to (after w e) events) (work_accounts w e (on_pending w.pending e h.1))
     (all_accounts (after w e) events h.2)
 
 -- so do the events of a drain
