@@ -40,9 +40,9 @@ waits_for_in bank (After (Accepted n word)) = false
 unfoldable pub waits_for : ℕ → Pending → Bool
 waits_for bank m = waits_for_in bank m.phase
 
--- the event works on what is pending: on the instruction in a unit, the reference in a place of the hopper or the load in
--- a channel, or on a bank for which a reference waits. An issue, an exchange, a request for one and a peripheral access
--- don't
+-- the event works on what is pending: on the instruction in a unit, the reference in a place of the hopper or the
+-- load in a channel, or on a bank for which a reference waits. An issue, an exchange, a request for one and a
+-- peripheral access don't
 unfoldable pub works_on : List Pending → Event → Bool
 works_on ms Issue = false
 works_on ms (Read u) = list_any (holds_unit u) ms
@@ -75,8 +75,8 @@ pub record Works (w v : Processor) (count : ℕ) : Type 0 where
   pub counted : length events ≡ count
   pub limit : count ≤ 40
 
--- what no work on what is pending changes: nothing is issued, asked for, exchanged or accessed by a peripheral processor,
--- and what was given at boot, and whether the seats were given out, is as it was
+-- what no work on what is pending changes: nothing is issued, asked for, exchanged or accessed by a peripheral
+-- processor, and what was given at boot, and whether the seats were given out, is as it was
 pub record KeepsAccounts (w v : Processor) : Type 0 where
   pub log : v.log ≡ w.log
   pub request : v.request ≡ w.request

@@ -1,7 +1,7 @@
 -- What is next to be done works on what is pending, and what works on it is neither an issue nor about an exchange.
 use Rattle.std.proofs.Common.{◌≡◌, ℕ, Bool, true, false, cond, List, [], ◌∷◌, Option, Some, None, refl, sym, ap, ◌∙◌}
 use Rattle.std.proofs.Common.{subst, get_or}
-use Rattle.std.specs.Prelude.{◌||◌, is_some}
+use Rattle.std.specs.Prelude.{◌||◌, IfSome, is_some}
 use Rattle.std.specs.List.{list_any}
 use Rattle.std.proofs.lemmas.Bool.{eq-eqb}
 use Rattle.std.proofs.lemmas.Option.{same_Some}
@@ -14,7 +14,7 @@ use Rattle.in_flight.specs.declared.pending.Phase.{Phase}
 use Rattle.in_flight.specs.declared.pending.Phase.TheVariants.{Before, After}
 use Rattle.in_flight.specs.declared.pending.Stage.{Stage}
 use Rattle.in_flight.specs.declared.pending.Stage.TheVariants.{Waiting, Read as HasRead, Finished}
-use Rattle.in_flight.specs.Lookup.{in_place}
+use Rattle.in_flight.specs.Lookup.{in_place, is_pending}
 use Rattle.program_order.specs.declared.event.Event.{Event}
 use Rattle.program_order.specs.declared.event.Event.TheVariants.{Issue, Read, Finish, Store as StoreResult, Accept}
 use Rattle.program_order.specs.declared.event.Event.TheVariants.{Return, BankFree, Ask, Exchange, PpRead, PpWrite}
@@ -93,3 +93,18 @@ next_works_on [] busy e h = cc
 next_works_on (m ∷ ms) busy e h =
     subst (λ x. works_on (m ∷ ms) x ≡ true) (same_Some (next_in m.unit m.phase busy) e h)
     (oldest_works m ms m.phase busy refl)
+
+pub next_on_pending : (ms : List Pending) (busy : List Bool) (o : Option Event) → o ≡ next_of ms busy
+    → IfSome o (λ e. works_on ms e ≡ true)
+next_on_pending ms busy None h = tt
+next_on_pending ms busy (Some e) h = next_works_on ms busy e (sym h)
+
+-- something is next exactly where something is pending
+pub next_if_pending : (ms : List Pending) (busy : List Bool) (o : Option Event) → o ≡ next_of ms busy
+    → is_some o ≡ is_pending ms
+unfolding next_of is_pending
+next_if_pending ms busy o h = ap is_some h ∙ by_list ms
+  where
+    by_list : (ms : List Pending) → is_some (next_of ms busy) ≡ is_pending ms
+    by_list [] = refl
+    by_list (m ∷ ms) = refl

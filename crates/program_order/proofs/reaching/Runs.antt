@@ -9,8 +9,8 @@ use Rattle.program_order.specs.declared.event.Done.{Done}
 use Rattle.program_order.specs.declared.event.Event.{Event}
 use Rattle.program_order.specs.declared.event.Event.TheVariants.{Issue, Read, Finish, Store as StoreResult, Accept}
 use Rattle.program_order.specs.declared.event.Event.TheVariants.{Return, BankFree, Ask, Exchange, PpRead, PpWrite}
-use Rattle.program_order.specs.Run.{answer_by, done_by, answer_of, makes_room, IsAnswer, settled, IsAnswered, settled_all}
-use Rattle.program_order.specs.Run.{IsRun}
+use Rattle.program_order.specs.Run.{answer_by, done_by, answer_of, makes_room, IsAnswer, IsRun, settled, IsAnswered}
+use Rattle.program_order.specs.Run.{settled_all}
 use Rattle.program_order.specs.Processor.{Processor}
 use Rattle.program_order.specs.Events.{allowed, after}
 use Rattle.in_flight.specs.Lookup.{is_pending}
