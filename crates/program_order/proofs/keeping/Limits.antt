@@ -1,7 +1,7 @@
 -- There is no place, channel or bank but those of the machine, and where no word is held the next parcel is 0.
-use Rattle.std.proofs.Common.{◌≡◌, ◌<◌, ◌≤◌, ◌+◌, ◌%◌, ◌^◌, ℕ, zero, suc, Bool, true, false, cond, List, [], ◌∷◌, Option, Some, None}
-use Rattle.std.proofs.Common.{length, refl, sym, ap, ◌∙◌, subst, eqb, ltb, get_or, arith}
-use Rattle.std.specs.Prelude.{not, replicate}
+use Rattle.std.proofs.Common.{◌≡◌, ◌<◌, ◌≤◌, ◌+◌, ◌%◌, ◌^◌, ℕ, zero, suc, Bool, true, false, cond, List, [], ◌∷◌}
+use Rattle.std.proofs.Common.{Option, Some, None, length, refl, sym, ap, subst, eqb, ltb, get_or, arith}
+use Rattle.std.specs.Prelude.{not}
 use Rattle.std.proofs.lemmas.Bool.{eqb-true}
 use Rattle.std.proofs.lemmas.List.{length-set}
 use Rattle.instructions.specs.declared.instr.Instr.{Instr}
@@ -11,7 +11,6 @@ use Rattle.instructions.specs.declared.instr.Instr.TheVariants.{CountOnes, Incre
 use Rattle.instructions.specs.declared.instr.Reg.{Reg}
 use Rattle.instructions.specs.declared.instr.Unit.{Unit as FunctionalUnit}
 use Rattle.instructions.specs.declared.refusal.Refusal.TheVariants.{Nothing}
-use Rattle.instructions.specs.Each.{Each}
 use Rattle.instructions.specs.Finding.{Found, seek}
 use Rattle.instructions.proofs.Finding.{seek_nobody}
 use Rattle.instructions.proofs.Lists.{each_map}
@@ -29,8 +28,7 @@ use Rattle.sequential.specs.Replay.{boot}
 use Rattle.sequential.specs.State.{Bounds, bounds_of, go, halt_by, mark, move_to, poke, write, write_all}
 use Rattle.sequential.specs.Step.{fetch, fetched_by, fetched_from, here, met, word_seen}
 use Rattle.sequential.specs.Swap.{begun, swap}
-use Rattle.sequential.specs.Work.{Work, do_now, work_of}
-use Rattle.in_flight.specs.declared.pending.Arrival.{Arrival}
+use Rattle.sequential.specs.Work.{Work, do_now}
 use Rattle.in_flight.specs.declared.pending.HopperEntry.{HopperEntry}
 use Rattle.in_flight.specs.declared.pending.Outstanding.TheVariants.{Entered, Accepted}
 use Rattle.in_flight.specs.declared.pending.Pending.{Pending}

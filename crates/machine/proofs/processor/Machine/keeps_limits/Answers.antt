@@ -1,4 +1,4 @@
-use Rattle.std.proofs.Common.{◌≡◌, Some, length, subst}
+use Rattle.std.proofs.Common.{◌≡◌, Some, subst}
 use Rattle.instructions.specs.declared.refusal.Refusal.TheVariants.{Nothing}
 use Rattle.program_order.specs.declared.event.Event.TheVariants.{Accept, BankFree, Return}
 use Rattle.program_order.specs.Events.{allowed}
