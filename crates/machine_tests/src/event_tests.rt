@@ -1,7 +1,7 @@
 //! Events that no line of a session can say, and a program by turns of issue and drain.
 
-use crate::fixtures::{MADE, drain, make, meets, shows, started_on};
-use instruction_table::{Halt, Refusal};
+use crate::fixtures::{MADE, drain, issued, make, meets, shows, started_on};
+use instruction_table::{Halt, Refusal, Unit};
 use machine::{Answer, Event, Machine};
 use std::process::Abort;
 use std::test::Fail;
@@ -44,5 +44,49 @@ fn by_turns(rt: HostRuntime) -> Result<(), Fail> {
     go_on(&mut machine);
     let answer = make(&mut machine, Event::Issue);
     assert!(rt; answer == Err(Refusal::Halted(Halt::Stop)) && shows(&machine, "5", "3", 6));
+    Ok(())
+}
+
+/// SA1 B0+1 and SA2 B0+1, two loads of one word, 7.
+const TWO_LOADS: [(u32, &str); 2] = [(0o100, "51100000015120000001"), (0o101, "7")];
+
+/// The work on both loads, the older first: the second waits for the bank.
+const LOADING: [Event; 11] = [
+    Event::Read(Unit::Increment1),
+    Event::Finish(Unit::Increment1),
+    Event::Store(Unit::Increment1),
+    Event::Accept(0),
+    Event::Return(1),
+    Event::Read(Unit::Increment2),
+    Event::Finish(Unit::Increment2),
+    Event::Store(Unit::Increment2),
+    Event::BankFree(1),
+    Event::Accept(0),
+    Event::Return(2),
+];
+
+/// Whether each of these events in turn is next to be done and is made, and then nothing is.
+fn works_through(machine: &mut Machine, events: &[Event]) -> bool {
+    for event in events {
+        if machine.next_work() != Some(*event) || make(machine, *event) != MADE {
+            return false;
+        }
+    }
+    machine.next_work().is_none()
+}
+
+/// What is next to be done, event after event, until nothing is pending.
+#[test]
+fn by_next_work(rt: HostRuntime) -> Result<(), Fail> {
+    let mut machine = started_on(rt.alloc(), &TWO_LOADS).ok_or("start")?;
+    let is_issued = meets(
+        &mut machine,
+        &[
+            (Event::Issue, issued(Unit::Increment1, 1)),
+            (Event::Issue, issued(Unit::Increment2, 2)),
+        ],
+    );
+    let is_done = works_through(&mut machine, LOADING.as_slice());
+    assert!(rt; is_issued && is_done && shows(&machine, "7", "7", 2));
     Ok(())
 }

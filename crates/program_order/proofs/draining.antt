@@ -3,3 +3,5 @@ pub mod Pigeons
 pub mod Counting
 pub mod Draining
 pub mod GoingOn
+pub mod OnPending
+pub mod Accounts

@@ -5,3 +5,4 @@ pub mod There
 pub mod Naming
 pub mod Numbering
 pub mod Telling
+pub mod Limits

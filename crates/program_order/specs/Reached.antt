@@ -1,13 +1,12 @@
 -- What leads to a machine: the events since boot with their answers, by whichever calls they came. Source: ours.
-use Rattle.std.specs.Prelude.{◌≡◌, ℕ, true, false, List, ◌++◌, Result, Ok, length, replicate}
+use Rattle.std.specs.Prelude.{◌≡◌, ℕ, false, List, ◌++◌, Result, Ok, length, replicate}
 use Rattle.instructions.specs.declared.refusal.Refusal.{Refusal}
-use Rattle.instructions.specs.Each.{Each}
 use Rattle.program_order.specs.declared.event.Done.{Done}
 use Rattle.program_order.specs.declared.event.Done.TheVariants.{Made}
 use Rattle.program_order.specs.declared.event.Event.{Event}
 use Rattle.program_order.specs.Run.{IsAnswered, settled_all}
 use Rattle.program_order.specs.Processor.{Processor, boot_processor}
-use Rattle.program_order.specs.Working.{is_work}
+use Rattle.program_order.specs.Working.{Accepts}
 
 -- the machine as it is but for its seats, which weren't given out
 abbrev pub without_seats : Processor → Processor
@@ -37,8 +36,8 @@ StaysReached w v =
 pub record IsReachedByWork (memory : List ℕ) (budget : ℕ) (events : List Event) (answers : List (Result Done Refusal))
     (count : ℕ) (w : Processor) : Type 0 where
   pub more : List Event
-  -- each of them works on what is pending
-  pub work : Each (λ e. is_work e ≡ true) more
+  -- from where the events before them led, each of them is allowed and works on what is then pending
+  pub work : Accepts (settled_all (boot_processor memory budget) events answers) more
   pub counted : length more ≡ count
   pub reached : IsReached memory budget (events ++ more) (answers ++ replicate count (Ok Made)) w
 

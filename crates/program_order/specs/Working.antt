@@ -1,6 +1,7 @@
 -- Runs of the events that work on what is pending, and how much of it is left. Source: ours.
-use Rattle.std.specs.Prelude.{◌≡◌, ◌≤◌, ◌+◌, ℕ, Bool, true, false, if◌then◌else◌, List, [], ◌∷◌, Option, Some, None}
-use Rattle.std.specs.Prelude.{length, slice_index_or}
+use Rattle.std.specs.Prelude.{◌≡◌, ◌≤◌, ◌+◌, ◌==◌, ℕ, Bool, true, false, if◌then◌else◌, List, [], ◌∷◌, Option, Some}
+use Rattle.std.specs.Prelude.{None, is_some, length, slice_index_or}
+use Rattle.std.specs.List.{list_any}
 use Rattle.instructions.specs.Shape.{Shape, Puts, Loads, Stores, Jumps, Links, shape_of}
 use Rattle.instructions.specs.declared.instr.Unit.{Unit as FunctionalUnit}
 use Rattle.relocation.specs.declared.area.Access.TheVariants.{Load as LoadInto, Store as StoreWord}
@@ -15,27 +16,51 @@ use Rattle.in_flight.specs.declared.pending.Outstanding.TheVariants.{Entered, Ac
 use Rattle.in_flight.specs.declared.pending.Phase.{Phase}
 use Rattle.in_flight.specs.declared.pending.Phase.TheVariants.{Before, After}
 use Rattle.in_flight.specs.declared.pending.Pending.{Pending}
+use Rattle.in_flight.specs.Lookup.{arrival_at, is_taken, stage_at}
 use Rattle.program_order.specs.Processor.{Processor}
 use Rattle.program_order.specs.Events.{allowed, after}
 
--- neither an issue, nor about an exchange, nor a peripheral access
-unfoldable pub is_work : Event → Bool
-is_work Issue = false
-is_work (Read u) = true
-is_work (Finish u) = true
-is_work (Store u) = true
-is_work (Accept p) = true
-is_work (Return c) = true
-is_work (BankFree k) = true
-is_work (Ask n) = false
-is_work Exchange = false
-is_work (PpRead a) = false
-is_work (PpWrite a v) = false
+-- ---- what is worked on ----
 
--- the events are accepted one after another, and each works on what is pending
+-- in the unit stands an instruction before its store event
+unfoldable pub holds_unit : FunctionalUnit → Pending → Bool
+holds_unit unit m = is_some (stage_at unit m)
+
+-- in the channel waits its load
+unfoldable pub in_channel : ℕ → Pending → Bool
+in_channel c m = is_some (arrival_at c m)
+
+-- in that phase its reference waits in the hopper for the bank
+unfoldable pub waits_for_in : ℕ → Phase → Bool
+waits_for_in bank (Before t) = false
+waits_for_in bank (After (Entered place a access)) = bank_of a == bank
+waits_for_in bank (After (Accepted n word)) = false
+
+-- its reference waits in the hopper for the bank
+unfoldable pub waits_for : ℕ → Pending → Bool
+waits_for bank m = waits_for_in bank m.phase
+
+-- the event works on what is pending: on the instruction in a unit, the reference in a place of the hopper or the
+-- load in a channel, or on a bank for which a reference waits. An issue, an exchange, a request for one and a
+-- peripheral access don't
+unfoldable pub works_on : List Pending → Event → Bool
+works_on ms Issue = false
+works_on ms (Read u) = list_any (holds_unit u) ms
+works_on ms (Finish u) = list_any (holds_unit u) ms
+works_on ms (Store u) = list_any (holds_unit u) ms
+works_on ms (Accept p) = is_taken ms p
+works_on ms (Return c) = list_any (in_channel c) ms
+works_on ms (BankFree k) = list_any (waits_for k) ms
+works_on ms (Ask n) = false
+works_on ms Exchange = false
+works_on ms (PpRead a) = false
+works_on ms (PpWrite a v) = false
+
+-- the events are accepted one after another, and each works on what is then pending
 abbrev pub Accepts : Processor → List Event → Type 0
 Accepts w [] = Unit {0}
-Accepts w (e ∷ events) = (allowed w e ≡ None) × (is_work e ≡ true) × Accepts (after w e) events
+Accepts w (e ∷ events) =
+    (allowed w e ≡ None) × (works_on w.pending e ≡ true) × Accepts (after w e) events
 
 -- the machine after these events
 unfoldable pub leads_to : Processor → List Event → Processor
@@ -49,6 +74,18 @@ pub record Works (w v : Processor) (count : ℕ) : Type 0 where
   pub leads : v ≡ leads_to w events
   pub counted : length events ≡ count
   pub limit : count ≤ 40
+
+-- what no work on what is pending changes: nothing is issued, asked for, exchanged or accessed by a peripheral
+-- processor, and what was given at boot, and whether the seats were given out, is as it was
+pub record KeepsAccounts (w v : Processor) : Type 0 where
+  pub log : v.log ≡ w.log
+  pub request : v.request ≡ w.request
+  pub budget : v.budget ≡ w.budget
+  pub asked : v.asked ≡ w.asked
+  pub accessed : v.accessed ≡ w.accessed
+  pub last : v.last ≡ w.last
+  pub boot_memory : v.boot_memory ≡ w.boot_memory
+  pub seats_given : v.seats_given ≡ w.seats_given
 
 -- ---- what is next to be done ----
 

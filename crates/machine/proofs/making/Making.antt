@@ -60,6 +60,8 @@ use Rattle.program_order.specs.Peripheral.{access_tests, after_pp_read, after_pp
 use Rattle.program_order.specs.Issue.{issue_tests, after_issue}
 use Rattle.program_order.specs.Events.{tests_of, allowed, after_found, after}
 use Rattle.program_order.specs.Memory.{after_accept, after_return}
+use Rattle.program_order.specs.Sound.{IsAtBeginning}
+use Rattle.program_order.proofs.keeping.Limits.{event_banks, event_starts, boot_banks, boot_starts}
 use Rattle.program_order.proofs.keeping.Slotted.{IsSlottedWhole, event_slotted}
 use Rattle.sequential.proofs.Entries.{issued-append, issued-more}
 use Rattle.program_order.specs.Telling.{IsNumbered}
@@ -80,6 +82,8 @@ still_kept w v e old new a h k room numbered limit =
       numbered = numbered;
       limit = limit;
       numbers = subst IsNumbered (sym h) (numbers_kept w e a k.replay k.numbers);
+      banks = ap (λ (x : Processor). length x.busy) h ∙ event_banks w e ∙ k.banks;
+      starts = subst (λ (x : Processor). IsAtBeginning x.state.place) (sym h) (event_starts w e k.starts);
     }
 
 -- those in flight of a machine, and the machine with others in flight
@@ -613,6 +617,8 @@ boot_kept w memory budget log e r h n l =
           omega (arith, n);
       limit = l;
       numbers = subst IsNumbered (sym e) (boot_numbered memory budget);
+      banks = ap (λ (x : Processor). length x.busy) e ∙ boot_banks memory budget;
+      starts = subst (λ (x : Processor). IsAtBeginning x.state.place) (sym e) (boot_starts memory budget);
     }
 
 -- giving the seats out changes nothing else
@@ -626,6 +632,8 @@ seats_kept w log k = record {
   numbered = k.numbered;
   limit = k.limit;
   numbers = k.numbers;
+  banks = k.banks;
+  starts = k.starts;
 }
 
 -- ---- a snapshot ----

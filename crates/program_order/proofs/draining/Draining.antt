@@ -41,7 +41,7 @@ use Rattle.in_flight.specs.Tests.{Test, refusal_of, tests_found, read_tests, acc
 use Rattle.in_flight.specs.Lookup.{stage_in, stage_at, entry_in, entry_at, arrival_in, arrival_at, enters, in_place}
 use Rattle.in_flight.specs.Lookup.{is_taken, place_for, is_pending, in_phase, kept}
 use Rattle.in_flight.proofs.answering.Referring.{turn_there}
-use Rattle.program_order.specs.Working.{is_work, next_in, next_of, reference_cost, stage_cost, outstanding_cost}
+use Rattle.program_order.specs.Working.{next_in, next_of, reference_cost, stage_cost, outstanding_cost}
 use Rattle.program_order.specs.Working.{phase_cost, cost, work_left}
 use Rattle.program_order.proofs.effects.Effects.{no_reference}
 use Rattle.instructions.proofs.Finding.{seek_around}
@@ -65,17 +65,17 @@ same_self : (u : FunctionalUnit) → same_unit u u ≡ true
 unfolding same_unit
 same_self u = eq-eqb (unit_number u) (unit_number u) refl
 
-stage_first : (m : Pending) (t : Stage) → m.phase ≡ Before t → stage_at m.unit m ≡ Some t
+pub stage_first : (m : Pending) (t : Stage) → m.phase ≡ Before t → stage_at m.unit m ≡ Some t
 unfolding stage_at stage_in
 stage_first m t e = ap (λ b. cond b (stage_in m.phase) None) (same_self m.unit) ∙ ap stage_in e
 
-entry_first : (m : Pending) (place a : ℕ) (access : Access) → m.phase ≡ After (Entered place a access)
+pub entry_first : (m : Pending) (place a : ℕ) (access : Access) → m.phase ≡ After (Entered place a access)
     → entry_at place m ≡ Some (record { a = a; access = access })
 unfolding entry_at entry_in
 entry_first m place a access e =
     ap (entry_in place) e ∙ ap (λ b. cond b (Some (record { a = a; access = access })) None) (eq-eqb place place refl)
 
-arrival_first : (m : Pending) (n word : ℕ) → m.phase ≡ After (Accepted n word)
+pub arrival_first : (m : Pending) (n word : ℕ) → m.phase ≡ After (Accepted n word)
     → arrival_at n m ≡ Some (record { channel = n; word = word })
 unfolding arrival_at arrival_in
 arrival_first m n word e =
@@ -175,25 +175,6 @@ pub next_is_allowed : (v w : Processor) (o : Option Event) (held : List Pending)
 next_is_allowed v w None held s e h k = tt
 next_is_allowed v w (Some x) held s e h k =
     subst (λ y. allowed y x ≡ None) e (next_allowed v x s (sym (k ∙ ap (λ l. next_of l v.busy) h)))
-
--- it is neither an issue nor about an exchange
-oldest_works : (u : FunctionalUnit) (p : Phase) (busy : List Bool) → is_work (next_in u p busy) ≡ true
-unfolding is_work next_in
-oldest_works u (Before Waiting) busy = refl
-oldest_works u (Before (HasRead os)) busy = refl
-oldest_works u (Before (Finished v)) busy = refl
-oldest_works u (After (Entered place a access)) busy = by_bank (get_or busy (bank_of a) false)
-  where
-    by_bank : (b : Bool) → is_work (cond b (BankFree (bank_of a)) (Accept place)) ≡ true
-    by_bank true = refl
-    by_bank false = refl
-oldest_works u (After (Accepted n word)) busy = refl
-
-pub next_works : (ms : List Pending) (busy : List Bool) (e : Event) → next_of ms busy ≡ Some e → is_work e ≡ true
-unfolding next_of
-next_works [] busy e h = cc
-next_works (m ∷ ms) busy e h =
-    subst (λ x. is_work x ≡ true) (same_Some (next_in m.unit m.phase busy) e h) (oldest_works m.unit m.phase busy)
 
 -- nothing is next only where nothing is pending
 pub nothing_next : (ms : List Pending) (busy : List Bool) → next_of ms busy ≡ None → is_pending ms ≡ false

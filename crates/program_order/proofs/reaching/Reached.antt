@@ -3,7 +3,6 @@ use Rattle.std.proofs.Common.{◌≡◌, ℕ, true, false, List, [], ◌∷◌, 
 use Rattle.std.proofs.Common.{refl, sym, ap, ◌∙◌, subst, subst₂, inl}
 use Rattle.std.proofs.Math.Seq.{drop-append_seam}
 use Rattle.std.specs.Prelude.{Result, Ok}
-use Rattle.instructions.specs.Each.{Each}
 use Rattle.instructions.specs.declared.refusal.Refusal.{Refusal}
 use Rattle.program_order.specs.declared.event.Done.{Done}
 use Rattle.program_order.specs.declared.event.Done.TheVariants.{Made}
@@ -15,10 +14,11 @@ use Rattle.program_order.specs.Reached.{GoesOn, GoesOnByWork, IsReached, without
 use Rattle.program_order.specs.Run.{IsAnswer, IsAnswered, IsRun, answer_by, answer_of, done_by, settled, settled_all}
 use Rattle.program_order.specs.Processor.{Processor, boot_processor}
 use Rattle.program_order.specs.Events.{after, allowed}
-use Rattle.program_order.specs.Working.{Accepts, Works, is_work, leads_to}
+use Rattle.program_order.specs.Working.{Accepts, Works, leads_to}
+use Rattle.program_order.proofs.draining.OnPending.{is_work, on_pending}
 use Rattle.program_order.proofs.theorem.Headline.{fault_run}
 use Rattle.program_order.proofs.reaching.Runs.{answered_append, answered_rest, settled_append}
-use Rattle.program_order.proofs.reaching.Seats.{same_run, seated_answers}
+use Rattle.program_order.proofs.reaching.Seats.{same_run, seated_accepts, seated_answers}
 use Rattle.program_order.proofs.theorem.Theorem.{made_allowed}
 
 -- ---- one call ----
@@ -86,23 +86,19 @@ run_goes_on w v events old new r =
 accepted_answers : (w : Processor) (es : List Event) → Accepts w es → IsAnswered w es (replicate (length es) (Ok Made))
 unfolding settled
 accepted_answers w [] h = tt
-accepted_answers w (e ∷ es) h = (work_answer w e h.1 h.0, accepted_answers (after w e) es h.2)
+accepted_answers w (e ∷ es) h = (work_answer w e (on_pending w.pending e h.1) h.0, accepted_answers (after w e) es h.2)
 
 accepted_leads : (w : Processor) (es : List Event) → leads_to w es ≡ settled_all w es (replicate (length es) (Ok Made))
 unfolding leads_to settled_all settled
 accepted_leads w [] = refl
 accepted_leads w (e ∷ es) = accepted_leads (after w e) es
 
-accepted_work : (w : Processor) (es : List Event) → Accepts w es → Each (λ e. is_work e ≡ true) es
-accepted_work w [] h = tt
-accepted_work w (e ∷ es) h = (h.1, accepted_work (after w e) es h.2)
-
 pub works_go_on : (w v : Processor) (n : ℕ) → Works w v n → GoesOnByWork w n v
 works_go_on w v n k memory budget events answers r =
     let leads = k.leads in
     record {
       more = k.events;
-      work = accepted_work w k.events k.accepted;
+      work = subst (λ x. Accepts x k.events) r.left (seated_accepts false w k.events k.accepted);
       counted = k.counted;
       reached =
           subst (λ m. IsReached memory budget (events ++ k.events) (answers ++ replicate m (Ok Made)) v) k.counted

@@ -9,14 +9,15 @@ use Rattle.program_order.specs.declared.event.Done.{Done}
 use Rattle.program_order.specs.declared.event.Event.{Event}
 use Rattle.program_order.specs.declared.event.Event.TheVariants.{Issue, Read, Finish, Store as StoreResult, Accept}
 use Rattle.program_order.specs.declared.event.Event.TheVariants.{Return, BankFree, Ask, Exchange, PpRead, PpWrite}
-use Rattle.program_order.specs.Run.{answer_by, done_by, answer_of, makes_room, IsAnswer, settled, IsAnswered, settled_all}
-use Rattle.program_order.specs.Run.{IsRun}
+use Rattle.program_order.specs.Run.{answer_by, done_by, answer_of, makes_room, IsAnswer, IsRun, settled, IsAnswered}
+use Rattle.program_order.specs.Run.{settled_all}
 use Rattle.program_order.specs.Processor.{Processor}
 use Rattle.program_order.specs.Events.{allowed, after}
 use Rattle.in_flight.specs.Lookup.{is_pending}
-use Rattle.program_order.specs.Working.{is_work, Accepts, leads_to, Works, next_of, work_left}
+use Rattle.program_order.specs.Working.{works_on, Accepts, leads_to, Works, next_of, work_left}
 use Rattle.program_order.proofs.theorem.Theorem.{made_allowed}
-use Rattle.program_order.proofs.draining.Draining.{Eases, saved_of, next_works, nothing_next, next_eases, all_done}
+use Rattle.program_order.proofs.draining.Draining.{Eases, saved_of, nothing_next, next_eases, all_done}
+use Rattle.program_order.proofs.draining.OnPending.{is_work, next_works_on, on_pending}
 
 -- ---- a run ----
 
@@ -98,7 +99,7 @@ run_done w v events i old new l r =
 -- ---- a drain ----
 
 accepts_more : (w : Processor) (es : List Event) (e : Event) → Accepts w es → allowed (leads_to w es) e ≡ None
-    → is_work e ≡ true → Accepts w (es ++ e ∷ [])
+    → works_on (leads_to w es).pending e ≡ true → Accepts w (es ++ e ∷ [])
 unfolding leads_to
 accepts_more w [] e h a k = (a, k, tt)
 accepts_more w (x ∷ es) e h a k = (h.0, h.1, accepts_more (after w x) es e h.2 a k)
@@ -113,7 +114,8 @@ unfolding leads_to
 works_none w = record { events = []; accepted = tt; leads = refl; counted = refl; limit = omega arith }
 
 works_more : (w v x : Processor) (n : ℕ) (e : Event) (d : Done) (a : Result Done Refusal) → Works w v n → n < 40
-    → a ≡ Ok d → IsAnswer v e a → x ≡ settled v e a → is_work e ≡ true → Works w x (n + 1)
+    → a ≡ Ok d → IsAnswer v e a → x ≡ settled v e a → works_on v.pending e ≡ true
+    → Works w x (n + 1)
 unfolding settled
 works_more w v x n e d a k l o h s i =
     let none : allowed v e ≡ None = made_allowed v e d (subst (λ y. IsAnswer v e y) o h) in
@@ -122,7 +124,8 @@ works_more w v x n e d a k l o h s i =
     let more = length-append k.events (e ∷ []) in
     record {
       events = k.events ++ e ∷ [];
-      accepted = accepts_more w k.events e k.accepted (ap (λ y. allowed y e) (sym leads) ∙ none) i;
+      accepted = accepts_more w k.events e k.accepted (ap (λ y. allowed y e) (sym leads) ∙ none)
+          (subst (λ (y : Processor). works_on y.pending e ≡ true) leads i);
       leads = s ∙ ap (settled v e) o ∙ ap (λ y. after y e) leads ∙ leads_more w k.events e;
       counted = omega (arith, count, more);
       limit = omega (arith, l);
@@ -172,8 +175,8 @@ pub draining_more : (w v x : Processor) (n : ℕ) (o : Option Event) (e : Event)
 unfolding settled
 draining_more w v x n o e a k l b h oh oe s i =
     let next = some_event o e v oh oe in
-    let work = next_works v.pending v.busy e next in
-    let made = surely_made v e a h work s in
+    let work = next_works_on v.pending v.busy e next in
+    let made = surely_made v e a h (on_pending v.pending e work) s in
     record {
       works = works_more w v x n e (done_by v e) a k.works l made s i work;
       left = λ _. eased v x n k.left b (subst (Eases v) (sym (i ∙ ap (settled v e) made)) (next_eases v e next));

@@ -24,6 +24,7 @@ use Rattle.program_order.specs.Exchange.{after_exchange}
 use Rattle.program_order.specs.Peripheral.{after_pp_read, after_pp_write, word_read}
 use Rattle.program_order.specs.Units.{after_finish, after_read, after_store, after_work}
 use Rattle.program_order.specs.Issue.{after_issue}
+use Rattle.program_order.specs.Working.{Accepts}
 
 -- the machine, with its seats given out or not
 abbrev pub seated : Bool → Processor → Processor
@@ -145,4 +146,12 @@ seated_answers b w (e ∷ events) (a ∷ answers) h = (
   seated_answer b w e a h.0,
   subst (λ x. IsAnswered x events answers) (sym (same_settled b w e a))
       (seated_answers b (settled w e a) events answers h.1),
+)
+
+pub seated_accepts : (b : Bool) (w : Processor) (es : List Event) → Accepts w es → Accepts (seated b w) es
+seated_accepts b w [] h = tt
+seated_accepts b w (e ∷ es) h = (
+  same_allowed b w e ∙ h.0,
+  h.1,
+  subst (λ x. Accepts x es) (sym (same_after b w e)) (seated_accepts b (after w e) es h.2),
 )
