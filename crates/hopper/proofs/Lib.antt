@@ -1,3 +1,3 @@
+pub mod Opened
 pub mod Standing
-pub mod Lowering
 pub mod Laws

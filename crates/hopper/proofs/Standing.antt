@@ -1,26 +1,13 @@
--- Who stands in a place, which is free, and how many are taken.
-use Rattle.std.proofs.Common.{◌≡◌, ◌≢◌, ◌+◌, ℕ, Bool, true, false, cond, List, [], ◌∷◌, Option, Some, None, refl, ap}
-use Rattle.std.proofs.Common.{◌∙◌, subst, get_or, length, map, arith}
-use Rattle.std.proofs.lemmas.Bool.{eq-eqb, ne_eqb}
-use Rattle.instructions.specs.Each.{Each}
-use Rattle.instructions.specs.Order.{somes}
-use Rattle.hopper.specs.declared.waiting.Waiting.{Waiting}
-use Rattle.hopper.specs.Hopper.{first_place}
-use Rattle.hopper.specs.Queue.{reference_at}
-use Rattle.hopper.specs.inner.View.{entered_in, place_of, one_if_taken}
-
--- ---- the one that is sought ----
-
-pub elsewhere : (p : ℕ) (ws : List Waiting) → Each (λ w. place_of w ≢ p) ws
-    → Each (λ e. reference_at p e ≡ None) (map entered_in ws)
-unfolding reference_at
-elsewhere p [] h = tt
-elsewhere p (w ∷ ws) h =
-    (ap (λ b. cond b (Some w.entered.reference) None) (ne_eqb (place_of w) p h.0), elsewhere p ws h.1)
-
-pub stands_here : (p : ℕ) (w : Waiting) → place_of w ≡ p → reference_at p w.entered ≡ Some w.entered.reference
-unfolding reference_at
-stands_here p w h = ap (λ b. cond b (Some w.entered.reference) None) (eq-eqb (place_of w) p h)
+-- Which of the four places is free, and how many are taken: as many as there are that wait.
+use Rattle.std.proofs.Common.{◌≡◌, ◌≢◌, ◌<◌, ◌≤◌, ◌+◌, ℕ, zero, suc, Bool, true, false, cond, List, [], ◌∷◌, Option}
+use Rattle.std.proofs.Common.{Some, None, refl, sym, ap, ◌∙◌, subst, eqb, length, arith}
+use Rattle.std.specs.Prelude.{◌||◌, is_none}
+use Rattle.std.proofs.lemmas.Bool.{eqb-false, ne_eqb}
+use Rattle.instructions.specs.Each.{Each, Pairs}
+use Rattle.instructions.proofs.Lists.{any_of_each, each_of_any}
+use Rattle.hopper.specs.declared.entered.Entered.{Entered}
+use Rattle.hopper.specs.Hopper.{first_place, free_place}
+use Rattle.hopper.specs.Queue.{stands_at, is_taken, place_for}
 
 -- ---- a free place ----
 
@@ -30,7 +17,7 @@ first_same f g h [] = refl
 first_same f g h (p ∷ ps) = ap (λ b. cond b (first_place f ps) (Some p)) (h p)
     ∙ ap (λ o. cond (g p) o (Some p)) (first_same f g h ps)
 
-pub first_free : (f : ℕ → Bool) (P : ℕ → Type 0) (ps : List ℕ) (p : ℕ) → Each P ps → first_place f ps ≡ Some p
+first_free : (f : ℕ → Bool) (P : ℕ → Type 0) (ps : List ℕ) (p : ℕ) → Each P ps → first_place f ps ≡ Some p
     → P p × (f p ≡ false)
 unfolding first_place
 first_free f P [] p h e = cc
@@ -41,30 +28,75 @@ first_free f P (q ∷ ps) p h e = by_test (λ l. first_free f P ps p h.1 l) (f q
     by_test rest true k l = rest l
     by_test rest false k l = let d : q ≡ p = cc in (subst P d h.0, subst (λ x. f x ≡ false) d k)
 
--- ---- how many stand in four places ----
+-- it is one of the four, and nobody stands there
+pub place_free : (es : List Entered) (p : ℕ) → place_for es ≡ Some p → (p < 4) × Each (λ e. e.place ≢ p) es
+unfolding place_for free_place is_taken stands_at
+place_free es p h =
+    let r = first_free (is_taken es) (λ q. q < 4) (0 ∷ 1 ∷ 2 ∷ 3 ∷ []) p
+    (omega arith, (omega arith, (omega arith, (omega arith, tt)))) h in
+    (r.0, each_of_any (stands_at p) (λ e. e.place ≢ p) (λ e. eqb-false e.place p) es r.1)
 
-one_more : (o : Option Waiting) (os : List (Option Waiting))
-    → length (somes (o ∷ os)) ≡ one_if_taken o + length (somes os)
-unfolding somes one_if_taken
-one_more None os = omega arith
-one_more (Some w) os = omega arith
+-- ---- how many are taken ----
 
-pub four_counted : (os : List (Option Waiting)) (a b c d : Option Waiting) → length os ≡ 4 → a ≡ get_or os 0 a
-    → b ≡ get_or os 1 b → c ≡ get_or os 2 c → d ≡ get_or os 3 d
-    → one_if_taken a + one_if_taken b + one_if_taken c + one_if_taken d ≡ length (somes os)
-unfolding somes
-four_counted [] a b c d h i j k l = absurd (omega (arith, h))
-four_counted (o ∷ []) a b c d h i j k l = absurd (omega (arith, h))
-four_counted (o ∷ p ∷ []) a b c d h i j k l = absurd (omega (arith, h))
-four_counted (o ∷ p ∷ q ∷ []) a b c d h i j k l = absurd (omega (arith, h))
-four_counted (o ∷ p ∷ q ∷ r ∷ []) a b c d h i j k l =
-    let e : one_if_taken a ≡ one_if_taken o = ap one_if_taken i in
-    let f : one_if_taken b ≡ one_if_taken p = ap one_if_taken j in
-    let g : one_if_taken c ≡ one_if_taken q = ap one_if_taken k in
-    let m : one_if_taken d ≡ one_if_taken r = ap one_if_taken l in
-    let s = one_more o (p ∷ q ∷ r ∷ []) in
-    let t = one_more p (q ∷ r ∷ []) in
-    let u = one_more q (r ∷ []) in
-    let v = one_more r [] in
-    omega (arith, e, f, g, m, s, t, u, v)
-four_counted (o ∷ p ∷ q ∷ r ∷ s ∷ os) a b c d h i j k l = absurd (omega (arith, h))
+-- 1 for a place that is taken, 0 for a free one
+abbrev one : Bool → ℕ
+one b = cond b 1 0
+
+one_at_most : (b : Bool) → one b ≤ 1
+one_at_most true = omega arith
+one_at_most false = omega arith
+
+-- how many of the four places are taken
+abbrev taken_places : (ℕ → Bool) → ℕ
+taken_places f = one (f 0) + one (f 1) + one (f 2) + one (f 3)
+
+one_more : (n : ℕ) (f : ℕ → Bool) → n < 4 → f n ≡ false → taken_places (λ p. eqb n p || f p) ≡ suc (taken_places f)
+one_more zero f h e = let k : one (f 0) ≡ 0 = ap one e in omega (arith, k)
+one_more (suc zero) f h e = let k : one (f 1) ≡ 0 = ap one e in omega (arith, k)
+one_more (suc (suc zero)) f h e = let k : one (f 2) ≡ 0 = ap one e in omega (arith, k)
+one_more (suc (suc (suc zero))) f h e = let k : one (f 3) ≡ 0 = ap one e in omega (arith, k)
+one_more (suc (suc (suc (suc n)))) f h e = absurd (omega (arith, h))
+
+-- each that waits takes one
+taken_counted : (es : List Entered) → Each (λ e. e.place < 4) es → Pairs (λ d e. d.place ≢ e.place) es
+    → taken_places (is_taken es) ≡ length es
+unfolding is_taken stands_at
+taken_counted [] h d = refl
+taken_counted (e ∷ es) h d =
+    one_more e.place (is_taken es) h.0
+    (any_of_each (stands_at e.place) (λ x. e.place ≢ x.place) (λ x k. ne_eqb x.place e.place (λ q. k (sym q))) es d.0)
+    ∙ ap suc (taken_counted es h.1 d.1)
+
+none_free : (a b c d : Bool)
+    → is_none {T = ℕ} (cond a (cond b (cond c (cond d None (Some 3)) (Some 2)) (Some 1)) (Some 0))
+    ≡ eqb (one a + one b + one c + one d) 4
+none_free true true true true = refl
+none_free true true true false = refl
+none_free true true false d =
+    let h = one_at_most d in sym (ne_eqb (one true + one true + one false + one d) 4 (λ e. omega (arith, h, e)))
+none_free true false c d =
+    let h = one_at_most c in let k = one_at_most d in
+    sym (ne_eqb (one true + one false + one c + one d) 4 (λ e. omega (arith, h, k, e)))
+none_free false b c d =
+    let h = one_at_most b in let k = one_at_most c in let l = one_at_most d in
+    sym (ne_eqb (one false + one b + one c + one d) 4 (λ e. omega (arith, h, k, l, e)))
+
+-- all places are taken where four wait
+pub full_is : (es : List Entered) → Each (λ e. e.place < 4) es → Pairs (λ d e. d.place ≢ e.place) es
+    → is_none (place_for es) ≡ eqb (length es) 4
+unfolding place_for free_place first_place
+full_is es h d =
+    none_free (is_taken es 0) (is_taken es 1) (is_taken es 2) (is_taken es 3)
+    ∙ ap (λ n. eqb n 4) (taken_counted es h d)
+
+-- and where a place is free there is room for one more
+pub room_for_one : (es : List Entered) (p : ℕ) → Each (λ e. e.place < 4) es → Pairs (λ d e. d.place ≢ e.place) es
+    → place_for es ≡ Some p → length es < 4
+room_for_one es p h d e =
+    let c = taken_counted es h d in
+    let i = one_at_most (is_taken es 0) in
+    let j = one_at_most (is_taken es 1) in
+    let k = one_at_most (is_taken es 2) in
+    let l = one_at_most (is_taken es 3) in
+    let f : length es ≢ 4 = eqb-false (length es) 4 (sym (full_is es h d) ∙ ap (λ (o : Option ℕ). is_none o) e) in
+    omega (arith, c, i, j, k, l, f)

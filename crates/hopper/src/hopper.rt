@@ -5,20 +5,20 @@ ghost use Rattle.instructions.specs.Finding.{seek};
 ghost use Rattle.hopper.specs.Queue.{reference_at, place_for, enter_answer, accept_answer, accepted, free_answer};
 ghost use Rattle.hopper.specs.Queue.{is_for, stores_here};
 
-use crate::places::{acceptance, all_lowered, any_for, any_store, free_place, how_many, is_busy};
-use crate::waiting::Waiting;
-use crate::{Entered, Reference, bank_of};
+use crate::places::{acceptance, any_for, any_store, free_place, is_busy};
+use crate::{BANKS, Entered, PLACES, Reference, bank_of};
+use arrayvec::ArrayVec;
 use instructions::Refusal;
 use std::marker::Model;
 
-/// The four places in which references wait for their bank, and which of the 32 banks are busy (Thornton, stunt
+/// The references that wait for their bank in the four places, and which of the 32 banks are busy (Thornton, stunt
 /// box; Control Data 60100000, central memory). It takes no memory, and each call is defined for every number.
 #[derive(Drop)]
 pub struct Hopper {
-    /// By the number of the place.
-    places: [Option<Waiting>; 4],
+    /// Those that wait, in the order in which they entered.
+    entered: ArrayVec<Entered, PLACES>,
     /// By the number of the bank.
-    busy: [bool; 32],
+    busy: [bool; BANKS],
 }
 
 impl Model for Hopper {
@@ -26,11 +26,11 @@ impl Model for Hopper {
 
     ghost Value = { Queue };
 
-    ghost use Rattle.hopper.specs.inner.View.{queue_of, IsRight};
+    ghost use Rattle.hopper.specs.inner.View.{IsRight};
 
-    ghost view = { λ h. queue_of h.places h.busy };
+    ghost view = { λ h. record { entered = h.entered.items; busy = h.busy } };
 
-    ghost invariant = { λ h. IsRight h.places h.busy };
+    ghost invariant = { λ h. IsRight h.entered.items h.busy };
 }
 
 impl Hopper {
@@ -39,8 +39,8 @@ impl Hopper {
         ensures { result ≡ record { entered = []; busy = replicate 32 false } }
     {
         Hopper {
-            places: [None; 4],
-            busy: [false; 32],
+            entered: ArrayVec::new(),
+            busy: [false; BANKS],
         }
     }
 
@@ -48,7 +48,7 @@ impl Hopper {
     pub fn is_full(&self) -> bool
         ensures { result ≡ is_none (place_for self.now.entered) }
     {
-        free_place(&self.places).is_none()
+        self.entered.is_full()
     }
 
     /// A reference enters, after those that wait. It takes the lowest-numbered free place (this project's choice)
@@ -64,12 +64,10 @@ impl Hopper {
             })
             (λ refusal. self.new ≡ self.old) }
     {
-        let Some(place) = free_place(&self.places) else {
+        let Some(place) = free_place(self.entered.as_slice()) else {
             return Err(Refusal::HopperFull);
         };
-        let before = how_many(&self.places);
-        let entered = Entered { place, reference };
-        self.places[usize::from(place)] = Some(Waiting { entered, before });
+        self.entered.push(Entered { place, reference });
         Ok(place)
     }
 
@@ -86,17 +84,13 @@ impl Hopper {
             (λ reference. self.new ≡ accepted self.old (seek (reference_at place) self.old.entered))
             (λ refusal. self.new ≡ self.old) }
     {
-        match acceptance(&self.places, &self.busy, place) {
-            Err(refusal) => Err(refusal),
-            Ok(waiting) => {
-                let reference = waiting.entered.reference;
-                let bank = bank_of(reference.address);
-                self.places[usize::from(place)] = None;
-                self.places = all_lowered(&self.places, waiting.before);
-                self.busy[usize::from(bank)] = true;
-                Ok(reference)
-            }
-        }
+        let (index, reference) = match acceptance(self.entered.as_slice(), &self.busy, place) {
+            Ok(found) => found,
+            Err(refusal) => return Err(refusal),
+        };
+        self.entered.remove(index);
+        self.busy[usize::from(bank_of(reference.address))] = true;
+        Ok(reference)
     }
 
     /// The bank has done its cycle and is free.
@@ -121,14 +115,14 @@ impl Hopper {
     pub fn waits_for(&self, address: u32) -> bool
         ensures { result ≡ list_any (is_for address) self.now.entered }
     {
-        any_for(&self.places, address)
+        any_for(self.entered.as_slice(), address)
     }
 
     /// Whether a store to an absolute address waits.
     pub fn store_for(&self, address: u32) -> bool
         ensures { result ≡ list_any (stores_here address) self.now.entered }
     {
-        any_store(&self.places, address)
+        any_store(self.entered.as_slice(), address)
     }
 
     /// Whether the bank of a number is busy; one above 31 isn't.

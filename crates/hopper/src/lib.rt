@@ -6,7 +6,6 @@ mod entered;
 mod hopper;
 mod places;
 mod reference;
-mod waiting;
 
 pub use entered::Entered;
 pub use hopper::Hopper;

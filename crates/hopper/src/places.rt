@@ -1,41 +1,44 @@
-ghost use Rattle.std.specs.Prelude.{◌≡◌, ◌≤◌, None, false, length, map, slice_index_or};
-ghost use Rattle.std.specs.List.{list_any};
-ghost use Rattle.instructions.specs.Order.{somes};
-ghost use Rattle.hopper.specs.Hopper.{free_place};
-ghost use Rattle.hopper.specs.inner.View.{holds_older, holds_for, holds_store, lowered, acceptance, holds};
-ghost use Rattle.hopper.specs.inner.View.{one_if_taken};
+ghost use Rattle.std.specs.Prelude.{◌≡◌, ◌<◌, Ok, Err, IfOk, MatchResult, Some, false, length, slice_index_or};
+ghost use Rattle.std.specs.List.{list_any, position};
+ghost use Rattle.instructions.specs.Finding.{seek};
+ghost use Rattle.hopper.specs.Queue.{stands_at, holds_back, is_taken, place_for, reference_at, accept_answer};
+ghost use Rattle.hopper.specs.Queue.{is_for, stores_here};
+ghost use Rattle.hopper.specs.inner.View.{found_at};
 
-use crate::bank_of;
-use crate::waiting::{Waiting, holds_for, holds_older, holds_store, lowered};
+use crate::{Entered, Reference, bank_of};
 use instructions::Refusal;
 
-/// The lowest-numbered place that holds nothing.
-#[tactic(auto, unfolding(crate::specs::Hopper::free_place, crate::specs::Hopper::first_place))]
-pub fn free_place(places: &[Option<Waiting>]) -> Option<u8>
-    requires { length places.now ≡ 4 }
-    ensures { result ≡ free_place (holds places.now) }
+/// Whether a reference stands in the place.
+#[tactic(auto, unfolding(crate::specs::Queue::is_taken))]
+fn is_taken(entered: &[Entered], place: u8) -> bool
+    ensures { result ≡ is_taken entered.now place }
 {
-    if places[0].is_none() {
+    entered.iter().any(|waiting| waiting.stands_at(place))
+}
+
+/// The lowest-numbered place in which nothing stands.
+#[tactic(auto, unfolding(crate::proofs::Opened::places_in_order))]
+pub fn free_place(entered: &[Entered]) -> Option<u8>
+    ensures { result ≡ place_for entered.now }
+{
+    if !is_taken(entered, 0) {
         Some(0)
-    } else if places[1].is_none() {
+    } else if !is_taken(entered, 1) {
         Some(1)
-    } else if places[2].is_none() {
+    } else if !is_taken(entered, 2) {
         Some(2)
-    } else if places[3].is_none() {
+    } else if !is_taken(entered, 3) {
         Some(3)
     } else {
         None
     }
 }
 
-/// What stands in the place, None if there is no such place.
-fn at(places: &[Option<Waiting>], place: u8) -> Option<Waiting>
-    ensures { result ≡ slice_index_or places.now place None }
+/// How many entered before what stands in the place, if something does.
+fn index_of(entered: &[Entered], place: u8) -> Option<usize>
+    ensures { result ≡ position (stands_at place) entered.now }
 {
-    match places.get(usize::from(place)) {
-        Some(seat) => *seat,
-        None => None,
-    }
+    entered.iter().position(|waiting| waiting.stands_at(place))
 }
 
 /// Whether the bank is busy. One that isn't there isn't.
@@ -48,78 +51,50 @@ pub fn is_busy(busy: &[bool], bank: u8) -> bool
     }
 }
 
-/// Whether one that entered earlier holds a later one back.
-fn any_older(places: &[Option<Waiting>], later: &Waiting) -> bool
-    ensures { result ≡ list_any (holds_older later.now) places.now }
+/// Whether one of those that entered earlier holds a reference back.
+fn any_older(earlier: &[Entered], later: &Reference) -> bool
+    ensures { result ≡ list_any (holds_back later.now) earlier.now }
 {
-    places.iter().any(|place| holds_older(place, later))
+    earlier.iter().any(|older| older.holds_back(later))
 }
 
-/// Whether one that waits is for an absolute address.
-pub fn any_for(places: &[Option<Waiting>], address: u32) -> bool
-    ensures { result ≡ list_any (holds_for address) places.now }
+/// What stands in the place, if its bank takes it, and how many entered before it.
+pub fn acceptance(
+    entered: &[Entered],
+    busy: &[bool],
+    place: u8,
+) -> Result<(usize, Reference), Refusal>
+    ensures answer { MatchResult result
+        (λ r. accept_answer busy.now (seek (reference_at place) entered.now) ≡ Ok r.1)
+        (λ refusal. accept_answer busy.now (seek (reference_at place) entered.now) ≡ Err refusal) }
+    ensures within { IfOk result (λ r. r.0 < length entered.now) }
+    ensures found { IfOk result
+        (λ r. seek (reference_at place) entered.now ≡ Some (found_at entered.now place r.0 r.1)) }
 {
-    places.iter().any(|place| holds_for(place, address))
-}
-
-/// Whether one that waits stores to an absolute address.
-pub fn any_store(places: &[Option<Waiting>], address: u32) -> bool
-    ensures { result ≡ list_any (holds_store address) places.now }
-{
-    places.iter().any(|place| holds_store(place, address))
-}
-
-/// What stands in the place, if its bank takes it.
-#[tactic(auto, unfolding(crate::specs::inner::View::acceptance))]
-pub fn acceptance(places: &[Option<Waiting>], busy: &[bool], place: u8) -> Result<Waiting, Refusal>
-    ensures { result ≡ acceptance places.now busy.now (slice_index_or places.now place None) }
-{
-    let seat = at(places, place);
-    let Some(waiting) = seat else {
+    let Some(index) = index_of(entered, place) else {
         return Err(Refusal::Nothing);
     };
-    let bank = bank_of(waiting.entered.reference.address);
+    let reference = entered[index].reference;
+    let bank = bank_of(reference.address);
     if is_busy(busy, bank) {
         return Err(Refusal::BankBusy(bank));
     }
-    if any_older(places, &waiting) {
+    if any_older(&entered[..index], &reference) {
         return Err(Refusal::OlderAtAddress);
     }
-    Ok(waiting)
+    Ok((index, reference))
 }
 
-/// The places once the one of the number has left.
-pub fn all_lowered(places: &[Option<Waiting>], number: u8) -> [Option<Waiting>; 4]
-    requires { length places.now ≡ 4 }
-    ensures { result ≡ map (lowered number) places.now }
+/// Whether one that waits is for an absolute address.
+pub fn any_for(entered: &[Entered], address: u32) -> bool
+    ensures { result ≡ list_any (is_for address) entered.now }
 {
-    [
-        lowered(&places[0], number),
-        lowered(&places[1], number),
-        lowered(&places[2], number),
-        lowered(&places[3], number),
-    ]
+    entered.iter().any(|waiting| waiting.is_for(address))
 }
 
-/// 1 where something stands.
-#[tactic(auto, unfolding(crate::specs::inner::View::one_if_taken))]
-fn one_if_taken(place: &Option<Waiting>) -> u8
-    ensures value { result ≡ one_if_taken place.now }
-    ensures range { result ≤ 1 }
+/// Whether one that waits stores to an absolute address.
+pub fn any_store(entered: &[Entered], address: u32) -> bool
+    ensures { result ≡ list_any (stores_here address) entered.now }
 {
-    match place {
-        None => 0,
-        Some(_) => 1,
-    }
-}
-
-/// How many places hold something.
-pub fn how_many(places: &[Option<Waiting>]) -> u8
-    requires { length places.now ≡ 4 }
-    ensures { result ≡ length (somes places.now) }
-{
-    one_if_taken(&places[0])
-        + one_if_taken(&places[1])
-        + one_if_taken(&places[2])
-        + one_if_taken(&places[3])
+    entered.iter().any(|waiting| waiting.stores_to(address))
 }

@@ -4,10 +4,10 @@ ghost use Rattle.hopper.specs.Hopper.{bank_of, is_store, keep_order, stores_to};
 use relocation::Access;
 
 /// How many references can wait at a time (Thornton, stunt box). Places are numbered from 0.
-pub const PLACES: u8 = 4;
+pub const PLACES: usize = 4;
 
 /// How many banks the memory has (Control Data 60100000, central memory). Banks are numbered from 0.
-pub const BANKS: u8 = 32;
+pub const BANKS: usize = 32;
 
 /// A reference to a word of memory.
 #[derive(Clone, Copy, Debug, Drop, PartialEq, Eq)]

@@ -190,7 +190,7 @@ fn plain_decimal(digits: &[u8]) -> Option<u64>
 ///
 /// # Errors
 /// `OutOfMemory`.
-#[tactic(auto, unfolding(sequential::specs::Log::steps_of))]
+#[tactic(auto, using(sequential::proofs::Entries::last_run_within), unfolding(sequential::specs::Log::steps_of))]
 fn add_entry(log: &mut Log, entry: &Entry) -> Result<(), Refusal>
     requires { issued log.old.steps + entry_count entry.now < 2 ^ 64 }
     ensures { MatchResult result (λ _. log.new.steps ≡ log.old.steps ++ steps_of (entry.now ∷ []))

@@ -1,10 +1,11 @@
 -- The entries of a log, with one more at the end or a count raised.
 use Rattle.std.proofs.Common.{◌≡◌, ◌<◌, ◌≤◌, ◌+◌, ◌-◌, ℕ, zero, suc, true, false, List, [], ◌∷◌, ◌++◌, Some, None}
 use Rattle.std.proofs.Common.{length, refl, sym, ap, subst, ◌∙◌, append_assoc, append-nil, arith}
-use Rattle.std.specs.Prelude.{Bool, if◌then◌else◌, replicate, slice_get, slice_set}
+use Rattle.std.specs.Prelude.{◌^◌, Bool, if◌then◌else◌, min, replicate, slice_get, slice_set}
 use Rattle.sequential.specs.declared.log.Entry.{Entry}
 use Rattle.sequential.specs.declared.log.Entry.TheVariants.{Issued as Count, Exchange, PpRead, PpWrite}
 use Rattle.sequential.specs.Log.{Logged, steps_of, entries_of, one_before, more_after, ends_open, ends_issuing, issued}
+use Rattle.sequential.specs.Log.{run_after, last_run}
 use Rattle.sequential.specs.Replay.{LogStep, Issued, Exchanged, ReadAt, Wrote}
 
 -- an entry that is no count, with the one step that it stands for
@@ -16,9 +17,10 @@ pub record IsSingle (x : LogStep) (e : Entry) : Type 0 where
   pub closed : ends_open (e ∷ []) ≡ false
   pub no_issue : ends_issuing (x ∷ []) ≡ false
   pub uncounted : (xs : List LogStep) → issued (x ∷ xs) ≡ issued xs
+  pub ends_run : (n : ℕ) → run_after n (x ∷ []) ≡ 0
 
 pub an_exchange : (n : ℕ) → IsSingle (Exchanged n) (Exchange n)
-unfolding steps_of entries_of more_after ends_open ends_issuing issued
+unfolding steps_of entries_of more_after ends_open ends_issuing issued run_after
 an_exchange n = record {
   steps = λ es. refl;
   entries = λ xs. refl;
@@ -27,10 +29,11 @@ an_exchange n = record {
   closed = refl;
   no_issue = refl;
   uncounted = λ xs. refl;
+  ends_run = λ n. refl;
 }
 
 pub a_read : (a : ℕ) → IsSingle (ReadAt a) (PpRead a)
-unfolding steps_of entries_of more_after ends_open ends_issuing issued
+unfolding steps_of entries_of more_after ends_open ends_issuing issued run_after
 a_read a = record {
   steps = λ es. refl;
   entries = λ xs. refl;
@@ -39,10 +42,11 @@ a_read a = record {
   closed = refl;
   no_issue = refl;
   uncounted = λ xs. refl;
+  ends_run = λ n. refl;
 }
 
 pub a_write : (a w : ℕ) → IsSingle (Wrote a w) (PpWrite a w)
-unfolding steps_of entries_of more_after ends_open ends_issuing issued
+unfolding steps_of entries_of more_after ends_open ends_issuing issued run_after
 a_write a w = record {
   steps = λ es. refl;
   entries = λ xs. refl;
@@ -51,6 +55,7 @@ a_write a w = record {
   closed = refl;
   no_issue = refl;
   uncounted = λ xs. refl;
+  ends_run = λ n. refl;
 }
 
 pub steps-append : (es fs : List Entry) → steps_of (es ++ fs) ≡ steps_of es ++ steps_of fs
@@ -75,34 +80,6 @@ pub issued-replicate : (n : ℕ) → issued (replicate n Issued) ≡ n
 unfolding issued
 issued-replicate zero = refl
 issued-replicate (suc n) = ap suc (issued-replicate n)
-
-single_passed : (x : LogStep) (e : Entry) → IsSingle x e → (es : List Entry) (n : ℕ) → n ≤ issued (steps_of es)
-    → n ≤ issued (steps_of (e ∷ es))
-single_passed x e s es n h =
-    subst (λ k. n ≤ k) (sym (s.uncounted (steps_of es)) ∙ ap issued (sym (s.steps es))) h
-
--- a count that is the last entry is among the instructions
-pub count_within : (es : List Entry) (i n : ℕ) → slice_get es i ≡ Some (Count n) → n ≤ issued (steps_of es)
-unfolding steps_of
-count_within [] i n h = cc
-count_within (Count k ∷ es) zero n h =
-    let e : k ≡ n = cc in
-    let a = issued-append (replicate k Issued) (steps_of es) in
-    let b = issued-replicate k in
-    omega (arith, a, b, e)
-count_within (Exchange k ∷ es) zero n h = cc
-count_within (PpRead a ∷ es) zero n h = cc
-count_within (PpWrite a w ∷ es) zero n h = cc
-count_within (Count k ∷ es) (suc i) n h =
-    let a = issued-append (replicate k Issued) (steps_of es) in
-    let b = count_within es i n h in
-    omega (arith, a, b)
-count_within (Exchange k ∷ es) (suc i) n h =
-    single_passed (Exchanged k) (Exchange k) (an_exchange k) es n (count_within es i n h)
-count_within (PpRead a ∷ es) (suc i) n h =
-    single_passed (ReadAt a) (PpRead a) (a_read a) es n (count_within es i n h)
-count_within (PpWrite a w ∷ es) (suc i) n h =
-    single_passed (Wrote a w) (PpWrite a w) (a_write a w) es n (count_within es i n h)
 
 pub single_added : (x : LogStep) (e : Entry) → IsSingle x e → (es : List Entry)
     → steps_of (es ++ e ∷ []) ≡ steps_of es ++ x ∷ []
@@ -139,6 +116,44 @@ issued-more xs = issued-append xs (Issued ∷ [])
 
 pub issued-many : (xs : List LogStep) (n : ℕ) → issued (xs ++ replicate n Issued) ≡ issued xs + n
 issued-many xs n = issued-append xs (replicate n Issued) ∙ ap (λ k. issued xs + k) (issued-replicate n)
+
+-- ---- the instructions at the end ----
+
+run_after-append : (n : ℕ) (xs ys : List LogStep) → run_after n (xs ++ ys) ≡ run_after (run_after n xs) ys
+unfolding run_after
+run_after-append n [] ys = refl
+run_after-append n (Issued ∷ xs) ys = run_after-append (n + 1) xs ys
+run_after-append n (Exchanged k ∷ xs) ys = run_after-append 0 xs ys
+run_after-append n (ReadAt a ∷ xs) ys = run_after-append 0 xs ys
+run_after-append n (Wrote a w ∷ xs) ys = run_after-append 0 xs ys
+
+run_after-replicate : (n k : ℕ) → run_after n (replicate k Issued) ≡ n + k
+unfolding run_after
+run_after-replicate n zero = let e : n ≡ n + 0 = omega arith in e
+run_after-replicate n (suc k) =
+    run_after-replicate (n + 1) k ∙ (let e : n + 1 + k ≡ n + suc k = omega arith in e)
+
+run_after_within : (n : ℕ) (xs : List LogStep) → run_after n xs ≤ n + issued xs
+unfolding run_after issued
+run_after_within n [] = omega arith
+run_after_within n (Issued ∷ xs) = let h = run_after_within (n + 1) xs in omega (arith, h)
+run_after_within n (Exchanged k ∷ xs) = let h = run_after_within 0 xs in omega (arith, h)
+run_after_within n (ReadAt a ∷ xs) = let h = run_after_within 0 xs in omega (arith, h)
+run_after_within n (Wrote a w ∷ xs) = let h = run_after_within 0 xs in omega (arith, h)
+
+-- the instructions at the end are among all
+pub last_run_within : (xs : List LogStep) → last_run xs ≤ issued xs
+last_run_within xs = let h = run_after_within 0 xs in omega (arith, h)
+
+pub last_run-many : (xs : List LogStep) (n : ℕ) → last_run (xs ++ replicate n Issued) ≡ last_run xs + n
+last_run-many xs n = run_after-append 0 xs (replicate n Issued) ∙ run_after-replicate (last_run xs) n
+
+pub last_run-single : (x : LogStep) (e : Entry) → IsSingle x e → (es : List Entry)
+    → last_run (steps_of (es ++ e ∷ [])) ≡ 0
+last_run-single x e s es =
+    ap last_run (single_added x e s es)
+    ∙ run_after-append 0 (steps_of es) (x ∷ [])
+    ∙ s.ends_run (last_run (steps_of es))
 
 -- ---- the last entry ----
 
@@ -179,6 +194,15 @@ pub raised_open : (es : List Entry) (i k n : ℕ) → length es ≡ suc i → sl
 raised_open es i k n l h =
     let r = ends_at es i (Count k) l h in
     ap ends_open (r.2 (Count (k + n))) ∙ opened_by_count r.0 (k + n)
+
+-- a count that is the last entry is of the instructions at the end
+pub count_last : (es : List Entry) (i n : ℕ) → length es ≡ suc i → slice_get es i ≡ Some (Count n)
+    → n ≤ last_run (steps_of es)
+count_last es i n l h =
+    let r = ends_at es i (Count n) l h in
+    let e : last_run (steps_of es) ≡ last_run (steps_of r.0) + n =
+    ap (λ l. last_run (steps_of l)) r.1 ∙ ap last_run (count_added r.0 n) ∙ last_run-many (steps_of r.0) n in
+    omega (arith, e)
 
 pub open_at_count : (es : List Entry) (i n : ℕ) → length es ≡ suc i → slice_get es i ≡ Some (Count n)
     → ends_open es ≡ true
@@ -402,3 +426,35 @@ unfolding ends_issuing
 issuing_after [] = refl
 issuing_after (s ∷ []) = refl
 issuing_after (s ∷ t ∷ steps) = issuing_after (t ∷ steps)
+
+-- ---- how many instructions there are, as far as a number can tell ----
+
+-- what a log keeps of how many instructions it has
+pub record IsCounted (issues : ℕ) (steps : List LogStep) : Type 0 where
+  -- all of them, or the largest number
+  pub count : issues ≡ min (issued steps) (2 ^ 64 - 1)
+  -- those at the end can be counted
+  pub run : last_run steps ≤ issues
+
+-- so many more
+pub counted_more : (issues new : ℕ) (xs ys : List LogStep) (n : ℕ) → issues ≡ min (issued xs) (2 ^ 64 - 1)
+    → last_run xs ≤ issues → last_run xs + n < 2 ^ 64 → ys ≡ xs ++ replicate n Issued
+    → new ≡ min (issues + n) (2 ^ 64 - 1) → IsCounted new ys
+counted_more issues new xs ys n c r h e k =
+    let a : issued ys ≡ issued xs + n = ap issued e ∙ issued-many xs n in
+    let b : last_run ys ≡ last_run xs + n = ap last_run e ∙ last_run-many xs n in
+    record {
+      count = omega (arith, a, c, k);
+      run = omega (arith, b, r, h, k);
+    }
+
+-- an entry that is no count
+pub counted_single : (x : LogStep) (e : Entry) → IsSingle x e → (issues : ℕ) (es fs : List Entry)
+    → issues ≡ min (issued (steps_of es)) (2 ^ 64 - 1) → fs ≡ es ++ e ∷ [] → IsCounted issues (steps_of fs)
+counted_single x e s issues es fs c p =
+    let b : last_run (steps_of fs) ≡ 0 = ap (λ l. last_run (steps_of l)) p ∙ last_run-single x e s es in
+    record {
+      count = c ∙ ap (λ n. min n (2 ^ 64 - 1))
+          (sym (issued-single x e s es) ∙ ap (λ l. issued (steps_of l)) (sym p));
+      run = omega (arith, b);
+    }

@@ -1,4 +1,5 @@
 -- A name for each list of definitions that a proof opens at once.
+use Rattle.sequential.specs.Log.{entries_of, issued, run_after, steps_of}
 use Rattle.sequential.specs.State.{absolute, access_at, bounds_of, halt_by, move_to, poke, write}
 use Rattle.sequential.specs.Step.{do_fetched, fetch, fetched_from, step, step_unless, word_at, word_seen}
 use Rattle.sequential.specs.Work.{refer_at}
@@ -22,3 +23,8 @@ fetched_cases = tt
 unfoldable pub step_cases : Unit {0}
 unfolding step step_unless fetch fetched_from do_fetched halt_by move_to
 step_cases = tt
+
+-- the steps of no entries, how many instructions these are, and how many end them
+unfoldable pub no_entries : Unit {0}
+unfolding steps_of entries_of issued run_after
+no_entries = tt

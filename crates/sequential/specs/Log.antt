@@ -70,3 +70,15 @@ issued (Issued ∷ xs) = suc (issued xs)
 issued (Exchanged n ∷ xs) = issued xs
 issued (ReadAt a ∷ xs) = issued xs
 issued (Wrote a w ∷ xs) = issued xs
+
+-- how many instructions there are after the last step that is none, where so many came before these steps
+unfoldable pub run_after : ℕ → List LogStep → ℕ
+run_after n [] = n
+run_after n (Issued ∷ xs) = run_after (n + 1) xs
+run_after n (Exchanged k ∷ xs) = run_after 0 xs
+run_after n (ReadAt a ∷ xs) = run_after 0 xs
+run_after n (Wrote a w ∷ xs) = run_after 0 xs
+
+-- how many instructions end the log, one after another: 0 where its last step is none
+abbrev pub last_run : List LogStep → ℕ
+last_run xs = run_after 0 xs

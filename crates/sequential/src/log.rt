@@ -1,7 +1,7 @@
 ghost use Rattle.std.specs.Prelude.{◌≡◌, ◌<◌, ◌≤◌, ◌+◌, ◌++◌, ◌^◌, [], ◌∷◌, true, false, MatchResult, if◌then◌else◌};
-ghost use Rattle.std.specs.Prelude.{◌-◌, length, slice_get, Some, is_some, IfSome, replicate};
+ghost use Rattle.std.specs.Prelude.{◌-◌, length, min, slice_get, Some, is_some, IfSome, replicate};
 ghost use Rattle.instructions.specs.declared.refusal.Refusal.TheVariants.{OutOfMemory};
-ghost use Rattle.sequential.specs.Log.{issued, steps_of, entries_of, more_after, ends_open, ends_issuing};
+ghost use Rattle.sequential.specs.Log.{issued, last_run, steps_of, entries_of, more_after, ends_open, ends_issuing};
 ghost use Rattle.sequential.specs.declared.log.Entry.TheVariants.{Issued as Count};
 ghost use Rattle.std.specs.Vec.{vec_len, vec_capacity};
 ghost use Rattle.sequential.specs.Replay.{Issued, Exchanged, ReadAt, Wrote};
@@ -28,7 +28,7 @@ pub enum Entry {
 fn last_count(entries: &[Entry]) -> Option<u64>
     ensures open { ends_open entries.now ≡ is_some result }
     ensures count { IfSome result (λ n. slice_get entries.now (length entries.now - 1) ≡ Some (Count n)) }
-    ensures bound { IfSome result (λ n. n ≤ issued (steps_of entries.now)) }
+    ensures bound { IfSome result (λ n. n ≤ last_run (steps_of entries.now)) }
 {
     match entries.last() {
         Some(Entry::Issued(count)) => Some(*count),
@@ -55,7 +55,7 @@ fn raise_last(entries: &mut [Entry], count: u64, more: u64)
 /// Adds instructions: so many more to the last count, or else an entry of their own.
 fn add(entries: &mut Vec<Entry>, more: u64)
     requires room { ends_open entries.old.items ≡ false → vec_len entries.old < vec_capacity entries.old }
-    requires count { issued (steps_of entries.old.items) + more < 2 ^ 64 }
+    requires count { last_run (steps_of entries.old.items) + more < 2 ^ 64 }
     ensures steps { steps_of entries.new.items ≡ steps_of entries.old.items ++ replicate more Issued }
     ensures open { ends_open entries.new.items ≡ true }
     ensures len { vec_len entries.new ≡ vec_len entries.old + (if ends_open entries.old.items then 0 else 1) }
@@ -72,13 +72,14 @@ fn add(entries: &mut Vec<Entry>, more: u64)
 #[derive(Drop)]
 pub struct Log {
     entries: Vec<Entry>,
+    /// How many instructions there are, or the largest number where there are more.
     issues: u64,
 }
 
 impl Model for Log {
-    ghost use Rattle.std.specs.Prelude.{◌≡◌, ◌-◌};
+    ghost use Rattle.std.specs.Prelude.{◌≡◌, ◌≤◌, ◌-◌, ◌^◌, min};
     ghost use Rattle.std.specs.Vec.{vec_len, vec_capacity};
-    ghost use Rattle.sequential.specs.Log.{Logged, steps_of, entries_of, issued};
+    ghost use Rattle.sequential.specs.Log.{Logged, steps_of, entries_of, issued, last_run};
 
     ghost Value = { Logged };
 
@@ -88,14 +89,15 @@ impl Model for Log {
     } };
 
     ghost invariant = { λ l. record {
-      count : l.issues ≡ issued (steps_of l.entries.items);
+      count : l.issues ≡ min (issued (steps_of l.entries.items)) (2 ^ 64 - 1);
+      run : last_run (steps_of l.entries.items) ≤ l.issues;
       shortest : l.entries.items ≡ entries_of (steps_of l.entries.items);
     } };
 }
 
 impl Log {
     /// The empty log.
-    #[tactic(auto, unfolding(crate::specs::Log::steps_of, crate::specs::Log::entries_of, crate::specs::Log::issued))]
+    #[tactic(auto, unfolding(crate::proofs::Opened::no_entries))]
     pub fn new(alloc: Global) -> Log
         ensures steps { result.steps ≡ [] }
     {
@@ -129,9 +131,10 @@ impl Log {
         self.entries.as_slice()
     }
 
-    /// How many instructions there are.
+    /// How many instructions there are, or the largest number where there are more.
     pub fn issues(&self) -> u64
-        ensures { result ≡ issued self.now.steps }
+        ensures total { result ≡ min (issued self.now.steps) (2 ^ 64 - 1) }
+        ensures run { last_run self.now.steps ≤ result }
     {
         self.issues
     }
@@ -184,24 +187,24 @@ impl Log {
     /// Adds an instruction: one more to the last count, or else an entry of its own.
     pub fn issued(&mut self)
         requires room { ends_issuing self.old.steps ≡ false → 0 < self.old.room }
-        requires count { issued self.old.steps + 1 < 2 ^ 64 }
+        requires count { last_run self.old.steps + 1 < 2 ^ 64 }
         ensures steps { self.new.steps ≡ self.old.steps ++ Issued ∷ [] }
         ensures room { self.new.room + (if ends_issuing self.old.steps then 0 else 1) ≡ self.old.room }
         ensures issuing { ends_issuing self.new.steps ≡ true }
     {
         add(&mut self.entries, 1);
-        self.issues += 1;
+        self.issues = self.issues.saturating_add(1);
     }
 
-    /// Adds so many instructions.
+    /// Adds so many instructions: so many more to the last count, or else an entry of their own. None need no room.
     pub fn issued_many(&mut self, count: u64)
-        requires room { ends_issuing self.old.steps ≡ false → 0 < self.old.room }
-        requires count { issued self.old.steps + count < 2 ^ 64 }
+        requires room { ends_issuing self.old.steps ≡ false → 0 < count → 0 < self.old.room }
+        requires count { last_run self.old.steps + count < 2 ^ 64 }
         ensures steps { self.new.steps ≡ self.old.steps ++ replicate count Issued }
     {
         if count > 0 {
             add(&mut self.entries, count);
-            self.issues += count;
+            self.issues = self.issues.saturating_add(count);
         }
     }
 }

@@ -1,7 +1,8 @@
 -- What the made and the refused events leave, over a plain machine.
 use Rattle.std.proofs.Common.{◌≡◌, ◌≤◌, ◌+◌, ℕ, Bool, true, false, List, [], ◌∷◌, ◌++◌, Option, Some, None, length}
-use Rattle.std.proofs.Common.{refl, sym, ap, ◌∙◌, subst, suc, add-one, arith}
-use Rattle.std.specs.Prelude.{Result, Ok, Err, ◌||◌, unwrap_or, set, IfSome, replicate}
+use Rattle.std.proofs.Common.{refl, sym, ap, ◌∙◌, subst, suc, add-one, arith, leb}
+use Rattle.std.specs.Prelude.{Result, Ok, Err, ◌||◌, ◌^◌, ◌-◌, min, unwrap_or, set, IfSome, replicate}
+use Rattle.std.proofs.lemmas.Bool.{leb-true, leb-false, le-leb, lt-leb}
 use Rattle.instructions.specs.declared.instr.Instr.{Instr}
 use Rattle.instructions.specs.declared.instr.Reg.{Reg}
 use Rattle.instructions.specs.declared.instr.Reg.TheVariants.{X}
@@ -121,18 +122,34 @@ ok_after w v n e d h m = m ∙ ap (λ x. after x e) h
 
 -- ---- the judgements ----
 
+-- a count that stops at the largest number says as well whether the budget is used up
+same_used : (budget issues count : ℕ) → budget ≤ 10000000 → count ≡ min issues (2 ^ 64 - 1)
+    → leb budget issues ≡ leb budget count
+same_used budget issues count h e = by_test (leb budget count) refl
+  where
+    by_test : (b : Bool) → leb budget count ≡ b → leb budget issues ≡ b
+    by_test true t = let k = leb-true budget count t in le-leb budget issues (omega (arith, k, e))
+    by_test false t = let k = leb-false budget count t in lt-leb budget issues (omega (arith, k, e, h))
+
+same_tests : (w : Processor) (count : ℕ) → w.budget ≤ 10000000 → count ≡ min (issued w.log) (2 ^ 64 - 1)
+    → issue_tests w.state w.pending w.request w.budget (issued w.log)
+    ≡ issue_tests w.state w.pending w.request w.budget count
+unfolding issue_tests
+same_tests w count h e = rw (same_used w.budget (issued w.log) count h e)
+
 -- what is judged before first order, and first order
-pub issue_refused : (w : Processor) (count : ℕ) (k : Refusal) → count ≡ issued w.log
+pub issue_refused : (w : Processor) (count : ℕ) (k : Refusal) → w.budget ≤ 10000000
+    → count ≡ min (issued w.log) (2 ^ 64 - 1)
     → refusal_of (issue_tests w.state w.pending w.request w.budget count) ≡ Some k → allowed w Issue ≡ Some k
 unfolding allowed tests_of
-issue_refused w count k n h = ap (λ c. refusal_of (issue_tests w.state w.pending w.request w.budget c)) (sym n) ∙ h
+issue_refused w count k l n h = ap refusal_of (same_tests w count l n) ∙ h
 
-pub issue_judged : (w : Processor) (count : ℕ) (g : Fetched) (o : Option Refusal) → count ≡ issued w.log
+pub issue_judged : (w : Processor) (count : ℕ) (g : Fetched) (o : Option Refusal) → w.budget ≤ 10000000
+    → count ≡ min (issued w.log) (2 ^ 64 - 1)
     → refusal_of (issue_tests w.state w.pending w.request w.budget count) ≡ refusal_of (reservation_tests w.pending g)
     → refusal_of (reservation_tests w.pending g) ≡ o → allowed w Issue ≡ o
 unfolding allowed tests_of
-issue_judged w count g o n h k =
-    ap (λ c. refusal_of (issue_tests w.state w.pending w.request w.budget c)) (sym n) ∙ h ∙ k
+issue_judged w count g o l n h k = ap refusal_of (same_tests w count l n) ∙ h ∙ k
 
 pub read_judged : (w : Processor) (u : FunctionalUnit) (r o : Option Refusal)
     → refusal_of (tests_found (seek (stage_at u) w.pending) (λ f. read_tests f.answer f.earlier f.item.instr)) ≡ r

@@ -1,6 +1,6 @@
 use Rattle.std.proofs.Common.{sym, ap, ◌∙◌, length, ◌-◌, Some}
 use Rattle.sequential.proofs.Entries.{last_place, open_at_count, an_exchange, a_read, a_write, closed_at_single}
-use Rattle.sequential.proofs.Entries.{count_within, none_last}
+use Rattle.sequential.proofs.Entries.{count_last, none_last}
 use Rattle.sequential.proofs.log.last_count.Goals as goal
 
 pub returns-in-Some-Issued-clause-open : goal.returns-in-Some-Issued-clause-open
@@ -11,8 +11,9 @@ returns-in-Some-Issued-clause-open c =
 
 pub returns-in-Some-Issued-clause-bound : goal.returns-in-Some-Issued-clause-bound
 returns-in-Some-Issued-clause-bound c =
-    count_within c.args.entries.now (length c.args.entries.now - 1) c.in-Some-Issued.count
-    (sym c.in-Some-Issued.ensures.value ∙ ap Some c.in-Some-Issued.field-0-is)
+    let e = sym c.in-Some-Issued.ensures.value ∙ ap Some c.in-Some-Issued.field-0-is in
+    count_last c.args.entries.now (length c.args.entries.now - 1) c.in-Some-Issued.count
+    (last_place c.args.entries.now _ e) e
 
 pub returns-in-Some-Exchange-clause-open : goal.returns-in-Some-Exchange-clause-open
 returns-in-Some-Exchange-clause-open c =

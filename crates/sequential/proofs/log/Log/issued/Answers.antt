@@ -1,16 +1,21 @@
-use Rattle.std.proofs.Common.{◌+◌, ◌-◌, sym, ap, ◌∙◌, arith}
+use Rattle.std.proofs.Common.{◌+◌, ◌-◌, ◌<◌, subst, sym, ap, ◌∙◌, arith}
 use Rattle.std.specs.Vec.{vec_len, vec_capacity}
-use Rattle.std.specs.Prelude.{if◌then◌else◌}
-use Rattle.sequential.specs.Log.{steps_of, ends_issuing, issued}
-use Rattle.sequential.proofs.Entries.{issued-many, shortest_after_issues, issuing_after}
+use Rattle.std.specs.Prelude.{◌^◌, if◌then◌else◌}
+use Rattle.sequential.specs.Log.{Logged, steps_of, ends_issuing, last_run}
+use Rattle.sequential.proofs.Entries.{counted_more, shortest_after_issues, issuing_after}
 use Rattle.sequential.proofs.Entries.{room_for_count, room_after_count}
 use Rattle.sequential.proofs.log.Log.issued.Goals as goal
 
 pub invariant_of-self : goal.invariant_of-self
 invariant_of-self c =
+    let i = counted_more c.self.inside.issues c.saturating_add-self-inside.result
+    (steps_of c.self.inside.entries.items) _ 1
+    c.self.invariant.count c.self.invariant.run
+    (subst (λ (l : Logged). last_run l.steps + 1 < 2 ^ 64) (sym c.self.view_is) c.requires.count)
+    c.add.ensures.steps c.saturating_add-self-inside.ensures in
     record {
-      count = ap (λ n. n + 1) c.self.invariant.count ∙ sym (issued-many (steps_of c.self.inside.entries.items) 1)
-          ∙ ap issued (sym c.add.ensures.steps);
+      count = i.count;
+      run = i.run;
       shortest = shortest_after_issues c.self.inside.entries.items _ 1 (omega arith) c.self.invariant.shortest
           c.add.ensures.entries c.add.ensures.steps;
     }

@@ -1,14 +1,20 @@
-use Rattle.std.proofs.Common.{◌+◌, ◌-◌, sym, ap, ◌∙◌, arith}
+use Rattle.std.proofs.Common.{◌+◌, ◌-◌, ◌<◌, subst, sym, arith}
+use Rattle.std.specs.Prelude.{◌^◌}
 use Rattle.std.specs.Vec.{vec_len, vec_capacity}
-use Rattle.sequential.specs.Log.{steps_of, issued}
-use Rattle.sequential.proofs.Entries.{issued-many, shortest_after_issues, room_for_count}
+use Rattle.sequential.specs.Log.{Logged, steps_of, last_run}
+use Rattle.sequential.proofs.Entries.{counted_more, shortest_after_issues, room_for_count}
 use Rattle.sequential.proofs.log.Log.issued_many.Goals as goal
 
 pub invariant_of-self : goal.invariant_of-self
 invariant_of-self c =
+    let i = counted_more c.self.inside.issues c.saturating_add-self-inside.result
+    (steps_of c.self.inside.entries.items) _
+    c.args.count c.self.invariant.count c.self.invariant.run
+    (subst (λ (l : Logged). last_run l.steps + c.args.count < 2 ^ 64) (sym c.self.view_is) c.requires.count)
+    c.add.ensures.steps c.saturating_add-self-inside.ensures in
     record {
-      count = ap (λ n. n + c.args.count) c.self.invariant.count
-          ∙ sym (issued-many (steps_of c.self.inside.entries.items) c.args.count) ∙ ap issued (sym c.add.ensures.steps);
+      count = i.count;
+      run = i.run;
       shortest = shortest_after_issues c.self.inside.entries.items _ c.args.count (omega (arith, c.if-count-gt0.true))
           c.self.invariant.shortest c.add.ensures.entries c.add.ensures.steps;
     }
@@ -18,5 +24,5 @@ add-requires-clause-room c =
     λ closed.
     let k = room_for_count c.self.inside.entries.items c.args.self.now
     (vec_capacity c.self.inside.entries - vec_len c.self.inside.entries) c.self.invariant.shortest c.self.view_is
-    c.requires.room closed in
+    (λ k. c.requires.room k (omega (arith, c.if-count-gt0.true))) closed in
     omega (arith, k)

@@ -1,16 +1,17 @@
 use Rattle.std.proofs.Common.{sym, ap, ◌∙◌, ◌∷◌, [], ◌++◌}
 use Rattle.sequential.specs.declared.log.Entry.TheVariants.{PpWrite}
-use Rattle.sequential.specs.Log.{Logged, steps_of, ends_issuing, issued}
+use Rattle.sequential.specs.Log.{Logged, steps_of, ends_issuing}
 use Rattle.sequential.specs.Replay.{Wrote}
-use Rattle.sequential.proofs.Entries.{a_write, single_added, issuing_no_more, issued-single, shortest_after_single}
+use Rattle.sequential.proofs.Entries.{a_write, single_added, issuing_no_more, counted_single, shortest_after_single}
 use Rattle.sequential.proofs.log.Log.wrote.Goals as goal
 
 pub invariant_of-self : goal.invariant_of-self
 invariant_of-self c =
+    let i = counted_single (Wrote c.args.at c.args.word) (PpWrite c.args.at c.args.word) (a_write c.args.at c.args.word)
+    c.self.inside.issues c.self.inside.entries.items _ c.self.invariant.count c.push_reserved.ensures.items in
     record {
-      count = c.self.invariant.count
-          ∙ sym (issued-single (Wrote c.args.at c.args.word) (PpWrite c.args.at c.args.word) (a_write c.args.at c.args.word) c.self.inside.entries.items)
-          ∙ ap (λ es. issued (steps_of es)) (sym c.push_reserved.ensures.items);
+      count = i.count;
+      run = i.run;
       shortest = shortest_after_single (Wrote c.args.at c.args.word) (PpWrite c.args.at c.args.word) (a_write c.args.at c.args.word)
           c.self.inside.entries.items _ c.self.invariant.shortest c.push_reserved.ensures.items;
     }
