@@ -1,16 +1,13 @@
 -- What is kept in seats (units, hopper places and channels as one list): each sits in its own; seen in order, one is
 -- taken out, one put in, one found.
-use Rattle.std.proofs.Common.{◌≡◌, ◌≢◌, ℕ, zero, suc, ◌<◌, ◌≤◌, ◌+◌, eqb, false, List, [], ◌∷◌, ◌++◌, Option, Some}
+use Rattle.std.proofs.Common.{◌≡◌, ◌≢◌, ℕ, zero, suc, ◌<◌, ◌≤◌, ◌+◌, List, [], ◌∷◌, ◌++◌, Option, Some}
 use Rattle.std.proofs.Common.{None, refl, sym, ap, ◌∙◌, subst, length, set, get_or, arith}
-use Rattle.std.specs.Prelude.{◌||◌, is_some}
-use Rattle.std.specs.List.{list_any}
-use Rattle.std.proofs.lemmas.Bool.{eq-eqb, ne_eqb}
 use Rattle.std.proofs.lemmas.List.{set-get_or}
 use Rattle.instructions.specs.Each.{Each, Pairs}
 use Rattle.instructions.specs.Finding.{seek}
 use Rattle.instructions.specs.Order.{insert_by, sort_by, somes, IsSeated}
 use Rattle.instructions.proofs.Finding.{seek_around, seek_nobody}
-use Rattle.instructions.proofs.Lists.{any_of_each, each_left, each_right, each_append, each_map, pairs_before}
+use Rattle.instructions.proofs.Lists.{each_left, each_right, each_append, each_map, pairs_before}
 use Rattle.instructions.proofs.Lists.{pairs_right, pairs_without, pairs_insert}
 use Rattle.instructions.proofs.Sorted.{below, above, insert_splits, insert_last, below-above, sort_around, sort_each}
 use Rattle.instructions.proofs.Sorted.{before_place, after_place, somes-at, somes-set_some, somes-set_none, somes-empty}
@@ -188,26 +185,6 @@ seats_below seat_of (None ∷ os) k n h s = seats_below seat_of os (suc k) n (om
 seats_below seat_of (Some x ∷ os) k n h s =
     (let q : seat_of x ≡ k = s.0 in omega (arith, h, q), seats_below seat_of os (suc k) n (omega (arith, h)) s.1)
 
-nobody_seated : {K : Type 0} (seat_of : K → ℕ) (os : List (Option K)) (k v : ℕ) → v < k → IsSeated seat_of k os
-    → list_any (λ x. eqb (seat_of x) v) (somes os) ≡ false
-nobody_seated seat_of os k v h s =
-    any_of_each (λ x. eqb (seat_of x) v) (λ x. seat_of x ≢ v) (λ x. ne_eqb (seat_of x) v) (somes os)
-    (seated_from seat_of os k v h s)
-
--- whether a seat is taken
-pub seat_taken : {K : Type 0} (seat_of : K → ℕ) (os : List (Option K)) (k i v : ℕ) → v ≡ k + i → IsSeated seat_of k os
-    → list_any (λ x. eqb (seat_of x) v) (somes os) ≡ is_some (get_or os i None)
-unfolding somes
-seat_taken seat_of [] k i v e s = refl
-seat_taken seat_of (None ∷ os) k zero v e s = nobody_seated seat_of os (suc k) v (omega (arith, e)) s
-seat_taken seat_of (Some x ∷ os) k zero v e s = let q : seat_of x ≡ k =
-    s.0 in ap (λ b. b || list_any (λ y. eqb (seat_of y) v) (somes os)) (eq-eqb (seat_of x) v (omega (arith, e, q)))
-seat_taken seat_of (None ∷ os) k (suc i) v e s = seat_taken seat_of os (suc k) i v (omega (arith, e)) s
-seat_taken seat_of (Some x ∷ os) k (suc i) v e s =
-    let q : seat_of x ≡ k = s.0 in
-    ap (λ b. b || list_any (λ y. eqb (seat_of y) v) (somes os)) (ne_eqb (seat_of x) v (λ d. omega (arith, d, e, q)))
-    ∙ seat_taken seat_of os (suc k) i v (omega (arith, e)) s.1
-
 -- ---- the one in a seat, in order ----
 
 -- those before it, and those after
@@ -248,15 +225,6 @@ each_put P (Some x ∷ os) zero y h l p k = cc
 each_put P (None ∷ os) (suc i) y h l p k = each_put P os i y h (omega arith) p k
 each_put P (Some x ∷ os) (suc i) y h l p k = (k.0, each_put P os i y h (omega arith) p k.1)
 
-pub length_put : {K : Type 0} (os : List (Option K)) (i : ℕ) (y : K) → get_or os i None ≡ None → i < length os
-    → length (somes (set os i (Some y))) ≡ suc (length (somes os))
-unfolding somes
-length_put [] i y h l = absurd (omega arith)
-length_put (None ∷ os) zero y h l = refl
-length_put (Some x ∷ os) zero y h l = cc
-length_put (None ∷ os) (suc i) y h l = length_put os i y h (omega arith)
-length_put (Some x ∷ os) (suc i) y h l = ap suc (length_put os i y h (omega arith))
-
 pub each_taken : {K : Type 0} (P : K → Type 0) (os : List (Option K)) (i : ℕ) → Each P (somes os)
     → Each P (somes (set os i None))
 unfolding somes
@@ -274,12 +242,3 @@ each_at P (None ∷ os) zero y h k = cc
 each_at P (Some x ∷ os) zero y h k = let e : x ≡ y = cc in subst P e k.0
 each_at P (None ∷ os) (suc i) y h k = each_at P os i y h k
 each_at P (Some x ∷ os) (suc i) y h k = each_at P os i y h k.1
-
-pub length_taken : {K : Type 0} (os : List (Option K)) (i : ℕ) (y : K) → get_or os i None ≡ Some y
-    → length (somes os) ≡ suc (length (somes (set os i None)))
-unfolding somes
-length_taken [] i y h = cc
-length_taken (None ∷ os) zero y h = cc
-length_taken (Some x ∷ os) zero y h = refl
-length_taken (None ∷ os) (suc i) y h = length_taken os i y h
-length_taken (Some x ∷ os) (suc i) y h = ap suc (length_taken os i y h)

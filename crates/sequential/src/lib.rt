@@ -16,4 +16,4 @@ pub use place::Place;
 pub use replaying::replay;
 pub use state::State;
 pub use stepping::step;
-pub use work::{ProgramReference, faults, jump, number, operands, reference};
+pub use work::{ProgramReference, fault_after, faults, jump, number, operands, reference};

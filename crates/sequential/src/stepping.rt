@@ -1,13 +1,15 @@
-ghost use Rattle.std.specs.Prelude.{◌≡◌, ◌<◌, ◌||◌, IfSome, length};
+ghost use Rattle.std.specs.Prelude.{◌≡◌, ◌<◌, IfSome, length};
 ghost use Rattle.instructions.specs.Shape.{shape_of, puts_of};
 ghost use Rattle.unit_ops.specs.Values.{value_of};
 ghost use Rattle.sequential.specs.State.{bounds_of};
 ghost use Rattle.instruction_table.specs.Decoding.{digits_at, reading_at};
 ghost use Rattle.sequential.specs.Step.{do_fetched, do_instruction, fetched_by, step};
-ghost use Rattle.sequential.specs.Work.{listed, put_any, fault_of, refer_at, refer};
+ghost use Rattle.sequential.specs.Work.{listed, put_any, refer_at, refer};
 
 use crate::fetching::fetched_by;
-use crate::{Fetched, Place, ProgramReference, State, faults, jump, number, operands, reference};
+use crate::{
+    Fetched, Place, ProgramReference, State, fault_after, jump, number, operands, reference,
+};
 use instruction_table::{Halt, Instr, Reg, Target, decode_as, first_digits};
 use registers::RegisterFile;
 use relocation::{Access, Area};
@@ -60,14 +62,6 @@ fn write_any(registers: &mut RegisterFile, register: Option<Reg>, number: Word60
     if let Some(register) = register {
         registers.set(register, number);
     }
-}
-
-/// The fault flag after a reference; it stays once it is set.
-#[inline(always)]
-fn fault_after(fault: bool, area: &Area, size: u32, reference: &Option<ProgramReference>) -> bool
-    ensures { result ≡ (fault || fault_of (record { area = area.now; size = size }) reference.now) }
-{
-    fault || faults(area, size, reference)
 }
 
 /// Does what is read in a word, with an arm for each pair of digits that it can begin with.

@@ -1,4 +1,4 @@
-ghost use Rattle.std.specs.Prelude.{◌≡◌, ◌<◌, IfSome};
+ghost use Rattle.std.specs.Prelude.{◌≡◌, ◌<◌, ◌||◌, IfSome};
 ghost use Rattle.sequential.specs.State.{absolute};
 ghost use Rattle.instructions.specs.Shape.{shape_of};
 ghost use Rattle.sequential.specs.Work.{operand_at, operands, number_in, address_in, link_word, word_in, jump_for};
@@ -169,4 +169,17 @@ pub fn faults(area: &Area, size: u32, reference: &Option<ProgramReference>) -> b
             (area.mode.get() >> 12) % 2 == 1 && reference.absolute(area, size).is_none()
         }
     }
+}
+
+/// The fault flag after a reference; it stays once it is set.
+#[inline(always)]
+pub fn fault_after(
+    fault: bool,
+    area: &Area,
+    size: u32,
+    reference: &Option<ProgramReference>,
+) -> bool
+    ensures { result ≡ (fault || fault_of (record { area = area.now; size = size }) reference.now) }
+{
+    fault || faults(area, size, reference)
 }

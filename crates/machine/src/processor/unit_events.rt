@@ -6,12 +6,12 @@ ghost use Rattle.in_flight.specs.Tests.{refusal_in};
 ghost use Rattle.machine.specs.Tokens.{Seating, IsValueIn, slot, waits_in, reading_in};
 ghost use Rattle.program_order.specs.Events.{allowed, after};
 
-use crate::changing::{fault_after, rest_of, write_registers};
+use crate::changing::{rest_of, write_registers};
 use crate::judging::{judge_finish, judge_store};
 use crate::{Answer, Done, Machine};
 use in_flight::Pending;
 use instruction_table::{Refusal, Unit};
-use sequential::{jump, number, reference};
+use sequential::{fault_after, jump, number, reference};
 use unit_ops::{Operands, UnitValue, value};
 
 impl Machine {

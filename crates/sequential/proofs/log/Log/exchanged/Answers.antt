@@ -1,4 +1,4 @@
-use Rattle.std.proofs.Common.{sym, ap, ◌∙◌, ◌∷◌, [], ◌++◌}
+use Rattle.std.proofs.Common.{ap, ◌∙◌, ◌∷◌, [], ◌++◌}
 use Rattle.sequential.specs.declared.log.Entry.TheVariants.{Exchange}
 use Rattle.sequential.specs.Log.{Logged, steps_of, ends_issuing}
 use Rattle.sequential.specs.Replay.{Exchanged}
