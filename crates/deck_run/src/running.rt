@@ -48,6 +48,27 @@ fn booted(alloc: Global, deck: &Deck, budget: Budget) -> Result<Machine, Refusal
     Machine::boot(alloc, memory, budget.get())
 }
 
+/// What a run of a deck is handed on to `run_threads` with: a machine that was just booted with the deck's memory and
+/// the budget, and the deck's orders.
+///
+/// # Errors
+/// `OutOfMemory`.
+fn prepared(alloc: Global, deck: &Deck, budget: Budget) -> Result<(Machine, Orders), Refusal>
+    ensures machine { MatchResult result (λ made. made.0 ≡ boot_processor deck.now.image.memory budget)
+        (λ refusal. refusal ≡ OutOfMemory) }
+    ensures start { IfOk result (λ made. made.1.start ≡ deck.now.start) }
+    ensures after { IfOk result (λ made. made.1.after.items ≡ map (λ ask. (ask.at, ask.after)) deck.now.asks) }
+    ensures free { IfOk result (λ made. made.1.free.items ≡ deck.now.free) }
+{
+    let Ok(orders) = orders(alloc, deck) else {
+        return Err(Refusal::OutOfMemory);
+    };
+    match booted(alloc, deck, budget) {
+        Ok(machine) => Ok((machine, orders)),
+        Err(refusal) => Err(refusal),
+    }
+}
+
 /// A gate for each unit that holds nobody.
 fn open_gates() -> Gates<Open> {
     Gates {
@@ -75,10 +96,7 @@ pub fn run<T: Threads + Wait + Sync>(
 ) -> Result<Snapshot, ProgramFault>
     ensures { MatchResult result (λ snapshot. IsRun deck.now.image.memory snapshot.log snapshot.state) EndsNoRun }
 {
-    let Ok(orders) = orders(alloc, deck) else {
-        return Err(ProgramFault::OutOfMemory);
-    };
-    let Ok(machine) = booted(alloc, deck, budget) else {
+    let Ok((machine, orders)) = prepared(alloc, deck, budget) else {
         return Err(ProgramFault::OutOfMemory);
     };
     match run_threads(rt, alloc, machine, &orders, open_gates()) {

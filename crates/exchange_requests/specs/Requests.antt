@@ -1,6 +1,6 @@
 -- The order in which a run makes its requests for exchanges, and which of them is due. A request is the absolute
 -- address of a package and the number of instructions after which it is made. Source: ours.
-use Rattle.std.specs.Prelude.{ℕ, Bool, ◌≤◌, ◌<◌, List, Option, Some, None, All}
+use Rattle.std.specs.Prelude.{◌≡◌, ℕ, Bool, ◌≤◌, ◌<◌, List, ◌++◌, Option, Some, None, All, option_to_list}
 use Rattle.std.specs.Ordering.{nat_cmp}
 use Rattle.std.specs.List.Sorted.{IsNonDecreasingBy, IsStableByKey}
 
@@ -24,3 +24,7 @@ KeepsTies before after = IsStableByKey (λ ask. ask.1) nat_cmp before after
 abbrev pub IsDue : List (ℕ × ℕ) → ℕ → Option (ℕ × ℕ) → Type 0
 IsDue asks issued None = All (λ ask. issued < ask.1) asks
 IsDue asks issued (Some due) = (due.1 ≤ issued) × All (λ ask. due.1 ≤ ask.1) asks
+
+-- they begin with this one, if it is one
+abbrev pub StartsWithAny : List (ℕ × ℕ) → Option (ℕ × ℕ) → Type 0
+StartsWithAny asks first = (rest : List (ℕ × ℕ)) × (asks ≡ option_to_list first ++ rest)

@@ -15,7 +15,7 @@
 
 ghost use Rattle.std.specs.Prelude.{◌≡◌, ◌<◌, ◌+◌, ◌^◌, ◌++◌, ◌∷◌, ◌||◌, true, false, None, is_some, option_to_list};
 ghost use Rattle.std.specs.Prelude.{IfOk};
-ghost use Rattle.exchange_requests.specs.Requests.{KeepsTies, IsDue};
+ghost use Rattle.exchange_requests.specs.Requests.{KeepsTies, IsDue, StartsWithAny};
 
 use std::alloc::{AllocError, Global};
 use std::collections::VecDeque;
@@ -68,6 +68,20 @@ impl Requests {
         })
     }
 
+    /// The request that `take_due` would give if none waited for its exchange: while one waits, it is the one that
+    /// follows as soon as that exchange was made.
+    pub fn next_due(&self) -> Option<Ask>
+        ensures due { IsDue self.now.asks self.now.issued result }
+        ensures first { StartsWithAny self.now.asks result }
+    {
+        let next = self.left.front()?;
+        let after = next.1;
+        if after > self.issued {
+            return None;
+        }
+        Some(*next)
+    }
+
     /// Takes the request that is due, if one is; it waits for its exchange from then on.
     pub fn take_due(&mut self) -> Option<Ask>
         ensures due { self.old.is_waiting ≡ false → IsDue self.old.asks self.old.issued result }
@@ -79,11 +93,7 @@ impl Requests {
         if self.is_waiting {
             return None;
         }
-        let next = self.left.front()?;
-        let after = next.1;
-        if after > self.issued {
-            return None;
-        }
+        self.next_due()?;
         self.is_waiting = true;
         self.left.pop_front()
     }

@@ -23,8 +23,8 @@ use Rattle.program_order.proofs.theorem.Headline.{books_after}
 use Rattle.program_order.proofs.theorem.Theorem.{made_allowed}
 use Rattle.atomic_table.specs.Table.{Me}
 use Rattle.machine_lock.specs.Known.{Known, known, StartsWith, IsMade, Learnt, note_in, word_in, IsNoteOf, IsWhyOf}
-use Rattle.machine_lock.specs.Known.{IsWordOf}
-use Rattle.machine_lock.specs.inner.Kept.{access_step, is_access, is_of_memory}
+use Rattle.machine_lock.specs.Known.{HasReplay, IsWordOf}
+use Rattle.machine_lock.specs.inner.Kept.{IsCurrent, access_step, is_access, is_of_memory}
 use Rattle.machine_lock.specs.inner.Rules.{History, Knowing, history, past, keeper, caller, Continues}
 use Rattle.machine_lock.proofs.Lists.{last_step, last_step-push}
 
@@ -310,6 +310,19 @@ compared w v p m n old ep em ev en begins =
 pub kept_same : (w v : Processor) (p q : Me ℕ Knowing) → p ≡ (keeper (past w), []) → past v ≡ past w → q ≡ p
     → q ≡ (keeper (past v), [])
 kept_same w v p q ep ev eq = eq ∙ ep ∙ ap (λ h. (keeper h, [])) (sym ev)
+
+-- what the caller has seen is the log of a machine that keeps its replay
+pub replay_by : (v : Processor) (n : Me ℕ Knowing) → replayed v ≡ Some (completed v) → past_by n ≡ past v
+    → HasReplay (known_by n)
+unfolding replayed
+replay_by v n r p =
+    (completed v, ap (λ (x : History). replay (boot x.boot_memory) x.log) p ∙ r)
+
+-- who had seen the whole log learns nothing where it is the same
+pub same_seen : (w v : Processor) (old new : Known) → IsCurrent w old → IsCurrent v new → past v ≡ past w
+    → Learnt old new → new ≡ old
+same_seen w v old new o n p l =
+    l.1 ∙ ap (λ x. known old.boot_memory x old.mine) (n.1 ∙ ap (λ (h : History). h.log) p ∙ sym o.1)
 
 -- ---- the events of tokens ----
 

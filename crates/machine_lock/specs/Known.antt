@@ -44,6 +44,10 @@ IsMade x old new =
 abbrev pub Learnt : Known → Known → Type 0
 Learnt old new = StartsWith new.log old.log × (new ≡ known old.boot_memory new.log old.mine)
 
+-- the log explains a state: that to which its steps lead from boot, each of them made
+abbrev pub HasReplay : Known → Type 0
+HasReplay k = (s : State) × (replay (boot k.boot_memory) k.log ≡ Some s)
+
 -- the reservation that an issue answered, if it did
 abbrev pub note_in : Done → Option Note
 note_in (DoneIssue note) = note

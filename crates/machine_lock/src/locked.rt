@@ -1,15 +1,19 @@
-ghost use Rattle.std.specs.Prelude.{◌≡◌, ◌||◌, ◌⊎◌, ℕ, true, false, Some, IfErr, IfOk, MatchResult};
+ghost use Rattle.std.specs.Prelude.{◌≡◌, ◌||◌, ◌⊎◌, ℕ, true, false, Some, IfErr, IfOk, IfSome};
+ghost use Rattle.std.specs.Prelude.{MatchResult};
 ghost use Rattle.instructions.specs.declared.refusal.Refusal.TheVariants.{NotDrained, OutOfMemory, Stranger};
 ghost use Rattle.sequential.specs.Replay.{Issued, Exchanged, boot, replay};
 ghost use Rattle.program_order.specs.declared.event.Event.TheVariants.{Issue, Ask, Exchange, Read, Finish, Store};
 ghost use Rattle.program_order.specs.declared.event.Event.TheVariants.{PpRead};
 ghost use Rattle.program_order.specs.Headline.{IsFaultedRun};
 ghost use Rattle.program_order.specs.Refusals.{may_refuse, is_stranger, is_read_refusal, is_store_refusal};
+ghost use Rattle.program_order.specs.Refusals.{is_ask_refusal};
 ghost use Rattle.program_order.specs.Run.{IsAnswer, settled};
 ghost use Rattle.machine.specs.Tokens.{one_more};
 ghost use Rattle.program_order.specs.Events.{after};
-ghost use Rattle.machine_lock.specs.Known.{IsMade, Learnt, IsNoteOf, IsWhyOf, IsWordOf, note_in, word_in};
-ghost use Rattle.machine_lock.specs.inner.Kept.{IsCurrent, access_step, is_access, is_of_memory, with_processor};
+ghost use Rattle.machine_lock.specs.Known.{IsMade, Learnt, HasReplay, IsNoteOf, IsWhyOf, IsWordOf, note_in};
+ghost use Rattle.machine_lock.specs.Known.{word_in};
+ghost use Rattle.machine_lock.specs.inner.Kept.{IsAsked, IsCurrent, access_step, is_access, is_of_memory};
+ghost use Rattle.machine_lock.specs.inner.Kept.{next_after, with_processor};
 ghost use Rattle.machine_lock.specs.inner.Rules.{IsKeeper, past};
 
 use crate::Seen;
@@ -65,6 +69,7 @@ impl<K: Naming> Locked<K> {
         ensures after { self.new ≡ with_processor self.old (settled self.old.processor Issue result) }
         ensures named { IfErr result (λ refusal. may_refuse Issue refusal ≡ true) }
         ensures current { IsCurrent self.new.processor seen.new }
+        ensures replayed { HasReplay seen.new }
         ensures seen { MatchResult result
             (λ done. IsMade Issued seen.old seen.new × IsNoteOf seen.new (note_in done))
             (λ refusal. Learnt seen.old seen.new × IsWhyOf seen.new refusal) }
@@ -91,6 +96,7 @@ impl<K: Naming> Locked<K> {
         ensures after { self.new ≡ with_processor self.old (settled self.old.processor (Ask at) result) }
         ensures named { IfErr result (λ refusal. may_refuse (Ask at) refusal ≡ true) }
         ensures current { IsCurrent self.new.processor seen.new }
+        ensures replayed { HasReplay seen.new }
         ensures seen { Learnt seen.old seen.new }
     {
         let answer = self.machine.apply(Event::Ask(at));
@@ -108,6 +114,7 @@ impl<K: Naming> Locked<K> {
         ensures after { self.new ≡ with_processor self.old (settled self.old.processor Exchange result) }
         ensures named { IfErr result (λ refusal. may_refuse Exchange refusal ≡ true) }
         ensures current { IsCurrent self.new.processor seen.new }
+        ensures replayed { HasReplay seen.new }
         ensures seen { MatchResult result
             (λ done. (n : ℕ) × (self.old.processor.request ≡ Some n) × IsMade (Exchanged n) seen.old seen.new)
             (λ refusal. Learnt seen.old seen.new × IsWhyOf seen.new refusal) }
@@ -125,6 +132,56 @@ impl<K: Naming> Locked<K> {
         }
     }
 
+    /// The event `Ask` for this package, if there is one, where all of the log was seen: there is nothing to learn.
+    ///
+    /// # Errors
+    /// What a request may refuse.
+    #[tactic(auto, unfolding(program_order::specs::Refusals::may_refuse))]
+    fn ask_next(&mut self, word: &Word<K>, seen: &mut Seen<K>, next: Option<u32>) -> Option<Answer>
+        requires { IsCurrent self.old.processor seen.old }
+        ensures asked { IsAsked self.old.processor next result self.new.processor }
+        ensures after { self.new ≡ with_processor self.old self.new.processor }
+        ensures named { IfSome result (λ asked. IfErr asked (λ refusal. is_ask_refusal refusal ≡ true)) }
+        ensures current { IsCurrent self.new.processor seen.new }
+        ensures seen { seen.new ≡ seen.old }
+    {
+        let at = next?;
+        Some(self.ask(word, seen, at))
+    }
+
+    /// The event `Exchange` and, once it was made, the event `Ask` for the next package, if there is one. It answers
+    /// what each of them was answered. Its caller has then made the last step of the log, the exchange, or else has seen
+    /// the log.
+    ///
+    /// # Errors
+    /// What an exchange may refuse, and what a request may.
+    pub(crate) fn exchange_and_ask(
+        &mut self,
+        word: &Word<K>,
+        seen: &mut Seen<K>,
+        next: Option<u32>,
+    ) -> (Answer, Option<Answer>)
+        ensures exchange { IsAnswer self.old.processor Exchange result.0 }
+        ensures asked { IsAsked (settled self.old.processor Exchange result.0) (next_after result.0 next) result.1
+            self.new.processor }
+        ensures after { self.new ≡ with_processor self.old self.new.processor }
+        ensures named { IfErr result.0 (λ refusal. may_refuse Exchange refusal ≡ true) }
+        ensures next_named { IfSome result.1 (λ asked. IfErr asked (λ refusal. is_ask_refusal refusal ≡ true)) }
+        ensures current { IsCurrent self.new.processor seen.new }
+        ensures replayed { HasReplay seen.new }
+        ensures seen { MatchResult result.0
+            (λ done. (n : ℕ) × (self.old.processor.request ≡ Some n) × IsMade (Exchanged n) seen.old seen.new)
+            (λ refusal. Learnt seen.old seen.new × IsWhyOf seen.new refusal) }
+    {
+        match self.exchange(word, seen) {
+            Ok(done) => {
+                let asked = self.ask_next(word, seen, next);
+                (Ok(done), asked)
+            }
+            Err(refusal) => (Err(refusal), None),
+        }
+    }
+
     /// A peripheral access. Its caller has then made the last step of the log, or else has seen the log; a word that was
     /// read is that of the log's replay.
     ///
@@ -136,6 +193,7 @@ impl<K: Naming> Locked<K> {
         ensures after { self.new ≡ with_processor self.old (settled self.old.processor event result) }
         ensures named { IfErr result (λ refusal. may_refuse event refusal ≡ true) }
         ensures current { IsCurrent self.new.processor seen.new }
+        ensures replayed { HasReplay seen.new }
         ensures seen { MatchResult result (λ done. IsMade (access_step event) seen.old seen.new)
             (λ refusal. Learnt seen.old seen.new) }
         ensures word { IfOk result (λ done. (a : ℕ) → event ≡ PpRead a → IsWordOf seen.new a (word_in done)) }
@@ -243,6 +301,7 @@ impl<K: Naming> Locked<K> {
     ) -> Result<Snapshot, Refusal>
         ensures after { self.new ≡ self.old }
         ensures current { IsCurrent self.new.processor seen.new }
+        ensures replayed { HasReplay seen.new }
         ensures seen { Learnt seen.old seen.new }
         ensures fresh { IfOk result
             (λ snapshot. (snapshot.boot_memory ≡ seen.new.boot_memory) × (snapshot.log ≡ seen.new.log)) }

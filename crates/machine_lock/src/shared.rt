@@ -1,4 +1,6 @@
-ghost use Rattle.std.specs.Prelude.{◌≡◌, ◌||◌, ◌⊎◌, ℕ, true, false, [], Some, IfErr, IfOk, MatchResult};
+ghost use Rattle.std.specs.Prelude.{◌≡◌, ◌||◌, ◌⊎◌, ℕ, true, false, [], Some, Ok, Err, IfErr, IfOk, IfSome};
+ghost use Rattle.std.specs.Prelude.{MatchResult};
+ghost use Rattle.program_order.specs.declared.event.Done.{Done};
 ghost use Rattle.instructions.specs.declared.refusal.Refusal.TheVariants.{Nothing, NotDrained, OutOfMemory, Stranger};
 ghost use Rattle.sequential.specs.Replay.{Issued, Exchanged, ReadAt, Wrote, boot, replay};
 ghost use Rattle.program_order.specs.Headline.{IsFaultedRun};
@@ -6,8 +8,8 @@ ghost use Rattle.program_order.specs.Refusals.{may_refuse, is_stranger, is_nothi
 ghost use Rattle.program_order.specs.Refusals.{is_store_refusal, is_accept_refusal, is_return_refusal, is_ask_refusal};
 ghost use Rattle.program_order.specs.Refusals.{is_exchange_refusal, is_access_refusal};
 ghost use Rattle.machine.specs.Tokens.{new_seats, one_more};
-ghost use Rattle.machine_lock.specs.Known.{known, IsMade, Learnt, IsNoteOf, IsWhyOf, IsWordOf, AreApart, NumbersApart};
-ghost use Rattle.machine_lock.specs.Known.{word_in};
+ghost use Rattle.machine_lock.specs.Known.{known, IsMade, Learnt, HasReplay, IsNoteOf, IsWhyOf, IsWordOf};
+ghost use Rattle.machine_lock.specs.Known.{word_in, AreApart, NumbersApart};
 ghost use Rattle.machine_lock.specs.inner.Kept.{is_of_memory};
 
 use crate::Seen;
@@ -67,6 +69,17 @@ fn word_in(done: &Done) -> Word60
         Done::Word(word) => *word,
         Done::Issued(_) => Word60::default(),
         Done::Made => Word60::default(),
+    }
+}
+
+/// What was refused, if something was made and refused.
+fn unless_refused(answer: Option<Answer>) -> Result<(), Refusal>
+    ensures { MatchResult result (λ _. IfSome answer (λ made. (done : Done) × (made ≡ Ok done)))
+        (λ refusal. answer ≡ Some (Err refusal)) }
+{
+    match answer {
+        Some(Err(refusal)) => Err(refusal),
+        Some(Ok(_)) | None => Ok(()),
     }
 }
 
@@ -179,6 +192,7 @@ impl<K: Naming> Shared<K> {
     pub fn issue<R: Wait>(&self, rt: &R, seen: &mut Seen<K>) -> Result<Option<Note>, Refusal>
         ensures seen { MatchResult result (λ note. IsMade Issued seen.old seen.new × IsNoteOf seen.new note)
             (λ refusal. Learnt seen.old seen.new × IsWhyOf seen.new refusal) }
+        ensures replayed { HasReplay seen.new }
         ensures named { IfErr result (λ refusal. is_issue_refusal refusal ≡ true) }
     {
         match self.locked.lock(rt).issue(&self.word, seen) {
@@ -196,6 +210,7 @@ impl<K: Naming> Shared<K> {
     #[tactic(auto, unfolding(program_order::specs::Refusals::may_refuse))]
     pub fn ask<R: Wait>(&self, rt: &R, seen: &mut Seen<K>, at: u32) -> Result<(), Refusal>
         ensures seen { Learnt seen.old seen.new }
+        ensures replayed { HasReplay seen.new }
         ensures named { IfErr result (λ refusal. is_ask_refusal refusal ≡ true) }
     {
         let asked = self.locked.lock(rt).ask(&self.word, seen, at);
@@ -217,6 +232,7 @@ impl<K: Naming> Shared<K> {
     pub fn exchange<R: Wait>(&self, rt: &R, seen: &mut Seen<K>) -> Result<(), Refusal>
         ensures seen { MatchResult result (λ _. (n : ℕ) × IsMade (Exchanged n) seen.old seen.new)
             (λ refusal. Learnt seen.old seen.new × IsWhyOf seen.new refusal) }
+        ensures replayed { HasReplay seen.new }
         ensures named { IfErr result (λ refusal. is_exchange_refusal refusal ≡ true) }
     {
         let made = self.locked.lock(rt).exchange(&self.word, seen);
@@ -224,6 +240,40 @@ impl<K: Naming> Shared<K> {
             Ok(_) => {
                 self.signals.changes.raise();
                 Ok(())
+            }
+            Err(refusal) => Err(refusal),
+        }
+    }
+
+    /// Makes the exchange that was asked for and, once it was made, asks for the one with the package at the absolute
+    /// address `next`, if there is one, before anyone else can: the events `Exchange` and `Ask` while the lock is held
+    /// once. Where the exchange was made it answers what the request was answered, `Ok` where there was none. The
+    /// exchange is then the last step of the log that its caller has seen, and the caller's own; after a refusal of the
+    /// exchange, which asks for nothing, its caller has seen the log.
+    ///
+    /// # Errors
+    /// What an exchange may refuse; within `Ok` what a request may refuse.
+    #[tactic(auto, unfolding(program_order::specs::Refusals::may_refuse))]
+    pub fn exchange_and_ask<R: Wait>(
+        &self,
+        rt: &R,
+        seen: &mut Seen<K>,
+        next: Option<u32>,
+    ) -> Result<Result<(), Refusal>, Refusal>
+        ensures seen { MatchResult result (λ _. (n : ℕ) × IsMade (Exchanged n) seen.old seen.new)
+            (λ refusal. Learnt seen.old seen.new × IsWhyOf seen.new refusal) }
+        ensures replayed { HasReplay seen.new }
+        ensures named { MatchResult result (λ asked. IfErr asked (λ refusal. is_ask_refusal refusal ≡ true))
+            (λ refusal. is_exchange_refusal refusal ≡ true) }
+    {
+        let (made, asked) = self
+            .locked
+            .lock(rt)
+            .exchange_and_ask(&self.word, seen, next);
+        match made {
+            Ok(_) => {
+                self.signals.changes.raise();
+                Ok(unless_refused(asked))
             }
             Err(refusal) => Err(refusal),
         }
@@ -239,6 +289,7 @@ impl<K: Naming> Shared<K> {
     pub fn pp_read<R: Wait>(&self, rt: &R, seen: &mut Seen<K>, at: u32) -> Result<Word60, Refusal>
         ensures seen { MatchResult result (λ word. IsMade (ReadAt at) seen.old seen.new × IsWordOf seen.new at word)
             (λ refusal. Learnt seen.old seen.new) }
+        ensures replayed { HasReplay seen.new }
         ensures named { IfErr result (λ refusal. is_access_refusal refusal ≡ true) }
     {
         match self
@@ -266,6 +317,7 @@ impl<K: Naming> Shared<K> {
     ) -> Result<(), Refusal>
         ensures seen { MatchResult result (λ _. IsMade (Wrote at word) seen.old seen.new)
             (λ refusal. Learnt seen.old seen.new) }
+        ensures replayed { HasReplay seen.new }
         ensures named { IfErr result (λ refusal. is_access_refusal refusal ≡ true) }
     {
         match self
@@ -390,6 +442,7 @@ impl<K: Naming> Shared<K> {
     /// `NotDrained` or `OutOfMemory`.
     pub fn snapshot<R: Wait>(&self, rt: &R, seen: &mut Seen<K>) -> Result<Snapshot, Refusal>
         ensures seen { Learnt seen.old seen.new }
+        ensures replayed { HasReplay seen.new }
         ensures fresh { IfOk result
             (λ snapshot. (snapshot.boot_memory ≡ seen.new.boot_memory) × (snapshot.log ≡ seen.new.log)) }
         ensures replay { IfOk result (λ snapshot. replay (boot snapshot.boot_memory) snapshot.log

@@ -2,6 +2,7 @@
 //! the lane of its unit, and makes the exchanges.
 ghost use Rattle.std.specs.Prelude.{◌≡◌};
 ghost use Rattle.unit_workers.specs.Ending.{is_end};
+ghost use Rattle.unit_workers.specs.Onward.{GoesOnFrom};
 
 use crate::asking::FreeRequests;
 use crate::crew::Lines;
@@ -62,10 +63,24 @@ impl<'a> Agenda<'a> {
         Some(at)
     }
 
-    /// An exchange was made: that of the request that was taken last, unless it has still to be asked for.
+    /// The package of the request that follows the exchange which waits, if one does. It is known before that exchange
+    /// is made, since what is due depends only on how many instructions were issued.
+    fn following(&self) -> Option<u32> {
+        if self.refused.is_some() {
+            return self.refused;
+        }
+        let (at, _) = self.requests.next_due()?;
+        Some(at)
+    }
+
+    /// An exchange was made, and the request that follows it with it. The exchange was that of the request that was
+    /// taken last, unless this one had still to be asked for.
     fn exchanged(&mut self) {
-        if self.refused.is_none() {
+        if self.refused.is_some() {
+            self.refused = None;
+        } else {
             self.requests.exchanged();
+            let _ = self.requests.take_due();
         }
     }
 }
@@ -80,7 +95,7 @@ fn ask_due<K: Naming, R: Wait>(
     seen: &mut Seen<K>,
     agenda: &mut Agenda<'_>,
 ) -> Result<(), Refusal>
-    ensures memory { seen.new.boot_memory ≡ seen.old.boot_memory }
+    ensures onward { GoesOnFrom seen.old seen.new }
 {
     let Some(at) = agenda.due() else {
         return Ok(());
@@ -93,8 +108,8 @@ fn ask_due<K: Naming, R: Wait>(
     Ok(())
 }
 
-/// Makes the exchange that waits, as soon as the machine is drained. Where it runs in the middle of a word the
-/// exchange can't be made.
+/// Makes the exchange that waits, as soon as the machine is drained, and asks for the one that follows it, so that no
+/// request at any time comes between the two. Where the machine runs in the middle of a word the exchange can't be made.
 ///
 /// # Errors
 /// What else was refused.
@@ -104,13 +119,14 @@ fn exchange<K: Naming, R: Wait>(
     seen: &mut Seen<K>,
     agenda: &mut Agenda<'_>,
 ) -> Result<Course, Refusal>
-    ensures memory { seen.new.boot_memory ≡ seen.old.boot_memory }
+    ensures onward { GoesOnFrom seen.old seen.new }
 {
-    match shared.exchange(rt, seen) {
-        Ok(()) => {
+    match shared.exchange_and_ask(rt, seen, agenda.following()) {
+        Ok(Ok(())) => {
             agenda.exchanged();
             Ok(Course::GoesOn)
         }
+        Ok(Err(refusal)) => Err(refusal),
         Err(Refusal::NotDrained) => Ok(Course::Waits),
         Err(Refusal::MidWord) => Ok(Course::Ends),
         Err(refusal) => Err(refusal),
@@ -128,7 +144,7 @@ fn finish<K: Naming, R: Wait>(
     seen: &mut Seen<K>,
     agenda: &mut Agenda<'_>,
 ) -> Result<Course, Refusal>
-    ensures memory { seen.new.boot_memory ≡ seen.old.boot_memory }
+    ensures onward { GoesOnFrom seen.old seen.new }
 {
     // Looked at first: who asks counts afterwards, so where none is left all were asked for.
     let are_left = agenda.free.are_left();
@@ -157,7 +173,7 @@ fn step<K: Naming, R: Wait>(
     agenda: &mut Agenda<'_>,
     lines: &mut Lines<'_>,
 ) -> Result<Course, Refusal>
-    ensures memory { seen.new.boot_memory ≡ seen.old.boot_memory }
+    ensures onward { GoesOnFrom seen.old seen.new }
 {
     ask_due(rt, shared, seen, agenda)?;
     match shared.issue(rt, seen) {
@@ -185,7 +201,7 @@ pub fn begin<K: Naming, R: Wait>(
     seen: &mut Seen<K>,
     agenda: &mut Agenda<'_>,
 ) -> Result<(), Refusal>
-    ensures memory { seen.new.boot_memory ≡ seen.old.boot_memory }
+    ensures onward { GoesOnFrom seen.old seen.new }
 {
     ask_due(rt, shared, seen, agenda)?;
     exchange(rt, shared, seen, agenda)?;
@@ -203,7 +219,7 @@ pub fn conduct<K: Naming, R: Wait>(
     mut agenda: Agenda<'_>,
     lines: &mut Lines<'_>,
 ) -> Result<(), Refusal>
-    ensures memory { seen.new.boot_memory ≡ seen.old.boot_memory }
+    ensures onward { GoesOnFrom seen.old seen.new }
 {
     let changes = &shared.signals().changes;
     let mut wait = Waiting::new();

@@ -1,5 +1,7 @@
 //! A whole run by threads.
-ghost use Rattle.std.specs.Prelude.{◌≡◌, IfOk, Ok};
+ghost use Rattle.std.specs.Prelude.{◌≡◌, [], IfOk, Ok};
+ghost use Rattle.machine_lock.specs.Known.{known, StartsWith};
+ghost use Rattle.unit_workers.specs.Onward.{EndsFrom};
 
 use crate::asking::{FreeRequests, ask_all};
 use crate::conducting::{Agenda, begin, conduct};
@@ -51,7 +53,7 @@ fn closing<K: Naming, R: Wait>(
     asked: Result<Seen<K>, Refusal>,
     mut seen: Seen<K>,
 ) -> Result<Snapshot, Refusal>
-    ensures memory { IfOk result (λ snapshot. snapshot.boot_memory ≡ seen.boot_memory) }
+    ensures onward { IfOk result (λ snapshot. EndsFrom seen snapshot) }
 {
     conducted?;
     let mut other = asked?;
@@ -92,7 +94,7 @@ fn run_in<'s, E, K: Naming + Send + Sync + 's, G: Gate + Send + 's, R: Threads +
     mut seen: Seen<K>,
     other: Seen<K>,
 ) -> Result<Ended, Refusal>
-    ensures memory { IfOk result (λ ended. ended.snapshot.boot_memory ≡ seen.boot_memory) }
+    ensures onward { IfOk result (λ ended. EndsFrom seen ended.snapshot) }
 {
     let mut lines = Lines::start(scope, rt, shared, pairs, places, gates);
     let storing = scope.spawn(move || storage_worker(rt, shared)).ok();
@@ -130,13 +132,13 @@ fn run_scope<K: Naming + Send + Sync, G: Gate + Send, R: Threads + Wait + Sync>(
     seen: Seen<K>,
     other: Seen<K>,
 ) -> Result<Ended, Refusal>
-    ensures memory { IfOk result (λ ended. ended.snapshot.boot_memory ≡ seen.boot_memory) }
+    ensures onward { IfOk result (λ ended. EndsFrom seen ended.snapshot) }
 {
     thread::scope(
         thread::scope_env(),
         rt,
         move |scope| -> Result<Ended, Refusal>
-            ensures { IfOk result (λ ended. ended.snapshot.boot_memory ≡ seen.boot_memory) }
+            ensures { IfOk result (λ ended. EndsFrom seen ended.snapshot) }
         {
             run_in(
                 scope, rt, shared, pairs, places, gates, agenda, free, seen, other,
@@ -160,7 +162,7 @@ fn run_lanes<K: Naming + Send + Sync, G: Gate + Send, R: Threads + Wait + Sync>(
     seen: Seen<K>,
     other: Seen<K>,
 ) -> Result<Ended, Refusal>
-    ensures memory { IfOk result (λ ended. ended.snapshot.boot_memory ≡ seen.boot_memory) }
+    ensures onward { IfOk result (λ ended. EndsFrom seen ended.snapshot) }
 {
     let mut lanes = Lanes::new();
     let Some(pairs) = Pairs::open(alloc, &mut lanes) else {
@@ -183,7 +185,7 @@ fn run_from_start<K: Naming + Send + Sync, G: Gate + Send, R: Threads + Wait + S
     free: &FreeRequests<'_>,
     mut seen: Seen<K>,
 ) -> Result<Ended, Refusal>
-    ensures memory { IfOk result (λ ended. ended.snapshot.boot_memory ≡ seen.boot_memory) }
+    ensures onward { IfOk result (λ ended. EndsFrom seen ended.snapshot) }
 {
     let mut agenda = Agenda::new(requests, free);
     begin(rt, shared, &mut seen, &mut agenda)?;
@@ -206,7 +208,7 @@ fn run_beside<K: Naming + Send + Sync, G: Gate + Send, R: Threads + Wait + Sync>
     free: &FreeRequests<'_>,
 ) -> Result<Ended, Refusal>
     requires { ground ≡ K.table }
-    ensures memory { IfOk result (λ ended. ended.snapshot.boot_memory ≡ machine.boot_memory) }
+    ensures onward { IfOk result (λ ended. EndsFrom (known machine.boot_memory machine.log []) ended.snapshot) }
 {
     let (shared, seats, seen) = Shared::<K>::open(alloc, ground, machine)?;
     let mut places = Places::of(seats);
@@ -232,6 +234,7 @@ pub fn run_threads<G: Gate + Send, R: Threads + Wait + Sync>(
     gates: Gates<G>,
 ) -> Result<Ended, Refusal>
     ensures memory { IfOk result (λ ended. ended.snapshot.boot_memory ≡ machine.boot_memory) }
+    ensures log { IfOk result (λ ended. StartsWith ended.snapshot.log machine.log) }
 {
     let Ok(requests) = Requests::new(alloc, orders.start, orders.after.as_slice()) else {
         return Err(Refusal::OutOfMemory);

@@ -9,6 +9,7 @@ use crate::waiting::Waiting;
 use instruction_table::Unit;
 use machine::Seat;
 use machine_lock::{Naming, Shared};
+use std::snapshot::Snapshot;
 use std::sync::Wait;
 use unit_queue::{Item, Lane, SendPass, TakePass};
 
@@ -35,19 +36,21 @@ fn one_more<R: Wait>(rt: &R, number: u64) -> u64
 }
 
 /// Serves the notes of a lane until it is closed, and leaves the seat. Each note is stored or strange: a stranger's
-/// reservation is given up. The pass has to be this lane's.
-pub fn worker<K: Naming, G: Gate, R: Wait>(
+/// reservation is given up. It also answers the seat as it was left, for contracts alone: by as many as were stored its
+/// count grew. The pass has to be this lane's.
+fn serve_lane<K: Naming, G: Gate, R: Wait>(
     rt: &R,
     shared: &Shared<K>,
     lane: &Lane,
     pass: TakePass,
     seat: Seat,
     gate: &mut G,
-) -> Tally
+) -> (Tally, Snapshot<Seat>)
     requires { pass.id ≡ lane.now.id }
-    ensures unit { result.unit ≡ seat.unit }
-    ensures lane { result.pass.id ≡ lane.now.id }
-    ensures notes { Served pass.got result.pass.got result.stored result.strange }
+    ensures unit { result.0.unit ≡ seat.unit }
+    ensures lane { result.0.pass.id ≡ lane.now.id }
+    ensures notes { Served pass.got result.0.pass.got result.0.stored result.0.strange }
+    ensures counted { result.1.value.stored ≡ seat.stored + result.0.stored }
 {
     let mut at = seat;
     let mut from = pass;
@@ -68,18 +71,40 @@ pub fn worker<K: Naming, G: Gate, R: Wait>(
                 wait.reset();
             }
             Some(Item::Closed) => {
+                let left = Snapshot::of(&at);
                 let stored = at.leave() - before;
-                return Tally {
+                let tally = Tally {
                     unit,
                     stored,
                     strange,
                     pass: from,
                 };
+                return (tally, left);
             }
             None => wait.until_raised(rt, sent, count),
         }
     }
     unreachable!()
+}
+
+/// Serves the notes of a lane until it is closed, and leaves the seat. Each note is stored or strange: a stranger's
+/// reservation is given up. The pass has to be this lane's.
+pub fn worker<K: Naming, G: Gate, R: Wait>(
+    rt: &R,
+    shared: &Shared<K>,
+    lane: &Lane,
+    pass: TakePass,
+    seat: Seat,
+    gate: &mut G,
+) -> Tally
+    requires { pass.id ≡ lane.now.id }
+    ensures unit { result.unit ≡ seat.unit }
+    ensures lane { result.pass.id ≡ lane.now.id }
+    ensures notes { Served pass.got result.pass.got result.stored result.strange }
+{
+    // A thread can't hand the seat's snapshot on: no proof is found that it may be sent.
+    let (tally, _) = serve_lane(rt, shared, lane, pass, seat, gate);
+    tally
 }
 
 impl Tally {

@@ -1,12 +1,15 @@
 -- What the lock keeps. Source: ours.
-use Rattle.std.specs.Prelude.{◌≡◌, ℕ, Bool, true, false, Some}
+use Rattle.std.specs.Prelude.{◌≡◌, ℕ, Bool, true, false, Option, Some, None, Result, Ok, Err}
+use Rattle.instructions.specs.declared.refusal.Refusal.{Refusal}
 use Rattle.atomic_table.specs.Seated.{TableId}
 use Rattle.atomic_table.specs.declared.shared.Seat.{Seat}
 use Rattle.sequential.specs.Replay.{LogStep, Issued, ReadAt, Wrote}
+use Rattle.program_order.specs.declared.event.Done.{Done}
 use Rattle.program_order.specs.declared.event.Event.{Event}
 use Rattle.program_order.specs.declared.event.Event.TheVariants.{Issue, Read, Finish, Store, Accept, Return, BankFree}
 use Rattle.program_order.specs.declared.event.Event.TheVariants.{Ask, Exchange, PpRead, PpWrite}
 use Rattle.program_order.specs.Processor.{Processor, replayed, completed}
+use Rattle.program_order.specs.Run.{IsAnswer, settled}
 use Rattle.machine_lock.specs.Known.{Known}
 use Rattle.machine_lock.specs.inner.Rules.{Knowing, IsKeeper, past}
 
@@ -65,3 +68,15 @@ abbrev pub access_step : Event → LogStep
 access_step (PpRead a) = ReadAt a
 access_step (PpWrite a v) = Wrote a v
 access_step _ = Issued
+
+-- the package that is asked for right after an exchange: the next one, where the exchange was made
+abbrev pub next_after : Result Done Refusal → Option ℕ → Option ℕ
+next_after (Ok done) next = next
+next_after (Err refusal) next = None
+
+-- the package, if there is one, is asked for: what that is answered, and the machine after it; else nothing is done
+abbrev pub IsAsked : Processor → Option ℕ → Option (Result Done Refusal) → Processor → Type 0
+IsAsked w None None v = v ≡ w
+IsAsked w None (Some answer) v = ⊥
+IsAsked w (Some at) None v = ⊥
+IsAsked w (Some at) (Some answer) v = IsAnswer w (Ask at) answer × (v ≡ settled w (Ask at) answer)

@@ -8,5 +8,5 @@ pub returns-in-Ok-run_threads : goal.returns-in-Ok-run_threads
 unfolding boot_processor
 returns-in-Ok-run_threads g c =
     run_on c.args.deck.now.image.memory c.in-Ok-run_threads.ended.snapshot.boot_memory _ _
-    (c.in-Ok-run_threads.ensures.memory ∙ ap (λ (x : Processor). x.boot_memory) c.in-Ok-booted.ensures.machine)
+    (c.in-Ok-run_threads.ensures.memory ∙ ap (λ (x : Processor). x.boot_memory) c.in-Ok.ensures.machine)
     (search rules)

@@ -1,6 +1,6 @@
-use Rattle.std.proofs.Common.{◌≡◌}
+use Rattle.unit_workers.specs.Onward.{GoesOnFrom}
 use Rattle.unit_workers.proofs.conducting.conduct.Given as goal
 
--- what has been seen is of the same machine
+-- what has been seen goes on from what was seen at first
 abbrev pub invariant-loop : goal.invariant-loop
-invariant-loop g l = l.seen.boot_memory ≡ l.fn.seen.boot_memory
+invariant-loop g l = GoesOnFrom l.fn.seen l.seen

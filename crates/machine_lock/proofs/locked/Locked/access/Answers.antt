@@ -3,7 +3,7 @@ use Rattle.machine_lock.specs.Known.{IsMade}
 use Rattle.machine_lock.specs.inner.Rules.{History}
 use Rattle.machine_lock.proofs.Lists.{last_step}
 use Rattle.machine_lock.proofs.Laws.{Recorded, Compared, LastAccess, known_by, refused_same, refused_past}
-use Rattle.machine_lock.proofs.Laws.{last_access, word_of, recorded, kept_longer, compared, kept_same}
+use Rattle.machine_lock.proofs.Laws.{last_access, word_of, recorded, kept_longer, compared, kept_same, replay_by}
 use Rattle.machine_lock.specs.inner.Kept.{KeepsReplay}
 use Rattle.machine_lock.proofs.locked.Locked.access.Given as given
 use Rattle.machine_lock.proofs.locked.Locked.access.Goals as goal
@@ -47,6 +47,10 @@ returns-in-Ok-clause-word g c =
     word_of c.apply.new.self (known_by c.record.new.me.me) c.args.event c.apply.result c.in-Ok.done
     c.keeps_replay.ensures.replay (made g c).present c.in-Ok.is c.apply.ensures.word
 
+pub returns-in-Ok-clause-replayed : goal.returns-in-Ok-clause-replayed
+returns-in-Ok-clause-replayed g c =
+    replay_by c.apply.new.self c.record.new.me.me c.keeps_replay.ensures.replay (made g c).present
+
 -- ---- refused ----
 
 refused : (g : given.Over) (c : After-compare g)
@@ -77,6 +81,10 @@ invariant_of-self-in-Err g c = record {
 pub returns-in-Err-clause-current : goal.returns-in-Err-clause-current
 returns-in-Err-clause-current g c =
     let p = (refused g c).present in (ap (λ (h : History). h.boot_memory) p, ap (λ (h : History). h.log) p)
+
+pub returns-in-Err-clause-replayed : goal.returns-in-Err-clause-replayed
+returns-in-Err-clause-replayed g c =
+    replay_by c.self.inside.machine c.compare.new.me.me c.self.invariant.replay (refused g c).before
 
 pub returns-in-Err-clause-seen : goal.returns-in-Err-clause-seen
 returns-in-Err-clause-seen g c = (refused g c).learnt

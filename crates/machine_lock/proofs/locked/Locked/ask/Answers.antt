@@ -1,7 +1,7 @@
 use Rattle.std.proofs.Common.{◌≡◌, refl, ap}
 use Rattle.program_order.specs.declared.event.Event.TheVariants.{Ask}
 use Rattle.machine_lock.specs.inner.Rules.{History, past}
-use Rattle.machine_lock.proofs.Laws.{Compared, quiet_settled, compared, kept_same}
+use Rattle.machine_lock.proofs.Laws.{Compared, quiet_settled, compared, kept_same, replay_by}
 use Rattle.machine_lock.proofs.locked.Locked.ask.Given as given
 use Rattle.machine_lock.proofs.locked.Locked.ask.Goals as goal
 use Rattle.machine_lock.proofs.locked.Locked.ask.Goals.{After-compare}
@@ -30,3 +30,7 @@ invariant_of-self g c = record {
 pub returns-clause-current : goal.returns-clause-current
 returns-clause-current g c =
     let p = (learnt g c).present in (ap (λ (h : History). h.boot_memory) p, ap (λ (h : History). h.log) p)
+
+pub returns-clause-replayed : goal.returns-clause-replayed
+returns-clause-replayed g c =
+    replay_by c.apply-answer.new.self c.compare.new.me.me c.keeps_replay.ensures.replay (learnt g c).present

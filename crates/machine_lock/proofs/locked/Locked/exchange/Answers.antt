@@ -4,7 +4,7 @@ use Rattle.machine_lock.specs.Known.{IsMade}
 use Rattle.machine_lock.specs.inner.Rules.{History}
 use Rattle.machine_lock.proofs.Lists.{last_step}
 use Rattle.machine_lock.proofs.Laws.{Recorded, Compared, LastExchange, known_by, refused_same, refused_past}
-use Rattle.machine_lock.proofs.Laws.{last_exchange, why_of, recorded, kept_longer, compared, kept_same}
+use Rattle.machine_lock.proofs.Laws.{last_exchange, why_of, recorded, kept_longer, compared, kept_same, replay_by}
 use Rattle.machine_lock.specs.inner.Kept.{Kept}
 use Rattle.program_order.specs.declared.event.Event.TheVariants.{Exchange}
 use Rattle.program_order.specs.Processor.{completed}
@@ -51,6 +51,10 @@ returns-in-Ok-clause-seen g c =
       subst (λ x. IsMade x c.args.seen.now (known_by c.record.new.me.me)) l.last (made g c).made,
     )
 
+pub returns-in-Ok-clause-replayed : goal.returns-in-Ok-clause-replayed
+returns-in-Ok-clause-replayed g c =
+    replay_by c.apply.new.self c.record.new.me.me c.keeps_replay.ensures.replay (made g c).present
+
 -- ---- refused ----
 
 refused : (g : given.Over) (c : After-compare g)
@@ -81,6 +85,10 @@ invariant_of-self-in-Err g c = record {
 pub returns-in-Err-clause-current : goal.returns-in-Err-clause-current
 returns-in-Err-clause-current g c =
     let p = (refused g c).present in (ap (λ (h : History). h.boot_memory) p, ap (λ (h : History). h.log) p)
+
+pub returns-in-Err-clause-replayed : goal.returns-in-Err-clause-replayed
+returns-in-Err-clause-replayed g c =
+    replay_by c.self.inside.machine c.compare.new.me.me c.self.invariant.replay (refused g c).before
 
 pub returns-in-Err-clause-seen : goal.returns-in-Err-clause-seen
 returns-in-Err-clause-seen g c =

@@ -3,7 +3,7 @@ use Rattle.std.specs.Prelude.{IfErr}
 use Rattle.sequential.specs.Replay.{Issued}
 use Rattle.machine_lock.specs.inner.Rules.{History, history, past}
 use Rattle.machine_lock.proofs.Laws.{Recorded, Compared, known_by, refused_same, refused_past, issued_past, note_of}
-use Rattle.machine_lock.proofs.Laws.{why_of, recorded, kept_longer, compared, kept_same}
+use Rattle.machine_lock.proofs.Laws.{why_of, recorded, kept_longer, compared, kept_same, replay_by}
 use Rattle.program_order.specs.declared.event.Event.TheVariants.{Issue}
 use Rattle.program_order.specs.Processor.{completed}
 use Rattle.program_order.specs.Telling.{IsWhy}
@@ -47,6 +47,10 @@ returns-in-Ok-clause-seen g c =
           r.longer,
     )
 
+pub returns-in-Ok-clause-replayed : goal.returns-in-Ok-clause-replayed
+returns-in-Ok-clause-replayed g c =
+    replay_by c.apply.new.self c.record.new.me.me c.keeps_replay.ensures.replay (made g c).present
+
 -- ---- refused ----
 
 refused : (g : given.Over) (c : After-compare g)
@@ -77,6 +81,10 @@ invariant_of-self-in-Err g c = record {
 pub returns-in-Err-clause-current : goal.returns-in-Err-clause-current
 returns-in-Err-clause-current g c =
     let p = (refused g c).present in (ap (λ (h : History). h.boot_memory) p, ap (λ (h : History). h.log) p)
+
+pub returns-in-Err-clause-replayed : goal.returns-in-Err-clause-replayed
+returns-in-Err-clause-replayed g c =
+    replay_by c.self.inside.machine c.compare.new.me.me c.self.invariant.replay (refused g c).before
 
 pub returns-in-Err-clause-seen : goal.returns-in-Err-clause-seen
 returns-in-Err-clause-seen g c =

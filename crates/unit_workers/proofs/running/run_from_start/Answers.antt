@@ -1,0 +1,14 @@
+use Rattle.std.proofs.Common.{sym, subst}
+use Rattle.machine_lock.specs.Known.{Known}
+use Rattle.unit_workers.specs.Onward.{GoesOnFrom}
+use Rattle.unit_workers.specs.declared.running.Ended.{Ended}
+use Rattle.unit_workers.proofs.Onward.{ok_through}
+use Rattle.unit_workers.proofs.running.run_from_start.Goals as goal
+
+-- what is split is what was seen after the first exchange
+pub returns : goal.returns
+returns g c = record {
+  onward = ok_through (λ (e : Ended). e.snapshot) c.args.seen c.split.new.self c.run_lanes.result
+      (subst (λ (k : Known). GoesOnFrom c.args.seen k) (sym c.in_ok-other.ensures.same) c.begin.ensures.onward)
+      c.run_lanes.ensures.onward;
+}
