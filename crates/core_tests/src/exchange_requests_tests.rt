@@ -24,16 +24,23 @@ fn requests_in_turn(rt: HostRuntime) -> Result<(), Fail> {
     Ok(())
 }
 
-/// None is due while one waits.
+/// None is due while one waits, though it is known which one follows.
 #[test]
 fn waiting_request(rt: HostRuntime) -> Result<(), Fail> {
     let asks = [(0o60, 0)];
     let mut requests = Requests::new(rt.alloc(), 0o40, asks.as_slice())?;
     let first = [requests.take_due(), requests.take_due()];
+    let next = [requests.next_due()];
     requests.exchanged();
     let second = requests.take_due();
     requests.exchanged();
     let last = requests.take_due();
-    assert!(rt; first == [Some((0o40, 0)), None] && second == Some((0o60, 0)) && last.is_none());
+    assert!(rt;
+        first == [Some((0o40, 0)), None]
+            && next == [Some((0o60, 0))]
+            && next == [second]
+            && last.is_none()
+            && requests.next_due().is_none()
+    );
     Ok(())
 }

@@ -637,3 +637,46 @@ fn meeting_of<K: Naming, R: Wait>(
     let pending = shared.snapshot(rt, &mut seen).err();
     Ok((started, issues, is_known, fifth, pending))
 }
+
+/// An exchange and the request for the next one: where none was asked for, which asks for none either; to a package in
+/// memory; to one that isn't; and to none, where none was asked for again. Two exchanges were made.
+#[test]
+fn exchanges_in_a_row(rt: HostRuntime) -> Result<(), Fail> {
+    let machine = booted(rt.alloc(), &[])?;
+    let ground = Ground::new(rt.alloc())?;
+    let (answers, is_logged) = exchanges_of::<Brand, _>(&rt, rt.alloc(), ground, machine)?;
+    let wanted = [
+        Err(Refusal::Nothing),
+        Ok(Ok(())),
+        Ok(Err(Refusal::PackageRange)),
+        Err(Refusal::Nothing),
+    ];
+    assert!(rt; answers == wanted && is_logged);
+    Ok(())
+}
+
+/// What an exchange is answered, and where it was made the request after it.
+type Followed = Result<Result<(), Refusal>, Refusal>;
+
+fn exchanges_of<K: Naming, R: Wait>(
+    rt: &R,
+    alloc: Global,
+    ground: Ground,
+    machine: Machine,
+) -> Result<([Followed; 4], bool), Refusal>
+    requires { ground ≡ K.table }
+{
+    let (shared, seats, mut seen) = Shared::<K>::open(alloc, ground, machine)?;
+    leave_all(seats);
+    let none = shared.exchange_and_ask(rt, &mut seen, Some(0o60));
+    shared.ask(rt, &mut seen, 0o40)?;
+    let answers = [
+        none,
+        shared.exchange_and_ask(rt, &mut seen, Some(0o60)),
+        shared.exchange_and_ask(rt, &mut seen, Some(0o1000)),
+        shared.exchange_and_ask(rt, &mut seen, None),
+    ];
+    let snapshot = shared.snapshot(rt, &mut seen)?;
+    let made = [Entry::Exchange(0o40), Entry::Exchange(0o60)];
+    Ok((answers, snapshot.log().entries() == made.as_slice()))
+}

@@ -6,7 +6,7 @@ use crate::fixtures::{Wanted, Words, are, booted, booted_over, is_empty, note, w
 use crate::lock_tests::leave_all;
 use crate::queue_tests::{Sending, Taking};
 use instruction_table::{Digit, Halt, Refusal, Reg, Unit};
-use machine::{Machine, Note, Seat};
+use machine::{Event, Machine, Note, Seat};
 use machine_lock::{Ground, Naming, Seen, Shared};
 use registers::RegisterFile;
 use sequential::Entry;
@@ -491,6 +491,28 @@ fn exchanges(rt: HostRuntime) -> Result<(), Fail> {
         let ran = exchanging(&rt, rt.alloc(), *after);
         assert!(rt; has_log_of(ran, logs), "{after:?}");
     }
+    Ok(())
+}
+
+/// A machine that has issued BX1 X2 and LX3 1, of which no worker has a note, and goes on with NO, NO and a stop.
+fn begun(alloc: Global) -> Result<Machine, Refusal> {
+    let mut machine = booted(alloc, &[(0o100, "10120203014600046000")])?;
+    machine.apply(Event::Ask(0o40))?;
+    machine.apply(Event::Exchange)?;
+    machine.apply(Event::Issue)?;
+    machine.apply(Event::Issue)?;
+    Ok(machine)
+}
+
+/// What was issued before a run is carried out, and stands in its log. The first exchange of the run waits for the end
+/// of the word, and leads to a package that the first one before it left, in which nothing can be fetched.
+#[test]
+fn issued_before(rt: HostRuntime) -> Result<(), Fail> {
+    let alloc = rt.alloc();
+    let machine = begun(alloc)?;
+    let ran = run_threads(&rt, alloc, machine, &orders(alloc), open_gates());
+    let log = [FIRST, Wanted::Issued(4), FIRST, LAST];
+    assert!(rt; has_log_of(ran, &[log.as_slice()]));
     Ok(())
 }
 

@@ -40,9 +40,10 @@ fn ask_in_turn<K: Naming, R: Wait>(
     shared: &Shared<K>,
     seen: &mut Seen<K>,
     at: u32,
+    wait: &mut Waiting,
 ) -> Result<bool, Refusal> {
     let changes = &shared.signals().changes;
-    let mut wait = Waiting::new();
+    wait.reset();
     for _ in rt.forever() {
         let count = changes.count();
         match shared.ask(rt, seen, at) {
@@ -68,8 +69,9 @@ fn ask_each<K: Naming, R: Wait>(
     seen: &mut Seen<K>,
     free: &FreeRequests<'_>,
 ) -> Result<(), Refusal> {
+    let mut wait = Waiting::new();
     for at in free.packages {
-        if !ask_in_turn(rt, shared, seen, *at)? {
+        if !ask_in_turn(rt, shared, seen, *at, &mut wait)? {
             break;
         }
         free.left.fetch_sub(1, Ordering::SeqCst);

@@ -73,8 +73,8 @@ impl Places {
     }
 }
 
-/// Where the lanes are kept while their ends are used.
-#[derive(Drop)]
+/// Where the lanes are kept while their ends are used. None is there at first.
+#[derive(Default, Drop)]
 pub struct Lanes {
     branch: Option<Lane>,
     boolean: Option<Lane>,
@@ -83,21 +83,6 @@ pub struct Lanes {
     divide: Option<Lane>,
     increment1: Option<Lane>,
     increment2: Option<Lane>,
-}
-
-impl Lanes {
-    /// None is there.
-    pub fn new() -> Lanes {
-        Lanes {
-            branch: None,
-            boolean: None,
-            shift: None,
-            long_add: None,
-            divide: None,
-            increment1: None,
-            increment2: None,
-        }
-    }
 }
 
 /// The lanes with their ends.

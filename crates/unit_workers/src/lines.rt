@@ -4,13 +4,13 @@ ghost use Rattle.std.specs.Option.{ForSome};
 
 use crate::gate::Gate;
 use crate::working::{Tally, worker};
+use crossbeam_utils::Backoff;
 use instruction_table::Unit;
 use machine::{Note, Seat};
 use machine_lock::{Naming, Shared};
 use std::alloc::Global;
 use std::snapshot::Snapshot;
 use std::sync::Wait;
-use std::thread;
 use std::thread::{Promise, PromisedHandle, Scope, Threads};
 use unit_queue::{Lane, SendPass, TakePass, lane};
 
@@ -50,6 +50,8 @@ pub struct Line<'a> {
     lane: &'a Lane,
     sender: SendPass,
     started: Option<Worker>,
+    /// Is never reset, so that after the first few pauses each is a yield.
+    backoff: Backoff,
     ghost sends: { sender.id ≡ lane.now.id },
     ghost serves: { ForSome started (λ h. h.promise.0.value.id ≡ lane.now.id) },
 }
@@ -130,6 +132,7 @@ impl<'a> Pair<'a> {
             lane,
             sender,
             started,
+            backoff: Backoff::new(),
         }
     }
 }
@@ -146,7 +149,7 @@ impl<'a> Line<'a> {
             if self.lane.send(rt, &mut self.sender, note).is_ok() {
                 return;
             }
-            thread::yield_now();
+            self.backoff.snooze();
         }
         unreachable!()
     }
@@ -157,7 +160,7 @@ impl<'a> Line<'a> {
             if self.lane.close(rt, &mut self.sender) {
                 return;
             }
-            thread::yield_now();
+            self.backoff.snooze();
         }
         unreachable!()
     }
@@ -168,6 +171,7 @@ impl<'a> Line<'a> {
             lane,
             sender,
             started,
+            backoff: _,
         } = self;
         let mut tally = started?.join(rt)?;
         tally.settle(rt, lane, sender);

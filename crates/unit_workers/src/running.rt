@@ -164,7 +164,7 @@ fn run_lanes<K: Naming + Send + Sync, G: Gate + Send, R: Threads + Wait + Sync>(
 ) -> Result<Ended, Refusal>
     ensures onward { IfOk result (λ ended. EndsFrom seen ended.snapshot) }
 {
-    let mut lanes = Lanes::new();
+    let mut lanes = Lanes::default();
     let Some(pairs) = Pairs::open(alloc, &mut lanes) else {
         return Err(Refusal::OutOfMemory);
     };
@@ -221,7 +221,8 @@ fn run_beside<K: Naming + Send + Sync, G: Gate + Send, R: Threads + Wait + Sync>
 /// time, and this one, which issues. The run starts with the exchange for the package at `orders.start`. It ends where
 /// the machine is drained and either it is halted, faulted or out of budget, no request waits, none is due and none at
 /// any time is left; or it is out of budget in the middle of a word, where the exchange that waits can't be made. A
-/// request after more instructions than are issued by then isn't made.
+/// request after more instructions than are issued by then isn't made. The machine is drained first: what was issued
+/// before has no note on a lane, by which a worker would serve it.
 ///
 /// # Errors
 /// What the machine refuses before; `Nothing` where the machine's seats were given out before; `OutOfMemory`, also
@@ -241,5 +242,7 @@ pub fn run_threads<G: Gate + Send, R: Threads + Wait + Sync>(
     };
     let ground = Ground::new(alloc)?;
     let free = FreeRequests::new(orders.free.as_slice());
+    let mut machine = machine;
+    machine.drain();
     run_beside::<Brand, _, _>(rt, alloc, ground, machine, gates, requests, &free)
 }

@@ -17,13 +17,14 @@ fn read_when_ready<K: Naming, R: Wait>(
     rt: &R,
     shared: &Shared<K>,
     token: Reserved,
+    wait: &mut Waiting,
 ) -> Result<Loaded, Reserved>
     ensures loaded { IfOk result (λ loaded. (loaded.seat ≡ token.seat) × (loaded.number ≡ token.number)) }
     ensures given_back { IfErr result (λ back. back ≡ token) }
 {
     let mut waiting = token;
     let changes = &shared.signals().changes;
-    let mut wait = Waiting::new();
+    wait.reset();
     for _ in rt.forever() {
         let count = changes.count();
         match shared.read(rt, waiting) {
@@ -45,13 +46,14 @@ fn store_when_ready<K: Naming, R: Wait>(
     rt: &R,
     shared: &Shared<K>,
     token: Finished,
+    wait: &mut Waiting,
 ) -> Result<Seat, Finished>
     ensures seat { IfOk result (λ seat. seat ≡ one_more token) }
     ensures given_back { IfErr result (λ back. back ≡ token) }
 {
     let mut waiting = token;
     let changes = &shared.signals().changes;
-    let mut wait = Waiting::new();
+    wait.reset();
     for _ in rt.forever() {
         let count = changes.count();
         match shared.store(rt, waiting) {
@@ -62,6 +64,40 @@ fn store_when_ready<K: Naming, R: Wait>(
         wait.turn(rt, changes, count);
     }
     unreachable!()
+}
+
+/// As `serve`, by a thread that waits elsewhere too.
+pub fn serve_waiting<K: Naming, G: Gate, R: Wait>(
+    rt: &R,
+    shared: &Shared<K>,
+    note: Note,
+    seat: Seat,
+    gate: &mut G,
+    wait: &mut Waiting,
+) -> (Seat, bool)
+    ensures { MatchBool result.1 (result.0 ≡ record seat { stored = suc seat.stored; last = note.number })
+        (result.0 ≡ seat) }
+{
+    let reserved = match shared.claim(rt, seat, note) {
+        Ok(reserved) => reserved,
+        Err((_, seat)) => return (seat, false),
+    };
+    let loaded = match read_when_ready(rt, shared, reserved, wait) {
+        Ok(loaded) => loaded,
+        Err(reserved) => return (reserved.abandon(), false),
+    };
+    gate.before(note.unit, note.number);
+    let finished = match shared.finish(rt, loaded.compute()) {
+        Ok(finished) => finished,
+        Err((_, computed)) => return (computed.abandon(), false),
+    };
+    match store_when_ready(rt, shared, finished, wait) {
+        Ok(seat) => {
+            gate.stored(note.unit, note.number);
+            (seat, true)
+        }
+        Err(finished) => (finished.abandon(), false),
+    }
 }
 
 /// Takes a reservation through its unit, from claim to store, and gives the seat back. It answers whether it was
@@ -77,24 +113,5 @@ pub fn serve<K: Naming, G: Gate, R: Wait>(
     ensures { MatchBool result.1 (result.0 ≡ record seat { stored = suc seat.stored; last = note.number })
         (result.0 ≡ seat) }
 {
-    let reserved = match shared.claim(rt, seat, note) {
-        Ok(reserved) => reserved,
-        Err((_, seat)) => return (seat, false),
-    };
-    let loaded = match read_when_ready(rt, shared, reserved) {
-        Ok(loaded) => loaded,
-        Err(reserved) => return (reserved.abandon(), false),
-    };
-    gate.before(note.unit, note.number);
-    let finished = match shared.finish(rt, loaded.compute()) {
-        Ok(finished) => finished,
-        Err((_, computed)) => return (computed.abandon(), false),
-    };
-    match store_when_ready(rt, shared, finished) {
-        Ok(seat) => {
-            gate.stored(note.unit, note.number);
-            (seat, true)
-        }
-        Err(finished) => (finished.abandon(), false),
-    }
+    serve_waiting(rt, shared, note, seat, gate, &mut Waiting::new())
 }

@@ -1,9 +1,9 @@
 //! How a thread waits for what others do. While it waits it takes no lock and lets other threads run, and after long
 //! it sleeps.
 
+use crossbeam_utils::Backoff;
 use machine_lock::Signal;
 use std::sync::Wait;
-use std::thread;
 
 /// How many looks find nothing before a wait is no longer short: longer than most pauses between two stores.
 const SHORT: u32 = 32;
@@ -11,19 +11,26 @@ const SHORT: u32 = 32;
 /// How many looks find nothing before the thread sleeps.
 const AWAKE: u32 = 64;
 
-/// A wait, by the looks that found nothing so far.
+/// How a thread waits: it has one for all of its waits.
 #[derive(Drop)]
 pub struct Waiting {
+    /// Is never reset: its first seven pauses spin, and each later one lets others run. A spin is longer than most waits,
+    /// and on few processors it holds up those that are waited for.
+    backoff: Backoff,
+    /// The looks that found nothing since the wait began.
     looks: u32,
 }
 
 impl Waiting {
-    /// A wait that begins.
+    /// Of a thread that hasn't waited yet.
     pub fn new() -> Waiting {
-        Waiting { looks: 0 }
+        Waiting {
+            backoff: Backoff::new(),
+            looks: 0,
+        }
     }
 
-    /// What was waited for has come.
+    /// What was waited for has come: the next wait begins.
     pub fn reset(&mut self) {
         self.looks = 0;
     }
@@ -35,7 +42,7 @@ impl Waiting {
                 self.looks = 0;
                 return true;
             }
-            thread::yield_now();
+            self.backoff.snooze();
             self.looks = look + 1;
         }
         false
@@ -46,20 +53,25 @@ impl Waiting {
         self.is_raised(signal, count, SHORT)
     }
 
+    /// Whether the thread may sleep: the wait is long, and its first pauses are over.
+    fn may_sleep(&self) -> bool {
+        self.looks >= AWAKE && self.backoff.is_completed()
+    }
+
     /// Waits until a signal is raised from this count on. It may come back earlier.
     pub fn until_raised<R: Wait>(&mut self, rt: &R, signal: &Signal, count: u64) {
-        if !self.is_raised(signal, count, AWAKE) {
+        if !self.is_raised(signal, count, AWAKE) && self.may_sleep() {
             signal.sleep(rt, count);
         }
     }
 
     /// Lets others run before the next try, whether a signal is raised or not.
     pub fn turn<R: Wait>(&mut self, rt: &R, signal: &Signal, count: u64) {
-        if self.looks < AWAKE {
-            self.looks += 1;
-            thread::yield_now();
-        } else {
+        if self.may_sleep() {
             signal.sleep(rt, count);
+        } else {
+            self.looks = self.looks.saturating_add(1);
+            self.backoff.snooze();
         }
     }
 }

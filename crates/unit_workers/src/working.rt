@@ -4,7 +4,7 @@ ghost use Rattle.unit_queue.specs.Lanes.{is_closed};
 ghost use Rattle.unit_workers.specs.Tallies.{Served};
 
 use crate::gate::Gate;
-use crate::serving::serve;
+use crate::serving::serve_waiting;
 use crate::waiting::Waiting;
 use instruction_table::Unit;
 use machine::Seat;
@@ -35,9 +35,7 @@ fn one_more<R: Wait>(rt: &R, number: u64) -> u64
     unreachable!()
 }
 
-/// Serves the notes of a lane until it is closed, and leaves the seat. Each note is stored or strange: a stranger's
-/// reservation is given up. It also answers the seat as it was left, for contracts alone: by as many as were stored its
-/// count grew. The pass has to be this lane's.
+/// As `worker`, and answers the seat as it was left too, for contracts alone: its count grew by as many as were stored.
 fn serve_lane<K: Naming, G: Gate, R: Wait>(
     rt: &R,
     shared: &Shared<K>,
@@ -63,7 +61,7 @@ fn serve_lane<K: Naming, G: Gate, R: Wait>(
         let count = sent.count();
         match lane.take(rt, &mut from) {
             Some(Item::Work(note)) => {
-                let (back, stored) = serve(rt, shared, note, at, gate);
+                let (back, stored) = serve_waiting(rt, shared, note, at, gate, &mut wait);
                 at = back;
                 if !stored {
                     strange = one_more(rt, strange);
