@@ -21,6 +21,8 @@ pub struct Tally {
     pub(crate) stored: u64,
     pub(crate) strange: u64,
     pub(crate) pass: TakePass,
+    /// The seat as it was left, for contracts alone.
+    pub(crate) left: Snapshot<Seat>,
     ghost ended: { is_closed pass.got ≡ true },
 }
 
@@ -35,20 +37,21 @@ fn one_more<R: Wait>(rt: &R, number: u64) -> u64
     unreachable!()
 }
 
-/// As `worker`, and answers the seat as it was left too, for contracts alone: its count grew by as many as were stored.
-fn serve_lane<K: Naming, G: Gate, R: Wait>(
+/// Serves the notes of a lane until it is closed, and leaves the seat. Each note is stored or strange: a stranger's
+/// reservation is given up. By as many as were stored the seat's count grew. The pass has to be this lane's.
+pub fn worker<K: Naming, G: Gate, R: Wait>(
     rt: &R,
     shared: &Shared<K>,
     lane: &Lane,
     pass: TakePass,
     seat: Seat,
     gate: &mut G,
-) -> (Tally, Snapshot<Seat>)
+) -> Tally
     requires { pass.id ≡ lane.now.id }
-    ensures unit { result.0.unit ≡ seat.unit }
-    ensures lane { result.0.pass.id ≡ lane.now.id }
-    ensures notes { Served pass.got result.0.pass.got result.0.stored result.0.strange }
-    ensures counted { result.1.value.stored ≡ seat.stored + result.0.stored }
+    ensures unit { result.unit ≡ seat.unit }
+    ensures lane { result.pass.id ≡ lane.now.id }
+    ensures notes { Served pass.got result.pass.got result.stored result.strange }
+    ensures counted { result.left.value.stored ≡ seat.stored + result.stored }
 {
     let mut at = seat;
     let mut from = pass;
@@ -71,38 +74,18 @@ fn serve_lane<K: Naming, G: Gate, R: Wait>(
             Some(Item::Closed) => {
                 let left = Snapshot::of(&at);
                 let stored = at.leave() - before;
-                let tally = Tally {
+                return Tally {
                     unit,
                     stored,
                     strange,
                     pass: from,
+                    left,
                 };
-                return (tally, left);
             }
             None => wait.until_raised(rt, sent, count),
         }
     }
     unreachable!()
-}
-
-/// Serves the notes of a lane until it is closed, and leaves the seat. Each note is stored or strange: a stranger's
-/// reservation is given up. The pass has to be this lane's.
-pub fn worker<K: Naming, G: Gate, R: Wait>(
-    rt: &R,
-    shared: &Shared<K>,
-    lane: &Lane,
-    pass: TakePass,
-    seat: Seat,
-    gate: &mut G,
-) -> Tally
-    requires { pass.id ≡ lane.now.id }
-    ensures unit { result.unit ≡ seat.unit }
-    ensures lane { result.pass.id ≡ lane.now.id }
-    ensures notes { Served pass.got result.pass.got result.stored result.strange }
-{
-    // A thread can't hand the seat's snapshot on: no proof is found that it may be sent.
-    let (tally, _) = serve_lane(rt, shared, lane, pass, seat, gate);
-    tally
 }
 
 impl Tally {
