@@ -1,10 +1,10 @@
 -- What the program prints of a run and of a replay, and how it ends then.
 -- Source: ours.
-use Rattle.std.specs.Prelude.{◌≡◌, ◌⊎◌, ℕ, Bool, true, false, List, Option, Some, None, Result, Ok, Err}
+use Rattle.std.specs.Prelude.{◌≡◌, ◌≤◌, ◌⊎◌, ℕ, Bool, true, false, List, Option, Some, None, Result, Ok, Err}
 use Rattle.std.specs.Io.KnownBytes.{Keeps, Appends}
 use Rattle.instructions.specs.declared.refusal.Refusal.{Refusal}
 use Rattle.sequential.specs.declared.state.State.{State}
-use Rattle.sequential.specs.Log.{entries_of}
+use Rattle.sequential.specs.Log.{entries_of, issued}
 use Rattle.sequential.specs.Replay.{LogStep, boot, replay}
 use Rattle.program_order.specs.Headline.{IsFaultedRun}
 use Rattle.device_text.specs.Device.{WritesFront}
@@ -17,35 +17,37 @@ use Rattle.operator_terms.specs.declared.fault.ProgramFault.TheVariants as fault
 use Rattle.operator_terms.specs.declared.status.Status.{Status}
 use Rattle.operator_terms.specs.Status.{status_of, fault_of}
 
--- the log leads from boot with this memory to this state; and where the state has the fault, the log is a beginning of
--- the program's run that includes the faulting instruction
-abbrev pub IsRun : List ℕ → List LogStep → State → Type 0
-IsRun memory log s = (replay (boot memory) log ≡ Some s) × (s.fault ≡ true → IsFaultedRun log memory s)
+-- the log leads from boot with this memory to this state, and has no more instructions than the budget; and where the
+-- state has the fault, the log is a beginning of the program's run that includes the faulting instruction
+pub record IsRun (memory : List ℕ) (budget : ℕ) (log : List LogStep) (s : State) : Type 0 where
+  pub replay : replay (boot memory) log ≡ Some s
+  pub within : issued log ≤ budget
+  pub fault : s.fault ≡ true → IsFaultedRun log memory s
 
 -- why a run has no end: no memory is left, or the machine refused a step
 abbrev pub EndsNoRun : ProgramFault → Type 0
 EndsNoRun fault = (fault ≡ faults.OutOfMemory) ⊎ (fault ≡ faults.Stuck)
 
--- what is printed of a deck's run: the dump of the state to which some log leads, which also says how the program ends,
--- or at a failed write a beginning of such a dump; else nothing
-abbrev pub PrintsRun : Result Status ProgramFault → Deck → Option (List ℕ) → Option (List ℕ) → Type 0
-PrintsRun (Ok status) deck old new =
-    (log : List LogStep) × (s : State) × IsRun deck.image.memory log s × (status ≡ status_of s.fault s.halt)
+-- what is printed of a deck's run with a budget: the dump of the state to which some log leads, which also says how the
+-- program ends, or at a failed write a beginning of such a dump; else nothing
+abbrev pub PrintsRun : Result Status ProgramFault → Deck → ℕ → Option (List ℕ) → Option (List ℕ) → Type 0
+PrintsRun (Ok status) deck budget old new =
+    (log : List LogStep) × (s : State) × IsRun deck.image.memory budget log s × (status ≡ status_of s.fault s.halt)
     × Appends old new (dump_text s (entries_of log) deck.shows)
-PrintsRun (Err faults.Write) deck old new =
-    (log : List LogStep) × (s : State) × IsRun deck.image.memory log s
+PrintsRun (Err faults.Write) deck budget old new =
+    (log : List LogStep) × (s : State) × IsRun deck.image.memory budget log s
     × WritesFront old new (dump_text s (entries_of log) deck.shows)
-PrintsRun (Err faults.OutOfMemory) deck old new = Keeps old new
-PrintsRun (Err faults.Stuck) deck old new = Keeps old new
-PrintsRun other deck old new = ⊥
+PrintsRun (Err faults.OutOfMemory) deck budget old new = Keeps old new
+PrintsRun (Err faults.Stuck) deck budget old new = Keeps old new
+PrintsRun other deck budget old new = ⊥
 
 -- the same from a deck's bytes on, of which these are left
-abbrev pub Runs : Result Status ProgramFault → Reading → List ℕ → Option (List ℕ) → Option (List ℕ) → Type 0
-Runs (Err (faults.Deck m fault)) reading rest old new = (reading ≡ Bad m fault rest) × Keeps old new
-Runs (Err faults.Read) reading rest old new = Keeps old new
-Runs (Err faults.OutOfMemory) reading rest old new = Keeps old new
-Runs result (Good deck n after) rest old new = (rest ≡ after) × PrintsRun result deck old new
-Runs result (Bad n fault after) rest old new = ⊥
+abbrev pub Runs : Result Status ProgramFault → Reading → ℕ → List ℕ → Option (List ℕ) → Option (List ℕ) → Type 0
+Runs (Err (faults.Deck m fault)) reading budget rest old new = (reading ≡ Bad m fault rest) × Keeps old new
+Runs (Err faults.Read) reading budget rest old new = Keeps old new
+Runs (Err faults.OutOfMemory) reading budget rest old new = Keeps old new
+Runs result (Good deck n after) budget rest old new = (rest ≡ after) × PrintsRun result deck budget old new
+Runs result (Bad n fault after) budget rest old new = ⊥
 
 -- how the program ends after a replay: as the machine stands, or since the text was no log's
 abbrev pub replay_end : Result (Option State) Refusal → Result Status ProgramFault

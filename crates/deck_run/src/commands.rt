@@ -23,7 +23,7 @@ fn print_run<T: Threads + Wait + Sync, O: Output>(
     deck: &Deck,
     budget: Budget,
 ) -> Result<Status, ProgramFault>
-    ensures printed { PrintsRun result deck.now (O.contents output.old) (O.contents output.new) }
+    ensures printed { PrintsRun result deck.now budget (O.contents output.old) (O.contents output.new) }
     ensures write { O.has_failed output.new ≡ (O.has_failed output.old || is_write_fault result) }
     ensures handed_on { OnOk result (O.waits output.new ≡ false) }
 {
@@ -34,7 +34,7 @@ fn print_run<T: Threads + Wait + Sync, O: Output>(
     }
 }
 
-/// Reads a deck, runs it, prints the machine's dump and hands it on. What it prints, replaying the dump's log on the
+/// Reads a deck, runs it with at most `budget` instructions, prints the machine's dump and hands it on. What it prints, replaying the dump's log on the
 /// same deck prints too.
 ///
 /// # Errors
@@ -49,7 +49,7 @@ pub fn run_deck<T: Threads + Wait + Sync, I: Input, O: Output>(
     budget: Budget,
 ) -> Result<Status, ProgramFault>
     ensures ran { Moves (I.remaining input.old) (I.remaining input.new)
-        (λ xs ys. Runs result (deck xs) ys (O.contents output.old) (O.contents output.new)) }
+        (λ xs ys. Runs result (deck xs) budget ys (O.contents output.old) (O.contents output.new)) }
     ensures read { I.has_failed input.new ≡ (I.has_failed input.old || is_read_fault result) }
     ensures write { O.has_failed output.new ≡ (O.has_failed output.old || is_write_fault result) }
     ensures handed_on { OnOk result (O.waits output.new ≡ false) }

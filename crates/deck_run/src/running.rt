@@ -83,7 +83,7 @@ fn open_gates() -> Gates<Open> {
 }
 
 /// Boots a machine with a deck's memory and runs it to the end by threads, with the deck's requests for exchanges. The
-/// machine that is answered has come to its state by its log on that memory.
+/// machine that is answered has come to its state by its log on that memory, and was given just this budget.
 ///
 /// # Errors
 /// `OutOfMemory`, also where a thread couldn't be started, and `Stuck` where the machine refused a step before the
@@ -94,7 +94,9 @@ pub fn run<T: Threads + Wait + Sync>(
     deck: &Deck,
     budget: Budget,
 ) -> Result<Snapshot, ProgramFault>
-    ensures { MatchResult result (λ snapshot. IsRun deck.now.image.memory snapshot.log snapshot.state) EndsNoRun }
+    ensures ran { MatchResult result
+        (λ snapshot. IsRun deck.now.image.memory budget snapshot.log snapshot.state) EndsNoRun }
+    ensures budget { IfOk result (λ snapshot. snapshot.budget ≡ budget) }
 {
     let Ok((machine, orders)) = prepared(alloc, deck, budget) else {
         return Err(ProgramFault::OutOfMemory);

@@ -19,16 +19,20 @@ use Rattle.program_order.specs.Processor.{Processor, completed, replayed}
 use Rattle.program_order.specs.Run.{IsAnswer, answer_by, answer_of, done_by, settled}
 use Rattle.program_order.specs.Telling.{IsNoted, IsWhy}
 use Rattle.program_order.proofs.keeping.Telling.{exchange_asked}
-use Rattle.program_order.proofs.theorem.Headline.{books_after}
+use Rattle.program_order.proofs.theorem.Headline.{Books, books_after}
 use Rattle.program_order.proofs.theorem.Theorem.{made_allowed}
 use Rattle.atomic_table.specs.Table.{Me}
 use Rattle.machine_lock.specs.Known.{Known, known, StartsWith, IsMade, Learnt, note_in, word_in, IsNoteOf, IsWhyOf}
-use Rattle.machine_lock.specs.Known.{HasReplay, IsWordOf}
+use Rattle.machine_lock.specs.Known.{Booted, booted_by, booted_with, HasReplay, IsWordOf}
 use Rattle.machine_lock.specs.inner.Kept.{IsCurrent, access_step, is_access, is_of_memory}
 use Rattle.machine_lock.specs.inner.Rules.{History, Knowing, history, past, keeper, caller, Continues}
 use Rattle.machine_lock.proofs.Lists.{last_step, last_step-push}
 
 -- ---- what an event leaves ----
+
+-- what was given at boot is as it was
+booted_as : {r : Option ℕ} {xs : List LogStep} (w v : Processor) → Books w v r xs → booted_by v ≡ booted_by w
+booted_as w v b i = booted_with (b.boot i) (b.budget i)
 
 made_after : (w v : Processor) (e : Event) (a : Result Done Refusal) (d : Done) → v ≡ settled w e a → a ≡ Ok d
     → v ≡ after w e
@@ -78,8 +82,8 @@ quiet : (w v : Processor) (e : Event) → is_quiet e ≡ true → v ≡ after w 
 quiet w v e q h =
     let b = books_after w e in
     ap past h
-    ∙ ap (λ m. history m (after w e).log) b.boot
-    ∙ ap (history w.boot_memory) (b.log ∙ ap (λ l. w.log ++ l) (quiet_steps w.request e q) ∙ append-nil w.log)
+    ∙ ap (λ m. history m (after w e).log) (booted_as w (after w e) b)
+    ∙ ap (history (booted_by w)) (b.log ∙ ap (λ l. w.log ++ l) (quiet_steps w.request e q) ∙ append-nil w.log)
 
 pub of_memory : (e : Event) → is_of_memory e ≡ true → is_quiet e ≡ true
 of_memory Issue h = absurd (cc)
@@ -104,14 +108,14 @@ quiet_settled w v e (Err k) q s = ap past s
 -- ---- an issue ----
 
 pub issued_past : (w v : Processor) (a : Result Done Refusal) (d : Done) → v ≡ settled w Issue a → a ≡ Ok d
-    → past v ≡ history w.boot_memory (w.log ++ Issued ∷ [])
+    → past v ≡ history (booted_by w) (w.log ++ Issued ∷ [])
 unfolding made_steps
 issued_past w v a d s o =
     let h = made_after w v Issue a d s o in
     let b = books_after w Issue in
     ap past h
-    ∙ ap (λ m. history m (after w Issue).log) b.boot
-    ∙ ap (history w.boot_memory) b.log
+    ∙ ap (λ m. history m (after w Issue).log) (booted_as w (after w Issue) b)
+    ∙ ap (history (booted_by w)) b.log
 
 -- an issue is never answered as any other event is
 done_issue : (w : Processor) (a : Result Done Refusal) (d : Done) → IsAnswer w Issue a → a ≡ Ok d
@@ -131,44 +135,44 @@ done_issue w a d (inr h) o = let k = sym o ∙ h.want in cc
 pub note_of : (w v : Processor) (a : Result Done Refusal) (d : Done) (k : Known) → replayed w ≡ Some (completed w)
     → IsAnswer w Issue a → v ≡ settled w Issue a → a ≡ Ok d
     → ((n : Option Note) → a ≡ Ok (DoneIssue n) → IsNoted (completed w) (taken (boot v.boot_memory) v.log) n)
-    → history k.boot_memory k.log ≡ history w.boot_memory (w.log ++ Issued ∷ []) → IsNoteOf k (note_in d)
+    → history k.booted k.log ≡ history (booted_by w) (w.log ++ Issued ∷ []) → IsNoteOf k (note_in d)
 unfolding replayed
 note_of w v a d k r i s o n h =
     let p = issued_past w v a d s o in
     let is = o ∙ ap Ok (done_issue w a d i o) in
-    let m : k.boot_memory ≡ w.boot_memory = ap (λ (x : History). x.boot_memory) h in (
+    let m : k.booted ≡ booted_by w = ap (λ (x : History). x.booted) h in (
       w.log,
       ap (λ (x : History). x.log) h,
       completed w,
-      ap (λ x. replay (boot x) w.log) m ∙ r,
-      subst (λ (x : History). IsNoted (completed w) (taken (boot x.boot_memory) x.log) (note_in d)) (p ∙ sym h)
+      ap (λ (x : Booted). replay (boot x.memory) w.log) m ∙ r,
+      subst (λ (x : History). IsNoted (completed w) (taken (boot x.booted.memory) x.log) (note_in d)) (p ∙ sym h)
           (n (note_in d) is),
     )
 
 pub why_of : (w : Processor) (k : Known) (refusal : Refusal) → replayed w ≡ Some (completed w)
-    → history k.boot_memory k.log ≡ past w → IsWhy (completed w) refusal → IsWhyOf k refusal
+    → history k.booted k.log ≡ past w → IsWhy (completed w) refusal → IsWhyOf k refusal
 unfolding replayed
 why_of w k refusal r h y =
-    (completed w, ap (λ (x : History). replay (boot x.boot_memory) x.log) h ∙ r, y)
+    (completed w, ap (λ (x : History). replay (boot x.booted.memory) x.log) h ∙ r, y)
 
 -- ---- an exchange ----
 
 exchanged_past : (w v : Processor) (a : Result Done Refusal) (d : Done) (n : ℕ) → w.request ≡ Some n
-    → v ≡ settled w Exchange a → a ≡ Ok d → past v ≡ history w.boot_memory (w.log ++ Exchanged n ∷ [])
+    → v ≡ settled w Exchange a → a ≡ Ok d → past v ≡ history (booted_by w) (w.log ++ Exchanged n ∷ [])
 unfolding made_steps exchange_step
 exchanged_past w v a d n q s o =
     let h = made_after w v Exchange a d s o in
     let b = books_after w Exchange in
     ap past h
-    ∙ ap (λ m. history m (after w Exchange).log) b.boot
-    ∙ ap (history w.boot_memory) (b.log ∙ ap (λ r. w.log ++ exchange_step r) q)
+    ∙ ap (λ m. history m (after w Exchange).log) (booted_as w (after w Exchange) b)
+    ∙ ap (history (booted_by w)) (b.log ∙ ap (λ r. w.log ++ exchange_step r) q)
 
 -- the last step of the log is the exchange that was asked for
 pub record LastExchange (w v : Processor) : Type 0 where
   pub n : ℕ
   pub request : w.request ≡ Some n
   pub last : last_step v.log ≡ Exchanged n
-  pub longer : past v ≡ history w.boot_memory (w.log ++ last_step v.log ∷ [])
+  pub longer : past v ≡ history (booted_by w) (w.log ++ last_step v.log ∷ [])
 
 pub last_exchange : (w v : Processor) (a : Result Done Refusal) (d : Done) → IsAnswer w Exchange a
     → v ≡ settled w Exchange a → a ≡ Ok d → LastExchange w v
@@ -181,7 +185,7 @@ last_exchange w v a d i s o =
       n = r.0;
       request = r.1;
       last = l;
-      longer = p ∙ ap (λ x. history w.boot_memory (w.log ++ x ∷ [])) (sym l);
+      longer = p ∙ ap (λ x. history (booted_by w) (w.log ++ x ∷ [])) (sym l);
     }
 
 -- ---- a peripheral access ----
@@ -201,18 +205,18 @@ access_steps r (PpRead a) h = refl
 access_steps r (PpWrite a v) h = refl
 
 accessed_past : (w v : Processor) (e : Event) (a : Result Done Refusal) (d : Done) → is_access e ≡ true
-    → v ≡ settled w e a → a ≡ Ok d → past v ≡ history w.boot_memory (w.log ++ access_step e ∷ [])
+    → v ≡ settled w e a → a ≡ Ok d → past v ≡ history (booted_by w) (w.log ++ access_step e ∷ [])
 accessed_past w v e a d q s o =
     let h = made_after w v e a d s o in
     let b = books_after w e in
     ap past h
-    ∙ ap (λ m. history m (after w e).log) b.boot
-    ∙ ap (history w.boot_memory) (b.log ∙ ap (λ l. w.log ++ l) (access_steps w.request e q))
+    ∙ ap (λ m. history m (after w e).log) (booted_as w (after w e) b)
+    ∙ ap (history (booted_by w)) (b.log ∙ ap (λ l. w.log ++ l) (access_steps w.request e q))
 
 -- the last step of the log is the access
 pub record LastAccess (w v : Processor) (e : Event) : Type 0 where
   pub last : last_step v.log ≡ access_step e
-  pub longer : past v ≡ history w.boot_memory (w.log ++ last_step v.log ∷ [])
+  pub longer : past v ≡ history (booted_by w) (w.log ++ last_step v.log ∷ [])
 
 pub last_access : (w v : Processor) (e : Event) (a : Result Done Refusal) (d : Done) → is_access e ≡ true
     → v ≡ settled w e a → a ≡ Ok d → LastAccess w v e
@@ -220,46 +224,46 @@ last_access w v e a d q s o =
     let p = accessed_past w v e a d q s o in
     let l : last_step v.log ≡ access_step e =
     ap (λ (h : History). last_step h.log) p ∙ last_step-push w.log (access_step e) in
-    record { last = l; longer = p ∙ ap (λ x. history w.boot_memory (w.log ++ x ∷ [])) (sym l) }
+    record { last = l; longer = p ∙ ap (λ x. history (booted_by w) (w.log ++ x ∷ [])) (sym l) }
 
 -- the word that was read is that of the replay
 pub word_of : (v : Processor) (k : Known) (e : Event) (r : Result Done Refusal) (d : Done)
-    → replayed v ≡ Some (completed v) → history k.boot_memory k.log ≡ past v → r ≡ Ok d
+    → replayed v ≡ Some (completed v) → history k.booted k.log ≡ past v → r ≡ Ok d
     → ((a : ℕ) → e ≡ PpRead a → (done : Done) → r ≡ Ok done → done ≡ Word (get_or (completed v).memory a 0))
     → (a : ℕ) → e ≡ PpRead a → IsWordOf k a (word_in d)
 unfolding replayed
 word_of v k e r d h p o told a is = (
   completed v,
-  ap (λ (x : History). replay (boot x.boot_memory) x.log) p ∙ h,
+  ap (λ (x : History). replay (boot x.booted.memory) x.log) p ∙ h,
   ap word_in (told a is d o),
 )
 
 -- ---- what the caller's pass has then ----
 
 abbrev pub known_by : Me ℕ Knowing → Known
-known_by m = known m.0.seen.boot_memory m.0.seen.log m.0.mine
+known_by m = known m.0.seen.booted m.0.seen.log m.0.mine
 
 abbrev pub past_by : Me ℕ Knowing → History
-past_by m = history m.0.seen.boot_memory m.0.seen.log
+past_by m = history m.0.seen.booted m.0.seen.log
 
 -- a step was recorded
 pub record Recorded (w v : Processor) (x : LogStep) (old : Known) (n : Me ℕ Knowing) : Type 0 where
   pub present : past_by n ≡ past v
-  pub longer : past_by n ≡ history w.boot_memory (w.log ++ x ∷ [])
+  pub longer : past_by n ≡ history (booted_by w) (w.log ++ x ∷ [])
   pub made : IsMade x old (known_by n)
 
 seen_of : (w : Processor) (p : Me ℕ Knowing) → p ≡ (keeper (past w), []) → p.0.seen ≡ past w
 seen_of w p e = ap (λ (y : Me ℕ Knowing). y.0.seen) e
 
 pub recorded : (w v : Processor) (x : LogStep) (p m n : Me ℕ Knowing) (old : Known) → p ≡ (keeper (past w), [])
-    → known_by m ≡ old → past v ≡ history w.boot_memory (w.log ++ x ∷ [])
-    → n ≡ (caller (history p.0.seen.boot_memory (p.0.seen.log ++ x ∷ [])) (m.0.mine ++ length p.0.seen.log ∷ []), [])
+    → known_by m ≡ old → past v ≡ history (booted_by w) (w.log ++ x ∷ [])
+    → n ≡ (caller (history p.0.seen.booted (p.0.seen.log ++ x ∷ [])) (m.0.mine ++ length p.0.seen.log ∷ []), [])
     → Continues p.0.seen m.0.seen → Recorded w v x old n
 recorded w v x p m n old ep em ev en begins =
     let s = seen_of w p ep in
     let g : Continues (past w) m.0.seen = subst (λ h. Continues h m.0.seen) s begins in
-    let longer : past_by n ≡ history w.boot_memory (w.log ++ x ∷ []) =
-    ap past_by en ∙ ap (λ (h : History). history h.boot_memory (h.log ++ x ∷ [])) s in
+    let longer : past_by n ≡ history (booted_by w) (w.log ++ x ∷ []) =
+    ap past_by en ∙ ap (λ (h : History). history h.booted (h.log ++ x ∷ [])) s in
     record {
       present = longer ∙ sym ev;
       longer = longer;
@@ -267,19 +271,19 @@ recorded w v x p m n old ep em ev en begins =
         w.log,
         subst (λ (k : Known). StartsWith w.log k.log) em g.1,
         ap known_by en
-            ∙ ap (λ (h : History). known h.boot_memory (h.log ++ x ∷ []) (m.0.mine ++ length h.log ∷ [])) s
+            ∙ ap (λ (h : History). known h.booted (h.log ++ x ∷ []) (m.0.mine ++ length h.log ∷ [])) s
             ∙ ap (λ b. known b (w.log ++ x ∷ []) (m.0.mine ++ length w.log ∷ [])) (sym g.0)
-            ∙ ap (λ (k : Known). known k.boot_memory (w.log ++ x ∷ []) (k.mine ++ length w.log ∷ [])) em,
+            ∙ ap (λ (k : Known). known k.booted (w.log ++ x ∷ []) (k.mine ++ length w.log ∷ [])) em,
       );
     }
 
 -- the machine's pass has it too
 pub kept_longer : (w v : Processor) (x : LogStep) (p q : Me ℕ Knowing) → p ≡ (keeper (past w), [])
-    → past v ≡ history w.boot_memory (w.log ++ x ∷ [])
-    → q ≡ (keeper (history p.0.seen.boot_memory (p.0.seen.log ++ x ∷ [])), []) → q ≡ (keeper (past v), [])
+    → past v ≡ history (booted_by w) (w.log ++ x ∷ [])
+    → q ≡ (keeper (history p.0.seen.booted (p.0.seen.log ++ x ∷ [])), []) → q ≡ (keeper (past v), [])
 kept_longer w v x p q ep ev eq =
     eq
-    ∙ ap (λ (h : History). (keeper (history h.boot_memory (h.log ++ x ∷ [])), [])) (seen_of w p ep)
+    ∙ ap (λ (h : History). (keeper (history h.booted (h.log ++ x ∷ [])), [])) (seen_of w p ep)
     ∙ ap (λ h. (keeper h, [])) (sym ev)
 
 -- the log was compared
@@ -301,8 +305,8 @@ compared w v p m n old ep em ev en begins =
         subst (λ (l : List LogStep). StartsWith l old.log) (sym (ap (λ (h : History). h.log) same))
             (subst (λ (k : Known). StartsWith w.log k.log) em g.1),
         ap (λ b. known b n.0.seen.log n.0.mine)
-            (ap (λ (h : History). h.boot_memory) same ∙ sym g.0 ∙ ap (λ (k : Known). k.boot_memory) em)
-            ∙ ap (λ l. known old.boot_memory n.0.seen.log l)
+            (ap (λ (h : History). h.booted) same ∙ sym g.0 ∙ ap (λ (k : Known). k.booted) em)
+            ∙ ap (λ l. known old.booted n.0.seen.log l)
             (ap (λ (y : Me ℕ Knowing). y.0.mine) en ∙ ap (λ (k : Known). k.mine) em),
       );
     }
@@ -316,13 +320,13 @@ pub replay_by : (v : Processor) (n : Me ℕ Knowing) → replayed v ≡ Some (co
     → HasReplay (known_by n)
 unfolding replayed
 replay_by v n r p =
-    (completed v, ap (λ (x : History). replay (boot x.boot_memory) x.log) p ∙ r)
+    (completed v, ap (λ (x : History). replay (boot x.booted.memory) x.log) p ∙ r)
 
 -- who had seen the whole log learns nothing where it is the same
 pub same_seen : (w v : Processor) (old new : Known) → IsCurrent w old → IsCurrent v new → past v ≡ past w
     → Learnt old new → new ≡ old
 same_seen w v old new o n p l =
-    l.1 ∙ ap (λ x. known old.boot_memory x old.mine) (n.1 ∙ ap (λ (h : History). h.log) p ∙ sym o.1)
+    l.1 ∙ ap (λ x. known old.booted x old.mine) (n.1 ∙ ap (λ (h : History). h.log) p ∙ sym o.1)
 
 -- ---- the events of tokens ----
 

@@ -9,7 +9,7 @@ use Rattle.atomic_table.proofs.Lists.{at_set, set_again}
 use Rattle.sequential.specs.Replay.{LogStep}
 use Rattle.sequential.specs.Log.{steps_of}
 use Rattle.sequential.specs.declared.log.Entry.{Entry}
-use Rattle.machine_lock.specs.Known.{is_in, AreApart}
+use Rattle.machine_lock.specs.Known.{Booted, is_in, AreApart}
 use Rattle.machine_lock.specs.inner.Rules.{History, Knowing, history, nothing, fresh, spent, Continues, knowing, keeper}
 use Rattle.machine_lock.specs.inner.Rules.{caller, with_told, kept_back, handed_back, shared_out, AreOf, Fits}
 use Rattle.machine_lock.specs.inner.Rules.{IsCounted, Added, Looked}
@@ -284,13 +284,13 @@ adds slots id me x is kn s h _ at _ =
     let here : v.seen ≡ h.h = (mine.keeps is).2 m.0 in
     let log = h.h.log in
     let place = length log in
-    let now : History = history h.h.boot_memory (log ++ x ∷ []) in
+    let now : History = history h.h.booted (log ++ x ∷ []) in
     let longer : length now.log ≡ place + 1 = omega (arith, length-append log (x ∷ [])) in
     let owner = give h.owner (place ∷ []) id in
     let old : (p : ℕ) → p < place → give h.owner (place ∷ []) id p ≡ h.owner p = λ p less. give_out h.owner
     (place ∷ []) id p (λ i. let e = in_one p place i in omega arith) in
     let at_place : length v.seen.log ≡ place = ap (λ (y : History). length y.log) here in
-    let w : Knowing = knowing v.keeps v.knows (history v.seen.boot_memory (v.seen.log ++ x ∷ [])) v.mine v.told
+    let w : Knowing = knowing v.keeps v.knows (history v.seen.booted (v.seen.log ++ x ∷ [])) v.mine v.told
     (v.theirs ++ length v.seen.log ∷ []) in
     let mine_of : AreOf owner id now.log v.mine = λ p e. let t = mine.mine p e in (omega arith, old p t.0 ∙ t.1) in
     let theirs_of : AreOf owner id now.log (v.theirs ++ length v.seen.log ∷ []) = λ p e.
@@ -319,11 +319,11 @@ adds slots id me x is kn s h _ at _ =
               keeps = λ k. (
                 (mine.keeps k).0,
                 (mine.keeps k).1,
-                λ _. ap (λ (y : History). history y.boot_memory (y.log ++ x ∷ [])) here,
+                λ _. ap (λ (y : History). history y.booted (y.log ++ x ∷ [])) here,
               );
               knows = λ _. (
                 m.0,
-                subst (λ (y : History). Continues now (history y.boot_memory (y.log ++ x ∷ [])))
+                subst (λ (y : History). Continues now (history y.booted (y.log ++ x ∷ [])))
                     (sym here) (goes_on_self now),
                 (m.2.0, starts_more log (x ∷ []) v.told.log m.2.1),
               );
@@ -348,7 +348,7 @@ adds slots id me x is kn s h _ at _ =
     )
 
 -- the first pass, before it knows a history, begins one
-pub starts : (slots id : ℕ) (boot : List ℕ) → Allows IsCounted slots id (fresh, []) 0 (λ n. n)
+pub starts : (slots id : ℕ) (boot : Booted) → Allows IsCounted slots id (fresh, []) 0 (λ n. n)
     (λ n w. (w.1 ≡ []) × (w.0 ≡ keeper (history boot [])))
 starts slots id boot s h _ at _ =
     let mine = h.fits id fresh at in
@@ -394,17 +394,17 @@ pub own_caller : (m : Me ℕ Knowing) (h : History) (places : List ℕ) → m �
     → m ≡ (caller m.0.seen m.0.mine, [])
 own_caller m h places e = e ∙ ap (λ (x : Me ℕ Knowing). (caller x.0.seen x.0.mine, [])) (sym e)
 
-pub started_none : (m : Me ℕ Knowing) (memory : List ℕ) → m ≡ (keeper (history memory []), [])
-    → m ≡ (keeper (history memory (steps_of [])), [])
+pub started_none : (m : Me ℕ Knowing) (boot : Booted) → m ≡ (keeper (history boot []), [])
+    → m ≡ (keeper (history boot (steps_of [])), [])
 unfolding steps_of
-started_none m memory e = e
+started_none m boot e = e
 
-pub started_more : (m n : Me ℕ Knowing) (memory : List ℕ) (es : List Entry) (i : ℕ) (d : Entry)
-    → m ≡ (keeper (history memory (steps_of (take i es))), [])
-    → n ≡ (keeper (history m.0.seen.boot_memory (m.0.seen.log ++ steps_of (get_or es i d ∷ []))), [])
-    → i < length es → n ≡ (keeper (history memory (steps_of (take (i + 1) es))), [])
-started_more m n memory es i d e f l =
+pub started_more : (m n : Me ℕ Knowing) (boot : Booted) (es : List Entry) (i : ℕ) (d : Entry)
+    → m ≡ (keeper (history boot (steps_of (take i es))), [])
+    → n ≡ (keeper (history m.0.seen.booted (m.0.seen.log ++ steps_of (get_or es i d ∷ []))), [])
+    → i < length es → n ≡ (keeper (history boot (steps_of (take (i + 1) es))), [])
+started_more m n boot es i d e f l =
     f
     ∙ ap (λ (x : Me ℕ Knowing).
-    (keeper (history x.0.seen.boot_memory (x.0.seen.log ++ steps_of (get_or es i d ∷ []))), [])) e
-    ∙ ap (λ xs. (keeper (history memory xs), [])) (sym (steps_of-more es i d l))
+    (keeper (history x.0.seen.booted (x.0.seen.log ++ steps_of (get_or es i d ∷ []))), [])) e
+    ∙ ap (λ xs. (keeper (history boot xs), [])) (sym (steps_of-more es i d l))

@@ -32,9 +32,9 @@ numbers_apart one other apart p q a b e f same = by_order (dec_le p q) (dec_le q
   where
     by_order : Dec (p ≤ q) → Dec (q ≤ p) → ⊥
     by_order (yes l) (yes r) = let is : p ≡ q = omega arith in apart q (subst (λ k. is_in k one.mine ≡ true) is a) b
-    by_order (yes l) (no r) = let less = later one.boot_memory one.log p q (lt_of_not-le r) f in omega
+    by_order (yes l) (no r) = let less = later one.booted.memory one.log p q (lt_of_not-le r) f in omega
         (arith, less, same)
-    by_order (no l) _ = let less = later one.boot_memory one.log q p (lt_of_not-le l) e in omega (arith, less, same)
+    by_order (no l) _ = let less = later one.booted.memory one.log q p (lt_of_not-le l) e in omega (arith, less, same)
 
 pub apart_by : (a b x y : List ℕ) → a ≡ x → b ≡ y → AreApart x y → AreApart a b
 apart_by a b x y e f h p i j = h p (ap (is_in p) (sym e) ∙ i) (ap (is_in p) (sym f) ∙ j)

@@ -5,20 +5,32 @@ use Rattle.instructions.specs.declared.refusal.Refusal.{Refusal}
 use Rattle.sequential.specs.declared.state.State.{State}
 use Rattle.sequential.specs.Replay.{LogStep, Issued, boot, replay}
 use Rattle.sequential.specs.Taken.{taken}
+use Rattle.program_order.specs.Processor.{Processor}
 use Rattle.program_order.specs.declared.event.Done.{Done}
 use Rattle.program_order.specs.declared.event.Done.TheVariants.{Issued as DoneIssue, Word, Made}
 use Rattle.program_order.specs.declared.event.Note.{Note}
 use Rattle.program_order.specs.Telling.{IsNoted, IsWhy}
 
--- the machine's boot memory, the steps of its log that the caller has seen, from boot on, and the places among them of
--- the caller's own
+-- what a machine was booted with: its memory, and how many instructions it may issue
+pub record Booted : Type 0 where
+  pub memory : List ℕ
+  pub budget : ℕ
+
+abbrev pub booted_with : List ℕ → ℕ → Booted
+booted_with memory budget = record { memory = memory; budget = budget }
+
+abbrev pub booted_by : Processor → Booted
+booted_by w = booted_with w.boot_memory w.budget
+
+-- what the machine was booted with, the steps of its log that the caller has seen, from boot on, and the places among
+-- them of the caller's own
 pub record Known : Type 0 where
-  pub boot_memory : List ℕ
+  pub booted : Booted
   pub log : List LogStep
   pub mine : List ℕ
 
-abbrev pub known : List ℕ → List LogStep → List ℕ → Known
-known boot_memory log mine = record { boot_memory = boot_memory; log = log; mine = mine }
+abbrev pub known : Booted → List LogStep → List ℕ → Known
+known booted log mine = record { booted = booted; log = log; mine = mine }
 
 -- the steps begin with those
 abbrev pub StartsWith : List LogStep → List LogStep → Type 0
@@ -38,15 +50,15 @@ AreApart xs ys = (p : ℕ) → is_in p xs ≡ true → is_in p ys ≡ true → �
 abbrev pub IsMade : LogStep → Known → Known → Type 0
 IsMade x old new =
     (before : List LogStep) × StartsWith before old.log
-    × (new ≡ known old.boot_memory (before ++ x ∷ []) (old.mine ++ length before ∷ []))
+    × (new ≡ known old.booted (before ++ x ∷ []) (old.mine ++ length before ∷ []))
 
 -- the caller has seen the log, which begins with what was seen before, and made no step
 abbrev pub Learnt : Known → Known → Type 0
-Learnt old new = StartsWith new.log old.log × (new ≡ known old.boot_memory new.log old.mine)
+Learnt old new = StartsWith new.log old.log × (new ≡ known old.booted new.log old.mine)
 
 -- the log explains a state: that to which its steps lead from boot, each of them made
 abbrev pub HasReplay : Known → Type 0
-HasReplay k = (s : State) × (replay (boot k.boot_memory) k.log ≡ Some s)
+HasReplay k = (s : State) × (replay (boot k.booted.memory) k.log ≡ Some s)
 
 -- the reservation that an issue answered, if it did
 abbrev pub note_in : Done → Option Note
@@ -65,16 +77,16 @@ word_in Made = 0
 abbrev pub IsNoteOf : Known → Option Note → Type 0
 IsNoteOf k note =
     (before : List LogStep) × (k.log ≡ before ++ Issued ∷ []) × (s : State)
-    × (replay (boot k.boot_memory) before ≡ Some s) × IsNoted s (taken (boot k.boot_memory) k.log) note
+    × (replay (boot k.booted.memory) before ≡ Some s) × IsNoted s (taken (boot k.booted.memory) k.log) note
 
 -- the word at that address of the state to which the steps lead
 abbrev pub IsWordOf : Known → ℕ → ℕ → Type 0
 IsWordOf k at word =
-    (s : State) × (replay (boot k.boot_memory) k.log ≡ Some s) × (word ≡ slice_index_or s.memory at 0)
+    (s : State) × (replay (boot k.booted.memory) k.log ≡ Some s) × (word ≡ slice_index_or s.memory at 0)
 
 -- what the refusal tells of the state to which the log leads
 abbrev pub IsWhyOf : Known → Refusal → Type 0
-IsWhyOf k refusal = (s : State) × (replay (boot k.boot_memory) k.log ≡ Some s) × IsWhy s refusal
+IsWhyOf k refusal = (s : State) × (replay (boot k.booted.memory) k.log ≡ Some s) × IsWhy s refusal
 
 -- how many instructions up to this place go to a unit: where the one there does, its reservation's number
 abbrev pub number_at : List ℕ → List LogStep → ℕ → ℕ
@@ -89,5 +101,5 @@ IsTaken boot_memory log place =
 abbrev pub NumbersApart : Known → Known → Type 0
 NumbersApart one other =
     (p : ℕ) → (q : ℕ) → is_in p one.mine ≡ true → is_in q other.mine ≡ true
-    → IsTaken one.boot_memory one.log p → IsTaken one.boot_memory one.log q
-    → number_at one.boot_memory one.log p ≢ number_at one.boot_memory one.log q
+    → IsTaken one.booted.memory one.log p → IsTaken one.booted.memory one.log q
+    → number_at one.booted.memory one.log p ≢ number_at one.booted.memory one.log q

@@ -1,6 +1,7 @@
-ghost use Rattle.std.specs.Prelude.{◌≡◌, ◌||◌, ◌⊎◌, ℕ, true, false, Some, IfErr, IfOk, IfSome};
+ghost use Rattle.std.specs.Prelude.{◌≡◌, ◌≤◌, ◌||◌, ◌⊎◌, ℕ, true, false, Some, IfErr, IfOk, IfSome};
 ghost use Rattle.std.specs.Prelude.{MatchResult};
 ghost use Rattle.instructions.specs.declared.refusal.Refusal.TheVariants.{NotDrained, OutOfMemory, Stranger};
+ghost use Rattle.sequential.specs.Log.{issued};
 ghost use Rattle.sequential.specs.Replay.{Issued, Exchanged, boot, replay};
 ghost use Rattle.program_order.specs.declared.event.Event.TheVariants.{Issue, Ask, Exchange, Read, Finish, Store};
 ghost use Rattle.program_order.specs.declared.event.Event.TheVariants.{PpRead};
@@ -290,7 +291,8 @@ impl<K: Naming> Locked<K> {
         stored
     }
 
-    /// The state, the log and the boot memory of the machine, if it is drained. Its caller has then seen the log.
+    /// The state, the log, the boot memory and the budget of the machine, if it is drained. Its caller has then seen the
+    /// log.
     ///
     /// # Errors
     /// `NotDrained` or `OutOfMemory`.
@@ -304,7 +306,9 @@ impl<K: Naming> Locked<K> {
         ensures replayed { HasReplay seen.new }
         ensures seen { Learnt seen.old seen.new }
         ensures fresh { IfOk result
-            (λ snapshot. (snapshot.boot_memory ≡ seen.new.boot_memory) × (snapshot.log ≡ seen.new.log)) }
+            (λ snapshot. (snapshot.boot_memory ≡ seen.new.booted.memory) × (snapshot.budget ≡ seen.new.booted.budget)
+            × (snapshot.log ≡ seen.new.log)) }
+        ensures within { IfOk result (λ snapshot. issued snapshot.log ≤ seen.new.booted.budget) }
         ensures replay { IfOk result (λ snapshot. replay (boot snapshot.boot_memory) snapshot.log
             ≡ Some snapshot.state) }
         ensures fault { IfOk result (λ snapshot. snapshot.state.fault ≡ true
@@ -312,6 +316,7 @@ impl<K: Naming> Locked<K> {
         ensures named { IfErr result (λ refusal. (refusal ≡ NotDrained) ⊎ (refusal ≡ OutOfMemory)) }
     {
         word.compare(&mut self.pass, &mut seen.pass);
+        self.machine.keeps_replay();
         self.machine.snapshot()
     }
 

@@ -67,17 +67,18 @@ impl<J: Chosen> Play<u8, View> for Adds<J> {
     ghost then = { λ s v n w. (w.1 ≡ v.1) × Added J.step v.0 w.0 };
 }
 
-/// The boot memory with which a log begins.
+/// What the machine was booted with whose log begins.
 pub(crate) trait Begun {
-    ghost use Rattle.std.specs.Prelude.{List, ℕ};
+    ghost use Rattle.machine_lock.specs.Known.{Booted};
 
-    ghost memory: { List ℕ };
+    ghost booted: { Booted };
 }
 
 impl Begun for Brand {
     ghost use Rattle.std.specs.Prelude.{[]};
+    ghost use Rattle.machine_lock.specs.Known.{booted_with};
 
-    ghost memory = { [] };
+    ghost booted = { booted_with [] 0 };
 }
 
 /// The load that begins a log.
@@ -87,7 +88,7 @@ impl<J: Begun> Play<u8, View> for Begins<J> {
     ghost use Rattle.std.specs.Prelude.{◌≡◌, []};
     ghost use Rattle.machine_lock.specs.inner.Rules.{history, keeper};
 
-    ghost then = { λ s v n w. (w.1 ≡ v.1) × (w.0 ≡ keeper (history J.memory [])) };
+    ghost then = { λ s v n w. (w.1 ≡ v.1) × (w.0 ≡ keeper (history J.booted [])) };
 }
 
 /// A load.

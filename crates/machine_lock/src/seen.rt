@@ -9,8 +9,8 @@ use std::alloc::Global;
 use std::marker::Model;
 use std::sync::Arc;
 
-/// What its holder has seen of the machine under the lock: the boot memory, the steps of the log from boot on, as far
-/// as the holder has seen it, and which of them the holder made.
+/// What its holder has seen of the machine under the lock: the memory and the budget with which it was booted, the steps
+/// of the log from boot on, as far as the holder has seen it, and which of them the holder made.
 #[derive(Drop)]
 pub struct Seen<K: Naming> {
     pub(crate) pass: Pass,
@@ -23,7 +23,7 @@ impl<K: Naming> Model for Seen<K> {
 
     ghost Value = { Known };
 
-    ghost view = { λ s. known s.pass.me.0.seen.boot_memory s.pass.me.0.seen.log s.pass.me.0.mine };
+    ghost view = { λ s. known s.pass.me.0.seen.booted s.pass.me.0.seen.log s.pass.me.0.mine };
 
     ghost invariant = { λ s. IsCaller K.table s.pass.me.0.seen s.pass.me.0.mine s.pass };
 }
@@ -35,7 +35,7 @@ impl<K: Naming> Seen<K> {
     /// `OutOfMemory`.
     pub fn split(&mut self) -> Result<Seen<K>, Refusal>
         ensures same { self.new ≡ self.old }
-        ensures other { MatchResult result (λ other. other ≡ known self.old.boot_memory self.old.log [])
+        ensures other { MatchResult result (λ other. other ≡ known self.old.booted self.old.log [])
             (λ refusal. refusal ≡ OutOfMemory) }
     {
         let Ok(word) = Arc::try_clone(&self.word) else {

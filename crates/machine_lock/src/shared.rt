@@ -1,14 +1,15 @@
-ghost use Rattle.std.specs.Prelude.{◌≡◌, ◌||◌, ◌⊎◌, ℕ, true, false, [], Some, Ok, Err, IfErr, IfOk, IfSome};
+ghost use Rattle.std.specs.Prelude.{◌≡◌, ◌≤◌, ◌||◌, ◌⊎◌, ℕ, true, false, [], Some, Ok, Err, IfErr, IfOk, IfSome};
 ghost use Rattle.std.specs.Prelude.{MatchResult};
 ghost use Rattle.program_order.specs.declared.event.Done.{Done};
 ghost use Rattle.instructions.specs.declared.refusal.Refusal.TheVariants.{Nothing, NotDrained, OutOfMemory, Stranger};
+ghost use Rattle.sequential.specs.Log.{issued};
 ghost use Rattle.sequential.specs.Replay.{Issued, Exchanged, ReadAt, Wrote, boot, replay};
 ghost use Rattle.program_order.specs.Headline.{IsFaultedRun};
 ghost use Rattle.program_order.specs.Refusals.{may_refuse, is_stranger, is_nothing, is_issue_refusal, is_read_refusal};
 ghost use Rattle.program_order.specs.Refusals.{is_store_refusal, is_accept_refusal, is_return_refusal, is_ask_refusal};
 ghost use Rattle.program_order.specs.Refusals.{is_exchange_refusal, is_access_refusal};
 ghost use Rattle.machine.specs.Tokens.{new_seats, one_more};
-ghost use Rattle.machine_lock.specs.Known.{known, IsMade, Learnt, HasReplay, IsNoteOf, IsWhyOf, IsWordOf};
+ghost use Rattle.machine_lock.specs.Known.{booted_by, known, IsMade, Learnt, HasReplay, IsNoteOf, IsWhyOf, IsWordOf};
 ghost use Rattle.machine_lock.specs.Known.{word_in, AreApart, NumbersApart};
 ghost use Rattle.machine_lock.specs.inner.Kept.{is_of_memory};
 
@@ -117,8 +118,8 @@ pub struct Shared<K: Naming> {
 
 impl<K: Naming> Shared<K> {
     /// Puts a machine under the lock, beside the progress word that K names, and gives its seats out: one for each
-    /// unit in use, in the order of the units' numbers; and what has been seen of it, the boot memory and the log so
-    /// far, none of whose steps is the caller's.
+    /// unit in use, in the order of the units' numbers; and what has been seen of it, what it was booted with and the
+    /// log so far, none of whose steps is the caller's.
     ///
     /// # Errors
     /// `Nothing` where the machine's seats were given out before, and else `OutOfMemory`; the machine is dropped.
@@ -130,7 +131,7 @@ impl<K: Naming> Shared<K> {
         requires { ground ≡ K.table }
         ensures { MatchResult result
             (λ opened. (machine.seats_given ≡ false) × (opened.1 ≡ new_seats)
-            × (opened.2 ≡ known machine.boot_memory machine.log []))
+            × (opened.2 ≡ known (booted_by machine) machine.log []))
             (λ refusal. ((machine.seats_given ≡ true) × (refusal ≡ Nothing))
             ⊎ ((machine.seats_given ≡ false) × (refusal ≡ OutOfMemory))) }
     {
@@ -157,7 +158,7 @@ impl<K: Naming> Shared<K> {
         machine: Machine,
     ) -> Result<(Shared<K>, Seen<K>), Refusal>
         requires { ground ≡ K.table }
-        ensures { MatchResult result (λ made. made.1 ≡ known machine.boot_memory machine.log [])
+        ensures { MatchResult result (λ made. made.1 ≡ known (booted_by machine) machine.log [])
             (λ refusal. refusal ≡ OutOfMemory) }
     {
         let Ground { table, mut pass } = ground;
@@ -433,10 +434,10 @@ impl<K: Naming> Shared<K> {
         self.make(rt, Event::BankFree(bank))
     }
 
-    /// The state, the log and the boot memory of the machine, if it is drained. The state is the replay of
-    /// the log on that memory; and where it has the fault, the log since the last exchange is a beginning of
-    /// the program's run that includes the instruction which set it. The log begins with what its caller had seen, and
-    /// is what its caller has seen then.
+    /// The state, the log, the boot memory and the budget of the machine, if it is drained. The state is the replay of
+    /// the log on that memory, and the log has no more instructions than the budget; where the state has the fault, the
+    /// log since the last exchange is a beginning of the program's run that includes the instruction which set it. The
+    /// log begins with what its caller had seen, and is what its caller has seen then.
     ///
     /// # Errors
     /// `NotDrained` or `OutOfMemory`.
@@ -444,7 +445,9 @@ impl<K: Naming> Shared<K> {
         ensures seen { Learnt seen.old seen.new }
         ensures replayed { HasReplay seen.new }
         ensures fresh { IfOk result
-            (λ snapshot. (snapshot.boot_memory ≡ seen.new.boot_memory) × (snapshot.log ≡ seen.new.log)) }
+            (λ snapshot. (snapshot.boot_memory ≡ seen.new.booted.memory) × (snapshot.budget ≡ seen.new.booted.budget)
+            × (snapshot.log ≡ seen.new.log)) }
+        ensures within { IfOk result (λ snapshot. issued snapshot.log ≤ seen.new.booted.budget) }
         ensures replay { IfOk result (λ snapshot. replay (boot snapshot.boot_memory) snapshot.log
             ≡ Some snapshot.state) }
         ensures fault { IfOk result (λ snapshot. snapshot.state.fault ≡ true
@@ -459,7 +462,7 @@ impl<K: Naming> Shared<K> {
     pub fn meet(&self, one: &mut Seen<K>, other: &mut Seen<K>)
         ensures one { Learnt one.old one.new }
         ensures other { Learnt other.old other.new }
-        ensures same { (one.new.boot_memory ≡ other.new.boot_memory) × (one.new.log ≡ other.new.log) }
+        ensures same { (one.new.booted ≡ other.new.booted) × (one.new.log ≡ other.new.log) }
         ensures apart { AreApart one.new.mine other.new.mine }
         ensures numbers { NumbersApart one.new other.new }
     {

@@ -37,13 +37,13 @@ impl<K: Naming> Word<K> {
 
     // ---- moves of one step ----
 
-    /// The first pass begins a log on a machine's boot memory: the load with which the machine comes to stand beside
+    /// The first pass begins a log of a machine: the load with which the machine comes to stand beside
     /// the word.
     fn begin<J: Begun>(&self, pass: &mut Pass, machine: &Machine)
         requires pass { (pass.old.table_id ≡ K.table) × (pass.old.me ≡ (fresh, [])) }
-        ensures { IsKeeper K.table (history J.memory []) pass.new }
+        ensures { IsKeeper K.table (history J.booted []) pass.new }
     {
-        // It stands here for the memory that is picked at the call.
+        // It stands here for what is picked at the call.
         let _ = machine;
         self.table.shared.load::<Begins<J>>(pass, 0);
     }
@@ -106,9 +106,9 @@ impl<K: Naming> Word<K> {
         requires pass { IsKeeper K.table pass.old.me.0.seen pass.old }
         requires me { IsCaller K.table me.old.me.0.seen me.old.me.0.mine me.old }
         ensures pass { IsKeeper K.table
-            (history pass.old.me.0.seen.boot_memory (pass.old.me.0.seen.log ++ J.step ∷ [])) pass.new }
+            (history pass.old.me.0.seen.booted (pass.old.me.0.seen.log ++ J.step ∷ [])) pass.new }
         ensures me { IsCaller K.table
-            (history pass.old.me.0.seen.boot_memory (pass.old.me.0.seen.log ++ J.step ∷ []))
+            (history pass.old.me.0.seen.booted (pass.old.me.0.seen.log ++ J.step ∷ []))
             (me.old.me.0.mine ++ length pass.old.me.0.seen.log ∷ []) me.new }
         ensures begins { Continues pass.old.me.0.seen me.old.me.0.seen }
     {
@@ -122,7 +122,7 @@ impl<K: Naming> Word<K> {
         requires pass { IsKeeper K.table pass.old.me.0.seen pass.old }
         requires me { IsCaller K.table me.old.me.0.seen me.old.me.0.mine me.old }
         ensures pass { IsKeeper K.table
-            (history pass.old.me.0.seen.boot_memory (pass.old.me.0.seen.log ++ J.step ∷ [])) pass.new }
+            (history pass.old.me.0.seen.booted (pass.old.me.0.seen.log ++ J.step ∷ [])) pass.new }
         ensures me { IsCaller K.table me.new.me.0.seen me.new.me.0.mine me.new }
     {
         // It stands here for the step that is picked at the call.
@@ -135,7 +135,7 @@ impl<K: Naming> Word<K> {
         requires pass { IsKeeper K.table pass.old.me.0.seen pass.old }
         requires me { IsCaller K.table me.old.me.0.seen me.old.me.0.mine me.old }
         ensures pass { IsKeeper K.table
-            (history pass.old.me.0.seen.boot_memory (pass.old.me.0.seen.log ++ J.step ∷ [])) pass.new }
+            (history pass.old.me.0.seen.booted (pass.old.me.0.seen.log ++ J.step ∷ [])) pass.new }
         ensures me { IsCaller K.table me.new.me.0.seen me.new.me.0.mine me.new }
     {
         // It stands here for the step that is picked at the call.
@@ -148,7 +148,7 @@ impl<K: Naming> Word<K> {
         requires pass { IsKeeper K.table pass.old.me.0.seen pass.old }
         requires me { IsCaller K.table me.old.me.0.seen me.old.me.0.mine me.old }
         ensures pass { IsKeeper K.table
-            (history pass.old.me.0.seen.boot_memory (pass.old.me.0.seen.log ++ J.step ∷ [])) pass.new }
+            (history pass.old.me.0.seen.booted (pass.old.me.0.seen.log ++ J.step ∷ [])) pass.new }
         ensures me { IsCaller K.table me.new.me.0.seen me.new.me.0.mine me.new }
     {
         // They stand here for the step that is picked at the call.
@@ -161,9 +161,9 @@ impl<K: Naming> Word<K> {
         requires pass { IsKeeper K.table pass.old.me.0.seen pass.old }
         requires me { IsCaller K.table me.old.me.0.seen me.old.me.0.mine me.old }
         ensures pass { IsKeeper K.table
-            (history pass.old.me.0.seen.boot_memory (pass.old.me.0.seen.log ++ J.step ∷ [])) pass.new }
+            (history pass.old.me.0.seen.booted (pass.old.me.0.seen.log ++ J.step ∷ [])) pass.new }
         ensures me { IsCaller K.table
-            (history pass.old.me.0.seen.boot_memory (pass.old.me.0.seen.log ++ J.step ∷ []))
+            (history pass.old.me.0.seen.booted (pass.old.me.0.seen.log ++ J.step ∷ []))
             (me.old.me.0.mine ++ length pass.old.me.0.seen.log ∷ []) me.new }
         ensures begins { Continues pass.old.me.0.seen me.old.me.0.seen }
     {
@@ -207,7 +207,7 @@ impl<K: Naming> Word<K> {
         requires pass { IsKeeper K.table pass.old.me.0.seen pass.old }
         requires me { IsCaller K.table me.old.me.0.seen me.old.me.0.mine me.old }
         ensures pass { IsKeeper K.table
-            (history pass.old.me.0.seen.boot_memory (pass.old.me.0.seen.log ++ replicate count Issued)) pass.new }
+            (history pass.old.me.0.seen.booted (pass.old.me.0.seen.log ++ replicate count Issued)) pass.new }
         ensures me { IsCaller K.table me.new.me.0.seen me.new.me.0.mine me.new }
     {
         for _ in 0..count {
@@ -220,7 +220,7 @@ impl<K: Naming> Word<K> {
         requires pass { IsKeeper K.table pass.old.me.0.seen pass.old }
         requires me { IsCaller K.table me.old.me.0.seen me.old.me.0.mine me.old }
         ensures pass { IsKeeper K.table
-            (history pass.old.me.0.seen.boot_memory (pass.old.me.0.seen.log ++ steps_of (entry.now ∷ []))) pass.new }
+            (history pass.old.me.0.seen.booted (pass.old.me.0.seen.log ++ steps_of (entry.now ∷ []))) pass.new }
         ensures me { IsCaller K.table me.new.me.0.seen me.new.me.0.mine me.new }
     {
         match *entry {
@@ -231,7 +231,7 @@ impl<K: Naming> Word<K> {
         }
     }
 
-    /// The first pass learns what a machine began with and did. These steps are no caller's.
+    /// The first pass learns what a machine was booted with and did. These steps are no caller's.
     pub(crate) fn start(&self, pass: &mut Pass, machine: &Machine)
         requires pass { (pass.old.table_id ≡ K.table) × (pass.old.me ≡ (fresh, [])) }
         ensures { IsKeeper K.table (past machine.now) pass.new }

@@ -6,3 +6,4 @@ pub mod Naming
 pub mod Numbering
 pub mod Telling
 pub mod Limits
+pub mod Budget

@@ -1,8 +1,9 @@
--- What holds of the pending instructions at every moment. Source: ours.
-use Rattle.std.specs.Prelude.{◌≡◌, true, ℕ, Option, Some, None, length}
+-- What holds of the machine at every moment. Source: ours.
+use Rattle.std.specs.Prelude.{◌≡◌, ◌≤◌, true, ℕ, Option, Some, None, length}
 use Rattle.relocation.specs.Relocation.{package_fits}
 use Rattle.instructions.specs.Each.{Pairs}
 use Rattle.sequential.specs.declared.place.Place.{Place}
+use Rattle.sequential.specs.Log.{issued}
 use Rattle.program_order.specs.Processor.{Processor, completed, replayed}
 use Rattle.in_flight.specs.Apart.{IsApart}
 
@@ -23,3 +24,7 @@ IsAtBeginning place = place.held ≡ None → place.parcel ≡ 0
 -- the replay of the log is the state that the pending instructions come to
 abbrev pub IsReplay : Processor → Type 0
 IsReplay w = replayed w ≡ Some (completed w)
+
+-- no more instructions were issued than its budget
+abbrev pub IsWithinBudget : Processor → Type 0
+IsWithinBudget w = issued w.log ≤ w.budget

@@ -1,4 +1,5 @@
-ghost use Rattle.std.specs.Prelude.{◌≡◌, true, Some};
+ghost use Rattle.std.specs.Prelude.{◌≡◌, ◌≤◌, true, Some};
+ghost use Rattle.sequential.specs.Log.{issued};
 ghost use Rattle.sequential.specs.Replay.{boot, replay};
 ghost use Rattle.program_order.specs.Headline.{IsFaultedRun};
 
@@ -6,39 +7,47 @@ use relocation::Storage;
 use sequential::{Log, State};
 use std::marker::Model;
 
-/// A drained machine: its state, its log, and the memory with which it was booted. The state is that of
-/// the machine that does one instruction at a time, after the log, on that memory.
+/// A drained machine: its state, its log, and the memory and the budget with which it was booted. The state is that of
+/// the machine that does one instruction at a time, after the log, on that memory; and no more instructions were issued
+/// than the budget.
 #[derive(Drop)]
 pub struct Snapshot {
     state: State,
     log: Log,
     boot_memory: Storage,
+    budget: u64,
 }
 
 impl Model for Snapshot {
-    ghost use Rattle.std.specs.Prelude.{◌≡◌, Some};
+    ghost use Rattle.std.specs.Prelude.{◌≡◌, ◌≤◌, Some};
+    ghost use Rattle.sequential.specs.Log.{issued};
     ghost use Rattle.sequential.specs.Replay.{boot, replay};
     ghost use Rattle.program_order.specs.Snapped.{Snapped};
 
     ghost Value = { Snapped };
 
-    ghost view = { λ s. record { state = s.state; log = s.log.steps; boot_memory = s.boot_memory } };
+    ghost view = { λ s. record {
+        state = s.state; log = s.log.steps; boot_memory = s.boot_memory; budget = s.budget } };
 
-    ghost invariant = { λ s. replay (boot s.boot_memory) s.log.steps ≡ Some s.state };
+    ghost invariant = { λ s. (replay (boot s.boot_memory) s.log.steps ≡ Some s.state)
+        × (issued s.log.steps ≤ s.budget) };
 }
 
 impl Snapshot {
-    /// A snapshot of a state that is the replay of its log.
-    pub fn of(state: State, log: Log, boot_memory: Storage) -> Snapshot
-        requires { replay (boot boot_memory) log.steps ≡ Some state }
+    /// A snapshot of a state that is the replay of its log, which has no more instructions than the budget.
+    pub fn of(state: State, log: Log, boot_memory: Storage, budget: u64) -> Snapshot
+        requires replay { replay (boot boot_memory) log.steps ≡ Some state }
+        requires within { issued log.steps ≤ budget }
         ensures state { result.state ≡ state }
         ensures log { result.log ≡ log.steps }
         ensures boot_memory { result.boot_memory ≡ boot_memory }
+        ensures budget { result.budget ≡ budget }
     {
         Snapshot {
             state,
             log,
             boot_memory,
+            budget,
         }
     }
 
@@ -53,6 +62,14 @@ impl Snapshot {
         ensures fault { result.now.fault ≡ true → IsFaultedRun self.now.log self.now.boot_memory result.now }
     {
         &self.state
+    }
+
+    /// How many instructions the machine was given to issue at boot, 0 to 10,000,000. It issued no more.
+    pub fn budget(&self) -> u64
+        ensures value { result ≡ self.now.budget }
+        ensures within { issued self.now.log ≤ result }
+    {
+        self.budget
     }
 
     /// What the machine did since boot.

@@ -106,7 +106,7 @@ fn is_same(one: &Storage, other: &Storage) -> bool {
     (0..words).all(|address| one.load(address) == other.load(address)) && one.size() == other.size()
 }
 
-/// The drained machine shows what the schedule leaves, and boots from the deck's memory.
+/// The drained machine shows what the schedule leaves, and was booted with the deck's memory and the schedule's budget.
 fn expect_left(
     rt: &(impl Abort + AllocGlobal),
     schedule: &Schedule,
@@ -120,8 +120,8 @@ fn expect_left(
     let is_left = is_same(&snapshot.state().memory, &memory);
     let is_booted = is_same(snapshot.boot_memory(), deck.image.memory());
     assert_eq!(rt;
-        (text, is_left, is_booted),
-        (wanted, true, true),
+        (text, is_left, is_booted, snapshot.budget()),
+        (wanted, true, true, schedule.budget),
         "{}",
         schedule.name
     );

@@ -1,13 +1,18 @@
 -- How what is seen of a machine's log goes on. Source: ours.
-use Rattle.std.specs.Prelude.{◌≡◌, []}
+use Rattle.std.specs.Prelude.{◌≡◌, ◌≤◌}
+use Rattle.sequential.specs.Log.{issued}
 use Rattle.program_order.specs.Snapped.{Snapped}
-use Rattle.machine_lock.specs.Known.{Known, known, StartsWith}
+use Rattle.machine_lock.specs.Known.{Known, StartsWith}
 
 -- it is of the same machine, and the log begins with what was seen before
 pub record GoesOnFrom (old new : Known) : Type 0 where
-  pub boot_memory : new.boot_memory ≡ old.boot_memory
+  pub booted : new.booted ≡ old.booted
   pub log : StartsWith new.log old.log
 
--- the snapshot goes on from what was seen
-abbrev pub EndsFrom : Known → Snapped → Type 0
-EndsFrom old snapshot = GoesOnFrom old (known snapshot.boot_memory snapshot.log [])
+-- the snapshot is of the machine of which that was seen: its log begins with what was seen, and has no more instructions
+-- than the machine's budget
+pub record EndsFrom (old : Known) (snapshot : Snapped) : Type 0 where
+  pub boot_memory : snapshot.boot_memory ≡ old.booted.memory
+  pub budget : snapshot.budget ≡ old.booted.budget
+  pub log : StartsWith snapshot.log old.log
+  pub within : issued snapshot.log ≤ old.booted.budget

@@ -1,6 +1,7 @@
 //! A whole run by threads.
-ghost use Rattle.std.specs.Prelude.{◌≡◌, [], IfOk, Ok};
-ghost use Rattle.machine_lock.specs.Known.{known, StartsWith};
+ghost use Rattle.std.specs.Prelude.{◌≡◌, ◌≤◌, [], IfOk, Ok};
+ghost use Rattle.sequential.specs.Log.{issued};
+ghost use Rattle.machine_lock.specs.Known.{booted_by, known, StartsWith};
 ghost use Rattle.unit_workers.specs.Onward.{EndsFrom};
 
 use crate::asking::{FreeRequests, ask_all};
@@ -208,7 +209,7 @@ fn run_beside<K: Naming + Send + Sync, G: Gate + Send, R: Threads + Wait + Sync>
     free: &FreeRequests<'_>,
 ) -> Result<Ended, Refusal>
     requires { ground ≡ K.table }
-    ensures onward { IfOk result (λ ended. EndsFrom (known machine.boot_memory machine.log []) ended.snapshot) }
+    ensures onward { IfOk result (λ ended. EndsFrom (known (booted_by machine) machine.log []) ended.snapshot) }
 {
     let (shared, seats, seen) = Shared::<K>::open(alloc, ground, machine)?;
     let mut places = Places::of(seats);
@@ -221,7 +222,8 @@ fn run_beside<K: Naming + Send + Sync, G: Gate + Send, R: Threads + Wait + Sync>
 /// time, and this one, which issues. The run starts with the exchange for the package at `orders.start`. It ends where
 /// the machine is drained and either it is halted, faulted or out of budget, no request waits, none is due and none at
 /// any time is left; or it is out of budget in the middle of a word, where the exchange that waits can't be made. A
-/// request after more instructions than are issued by then isn't made. The machine is drained first: what was issued
+/// request after more instructions than are issued by then isn't made. What it ends with is of the same machine: its
+/// boot memory, its log and what was added to it, and its budget, which the log keeps to. The machine is drained first: what was issued
 /// before has no note on a lane, by which a worker would serve it.
 ///
 /// # Errors
@@ -236,6 +238,8 @@ pub fn run_threads<G: Gate + Send, R: Threads + Wait + Sync>(
 ) -> Result<Ended, Refusal>
     ensures memory { IfOk result (λ ended. ended.snapshot.boot_memory ≡ machine.boot_memory) }
     ensures log { IfOk result (λ ended. StartsWith ended.snapshot.log machine.log) }
+    ensures budget { IfOk result (λ ended. ended.snapshot.budget ≡ machine.budget) }
+    ensures within { IfOk result (λ ended. issued ended.snapshot.log ≤ machine.budget) }
 {
     let Ok(requests) = Requests::new(alloc, orders.start, orders.after.as_slice()) else {
         return Err(Refusal::OutOfMemory);

@@ -61,7 +61,8 @@ use Rattle.program_order.specs.Peripheral.{access_tests, after_pp_read, after_pp
 use Rattle.program_order.specs.Issue.{issue_tests, after_issue}
 use Rattle.program_order.specs.Events.{tests_of, allowed, after_found, after}
 use Rattle.program_order.specs.Memory.{after_accept, after_return}
-use Rattle.program_order.specs.Sound.{IsAtBeginning}
+use Rattle.program_order.specs.Sound.{IsAtBeginning, IsWithinBudget}
+use Rattle.program_order.proofs.keeping.Budget.{boot_within, event_within}
 use Rattle.program_order.proofs.keeping.Limits.{event_banks, event_starts, boot_banks, boot_starts}
 use Rattle.program_order.proofs.keeping.Slotted.{IsSlottedWhole, event_slotted}
 use Rattle.sequential.proofs.Entries.{issued-append, issued-more}
@@ -85,6 +86,7 @@ still_kept w v e old new a h k room numbered limit =
       numbers = subst IsNumbered (sym h) (numbers_kept w e a k.replay k.numbers);
       banks = ap (λ (x : Processor). length x.busy) h ∙ event_banks w e ∙ k.banks;
       starts = subst (λ (x : Processor). IsAtBeginning x.state.place) (sym h) (event_starts w e k.starts);
+      within = subst IsWithinBudget (sym h) (event_within w e a k.within);
     }
 
 -- those in flight of a machine, and the machine with others in flight
@@ -636,6 +638,7 @@ boot_kept w memory budget log e r h n l =
       numbers = subst IsNumbered (sym e) (boot_numbered memory budget);
       banks = ap (λ (x : Processor). length x.busy) e ∙ boot_banks memory budget;
       starts = subst (λ (x : Processor). IsAtBeginning x.state.place) (sym e) (boot_starts memory budget);
+      within = subst IsWithinBudget (sym e) (boot_within memory budget);
     }
 
 -- giving the seats out changes nothing else
@@ -651,6 +654,7 @@ seats_kept w log k = record {
   numbers = k.numbers;
   banks = k.banks;
   starts = k.starts;
+  within = k.within;
 }
 
 -- ---- a snapshot ----
@@ -664,3 +668,8 @@ snap_replay w log s steps memory k p es el em =
     ∙ ap (replay (boot w.boot_memory)) el
     ∙ drained_replay w (k.sound, k.replay) (not_pending w.pending p)
     ∙ ap Some (sym es)
+
+-- what was issued stays within the budget in them too
+pub snap_within : (w : Processor) (log : Logged) (steps : List LogStep) → IsKept w log → steps ≡ w.log
+    → issued steps ≤ w.budget
+snap_within w log steps k el = let e = ap issued el in let h = k.within in omega (arith, e, h)

@@ -10,7 +10,7 @@ use Rattle.program_order.specs.declared.event.Event.TheVariants.{Issue, Read, Fi
 use Rattle.program_order.specs.declared.event.Event.TheVariants.{Ask, Exchange, PpRead, PpWrite}
 use Rattle.program_order.specs.Processor.{Processor, replayed, completed}
 use Rattle.program_order.specs.Run.{IsAnswer, settled}
-use Rattle.machine_lock.specs.Known.{Known}
+use Rattle.machine_lock.specs.Known.{Known, booted_by}
 use Rattle.machine_lock.specs.inner.Rules.{Knowing, IsKeeper, past}
 
 -- the machine under the lock, and whether its users were told to end
@@ -33,7 +33,7 @@ with_processor k w = record k { processor = w }
 
 -- the caller has seen all of the machine's log
 abbrev pub IsCurrent : Processor → Known → Type 0
-IsCurrent w k = (k.boot_memory ≡ w.boot_memory) × (k.log ≡ w.log)
+IsCurrent w k = (k.booted ≡ booted_by w) × (k.log ≡ w.log)
 
 -- the event is memory's: an acceptance, a return, or that a bank is free
 abbrev pub is_of_memory : Event → Bool

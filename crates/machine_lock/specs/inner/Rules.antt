@@ -8,31 +8,31 @@ use Rattle.atomic_table.specs.Table.{State}
 use Rattle.atomic_table.specs.declared.shared.Seat.{Seat}
 use Rattle.sequential.specs.Replay.{LogStep}
 use Rattle.program_order.specs.Processor.{Processor}
-use Rattle.machine_lock.specs.Known.{StartsWith, is_in, AreApart}
+use Rattle.machine_lock.specs.Known.{Booted, booted_with, booted_by, StartsWith, is_in, AreApart}
 
 -- the name of no table
 abbrev pub no_table : TableId
 no_table =
     record { words = 0; slots = 0; views_name = 0; atom = 0; block = 0; offset = 0; slot_names = [] }
 
--- a boot memory, and the steps of a log since
+-- what a machine was booted with, and the steps of its log since
 pub record History : Type 0 where
-  pub boot_memory : List ℕ
+  pub booted : Booted
   pub log : List LogStep
 
-abbrev pub history : List ℕ → List LogStep → History
-history boot_memory log = record { boot_memory = boot_memory; log = log }
+abbrev pub history : Booted → List LogStep → History
+history booted log = record { booted = booted; log = log }
 
 -- what a machine has been through
 abbrev pub past : Processor → History
-past w = history w.boot_memory w.log
+past w = history (booted_by w) w.log
 
 abbrev pub nothing : History
-nothing = history [] []
+nothing = history (booted_with [] 0) []
 
 -- the history goes on from that one
 abbrev pub Continues : History → History → Type 0
-Continues h k = (k.boot_memory ≡ h.boot_memory) × StartsWith h.log k.log
+Continues h k = (k.booted ≡ h.booted) × StartsWith h.log k.log
 
 -- what a pass knows
 pub record Knowing : Type 0 where
@@ -108,7 +108,7 @@ pub record IsCounted (s : State ℕ Knowing) : Type 0 where
 -- the machine's pass added a step for the one that it took in
 abbrev pub Added : LogStep → Knowing → Knowing → Type 0
 Added x v w =
-    (w ≡ knowing v.keeps v.knows (history v.seen.boot_memory (v.seen.log ++ x ∷ [])) v.mine v.told
+    (w ≡ knowing v.keeps v.knows (history v.seen.booted (v.seen.log ++ x ∷ [])) v.mine v.told
     (v.theirs ++ length v.seen.log ∷ []))
     × Continues v.seen v.told
 

@@ -57,65 +57,66 @@ use Rattle.sequential.specs.declared.fetching.Fetched.{Fetched}
 use Rattle.sequential.specs.declared.fetching.Fetched.TheVariants.{Halting, Passing, Taking}
 use Rattle.sequential.specs.declared.state.State.{State}
 
--- ---- the books: log, request and boot memory ----
+-- ---- the books: log, request, and what was given at boot ----
 
 pub record Books (w v : Processor) (r : Option ℕ) (xs : List LogStep) : Type 0 where
   pub log : v.log ≡ w.log ++ xs
   pub request : v.request ≡ r
   pub boot : v.boot_memory ≡ w.boot_memory
+  pub budget : v.budget ≡ w.budget
 
 books_same : (w v : Processor) → v.log ≡ w.log → v.request ≡ w.request → v.boot_memory ≡ w.boot_memory
-    → Books w v w.request []
-books_same w v a b c = record { log = a ∙ sym (append-nil w.log); request = b; boot = c }
+    → v.budget ≡ w.budget → Books w v w.request []
+books_same w v a b c d = record { log = a ∙ sym (append-nil w.log); request = b; boot = c; budget = d }
 
 books_found : {K : Type 0} (w : Processor) (o : Option (Found Pending K)) (f : Found Pending K → Processor)
     → ((x : Found Pending K) → Books w (f x) w.request []) → Books w (after_found w o f) w.request []
 unfolding after_found
-books_found w None f h = books_same w w refl refl refl
+books_found w None f h = books_same w w refl refl refl refl
 books_found w (Some x) f h = h x
 
 books_store : (w : Processor) (f : Found Pending Stage) (t : Stage) → Books w (after_store w f t) w.request []
 unfolding after_store after_work
-books_store w f Waiting = books_same w _ refl refl refl
-books_store w f (HasRead os) = books_same w _ refl refl refl
-books_store w f (Finished v) = books_same w _ refl refl refl
+books_store w f Waiting = books_same w _ refl refl refl refl
+books_store w f (HasRead os) = books_same w _ refl refl refl refl
+books_store w f (Finished v) = books_same w _ refl refl refl refl
 
 books_accept : (w : Processor) (f : Found Pending HopperEntry) (a : ℕ) (access : Access)
     → Books w (after_accept w f a access) w.request []
 unfolding after_accept
-books_accept w f a (LoadInto n) = books_same w _ refl refl refl
-books_accept w f a (StoreWord v) = books_same w _ refl refl refl
+books_accept w f a (LoadInto n) = books_same w _ refl refl refl refl
+books_accept w f a (StoreWord v) = books_same w _ refl refl refl refl
 
 books_issue : (w : Processor) (g : Fetched) → Books w (after_issue w g) w.request (Issued ∷ [])
 unfolding after_issue
-books_issue w (Halting k place) = record { log = refl; request = refl; boot = refl }
-books_issue w (Passing place) = record { log = refl; request = refl; boot = refl }
-books_issue w (Taking i place) = record { log = refl; request = refl; boot = refl }
+books_issue w (Halting k place) = record { log = refl; request = refl; boot = refl; budget = refl }
+books_issue w (Passing place) = record { log = refl; request = refl; boot = refl; budget = refl }
+books_issue w (Taking i place) = record { log = refl; request = refl; boot = refl; budget = refl }
 
 books_exchange : (w : Processor) (o : Option ℕ) → w.request ≡ o → Books w (after_exchange w o) None (exchange_step o)
 unfolding after_exchange exchange_step
-books_exchange w None e = record { log = sym (append-nil w.log); request = e; boot = refl }
-books_exchange w (Some n) e = record { log = refl; request = refl; boot = refl }
+books_exchange w None e = record { log = sym (append-nil w.log); request = e; boot = refl; budget = refl }
+books_exchange w (Some n) e = record { log = refl; request = refl; boot = refl; budget = refl }
 
 pub books_after : (w : Processor) (e : Event) → Books w (after w e) (made_request w.request e) (made_steps w.request e)
 unfolding after made_request made_steps after_read after_finish after_return after_pp_read after_pp_write
 books_after w Issue = books_issue w _
-books_after w (Read u) = books_found w _ _ (λ f. books_same w _ refl refl refl)
-books_after w (Finish u) = books_found w _ _ (λ f. books_same w _ refl refl refl)
+books_after w (Read u) = books_found w _ _ (λ f. books_same w _ refl refl refl refl)
+books_after w (Finish u) = books_found w _ _ (λ f. books_same w _ refl refl refl refl)
 books_after w (StoreResult u) = books_found w _ _ (λ f. books_store w f f.answer)
 books_after w (Accept p) = books_found w _ _ (λ f. books_accept w f f.answer.a f.answer.access)
-books_after w (Return c) = books_found w _ _ (λ f. books_same w _ refl refl refl)
-books_after w (BankFree k) = books_same w _ refl refl refl
-books_after w (Ask n) = record { log = sym (append-nil w.log); request = refl; boot = refl }
+books_after w (Return c) = books_found w _ _ (λ f. books_same w _ refl refl refl refl)
+books_after w (BankFree k) = books_same w _ refl refl refl refl
+books_after w (Ask n) = record { log = sym (append-nil w.log); request = refl; boot = refl; budget = refl }
 books_after w Exchange = books_exchange w w.request refl
-books_after w (PpRead a) = record { log = refl; request = refl; boot = refl }
-books_after w (PpWrite a v) = record { log = refl; request = refl; boot = refl }
+books_after w (PpRead a) = record { log = refl; request = refl; boot = refl; budget = refl }
+books_after w (PpWrite a v) = record { log = refl; request = refl; boot = refl; budget = refl }
 
 pub books_by : (w : Processor) (e : Event) (a : Result Done Refusal)
     → Books w (settled w e a) (request_by a w.request e) (steps_by a w.request e)
 unfolding settled request_by steps_by
 books_by w e (Ok done) = books_after w e
-books_by w e (Err k) = books_same w w refl refl refl
+books_by w e (Err k) = books_same w w refl refl refl refl
 
 pub run_log : (w : Processor) (es : List Event) (given : List (Result Done Refusal))
     → (settled_all w es given).log ≡ w.log ++ logged w.request es given

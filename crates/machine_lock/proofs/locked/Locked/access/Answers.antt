@@ -36,7 +36,7 @@ invariant_of-self g c = record {
 
 pub returns-in-Ok-clause-current : goal.returns-in-Ok-clause-current
 returns-in-Ok-clause-current g c =
-    let p = (made g c).present in (ap (λ (h : History). h.boot_memory) p, ap (λ (h : History). h.log) p)
+    let p = (made g c).present in (ap (λ (h : History). h.booted) p, ap (λ (h : History). h.log) p)
 
 pub returns-in-Ok-clause-seen : goal.returns-in-Ok-clause-seen
 returns-in-Ok-clause-seen g c =
@@ -80,7 +80,7 @@ invariant_of-self-in-Err g c = record {
 
 pub returns-in-Err-clause-current : goal.returns-in-Err-clause-current
 returns-in-Err-clause-current g c =
-    let p = (refused g c).present in (ap (λ (h : History). h.boot_memory) p, ap (λ (h : History). h.log) p)
+    let p = (refused g c).present in (ap (λ (h : History). h.booted) p, ap (λ (h : History). h.log) p)
 
 pub returns-in-Err-clause-replayed : goal.returns-in-Err-clause-replayed
 returns-in-Err-clause-replayed g c =

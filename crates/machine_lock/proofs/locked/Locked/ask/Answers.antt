@@ -29,7 +29,7 @@ invariant_of-self g c = record {
 
 pub returns-clause-current : goal.returns-clause-current
 returns-clause-current g c =
-    let p = (learnt g c).present in (ap (λ (h : History). h.boot_memory) p, ap (λ (h : History). h.log) p)
+    let p = (learnt g c).present in (ap (λ (h : History). h.booted) p, ap (λ (h : History). h.log) p)
 
 pub returns-clause-replayed : goal.returns-clause-replayed
 returns-clause-replayed g c =

@@ -1,6 +1,7 @@
 use Rattle.std.proofs.Common.{◌≡◌, [], ◌∷◌, ◌++◌, sym, ap, subst}
 use Rattle.std.specs.Prelude.{IfErr}
 use Rattle.sequential.specs.Replay.{Issued}
+use Rattle.machine_lock.specs.Known.{booted_by}
 use Rattle.machine_lock.specs.inner.Rules.{History, history, past}
 use Rattle.machine_lock.proofs.Laws.{Recorded, Compared, known_by, refused_same, refused_past, issued_past, note_of}
 use Rattle.machine_lock.proofs.Laws.{why_of, recorded, kept_longer, compared, kept_same, replay_by}
@@ -13,7 +14,7 @@ use Rattle.machine_lock.proofs.locked.Locked.issue.Goals as goal
 use Rattle.machine_lock.proofs.locked.Locked.issue.Goals.{After-keeps_replay, After-compare}
 
 longer : (g : given.Over) (c : After-keeps_replay g) → past c.apply.new.self
-    ≡ history c.self.inside.machine.boot_memory (c.self.inside.machine.log ++ Issued ∷ [])
+    ≡ history (booted_by c.self.inside.machine) (c.self.inside.machine.log ++ Issued ∷ [])
 longer g c =
     issued_past c.self.inside.machine c.apply.new.self c.apply.result c.in-Ok.done c.apply.ensures.after c.in-Ok.is
 
@@ -36,7 +37,7 @@ invariant_of-self g c = record {
 
 pub returns-in-Ok-clause-current : goal.returns-in-Ok-clause-current
 returns-in-Ok-clause-current g c =
-    let p = (made g c).present in (ap (λ (h : History). h.boot_memory) p, ap (λ (h : History). h.log) p)
+    let p = (made g c).present in (ap (λ (h : History). h.booted) p, ap (λ (h : History). h.log) p)
 
 pub returns-in-Ok-clause-seen : goal.returns-in-Ok-clause-seen
 returns-in-Ok-clause-seen g c =
@@ -80,7 +81,7 @@ invariant_of-self-in-Err g c = record {
 
 pub returns-in-Err-clause-current : goal.returns-in-Err-clause-current
 returns-in-Err-clause-current g c =
-    let p = (refused g c).present in (ap (λ (h : History). h.boot_memory) p, ap (λ (h : History). h.log) p)
+    let p = (refused g c).present in (ap (λ (h : History). h.booted) p, ap (λ (h : History). h.log) p)
 
 pub returns-in-Err-clause-replayed : goal.returns-in-Err-clause-replayed
 returns-in-Err-clause-replayed g c =

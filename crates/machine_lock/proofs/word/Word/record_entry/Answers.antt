@@ -8,7 +8,7 @@ returns-in-Exchange-clause-pass g c =
     let p = c.record_exchange.ensures.pass in (
       p.0,
       p.1 ∙ ap (λ l. (
-        keeper (history c.args.pass.now.me.0.seen.boot_memory (c.args.pass.now.me.0.seen.log ++ l)),
+        keeper (history c.args.pass.now.me.0.seen.booted (c.args.pass.now.me.0.seen.log ++ l)),
         [],
       )) (sym (steps_of-exchange c.args.entry.now c.in-Exchange.at c.in-Exchange.is)),
     )
@@ -18,7 +18,7 @@ returns-in-Issued-clause-pass g c =
     let p = c.record_issues.ensures.pass in (
       p.0,
       p.1 ∙ ap (λ l. (
-        keeper (history c.args.pass.now.me.0.seen.boot_memory (c.args.pass.now.me.0.seen.log ++ l)),
+        keeper (history c.args.pass.now.me.0.seen.booted (c.args.pass.now.me.0.seen.log ++ l)),
         [],
       )) (sym (steps_of-count c.args.entry.now c.in-Issued.count c.in-Issued.is)),
     )
@@ -28,7 +28,7 @@ returns-in-PpRead-clause-pass g c =
     let p = c.record_read.ensures.pass in (
       p.0,
       p.1 ∙ ap (λ l. (
-        keeper (history c.args.pass.now.me.0.seen.boot_memory (c.args.pass.now.me.0.seen.log ++ l)),
+        keeper (history c.args.pass.now.me.0.seen.booted (c.args.pass.now.me.0.seen.log ++ l)),
         [],
       )) (sym (steps_of-read c.args.entry.now c.in-PpRead.at c.in-PpRead.is)),
     )
@@ -38,7 +38,7 @@ returns-in-PpWrite-clause-pass g c =
     let p = c.record_write.ensures.pass in (
       p.0,
       p.1 ∙ ap (λ l. (
-        keeper (history c.args.pass.now.me.0.seen.boot_memory (c.args.pass.now.me.0.seen.log ++ l)),
+        keeper (history c.args.pass.now.me.0.seen.booted (c.args.pass.now.me.0.seen.log ++ l)),
         [],
       )) (sym (steps_of-write c.args.entry.now c.in-PpWrite.at c.in-PpWrite.word c.in-PpWrite.is)),
     )

@@ -11,7 +11,7 @@ invariant-loop g l = record {
   at : l.pass.table_id ≡ g.K.Naming.table;
   pass : l.pass.me ≡ (
     keeper
-        (history l.fn.pass.me.0.seen.boot_memory (l.fn.pass.me.0.seen.log ++ replicate l.counter Issued)),
+        (history l.fn.pass.me.0.seen.booted (l.fn.pass.me.0.seen.log ++ replicate l.counter Issued)),
     [],
   );
   me_at : l.me.table_id ≡ g.K.Naming.table;
