@@ -27,7 +27,11 @@ impl Model for Snapshot {
     ghost Value = { Snapped };
 
     ghost view = { λ s. record {
-        state = s.state; log = s.log.steps; boot_memory = s.boot_memory; budget = s.budget } };
+      state = s.state;
+      log = s.log.steps;
+      boot_memory = s.boot_memory;
+      budget = s.budget;
+    } };
 
     ghost invariant = { λ s. (replay (boot s.boot_memory) s.log.steps ≡ Some s.state)
         × (issued s.log.steps ≤ s.budget) };
