@@ -52,16 +52,10 @@ refused_past w v e a k s o = ap past (refused_same w v e a k s o)
 -- an event that is not logged
 abbrev pub is_quiet : Event → Bool
 is_quiet Issue = false
-is_quiet (Read u) = true
-is_quiet (Finish u) = true
-is_quiet (Store u) = true
-is_quiet (Accept p) = true
-is_quiet (Return c) = true
-is_quiet (BankFree b) = true
-is_quiet (Ask n) = true
 is_quiet Exchange = false
 is_quiet (PpRead a) = false
 is_quiet (PpWrite a v) = false
+is_quiet _ = true
 
 quiet_steps : (r : Option ℕ) (e : Event) → is_quiet e ≡ true → made_steps r e ≡ []
 unfolding made_steps

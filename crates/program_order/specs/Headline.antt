@@ -28,29 +28,15 @@ exchange_step (Some n) = Exchanged n ∷ []
 unfoldable pub made_steps : Option ℕ → Event → List LogStep
 made_steps r Issue = Issued ∷ []
 made_steps r Exchange = exchange_step r
-made_steps r (Read u) = []
-made_steps r (Finish u) = []
-made_steps r (Store u) = []
-made_steps r (Accept p) = []
-made_steps r (Return c) = []
-made_steps r (BankFree k) = []
-made_steps r (Ask n) = []
 made_steps r (PpRead a) = ReadAt a ∷ []
 made_steps r (PpWrite a v) = Wrote a v ∷ []
+made_steps r _ = []
 
 -- the request after a made event: one that asks leaves its own, and an exchange leaves none
 unfoldable pub made_request : Option ℕ → Event → Option ℕ
-made_request r Issue = r
-made_request r Exchange = None
-made_request r (Read u) = r
-made_request r (Finish u) = r
-made_request r (Store u) = r
-made_request r (Accept p) = r
-made_request r (Return c) = r
-made_request r (BankFree k) = r
 made_request r (Ask n) = Some n
-made_request r (PpRead a) = r
-made_request r (PpWrite a v) = r
+made_request r Exchange = None
+made_request r _ = r
 
 -- what an event with that answer adds to the log; a refused event adds nothing
 unfoldable pub steps_by : Result Done Refusal → Option ℕ → Event → List LogStep
@@ -72,10 +58,8 @@ logged r (e ∷ events) (a ∷ answers) = steps_by a r e ++ logged (request_by a
 
 -- the step is an exchange
 unfoldable pub is_exchanged : LogStep → Bool
-is_exchanged Issued = false
 is_exchanged (Exchanged n) = true
-is_exchanged (ReadAt a) = false
-is_exchanged (Wrote a w) = false
+is_exchanged _ = false
 
 -- there is no step, or the last one is an exchange
 unfoldable pub ends_exchanged : List LogStep → Bool

@@ -6,10 +6,10 @@ use Rattle.atomic_table.specs.declared.shared.Seat.{Seat}
 use Rattle.sequential.specs.Replay.{LogStep, Issued, ReadAt, Wrote}
 use Rattle.program_order.specs.declared.event.Done.{Done}
 use Rattle.program_order.specs.declared.event.Event.{Event}
-use Rattle.program_order.specs.declared.event.Event.TheVariants.{Issue, Read, Finish, Store, Accept, Return, BankFree}
-use Rattle.program_order.specs.declared.event.Event.TheVariants.{Ask, Exchange, PpRead, PpWrite}
-use Rattle.program_order.specs.Processor.{Processor, replayed, completed}
+use Rattle.program_order.specs.declared.event.Event.TheVariants.{Accept, Return, BankFree, Ask, PpRead, PpWrite}
+use Rattle.program_order.specs.Processor.{Processor}
 use Rattle.program_order.specs.Run.{IsAnswer, settled}
+use Rattle.program_order.specs.Sound.{IsReplay}
 use Rattle.machine_lock.specs.Known.{Known, booted_by}
 use Rattle.machine_lock.specs.inner.Rules.{Knowing, IsKeeper, past}
 
@@ -18,13 +18,9 @@ pub record Kept : Type 0 where
   pub processor : Processor
   pub is_ended : Bool
 
--- the effects made so far, with those still to come, are the replay of the log on the boot memory
-abbrev pub KeepsReplay : Processor → Type 0
-KeepsReplay w = replayed w ≡ Some (completed w)
-
 -- what always holds of the machine and the pass beside it: the replay, and that the pass's list is the log
 pub record IsLocked (table : TableId) (w : Processor) (pass : Seat ℕ Knowing) : Type 0 where
-  pub replay : KeepsReplay w
+  pub replay : IsReplay w
   pub seen : IsKeeper table (past w) pass
 
 -- the machine is this one, and its users were told what they were told before
@@ -37,31 +33,16 @@ IsCurrent w k = (k.booted ≡ booted_by w) × (k.log ≡ w.log)
 
 -- the event is memory's: an acceptance, a return, or that a bank is free
 abbrev pub is_of_memory : Event → Bool
-is_of_memory Issue = false
-is_of_memory (Read u) = false
-is_of_memory (Finish u) = false
-is_of_memory (Store u) = false
 is_of_memory (Accept p) = true
 is_of_memory (Return c) = true
 is_of_memory (BankFree b) = true
-is_of_memory (Ask n) = false
-is_of_memory Exchange = false
-is_of_memory (PpRead a) = false
-is_of_memory (PpWrite a v) = false
+is_of_memory _ = false
 
 -- the event is a peripheral access
 abbrev pub is_access : Event → Bool
-is_access Issue = false
-is_access (Read u) = false
-is_access (Finish u) = false
-is_access (Store u) = false
-is_access (Accept p) = false
-is_access (Return c) = false
-is_access (BankFree b) = false
-is_access (Ask n) = false
-is_access Exchange = false
 is_access (PpRead a) = true
 is_access (PpWrite a v) = true
+is_access _ = false
 
 -- the step that a peripheral access adds to the log
 abbrev pub access_step : Event → LogStep

@@ -23,16 +23,11 @@ use Rattle.program_order.proofs.draining.Draining.{arrival_first, entry_first, s
 -- neither an issue, nor about an exchange, nor a peripheral access
 unfoldable pub is_work : Event → Bool
 is_work Issue = false
-is_work (Read u) = true
-is_work (Finish u) = true
-is_work (StoreResult u) = true
-is_work (Accept p) = true
-is_work (Return c) = true
-is_work (BankFree k) = true
 is_work (Ask n) = false
 is_work Exchange = false
 is_work (PpRead a) = false
 is_work (PpWrite a v) = false
+is_work _ = true
 
 pub on_pending : (ms : List Pending) (e : Event) → works_on ms e ≡ true → is_work e ≡ true
 unfolding works_on is_work

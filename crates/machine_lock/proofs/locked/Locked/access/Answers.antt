@@ -4,7 +4,7 @@ use Rattle.machine_lock.specs.inner.Rules.{History}
 use Rattle.machine_lock.proofs.Lists.{last_step}
 use Rattle.machine_lock.proofs.Laws.{Recorded, Compared, LastAccess, known_by, refused_same, refused_past}
 use Rattle.machine_lock.proofs.Laws.{last_access, word_of, recorded, kept_longer, compared, kept_same, replay_by}
-use Rattle.machine_lock.specs.inner.Kept.{KeepsReplay}
+use Rattle.program_order.specs.Sound.{IsReplay}
 use Rattle.machine_lock.proofs.locked.Locked.access.Given as given
 use Rattle.machine_lock.proofs.locked.Locked.access.Goals as goal
 use Rattle.machine_lock.proofs.locked.Locked.access.Goals.{After-keeps_replay, After-compare}
@@ -64,7 +64,7 @@ refused g c =
 
 pub invariant_of-self-in-Err : goal.invariant_of-self-in-Err
 invariant_of-self-in-Err g c = record {
-  replay = subst KeepsReplay
+  replay = subst IsReplay
       (sym (refused_same c.self.inside.machine c.apply.new.self c.args.event c.apply.result c.in-Err.refusal
       c.apply.ensures.after c.in-Err.is))
       c.self.invariant.replay;

@@ -8,7 +8,7 @@ use Rattle.machine_lock.proofs.Laws.{why_of, recorded, kept_longer, compared, ke
 use Rattle.program_order.specs.declared.event.Event.TheVariants.{Issue}
 use Rattle.program_order.specs.Processor.{completed}
 use Rattle.program_order.specs.Telling.{IsWhy}
-use Rattle.machine_lock.specs.inner.Kept.{KeepsReplay}
+use Rattle.program_order.specs.Sound.{IsReplay}
 use Rattle.machine_lock.proofs.locked.Locked.issue.Given as given
 use Rattle.machine_lock.proofs.locked.Locked.issue.Goals as goal
 use Rattle.machine_lock.proofs.locked.Locked.issue.Goals.{After-keeps_replay, After-compare}
@@ -65,7 +65,7 @@ refused g c =
 
 pub invariant_of-self-in-Err : goal.invariant_of-self-in-Err
 invariant_of-self-in-Err g c = record {
-  replay = subst KeepsReplay
+  replay = subst IsReplay
       (sym (refused_same c.self.inside.machine c.apply.new.self Issue c.apply.result c.in-Err.refusal
       c.apply.ensures.after c.in-Err.is))
       c.self.invariant.replay;
