@@ -106,12 +106,12 @@ fn accepted<'a>(alloc: Global) -> Result<Command<'a>, AllocError> {
         .subcommand(list_command(alloc))
 }
 
-/// The budget that a command is given, which `clap` holds to be one.
+/// The budget of a command. `clap` accepts no other number.
 fn budget(matches: &ArgMatches<'_>) -> Option<Budget> {
     Budget::new(matches.get_one::<u64>("budget")?)
 }
 
-/// What the words ask for that `clap` accepted; None where they ask for nothing, which they never do.
+/// What the words that `clap` accepted ask for; None where they ask for nothing, which they never do.
 fn asked_for<'a>(matches: &ArgMatches<'a>) -> Option<Request<'a>> {
     match matches.subcommand()? {
         ("run", run) => Some(Request::Run(budget(run)?)),

@@ -180,7 +180,8 @@ const WAITS_FOR_EARLIER_WRITERS: [(Call, Answer); 18] = [
     (MayRead(Boolean), Fine),
 ];
 
-/// Who reads the A register of a load waits for its store event, who reads X for its return.
+/// An instruction that reads the A register of a load waits for the load's store event; one that reads X waits for its
+/// return.
 const WAITS_FOR_A_LOAD: [(Call, Answer); 12] = [
     (Reserve("SA1 X0+B0"), Reserved(Increment1, 1)),
     (Reserve("IX2 X1+X1"), Reserved(LongAdd, 2)),

@@ -83,7 +83,7 @@ fn registers() -> RegisterFile {
     }
 }
 
-/// The package of a machine that stands or not, with a fault or not.
+/// The package of a machine that is halted or not, with a fault or not.
 fn package(halted: bool, fault: bool) -> Package {
     Package {
         p: index(0o100),
@@ -118,7 +118,7 @@ fn writes_a_package(rt: HostRuntime) {
     assert_eq!(rt; package(true, false).write(), words(&OUTGOING));
 }
 
-/// Whether the machine stood, whether it had a fault, and the status.
+/// Whether the machine was halted, whether it had a fault, and the status.
 const STATUS: [(bool, bool, u64); 3] = [(false, false, 0), (false, true, 2), (true, true, 3)];
 
 /// The status is written above the A and B fields of word 7.

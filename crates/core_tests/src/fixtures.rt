@@ -62,7 +62,7 @@ pub(crate) fn number_of(index: Option<Word18>) -> Option<u32> {
     }
 }
 
-/// Why a machine stands, or that it runs.
+/// Why a machine is halted, or that it runs.
 #[derive(Clone, Copy, Drop)]
 pub(crate) enum Stand {
     Running,

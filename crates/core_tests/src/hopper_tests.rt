@@ -34,11 +34,11 @@ enum Step {
 enum Answer {
     /// What entered has this place.
     Entered(u8),
-    /// Accepted is a load from the address.
+    /// Memory takes a load from the address.
     IsLoad(u32),
-    /// Accepted is a store to the address.
+    /// Memory takes a store to the address.
     IsStore(u32),
-    /// Accepted is what no test let enter.
+    /// Memory takes what no test let enter.
     IsOther,
     /// The bank is free now.
     Freed,

@@ -1,4 +1,4 @@
-//! What is said of an instruction by itself. Instructions are given as texts.
+//! What holds of an instruction by itself. Instructions are given as texts.
 
 use crate::fixtures::{Register, digit, instruction};
 use List::{Puts, Results, Sources};

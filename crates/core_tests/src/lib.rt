@@ -1,4 +1,10 @@
-//! Tests of the crates below the machine, by what they hand out.
+//! Tests of the crates below `in_flight` and of `exchange_requests`, by what these crates hand out.
+//! The crate hands out nothing itself.
+//!
+//! There is a file for each crate or subject. The first table is `RESERVES_A_FREE_UNIT` in
+//! `board_tests`: calls to a new scoreboard, one a row, with the answer of each. Where an
+//! instruction is needed the tables have its text. `fixtures` has what constants can hold in place
+//! of registers and words.
 #![tactic(auto)]
 
 #[cfg(test)]

@@ -337,8 +337,8 @@ fn with_package(alloc: Global) -> Result<State, Fail> {
     Ok(State::boot(memory))
 }
 
-/// What is seen after the exchange: the package that it leaves is all zero but for the status of a halted machine in
-/// word 7.
+/// What is seen after the exchange: the package that it leaves is all zero, except for the status of a halted machine
+/// in word 7.
 fn after_exchange() -> Seen {
     let zero = Word60::default();
     let status = word(0o00000001_000000_000000);
@@ -696,7 +696,7 @@ const REPLAYS: [Replay; 5] = [
     ),
 ];
 
-/// What a replay answers, and why the machine stands then, at which place, and with what in X3.
+/// What a replay answers, why the machine is then halted, at which place, and with what in X3.
 type Replayed = (Result<(), Refusal>, Option<Halt>, Place, Word60);
 
 /// What the replay of a log makes of the doubling machine.

@@ -72,7 +72,7 @@ with_number (Some n) next = next n
 abbrev pub is_no_size : ℕ → Bool
 is_no_size n = nat_lt n 32 || nat_lt 131072 n
 
--- a deck with a memory of so many words, of which nothing else was said
+-- a deck with a memory of so many words, and nothing else yet
 abbrev pub begun : ℕ → Draft
 begun n = record { image = blank n; place = 0; start = None; asks = []; free = []; shows = [] }
 

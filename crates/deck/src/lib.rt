@@ -1,5 +1,10 @@
-//! Decks: what stands in memory, where the package of the first exchange is, which exchanges come later, and which
-//! words are shown. A deck is lines of bytes; docs/formats.md has them and their faults.
+//! Decks: what stands in memory, where the package of the first exchange is, which exchanges come
+//! later, and which words are shown. A deck is lines of bytes; docs/formats.md has them and their
+//! faults.
+//!
+//! Callers rely on `read_deck`: it answers exactly the deck that the bytes are, or the first line
+//! at fault, and reads nothing past the deck's end or that fault. Begin with `Deck` in `deck` and
+//! `read_deck` in `reading`; `judging` has what each line does.
 #![tactic(auto)]
 
 mod coding;

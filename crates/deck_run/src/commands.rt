@@ -14,8 +14,8 @@ use std::thread::Threads;
 /// Runs a deck, prints the machine's dump and hands it on.
 ///
 /// # Errors
-/// `OutOfMemory`, also where a thread couldn't be started, `Stuck`, and `Write`. Only at the last of these anything was
-/// written, a beginning of a dump.
+/// `OutOfMemory`, also where a thread couldn't be started, `Stuck`, and `Write`. At a failed write a beginning of a
+/// dump was written; at the others nothing was.
 fn print_run<T: Threads + Wait + Sync, O: Output>(
     rt: &T,
     alloc: Global,
@@ -34,13 +34,13 @@ fn print_run<T: Threads + Wait + Sync, O: Output>(
     }
 }
 
-/// Reads a deck, runs it with at most `budget` instructions, prints the machine's dump and hands it on. What it prints, replaying the dump's log on the
-/// same deck prints too.
+/// Reads a deck, runs it with at most `budget` instructions, prints the machine's dump and hands it on. Replaying the
+/// dump's log on the same deck prints the same dump.
 ///
 /// # Errors
 /// `Deck` with a line and its fault, `Read`, `OutOfMemory`, also where a thread couldn't be started, `Stuck` where the
-/// machine refused a step before the run's end, and `Write`. Only at the last of these anything was written, a beginning
-/// of a dump.
+/// machine refused a step before the run's end, and `Write`. At a failed write a beginning of a dump was written; at
+/// the others nothing was.
 pub fn run_deck<T: Threads + Wait + Sync, I: Input, O: Output>(
     rt: &T,
     alloc: Global,
@@ -64,8 +64,8 @@ pub fn run_deck<T: Threads + Wait + Sync, I: Input, O: Output>(
 ///
 /// # Errors
 /// `Deck` with a line and its fault, `BadLog`, `PackageRange` where the words of an exchange of the log don't lie in
-/// memory, `PeripheralRange` where the word of an access doesn't, `OutOfMemory`, `Read`, and `Write`. Only at the last of
-/// these anything was written, a beginning of the dump.
+/// memory, `PeripheralRange` where the word of an access doesn't, `OutOfMemory`, `Read`, and `Write`. At a failed write
+/// a beginning of the dump was written; at the others nothing was.
 pub fn replay_log<I: Input, O: Output>(
     alloc: Global,
     input: &mut I,

@@ -48,8 +48,8 @@ fn booted(alloc: Global, deck: &Deck, budget: Budget) -> Result<Machine, Refusal
     Machine::boot(alloc, memory, budget.get())
 }
 
-/// What a run of a deck is handed on to `run_threads` with: a machine that was just booted with the deck's memory and
-/// the budget, and the deck's orders.
+/// What `run_threads` gets for a run of a deck: a machine that was just booted with the deck's memory and the budget,
+/// and the deck's orders.
 ///
 /// # Errors
 /// `OutOfMemory`.
@@ -69,7 +69,7 @@ fn prepared(alloc: Global, deck: &Deck, budget: Budget) -> Result<(Machine, Orde
     }
 }
 
-/// A gate for each unit that holds nobody.
+/// A gate for each unit that holds up nobody.
 fn open_gates() -> Gates<Open> {
     Gates {
         branch: Open,
@@ -83,7 +83,7 @@ fn open_gates() -> Gates<Open> {
 }
 
 /// Boots a machine with a deck's memory and runs it to the end by threads, with the deck's requests for exchanges. The
-/// machine that is answered has come to its state by its log on that memory, and was given just this budget.
+/// answered machine has come to its state by its log on that memory, and has just this budget.
 ///
 /// # Errors
 /// `OutOfMemory`, also where a thread couldn't be started, and `Stuck` where the machine refused a step before the

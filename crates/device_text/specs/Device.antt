@@ -28,7 +28,7 @@ waits_after before (Err e) = before
 abbrev pub NothingWaits : Bool → Bool → Bool → Type 0
 NothingWaits failed before now = failed ≡ false → before ≡ false → now ≡ false
 
--- of the text all but the rest was written
+-- the text without the rest was written
 abbrev pub WritesAllBut : List ℕ → Option (List ℕ) → Option (List ℕ) → List ℕ → Type 0
 WritesAllBut rest old new all = (front : List ℕ) × (all ≡ front ++ rest) × Appends old new front
 

@@ -16,8 +16,8 @@ abbrev pub lines_of : List ℕ → List (List ℕ × List ℕ)
 lines_of [] = []
 lines_of (b ∷ bytes) = if b == 10 then ([], bytes) ∷ lines_of bytes else onto b (lines_of bytes)
 
--- what is left once the first line of the bytes was read, which comes with the bytes after it: of a line of more than
--- 200 bytes only 201 are read
+-- what is left once the first line of the bytes was read, where each line comes with the bytes after it: a line of more
+-- than 200 bytes is read up to its byte 201
 abbrev pub left_after : List ℕ → List ℕ × List ℕ → List ℕ
 left_after bytes line = if nat_lt 200 (length line.0) then drop 201 bytes else line.1
 
@@ -25,7 +25,7 @@ left_after bytes line = if nat_lt 200 (length line.0) then drop 201 bytes else l
 abbrev pub IsText : List ℕ → Type 0
 IsText text = All (λ b. b ≢ 10) text
 
--- of the next line some bytes were read at most, and not its end
+-- at most some bytes of the next line were read, and not its end
 abbrev pub ReadsPart : List ℕ → List ℕ → Type 0
 ReadsPart xs ys = (part : List ℕ) × IsText part × (xs ≡ part ++ ys)
 

@@ -20,7 +20,7 @@ pub enum Piece<'a> {
     Instruction(Instr),
     /// The code of an opcode that is refused, two octal digits or three.
     Opcode(Op),
-    /// Why a machine stands.
+    /// Why a machine is halted.
     Reason(Halt),
     /// The name of a unit.
     UnitName(Unit),
@@ -52,7 +52,7 @@ fn put_opcode<O: Output>(output: &mut O, op: Op) -> Result<(), WriteFailed>
     }
 }
 
-/// Writes why a machine stands.
+/// Writes why a machine is halted.
 fn put_reason<O: Output>(output: &mut O, halt: Halt) -> Result<(), WriteFailed>
     ensures written { Writes result (O.contents output.old) (O.contents output.new) (reason_text halt) }
     ensures failure { O.has_failed output.new ≡ failed_after (O.has_failed output.old) result }

@@ -1,16 +1,16 @@
-//! Which request for an exchange a run makes next, and so when a run ends.
+//! Which request for an exchange a run makes next, and so when a run ends. All of this is this project's
+//! choice; the exchange jump itself is the 6600's (Control Data 60100000).
 //!
-//! A request names a number of instructions. It is due once so many were issued, and it is made before
-//! the next one is issued. While another request waits for its exchange none is due: the next one is made as
-//! soon as that exchange was made. Of several that are due the one after the fewest instructions comes first, and
-//! of those after equally many the one that was given first. The request for the run's first
-//! package comes before all of them.
+//! A request names a number of instructions. It is due once so many were issued, and a run makes it
+//! before it issues the next one; while another request waits for its exchange none is due. Of several
+//! the one after the fewest instructions comes first, and of equals the one that was given first. The
+//! request for the run's first package precedes all.
 //!
-//! A run ends where the machine is drained and either it is halted, faulted or out of budget, no request waits
-//! and none is due; or it is out of budget in the middle of a word, where the exchange that waits can't be made.
-//! A request after more instructions than are issued by then isn't made.
+//! A run ends where the machine is drained and either it is halted, faulted or out of budget, no request
+//! waits and none is due; or it is out of budget in mid word, where no exchange can be made. A run makes
+//! no request after more instructions than it has issued by then.
 //!
-//! All of this is this project's choice; the exchange jump itself is the 6600's (Control Data 60100000).
+//! Callers rely on `Requests::take_due`: it gives the request that is due, and each once. Begin there.
 #![tactic(auto)]
 
 ghost use Rattle.std.specs.Prelude.{◌≡◌, ◌<◌, ◌+◌, ◌^◌, ◌++◌, ◌∷◌, ◌||◌, true, false, None, is_some, option_to_list};

@@ -1,6 +1,6 @@
 -- The hopper's four places, the banks that references wait for, and which of them keep their order.
--- Source: Thornton, stunt box; 60100000, central memory. That the lowest-numbered free place is taken is ours, and which
--- references keep their order.
+-- Source: Thornton, stunt box; 60100000, central memory. Ours: that a reference takes the lowest-numbered free place,
+-- and which references keep their order.
 use Rattle.std.specs.Prelude.{ℕ, ◌%◌, Bool, true, false, ◌==◌, ◌&&◌, ◌||◌, if◌then◌else◌, List, [], ◌∷◌, Option}
 use Rattle.std.specs.Prelude.{Some, None}
 use Rattle.relocation.specs.declared.area.Access.{Access}

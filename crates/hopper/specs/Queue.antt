@@ -1,4 +1,5 @@
--- What a hopper answers, and what it is after a change: of those that wait, in the order in which they entered.
+-- What a hopper answers, and what it is after a change, by the list of the references that wait, in the order in which
+-- they entered.
 -- Source: Thornton, stunt box; 60100000, central memory.
 use Rattle.std.specs.Prelude.{ℕ, Bool, true, false, ◌==◌, if◌then◌else◌, List, [], Option, Some, None, Result, Ok, Err}
 use Rattle.std.specs.Prelude.{slice_index_or, slice_set}

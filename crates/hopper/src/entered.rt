@@ -5,7 +5,7 @@ use crate::Reference;
 use instructions::Digit;
 use relocation::Access;
 
-/// A reference in its place.
+/// A reference in its place of the hopper.
 #[derive(Clone, Copy, Debug, Drop, PartialEq, Eq)]
 pub struct Entered {
     /// The number of the place, 0 to 3.

@@ -41,7 +41,7 @@ fn index_of(entered: &[Entered], place: u8) -> Option<usize>
     entered.iter().position(|waiting| waiting.stands_at(place))
 }
 
-/// Whether the bank is busy. One that isn't there isn't.
+/// Whether the bank is busy. A bank that doesn't exist isn't.
 pub fn is_busy(busy: &[bool], bank: u8) -> bool
     ensures { result ≡ slice_index_or busy.now bank false }
 {

@@ -39,8 +39,8 @@ fn is_store(access: &Access) -> bool
 }
 
 impl Reference {
-    /// Whether memory takes it and another one in the order in which they entered: at least one of them stores, and
-    /// both are to one absolute address.
+    /// Whether memory has to take it and another one in the order in which they entered: at least one of them stores,
+    /// and both are to one absolute address.
     #[tactic(auto, unfolding(crate::specs::Hopper::keep_order))]
     pub fn keeps_order(&self, other: &Reference) -> bool
         ensures { result ≡ keep_order other.now.address other.now.access self.now.address self.now.access }

@@ -1,5 +1,11 @@
-//! The instructions in flight, which are the pending ones: by the unit, the place of the hopper or the channel that
-//! each has, beside the scoreboard and the hopper, which answer for them.
+//! The instructions in flight: those that were issued and have an effect still to come. `InFlight`
+//! keeps them by the unit, the place of the hopper or the load channel that each has, beside the
+//! scoreboard and the hopper, which judge them.
+//!
+//! Callers rely on `InFlight::reserve`, `read`, `may_store`, `accept` and `return_load`: each
+//! refuses exactly for the first conflict that `specs/Tests` finds in the list of pending
+//! instructions, and leaves exactly the list that `specs/Flight` defines. Begin with `InFlight` in
+//! `flight`; `pending` has how far an instruction may have come.
 #![tactic(auto)]
 
 mod flight;

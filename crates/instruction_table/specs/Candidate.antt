@@ -1,6 +1,6 @@
--- The only instruction whose text a text can be: digits from the places where its first two letters say that they
--- stand. This says nothing of what texts mean, since a candidate counts only where its spelling is the text
--- (`instr_of` of Spelling.antt).
+-- The only instruction that can have a given text: its first two letters say at which places the digits stand. This
+-- says nothing of what texts mean, since a candidate counts only where its spelling is the text (`instr_of` of
+-- Spelling.antt).
 -- Source: ours.
 use Rattle.std.specs.Prelude.{ℕ, ◌+◌, ◌-◌, ◌*◌, ◌%◌, ◌^◌, ◌==◌, if◌then◌else◌, List, [], ◌∷◌, slice_index, drop}
 use Rattle.instructions.specs.declared.instr.XTest.TheVariants.{Zero, NonZero, Positive, Negative, InRange, OutOfRange}

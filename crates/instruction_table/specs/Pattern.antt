@@ -1,4 +1,5 @@
--- What stands in a word beside what the table says: the fields that an instruction uses agree, others hold anything.
+-- How a word may differ from what the table says: the fields that an instruction uses agree, and the other fields hold
+-- anything.
 -- Source: 60100000, the descriptions of the instructions; that unused fields are ignored is ours.
 use Rattle.std.specs.Prelude.{◌≡◌, ◌≢◌, ℕ, zero, suc, ◌+◌, ◌-◌, ◌*◌, ◌/◌, ◌%◌, ◌^◌, List, [], ◌∷◌}
 use Rattle.parcel.specs.Parcels.{parcel_at}

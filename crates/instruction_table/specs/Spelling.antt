@@ -17,8 +17,8 @@ use Rattle.instructions.specs.declared.instr.Instr.TheVariants.{Jump, BranchX, B
 abbrev pub spelling : Instr → List ℕ
 spelling instr = (form_of instr).text
 
--- The instruction whose spelling a text is, none for any other text. The candidate is only how it is found: what counts
--- is that its spelling is the text.
+-- The instruction that is spelled as this text, none for any other text. The candidate is only a way to find it: what
+-- counts is that its spelling is the text.
 unfoldable pub instr_of : List ℕ → Option Instr
 instr_of t = if bytes_eq (spelling (candidate_in t)) t then Some (candidate_in t) else None
 

@@ -281,7 +281,7 @@ pub fn decode(word: Word60, place: u8) -> Decoded
     ensures pattern { (instr : Instr) (n : ℕ) → place + n ≤ 4 → IsReadAs instr (parcels_from word place n)
         → result ≡ Decoded.Legal instr (place + n) }
 
-    // What is read, and what is refused, is so by the instruction table.
+    // What is read and what is refused both agree with the instruction table.
     ensures table { IsByTable word place result }
 {
     decode_as(word, place, first_digits(word, place))

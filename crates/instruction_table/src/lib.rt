@@ -1,10 +1,14 @@
-//! The instruction table: what a pattern of parcels says, which parcels an instruction is written as, and its text.
-//! The instructions themselves are those of `instructions`, which this crate hands on.
+//! The instruction table: what a pattern of parcels says, as which parcels an instruction is
+//! written, and its text. It hands on the instructions themselves, which are those of
+//! `instructions`.
 //!
-//! An instruction of 15 bits has the octal digits f, m, i, j and k, three bits each from the top; one of 30 bits
-//! has f, m, i and j and then 18 bits, K. The table is the machine's (Control Data 6400/6600 Reference Manual,
-//! publication 60100000), without its floating-point instructions; where it is this project's choice the item
-//! says so.
+//! An instruction of 15 bits has the octal digits f, m, i, j and k, three bits each from the top;
+//! one of 30 bits has f, m, i and j and then 18 bits, K. The table is the machine's (Control Data
+//! 6400/6600 Reference Manual, publication 60100000), without its floating-point instructions; an
+//! item says so where something is this project's choice.
+//!
+//! Callers rely on `decode`: it reads each pattern exactly as `specs/Table` says, and wherever the
+//! parcels of an instruction stand it reads that instruction. Begin with `decode` in `decoding`.
 #![tactic(auto)]
 
 mod codes;

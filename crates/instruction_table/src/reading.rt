@@ -251,7 +251,7 @@ fn instr_of(text: &[u8]) -> Option<Instr>
     }
 }
 
-/// The instruction whose one text these bytes are, and None where they are the text of none: other spacing, small
+/// The instruction whose text these bytes are, and None where no instruction has this text: other spacing, small
 /// letters, leading zeros and numbers out of range are refused.
 #[tactic(auto, using(crate::proofs::texts::TextLaws::texts_of_instr))]
 pub fn read_bytes(text: &[u8]) -> Option<Instr>
@@ -263,7 +263,7 @@ pub fn read_bytes(text: &[u8]) -> Option<Instr>
     instr_of(text)
 }
 
-/// The instruction whose one text this is, and None where it is the text of none.
+/// The instruction whose text this is, and None where no instruction has this text.
 pub fn read_text(text: &str) -> Option<Instr>
     ensures value { result ≡ instr_of text.now }
     ensures fields { IfSome result IsInstr }

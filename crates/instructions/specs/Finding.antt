@@ -1,4 +1,4 @@
--- One of a list, such as the pending instructions in issue order, is sought, and others are put in its place.
+-- To find one of a list, such as the pending instructions in issue order, and to put others in its place.
 -- Source: ours.
 use Rattle.std.specs.Prelude.{List, [], ◌∷◌, ◌++◌, Option, Some, None}
 

@@ -1,6 +1,6 @@
 -- What an instruction reads and sets, and the kind of unit that it takes: a row for each instruction.
--- Source: 60100000, the descriptions of the instructions; ours: a register that an instruction reads twice is waited
--- for once, and B0 never.
+-- Source: 60100000, the descriptions of the instructions; ours: an instruction that reads a register twice waits for it
+-- once, and for B0 never.
 use Rattle.std.specs.Prelude.{ℕ, Bool, false, ◌||◌, ◌==◌, nat_le, if◌then◌else◌, List, [], ◌∷◌, ◌++◌, Option, Some}
 use Rattle.std.specs.Prelude.{None}
 use Rattle.std.specs.List.{list_any}

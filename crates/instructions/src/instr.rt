@@ -50,7 +50,7 @@ pub enum Op {
     Extended(Digit, Digit, Digit),
 }
 
-/// What a branch asks of an X register. In range, out of range, definite and indefinite are asked of its upper
+/// What a branch asks of an X register. The tests for in range, out of range, definite and indefinite look at its upper
 /// twelve bits, where a floating-point number has its sign and exponent.
 #[derive(Clone, Copy, Debug, PartialEq, Eq)]
 pub enum XTest {
@@ -133,7 +133,7 @@ pub enum Target {
     X,
 }
 
-/// The kind of register that an address is added to. Of an X register the low 18 bits count.
+/// The kind of register to which an address is added. Only the low 18 bits of an X register count.
 #[derive(Clone, Copy, Debug, PartialEq, Eq)]
 pub enum Base {
     /// `Aj+K`, where m is 0.
@@ -144,7 +144,7 @@ pub enum Base {
     X,
 }
 
-/// Two registers that an increment instruction adds or subtracts. Of an X register the low 18 bits count.
+/// Two registers that an increment instruction adds or subtracts. Only the low 18 bits of an X register count.
 #[derive(Clone, Copy, Debug, PartialEq, Eq)]
 pub enum Pair {
     /// `Xj+Bk`, where m is 3.
@@ -179,13 +179,12 @@ pub enum Addends {
 /// An instruction of the table. `i`, `j` and `k` are the octal digits of that name, register numbers for the
 /// most part; `to` is the 18-bit address K of a branch.
 ///
-/// Codes, names and effects are the machine's (Control Data 6400/6600 Reference Manual, publication 60100000).
-/// The floating-point instructions are not among them, nor is what is left of the manual's other codes: these
-/// are refused.
+/// Codes, names and effects are the machine's (Control Data 6400/6600 Reference Manual, publication 60100000). The
+/// floating-point instructions and the manual's other codes are not among them: the machine refuses these.
 #[derive(Clone, Copy, Debug, PartialEq, Eq)]
 pub enum Instr {
-    /// `PS`, 00: the machine halts. It is one parcel long, whatever length the manual gives it; that is this
-    /// project's choice.
+    /// `PS`, 00: the machine halts. That it takes one parcel, whatever the manual says of its length, is this project's
+    /// choice.
     Stop,
     /// `NO`, 46: nothing.
     Pass,

@@ -1,8 +1,14 @@
-//! Instructions, and what is said of one by itself: its operands, results and kind of unit, and whether it is a branch
-//! or makes a reference to memory. How it is written and read stands in `instruction_table`.
+//! Instructions, and what holds of one by itself: which registers it reads and sets, which kind of
+//! unit it takes, and whether it is a branch or makes a reference to memory. `instruction_table`
+//! has how it is written and read.
 //!
-//! The instructions are the machine's (Control Data 6400/6600 Reference Manual, publication 60100000), without its
-//! floating-point instructions; where something is this project's choice the item says so.
+//! The instructions are the machine's (Control Data 6400/6600 Reference Manual, publication
+//! 60100000), without its floating-point instructions; an item says so where something is this
+//! project's choice.
+//!
+//! Callers rely on `operand_registers`, `results` and `unit_kind`: they answer exactly what the
+//! instruction's row of `uses` in `specs/Operands` says. Begin with `Instr` in `instr`, then
+//! `registers`. `refusal` has why the machine halts, and everything that may be refused.
 #![tactic(auto)]
 
 mod below;

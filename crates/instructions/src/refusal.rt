@@ -1,7 +1,7 @@
 use crate::{Op, Reg, Unit};
 use thiserror::Error;
 
-/// Why the machine stands.
+/// Why the machine is halted.
 #[derive(Clone, Copy, Debug, Drop, PartialEq, Eq)]
 pub enum Halt {
     /// A stop was issued, or the machine was just booted.
@@ -14,7 +14,7 @@ pub enum Halt {
     FetchRange,
 }
 
-/// What is wrong with a line of a deck or a schedule. It is shown in the word that the program prints.
+/// What is wrong with a line of a deck or a schedule. As a text it is the word that the program prints for it.
 #[derive(Clone, Copy, Debug, Drop, Error, PartialEq, Eq)]
 pub enum DeckFault {
     /// More than 10,000,000 lines.
@@ -61,8 +61,8 @@ pub enum DeckFault {
     NoEnd,
 }
 
-/// Why something was refused. The program prints the numbers of what an event of a schedule may be refused for, and
-/// those of some faults of its own; where several apply, the lowest is answered, and want of memory last.
+/// Why something was refused. The program prints the number of a refusal of a schedule's event, and the numbers of some
+/// faults of its own. Where several apply, the answer is the one with the lowest number, and want of memory comes last.
 #[derive(Clone, Copy, Debug, Drop, PartialEq, Eq)]
 pub enum Refusal {
     /// E1, issue: the machine is halted.
@@ -74,15 +74,15 @@ pub enum Refusal {
     Budget,
     /// E4, issue: the Branch unit is reserved.
     BranchPending,
-    /// E5, issue: an exchange is asked and no word is held.
+    /// E5, issue: an exchange is asked for and no word is held.
     ExchangeWaiting,
     /// E6, issue: a store may still change the word to be fetched.
     FetchWait,
     /// E7, issue: no free unit; the lower-numbered one of the kind.
     UnitBusy(Unit),
-    /// E8, issue: the first result register that is a result still to come, A before X.
+    /// E8, issue: the first result register that an earlier instruction has still to write, A before X.
     ResultReserved(Reg),
-    /// E9, read: the first operand that is a result still to come.
+    /// E9, read: the first operand that an earlier instruction has still to write.
     OperandAwaited(Reg),
     /// E10, store or return: the register that an earlier instruction has still to read.
     ResultHeld(Reg),

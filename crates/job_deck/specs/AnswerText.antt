@@ -10,7 +10,7 @@ use Rattle.program_order.specs.declared.event.Done.TheVariants.{Issued, Word, Ma
 use Rattle.device_text.specs.Names.{register_text, unit_text}
 use Rattle.device_text.specs.Pieces.{reason_text}
 
--- the number of a refusal, what it says and what it names; the others are no answers to events
+-- the number of a refusal, what it says and what it names; no other refusal answers an event
 abbrev pub refusal_text : Refusal → List ℕ
 refusal_text (refusals.Halted halt) = concat (codes "E1 halted " ∷ reason_text halt ∷ [])
 refusal_text refusals.Faulted = codes "E2 faulted"

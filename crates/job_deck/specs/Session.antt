@@ -25,8 +25,8 @@ Says n (e ∷ events) [] left = ⊥
 Says n (e ∷ events) (line ∷ lines) left = (heard n (line ∷ lines) ≡ Makes e) × Says (n + 1) events lines left
 
 -- a session so far, with machine w and these lines from line n on: the first lines said events, and each event got an
--- answer that may be given. IsLed relates events and their answers with a machine to which they lead, from wherever it
--- is told: from boot, where it is `IsReached memory budget`
+-- answer that may be given. IsLed relates events and their answers with a machine to which they lead, from some
+-- beginning: from boot it is `IsReached memory budget`
 pub record Session (IsLed : List Event → List (Result Done Refusal) → Processor → Type 0) (w : Processor) (n : ℕ)
     (lines : List (List ℕ × List ℕ)) : Type 0 where
   -- the events that the first lines say, one a line
@@ -58,7 +58,7 @@ pub record IsDump (w : Processor) (shows : List Show) (text : List ℕ) : Type 0
   -- the state, the words of each `show` line, and the log
   pub dump : text ≡ dump_text w.state (entries_of w.log) shows
 
--- of a machine that isn't drained only the line `NOT DRAINED` and the log line are printed
+-- for a machine that isn't drained only the line `NOT DRAINED` and the log line are printed
 abbrev pub not_drained_text : Processor → List ℕ
 not_drained_text w = concat (codes "NOT DRAINED\n" ∷ log_line (entries_of w.log) ∷ [])
 

@@ -1,4 +1,4 @@
--- What holding a session answers, reads and writes.
+-- What a session answers, reads and writes.
 -- Source: ours.
 use Rattle.std.specs.Prelude.{◌≡◌, ◌⊎◌, ℕ, ◌+◌, ◌≤◌, length, List, ◌∷◌, ◌++◌, Option, Result, Ok, Err}
 use Rattle.std.specs.Io.KnownBytes.{Keeps, Appends}
@@ -22,8 +22,8 @@ use Rattle.job_deck.specs.declared.session.SessionError.TheVariants as errors
 abbrev pub IsTaken : List (List ℕ × List ℕ) → List ℕ → Type 0
 IsTaken lines rest = (line : List ℕ) × (lines ≡ (line, rest) ∷ lines_of rest)
 
--- of the bytes xs those before line n were read, from which on the lines are these; that line is at fault, and no
--- more was read
+-- the bytes of xs before line n were read, and these are the lines from there on; line n is at fault, and no more was
+-- read
 abbrev pub IsRefused : ℕ → List (List ℕ × List ℕ) → List ℕ → List ℕ → Type 0
 IsRefused n lines xs rest =
     (read : List ℕ) × (bytes : List ℕ) × (xs ≡ read ++ bytes) × (lines ≡ lines_of bytes)
@@ -34,10 +34,10 @@ abbrev pub WritesCut : Option (List ℕ) → Option (List ℕ) → List ℕ → 
 WritesCut old new text last =
     (front : List ℕ) × (rest : List ℕ) × (last ≡ front ++ rest) × Appends old new (text ++ front)
 
--- a session with machine w from line n on: an `Ok` has written it all, and leaves what follows its last line; at a
--- fault, past which nothing is read, a failed read and want of memory for the dump each line before has its whole
--- answer; a failed write has cut the reply to the line that was read last. IsLed is what holds of the events, the
--- answers and the machine so far
+-- a session with machine w from line n on. An `Ok` has written it all, and leaves what follows its last line. At a
+-- fault, at a failed read and where memory for the dump is wanting, each earlier line has its whole answer; nothing is
+-- read past a fault. A failed write has cut the reply to the line that was read last. IsLed is what holds of the
+-- events, the answers and the machine so far
 abbrev pub Tells : Result (Unit {0}) SessionError → (List Event → List (Result Done Refusal) → Processor → Type 0)
     → Processor
     → ℕ → List Show → List ℕ → List ℕ → Option (List ℕ) → Option (List ℕ) → Type 0

@@ -7,7 +7,7 @@ use device_text::{Output, Piece, WriteFailed, put_pieces};
 use instruction_table::Refusal;
 use machine::{Answer, Done, Note};
 
-/// The number of a refusal and what it says, and what it names. The others are no answers to events.
+/// The number of a refusal with what it says, and what it names. No other refusal answers an event.
 fn refusal_pieces(refusal: &Refusal) -> [Piece<'static>; 2]
     ensures { text_of_all result ≡ refusal_text refusal.now }
 {

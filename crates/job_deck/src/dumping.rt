@@ -27,7 +27,7 @@ fn held_piece(held: &Option<Word60>) -> Piece<'static>
     }
 }
 
-/// Where the machine stands.
+/// The line of P, the next parcel and the held word.
 fn place_line(place: &Place) -> [Piece<'static>; 7]
     ensures { text_of_all result ≡ place_line place.now }
 {
@@ -42,7 +42,7 @@ fn place_line(place: &Place) -> [Piece<'static>; 7]
     ]
 }
 
-/// Why the machine stands: the first half of its line.
+/// Why the machine is halted: the first half of the `HALT` line.
 fn halt_text(halt: &Option<Halt>) -> [Piece<'static>; 2]
     ensures { text_of_all result ≡ halt_text halt.now }
 {
@@ -52,7 +52,7 @@ fn halt_text(halt: &Option<Halt>) -> [Piece<'static>; 2]
     }
 }
 
-/// Whether the fault flag is set: the rest of that line.
+/// Whether the fault flag is set: the rest of the `HALT` line.
 fn fault_text(fault: bool) -> [Piece<'static>; 1]
     ensures { text_of_all result ≡ fault_text fault }
 {
@@ -139,7 +139,7 @@ fn put_x_lines<O: Output>(output: &mut O, x: &[Word60; 8]) -> Result<(), WriteFa
     Ok(())
 }
 
-/// Writes the lines of the machine's state, but for the registers.
+/// Writes the lines of the machine's state, without the registers.
 fn put_state<O: Output>(output: &mut O, state: &State) -> Result<(), WriteFailed>
     ensures written { Writes result (O.contents output.old) (O.contents output.new) (state_lines state.now) }
     ensures failure { O.has_failed output.new ≡ failed_after (O.has_failed output.old) result }

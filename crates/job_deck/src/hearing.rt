@@ -8,9 +8,9 @@ use arrayvec::ArrayVec;
 use device_text::{Input, Output, ReadFailed, Took, read_line};
 use instruction_table::DeckFault;
 
-/// Reads line `number` of a schedule that comes after line `before`, and nothing past it, and answers what
-/// it says or what is wrong with it. Past the first line the answers that were printed must be handed on:
-/// the output is there for that alone.
+/// Reads line `number` of a schedule that comes after line `before`, and nothing past it, and answers
+/// what it says or what is wrong with it. Past the first line the printed answers must have been handed
+/// on; it takes the output only for that.
 ///
 /// # Errors
 /// Where a read fails.

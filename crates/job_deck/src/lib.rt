@@ -1,8 +1,11 @@
-//! Texts of the machine: memory, machines and logs are printed, and logs are read and replayed; and sessions, in which
-//! a machine's events are said and answered line by line. A schedule says one event a line. All texts are lines of
-//! bytes; docs/formats.md has them.
+//! Texts of the machine: it prints memory, machines and logs, reads logs and replays them, and
+//! holds sessions, in which a schedule says a machine's events line by line and each line is
+//! answered. All texts are lines of bytes; docs/formats.md has them. Decks and devices are those of
+//! the crates below, which this crate hands on.
 //!
-//! Decks and devices are those of the crates below, and are found here too.
+//! Callers rely on `events`: it answers each line as `program_order` allows, before it reads the
+//! next, and the events of the lines with the printed answers lead from boot to the machine that it
+//! dumps. Begin with `events` in `session`; `dump` in `dumping` prints a machine.
 #![tactic(auto)]
 
 mod answering;

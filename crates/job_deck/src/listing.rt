@@ -126,8 +126,8 @@ fn print_listing<O: Output>(output: &mut O, image: &Image) -> Result<(), WriteFa
 /// Reads a deck, and writes the words that it places, in order of address, each with what its parcels say.
 ///
 /// # Errors
-/// `Deck` with a line and its fault, `OutOfMemory`, and `Read` and `Write` where the device fails. Before
-/// all but the last of these nothing was written; before that a beginning of the text was.
+/// `Deck` with a line and its fault, `OutOfMemory`, and `Read` and `Write` where the device fails. At a failed write a
+/// beginning of the text was written; at the others nothing was.
 pub fn list_to<I: Input, O: Output>(
     alloc: Global,
     input: &mut I,

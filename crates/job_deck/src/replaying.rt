@@ -17,8 +17,8 @@ use std::io::{Read, Write};
 /// None where the text isn't that of a log.
 ///
 /// # Errors
-/// `PackageRange` where the words of the first step that is refused, an exchange's, don't lie in memory,
-/// `PeripheralRange` where it is a peripheral access whose word doesn't, `OutOfMemory`, and `Write` where a write fails.
+/// `PackageRange` where the first refused step is an exchange whose words don't lie in memory, `PeripheralRange` where
+/// it is a peripheral access whose word doesn't, `OutOfMemory`, and `Write` where a write fails.
 fn print_replay<O: Output>(
     alloc: Global,
     output: &mut O,
@@ -52,8 +52,8 @@ fn print_replay<O: Output>(
 ///
 /// # Errors
 /// `Deck` with a line and its fault, `PackageRange` or `PeripheralRange` where a step of the log is refused,
-/// `OutOfMemory`, and `Read` and `Write` where the device fails. Only at the last of these anything was
-/// written, a beginning of the dump.
+/// `OutOfMemory`, and `Read` and `Write` where the device fails. At a failed write a beginning of the dump was written;
+/// at the others nothing was.
 pub fn replay_to<I: Input, O: Output>(
     alloc: Global,
     input: &mut I,

@@ -147,8 +147,8 @@ fn session_refusal(error: SessionError) -> Refusal
 /// is read. The last line is followed by the dump of the drained machine.
 ///
 /// # Errors
-/// `Deck` with a line and its fault, `OutOfMemory`, and `Read` and `Write` where a device fails. The lines
-/// before have their answers then; only a failed write may have cut one.
+/// `Deck` with a line and its fault, `OutOfMemory`, and `Read` and `Write` where a device fails. The
+/// earlier lines have their answers; only a failed write may have cut one.
 pub fn events_to<I: Input, O: Output>(
     alloc: Global,
     input: &mut I,

@@ -88,7 +88,8 @@ IsWordOf k at word =
 abbrev pub IsWhyOf : Known → Refusal → Type 0
 IsWhyOf k refusal = (s : State) × (replay (boot k.booted.memory) k.log ≡ Some s) × IsWhy s refusal
 
--- how many instructions up to this place go to a unit: where the one there does, its reservation's number
+-- how many instructions up to this place go to a unit: the number of the reservation, where the instruction at this
+-- place goes to one
 abbrev pub number_at : List ℕ → List LogStep → ℕ → ℕ
 number_at boot_memory log place = taken (boot boot_memory) (take (suc place) log)
 
@@ -97,7 +98,7 @@ abbrev pub IsTaken : List ℕ → List LogStep → ℕ → Type 0
 IsTaken boot_memory log place =
     number_at boot_memory log place ≡ suc (taken (boot boot_memory) (take place log))
 
--- no reservation of a step of the one has the number of one of the other's
+-- no reservation of the one's steps has the number of a reservation of the other's steps
 abbrev pub NumbersApart : Known → Known → Type 0
 NumbersApart one other =
     (p : ℕ) → (q : ℕ) → is_in p one.mine ≡ true → is_in q other.mine ≡ true

@@ -1,5 +1,12 @@
-//! The machine under one lock, for several threads, beside a word that counts the steps of its log: each event is made
-//! while the lock is held, and a unit's computing needs none.
+//! The machine under one lock, for several threads, beside a word that counts the steps of its log.
+//! A thread makes each event while it holds the lock; a unit computes without it.
+//!
+//! Callers rely on `Shared::snapshot`: the state that a thread gets is the replay of the snapshot's
+//! own log on the memory that was booted, and that log begins with what the thread had seen. Each
+//! other call says by `Seen` what its caller has then seen of the log.
+//!
+//! Begin with `Shared` in `shared`, then `Seen` in `seen`; `locked` has what the lock keeps true.
+//! docs/threads.md has an example.
 #![tactic(auto)]
 
 mod locked;

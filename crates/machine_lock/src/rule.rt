@@ -67,7 +67,7 @@ impl<J: Chosen> Play<u8, View> for Adds<J> {
     ghost then = { λ s v n w. (w.1 ≡ v.1) × Added J.step v.0 w.0 };
 }
 
-/// What the machine was booted with whose log begins.
+/// What the machine whose log begins was booted with.
 pub(crate) trait Begun {
     ghost use Rattle.machine_lock.specs.Known.{Booted};
 

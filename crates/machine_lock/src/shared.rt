@@ -27,7 +27,8 @@ use std::marker::Model;
 use std::sync::{Arc, Mutex, Wait};
 use word60::Word60;
 
-/// A progress word that no machine stands beside yet. A contract sees which it is.
+/// A progress word, which counts the steps of a machine's log, before a machine stands beside it. A contract sees which
+/// it is.
 #[derive(Drop)]
 pub struct Ground {
     table: Progress,
@@ -73,7 +74,7 @@ fn word_in(done: &Done) -> Word60
     }
 }
 
-/// What was refused, if something was made and refused.
+/// The refusal of an event, if there was an event and it was refused.
 fn unless_refused(answer: Option<Answer>) -> Result<(), Refusal>
     ensures { MatchResult result (λ _. IfSome answer (λ made. (done : Done) × (made ≡ Ok done)))
         (λ refusal. answer ≡ Some (Err refusal)) }
@@ -331,7 +332,7 @@ impl<K: Naming> Shared<K> {
         }
     }
 
-    /// Makes an event of memory, of which no more is told than whether it was made.
+    /// Makes an event of memory, and tells only whether it was made.
     fn make<R: Wait>(&self, rt: &R, event: Event) -> Result<(), Refusal>
         requires { is_of_memory event ≡ true }
         ensures { IfErr result (λ refusal. may_refuse event refusal ≡ true) }

@@ -27,7 +27,7 @@ impl Signal {
         self.count.load(Ordering::SeqCst)
     }
 
-    /// Counts one more, and wakes those that sleep until then.
+    /// Counts one more, and wakes the threads that sleep until it does.
     pub fn raise(&self) {
         self.count.fetch_add(1, Ordering::SeqCst);
         if self.sleepers.load(Ordering::SeqCst) != 0 {
@@ -37,7 +37,7 @@ impl Signal {
 
     /// Sleeps while the count is the one that was seen, for a millisecond at most.
     pub fn sleep<R: Wait>(&self, rt: &R, seen: u64) {
-        // Who raises the count after a sleeper entered itself here wakes it, and who did before changed what is seen.
+        // Once the sleeper is counted here, a thread that raises the count wakes it; one that did so before changed it.
         self.sleepers.fetch_add(1, Ordering::SeqCst);
         let low = seen % (1 << 32);
         self.count
@@ -52,8 +52,7 @@ pub struct Signals {
     /// A unit has stored, memory has accepted a reference or returned a load, or an exchange was asked for or made:
     /// what issues, operands and requests wait for.
     pub changes: Signal,
-    /// A unit has stored that makes references, though not with each instruction: what the worker for memory waits
-    /// for.
+    /// A unit has stored whose instructions may make references: what the worker for memory waits for.
     pub references: Signal,
     branch: Signal,
     boolean: Signal,
@@ -100,7 +99,7 @@ impl Signals {
         }
     }
 
-    /// Whoever waits is to look again.
+    /// All threads that wait have to look again.
     pub(crate) fn raise_all(&self) {
         self.changes.raise();
         self.references.raise();

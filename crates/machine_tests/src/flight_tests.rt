@@ -79,7 +79,7 @@ fn reads_when_no_operand_is_awaited(rt: HostRuntime) {
     assert_eq!(rt; wrong, None);
 }
 
-/// A value is the unit's whose instruction has read its operands.
+/// Only a unit whose instruction has read its operands gets a value.
 #[test]
 fn finishes_what_has_read(rt: HostRuntime) {
     let wrong = first_wrong(&[

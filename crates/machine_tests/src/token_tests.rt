@@ -376,7 +376,7 @@ fn claim(machine: &mut Machine, seat: Seat, note: Note) -> Result<Reserved, Seat
     }
 }
 
-/// The token of which this call is due; the seat where one before is refused.
+/// The token for which this call is due; the seat where an earlier call is refused.
 fn token_due(machine: &mut Machine, seat: Seat, note: Note, due: Due) -> Result<Token, Seat> {
     match due {
         Due::Read => Ok(Token::Reserved(claim(machine, seat, note)?)),
@@ -385,8 +385,8 @@ fn token_due(machine: &mut Machine, seat: Seat, note: Note, due: Due) -> Result<
     }
 }
 
-/// A token of Increment1's reservation of that number, of which this call is due; None where its seat was given out or
-/// a call before is refused.
+/// A token of Increment1's reservation with that number, for which this call is due; None where its seat was given out
+/// or an earlier call is refused.
 fn token_of(machine: &mut Machine, number: u64, due: Due) -> Option<Token> {
     let seat = seat_of_increment1(machine)?;
     match token_due(machine, seat, note(number), due) {
@@ -436,7 +436,8 @@ fn is_stranger(machine: &mut Machine, token: Token) -> bool {
     refusal == Some(Refusal::Stranger) && unit == Unit::Increment1 && stored == 0
 }
 
-/// Has reservation 1 go on without its token, and offers that when reservation 2 has come as far, which then goes on.
+/// Lets reservation 1 go on without its token, and offers the token once reservation 2 has come as far. Then that goes
+/// on.
 fn is_older_refused(machine: &mut Machine, due: Due) -> bool {
     let Some(token) = token_of(machine, 1, due) else {
         return false;
@@ -480,22 +481,22 @@ impl Program<'_> {
         }
     }
 
-    /// A token of that instruction's reservation, of which this call is due, of a machine of its own.
+    /// A token of that instruction's reservation, from a machine of its own, for which this call is due.
     fn token(&self, alloc: Global, due: Due) -> Option<Token> {
         let mut machine = self.issued(alloc)?;
         token_of(&mut machine, self.number, due)
     }
 }
 
-/// Offers a token of another machine, when Increment1's reservation has come as far, which then goes on.
+/// Offers another machine's token once Increment1's reservation has come as far. Then that goes on.
 fn is_refused_by(machine: &mut Machine, token: Token, due: Due) -> bool {
     let is_there = comes_to(machine, due);
     let is_refused = is_stranger(machine, token);
     is_there && is_refused && goes_on(machine, due)
 }
 
-/// The call that is due of a token, the program of its machine and that of the machine to which it is offered, and what
-/// the latter shows in X1 and X2 at the end.
+/// The call that is due for a token, the program of its machine, the program of the machine to which it is offered, and
+/// what the latter shows in X1 and X2 at the end.
 type Offer = (
     Due,
     Program<'static>,

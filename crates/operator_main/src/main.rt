@@ -1,5 +1,12 @@
-//! The program `cdc6600`: it reads a deck, and runs it on the machine and prints the machine's dump, or lists
-//! the deck's words.
+//! The program `cdc6600`: it runs a deck and prints the machine's dump, replays a log on one,
+//! answers the events of a schedule, or lists a deck's words.
+//!
+//! Its own contract promises nothing more than that it is safe; `deck_run` and `job_deck` promise
+//! what it prints. `main` hands the words of the command line to `program::program`, which answers
+//! the exit status. Begin there.
+//!
+//! The tests beside it call `program`; their first table is `CASES` in `command_tests`, a call of
+//! each command with all that it prints.
 #![tactic(auto)]
 
 mod program;

@@ -31,8 +31,8 @@ code_of Running = 5
 code_of OutOfMemory = 6
 code_of Device = 7
 
--- why the program ends where this is refused: `E20`, `E19`, `E27`, `E21`, `E22` or `E23`; the other
--- refusals never come
+-- why the program ends at this refusal: `E20`, `E19`, `E27`, `E21`, `E22` or `E23`; the other refusals
+-- never come
 abbrev pub fault_of : Refusal → ProgramFault
 fault_of (refusals.Deck line fault) = faults.Deck line fault
 fault_of refusals.PackageRange = faults.PackageRange

@@ -1,5 +1,10 @@
-//! What passes between the program and its operator: the budget that the command line may name, the faults that it
-//! tells, and its exit statuses. All of this is this project's choice; docs/formats.md has the texts and the numbers.
+//! What passes between the program and its operator: the budget that the command line may name, the
+//! faults that it tells, and its exit statuses. All of this is this project's choice;
+//! docs/formats.md has the texts and the numbers.
+//!
+//! Callers rely on `end_status`: it answers exactly the status that `specs/Status` gives to a
+//! machine's fault and halt, where a fault wins over a halt. Begin with `Status` in `status`;
+//! `fault` has why the program may end without its output.
 #![tactic(auto)]
 
 mod budget;

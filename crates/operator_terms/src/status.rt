@@ -36,7 +36,7 @@ impl Status {
     }
 }
 
-/// How a machine that has come to its end stands. A fault wins over a halt.
+/// The status of a machine that has come to its end. A fault wins over a halt.
 pub fn end_status(state: &State) -> Status
     ensures { result ≡ status_of state.now.fault state.now.halt }
 {

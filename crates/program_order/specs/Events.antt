@@ -21,7 +21,7 @@ use Rattle.program_order.specs.Peripheral.{access_tests, after_pp_read, after_pp
 
 -- ---- Allowed ----
 
--- what an event may be refused for, in the order in which it is asked
+-- what an event may be refused for, in the order of the tests
 unfoldable pub tests_of : Processor → Event → List Test
 tests_of w Issue = issue_tests w.state w.pending w.request w.budget (issued w.log)
 tests_of w (Read u) = tests_found (seek (stage_at u) w.pending) (λ f. read_tests f.answer f.earlier f.item.instr)

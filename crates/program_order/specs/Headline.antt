@@ -105,7 +105,7 @@ pub record IsFaultedRun (log : List LogStep) (memory : List ℕ) (s : State) : T
   -- before it the fault is never set
   pub never_before : (front rest : List LogStep) → earlier ≡ front ++ rest → (t : State) → replay start front ≡ Some t
       → t.fault ≡ false
-  -- and after it always, whatever comes but an exchange
+  -- and after it always, whatever comes except an exchange
   pub always_after : (more : List LogStep) → list_any is_exchanged more ≡ false → (t : State)
       → replay start (earlier ++ Issued ∷ more) ≡ Some t → t.fault ≡ true
 
@@ -141,7 +141,7 @@ is_access (Exchanged n) = false
 is_access (ReadAt a) = true
 is_access (Wrote a w) = true
 
--- the one log is the other with peripheral accesses more, and nothing else
+-- the one log is the other and then peripheral accesses, and nothing else
 pub record GainsAccesses (old new : List LogStep) : Type 0 where
   pub more : List LogStep
   pub accesses : list_all is_access more ≡ true

@@ -1,4 +1,4 @@
--- What leads to a machine: the events since boot with their answers, by whichever calls they came. Source: ours.
+-- What leads to a machine: the events since boot with their answers, whichever calls made them. Source: ours.
 use Rattle.std.specs.Prelude.{◌≡◌, ℕ, false, List, ◌++◌, Result, Ok, length, replicate}
 use Rattle.instructions.specs.declared.refusal.Refusal.{Refusal}
 use Rattle.program_order.specs.declared.event.Done.{Done}
@@ -8,7 +8,7 @@ use Rattle.program_order.specs.Run.{IsAnswered, settled_all}
 use Rattle.program_order.specs.Processor.{Processor, boot_processor}
 use Rattle.program_order.specs.Working.{Accepts}
 
--- the machine as it is but for its seats, which weren't given out
+-- the machine, with its seats not given out
 abbrev pub without_seats : Processor → Processor
 without_seats w = record w { seats_given = false }
 
@@ -17,7 +17,7 @@ pub record IsReached (memory : List ℕ) (budget : ℕ) (events : List Event) (a
     (w : Processor) : Type 0 where
   -- each event has an answer that may be given
   pub answered : IsAnswered (boot_processor memory budget) events answers
-  -- and the machine is what these answers leave, but for its seats
+  -- and the machine is what these answers leave, except for its seats
   pub left : without_seats w ≡ settled_all (boot_processor memory budget) events answers
 
 -- whatever led to the one machine leads, with these events and their answers more, to the other

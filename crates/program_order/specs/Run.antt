@@ -64,7 +64,7 @@ makes_room (Return c) = false
 makes_room (BankFree k) = false
 makes_room Exchange = false
 
--- E21, out of memory: an event that is allowed, but for which the log could not grow
+-- E21, out of memory: the event is allowed, and the log could not grow for it
 pub record IsRefusedGrowth (w : Processor) (e : Event) (answer : Result Done Refusal) : Type 0 where
   pub want : answer ≡ Err OutOfMemory
   pub growing : makes_room e ≡ true

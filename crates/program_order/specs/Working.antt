@@ -75,8 +75,8 @@ pub record Works (w v : Processor) (count : ℕ) : Type 0 where
   pub counted : length events ≡ count
   pub limit : count ≤ 40
 
--- what no work on what is pending changes: nothing is issued, asked for, exchanged or accessed by a peripheral
--- processor, and what was given at boot, and whether the seats were given out, is as it was
+-- what work on the pending instructions never changes: it issues nothing, asks for no exchange, makes none and accesses
+-- no word for a peripheral processor; what was given at boot, and whether the seats were given out, stays as it was
 pub record KeepsAccounts (w v : Processor) : Type 0 where
   pub log : v.log ≡ w.log
   pub request : v.request ≡ w.request

@@ -17,9 +17,9 @@ ghost use Rattle.program_order.specs.Processor.{Processor as SomeProcessor};
 ghost use Rattle.program_order.specs.Events.{allowed};
 ghost use Rattle.in_flight.specs.Lookup.{is_pending};
 
-/// Whatever led from boot to a machine, by whichever of its calls, its log is what was issued, exchanged and accessed by
-/// peripheral processors; where it is drained, it is the machine that does one instruction at a time, after that log;
-/// and drained or not, a peripheral processor reads the words of that machine.
+/// Whichever calls led from boot to a machine, its log is the instructions issued, the exchanges made and the
+/// peripheral accesses, in order. Where it is drained, it is the machine that does one instruction at a time, after
+/// that log. Drained or not, a peripheral processor reads the words of that machine.
 pub fn what_is_reached_is_faithful()
     ensures { (memory : List ℕ) → (budget : ℕ) → (events : List SomeEvent) → (answers : List (Result SomeDone Refusal))
         → (w : SomeProcessor)

@@ -1,7 +1,12 @@
-//! The machine with instructions in flight, as an architect sees it: its events, what each is refused for and leaves,
-//! and the theorem that it does its program in order, one instruction at a time.
+//! The machine with instructions in flight, as an architect sees it: its events, what refuses each
+//! and what each leaves, and the theorem that it does its program in order, one instruction at a
+//! time.
 //!
-//! `specs` has the definitions, which know nothing of how a machine keeps its fields; `law` states the theorem, and
+//! `specs` has the definitions, which know nothing of how a machine keeps its fields. Callers rely
+//! on the law `what_is_reached_is_faithful`: whatever led from boot to a machine, its log is what
+//! was done, and drained it is the replay of that log.
+//!
+//! Begin with `Event` in `event` and the four theorems in `law`, then read `specs/Events`.
 //! `snapshot` is what a drained machine shows.
 #![tactic(auto)]
 

@@ -1,4 +1,5 @@
--- What a board answers, and what it is after a change: of the issued instructions in the order of their numbers.
+-- What a board answers, and what it is after a change, by the list of the issued instructions in the order of their
+-- numbers.
 -- Source: Thornton, scoreboard; 60100000, unit and register conflicts.
 use Rattle.std.specs.Prelude.{ℕ, suc, Bool, true, false, ◌&&◌, ◌==◌, if◌then◌else◌, List, [], ◌∷◌, ◌++◌, Option, Some}
 use Rattle.std.specs.Prelude.{None, Result, Ok, Err}
@@ -116,6 +117,6 @@ left x = left_with x (channel_of (shape_of x.reservation.instr))
 unfoldable pub gone : Issued → List Issued
 gone x = []
 
--- other issued instructions, with the same last number
+-- the board with other issued instructions and the same last number
 unfoldable pub with_issued : Standing → List Issued → Standing
 with_issued s xs = record s { issued = xs }

@@ -29,8 +29,8 @@ use std::marker::Model;
 pub struct Board {
     /// By the number of the unit: the instruction that holds it.
     units: [Option<Issued>; 10],
-    /// By the number of the unit: who is still to write each of its instruction's up to three sources, of those
-    /// that were issued before it. What stands here for a free unit says nothing.
+    /// By the number of the unit: who, among those issued earlier, is still to write each of the up to three sources of
+    /// its instruction. For a free unit this means nothing.
     producers: [[Option<Writer>; 3]; 10],
     /// By the number of the X register: the load that has left its unit and has still to return.
     channels: [Option<Issued>; 8],
@@ -124,8 +124,8 @@ impl Board {
         Ok((unit, number))
     }
 
-    /// Second order: whether the instruction in the unit may read its operands, all at one stroke (which is this
-    /// project's choice). It waits for earlier instructions alone, not for itself or a later one.
+    /// Second order: whether the instruction in the unit may read its operands, all at once (which is this project's
+    /// choice). It waits for earlier instructions alone, not for itself or a later one.
     ///
     /// # Errors
     /// `OperandAwaited` with the first of its sources, in the instruction table's order, that is a result still
@@ -151,8 +151,8 @@ impl Board {
         }
     }
 
-    /// Third order: whether the instruction in the unit may come to its store event and write its result. A
-    /// load's X register is none of what is asked of here, for its return writes it.
+    /// Third order: whether the instruction in the unit may come to its store event and write its result. This doesn't
+    /// look at a load's X register, since the return of the load writes it.
     ///
     /// # Errors
     /// `ResultHeld` with the first of these registers that an earlier instruction has still to read.
@@ -212,8 +212,8 @@ impl Board {
         }
     }
 
-    /// Whether a branch was issued that hasn't come to its store event. While Branch is held, nothing is to be
-    /// issued; that is this project's choice and the caller's to keep.
+    /// Whether a branch was issued that hasn't come to its store event. While Branch is held the caller issues nothing;
+    /// that is this project's choice.
     pub fn is_branch_held(&self) -> bool
         ensures { result ≡ list_any (λ x. is_branch x.reservation) self.now.issued }
     {
@@ -236,7 +236,7 @@ impl Board {
         any_store(&self.units)
     }
 
-    /// The instruction in the unit has read its operands. That it may is the caller's to ask first.
+    /// The instruction in the unit has read its operands. The caller asks first whether it may.
     pub fn mark_read(&mut self, unit: Unit)
         ensures { self.new ≡ with_issued self.old
             (replaced (seek (held_in unit) self.old.issued) self.old.issued read) }
@@ -247,8 +247,8 @@ impl Board {
         }
     }
 
-    /// The instruction in the unit has come to its store event. The unit is free, and nobody waits for it any
-    /// longer; a load goes to the channel of its X register. That it may is the caller's to ask first.
+    /// The instruction in the unit has come to its store event. The unit is free, and nobody waits for it any longer; a
+    /// load goes to the channel of its X register. The caller asks first whether it may.
     pub fn release(&mut self, unit: Unit)
         ensures { self.new ≡ with_issued self.old
             (replaced (seek (held_in unit) self.old.issued) self.old.issued left) }
@@ -269,8 +269,8 @@ impl Board {
         }
     }
 
-    /// The load in the channel has returned, and nobody waits for it any longer. Channels are numbered from 0 to
-    /// 7, as X registers are. That it may is the caller's to ask first.
+    /// The load in the channel has returned, and nobody waits for it any longer. Channels are numbered from 0 to 7, as
+    /// X registers are. The caller asks first whether it may.
     pub fn returned(&mut self, channel: u8)
         requires { channel < 8 }
         ensures { self.new ≡ with_issued self.old

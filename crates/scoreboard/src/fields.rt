@@ -1,5 +1,5 @@
-//! What the fields of a board are asked, and how an issue and a store event change them. A seat is the field of
-//! one unit.
+//! Questions to the fields of a board, and how an issue and a store event change the fields. A seat is the field of one
+//! unit.
 
 ghost use Rattle.std.specs.Prelude.{IfSome, ◌≡◌, ◌≤◌, ◌<◌, ◌||◌, ◌∷◌, [], length, find, is_some};
 ghost use Rattle.std.specs.List.{list_any};
@@ -85,7 +85,7 @@ pub(crate) fn first_to_be_read(
 ) -> Option<Reg>
     ensures { result ≡ find (λ r. list_any (seat_reads number r) seats.now) registers.now }
 {
-    // Mostly none has anything to read, and then no register is looked for.
+    // Mostly none has anything left to read, and then there is no need to look for a register.
     if registers.is_empty() || !is_any_unread(seats, number) {
         return None;
     }

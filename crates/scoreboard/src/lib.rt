@@ -1,8 +1,12 @@
-//! The scoreboard: what issued instructions have still to read and to write, and which units they hold
-//! (Thornton, scoreboard; Control Data 60100000, register and unit conflicts).
+//! The scoreboard: what issued instructions have still to read and to write, and which units they
+//! hold (Thornton, scoreboard; Control Data 60100000, register and unit conflicts).
 //!
-//! `Reservation` is one issued instruction, to be asked by itself. `Board` keeps all of them in fixed fields, by unit,
-//! register and load channel, and judges the three orders of conflict (docs/scoreboard.md).
+//! `Reservation` is one issued instruction by itself. `Board` keeps all of them in fixed fields, by
+//! unit, register and load channel, and judges the three orders of conflict (docs/scoreboard.md).
+//!
+//! Callers rely on `Board::try_reserve`, `may_read`, `may_store` and `may_return`: each refuses
+//! exactly where `specs/Conflicts` finds a conflict in the list of the issued instructions. Begin
+//! with `Board` in `board`; `fields` has what it asks of its fields.
 #![tactic(auto)]
 
 mod board;

@@ -33,7 +33,7 @@ operands instr place g = record {
   place = place;
 }
 
--- the number that a value writes into registers: of a reference it is the address
+-- the number that a value writes into registers; for a reference it is the address
 unfoldable pub number_in : UnitValue → ℕ
 number_in (Word w) = w
 number_in (Index n) = n

@@ -1,4 +1,11 @@
 //! The machine that does one instruction at a time: its state, its step, the exchange and the log.
+//!
+//! It is the measure of the machine whose units work side by side: the theorem compares that
+//! machine, when drained, with the state to which `replay` comes by the log.
+//!
+//! Callers rely on `step` and `replay`: they leave exactly the state that `specs/Step` and
+//! `specs/Replay` define. Begin with `step` in `stepping`; `fetching` says what an instruction does
+//! before a unit works, `work` what its value does, and `log` keeps what was done.
 #![tactic(auto)]
 
 mod fetching;

@@ -196,7 +196,8 @@ impl Log {
         self.issues = self.issues.saturating_add(1);
     }
 
-    /// Adds so many instructions: so many more to the last count, or else an entry of their own. None need no room.
+    /// Adds so many instructions: so many more to the last count, or else an entry of their own. Adding none needs no
+    /// room.
     pub fn issued_many(&mut self, count: u64)
         requires room { ends_issuing self.old.steps ≡ false → 0 < count → 0 < self.old.room }
         requires count { last_run self.old.steps + count < 2 ^ 64 }

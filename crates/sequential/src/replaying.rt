@@ -69,8 +69,8 @@ fn replay_entry(state: &mut State, entry: &Entry) -> Result<(), Refusal>
 /// Goes through the steps of a log: each instruction, each exchange and each peripheral access, in order.
 ///
 /// # Errors
-/// What the first step that is refused is refused for; the steps before it are done then. `PackageRange` where an
-/// exchange's sixteen words don't lie in memory, `PeripheralRange` where the word of a peripheral access doesn't.
+/// Why the first refused step is refused; the steps before it are done. `PackageRange` where an exchange's sixteen
+/// words don't lie in memory, `PeripheralRange` where the word of a peripheral access doesn't.
 pub fn replay(state: &mut State, log: &Log) -> Result<(), Refusal>
     ensures answer { MatchResult result
         (λ _. replay state.old log.now.steps ≡ Some state.new)

@@ -21,7 +21,7 @@ pub struct State {
     pub place: Place,
     /// RA, FL and the exit mode.
     pub area: Area,
-    /// Why the machine stands, None while it runs.
+    /// Why the machine is halted, None while it runs.
     pub halt: Option<Halt>,
     /// Whether an address was out of range while the exit mode had bit 010000 (octal). Only an exchange
     /// clears it.

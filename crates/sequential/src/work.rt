@@ -46,7 +46,7 @@ pub fn operands(instr: &Instr, place: Word18, registers: &RegisterFile) -> Opera
     }
 }
 
-/// The number that a value writes into registers; of a reference it is the address.
+/// The number that a value writes into registers; for a reference it is the address.
 #[tactic(auto, unfolding(crate::specs::Work::number_in))]
 #[inline(always)]
 pub fn number(value: &UnitValue) -> Word60

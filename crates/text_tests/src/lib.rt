@@ -1,4 +1,10 @@
-//! Tests of the crates that read and print texts, by what they hand out.
+//! Tests of the crates that read and print texts: `device_text`, `deck`, `job_deck` and
+//! `operator_terms`, by what they hand out. The crate hands out nothing itself.
+//!
+//! The first table is `CODES` in `deck_tests`: the texts of a `code` line, with the word that they
+//! make. `session_tests` answers schedules, `printing_tests` has dumps, listings and logs, and
+//! `led_tests` a caller that knows a session's machine by contract alone. `fixtures` has devices
+//! that fail.
 #![tactic(auto)]
 
 #[cfg(test)]

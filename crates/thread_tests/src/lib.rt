@@ -1,4 +1,10 @@
-//! Tests of what threads use: the queues, the machine under its lock, and the workers. A crate that may start threads.
+//! Tests of what threads use: the lanes, the machine under its lock, and the workers. This crate
+//! may start threads, and hands out nothing itself.
+//!
+//! The first table is `RUNS` in `thread_tests`: programs, one a row, with what the machine shows
+//! after a run of each by threads. `lock_tests` has what callers of the lock have seen,
+//! `queue_tests` the lanes, and `access_tests` two peripheral processors. `example_tests` is the
+//! example of docs/threads.md.
 #![tactic(auto)]
 
 #[cfg(test)]

@@ -587,7 +587,7 @@ fn has_log<K: Naming, R: Wait>(
 }
 
 /// The issuer, with four issues after the first exchange, meets a second holder that knows the exchange alone. The
-/// second holder's next snapshot has them, and so has what is issued then by the second holder the next place.
+/// second holder's next snapshot has them, and an issue of its own then has the next place.
 #[test]
 fn meeting(rt: HostRuntime) -> Result<(), Fail> {
     let machine = booted(rt.alloc(), &[(0o100, PASSES), (0o101, FIVE)])?;

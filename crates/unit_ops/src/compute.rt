@@ -131,8 +131,8 @@ fn shifted_out(x: Word60, count: u32) -> Word60
     }
 }
 
-/// Shifted by the count in a B register, in the other direction where that is negative. Round the word only the
-/// low six bits of the magnitude count.
+/// Shifted by the count in a B register, in the other direction where that is negative. A shift round the word goes by
+/// the low six bits of the magnitude.
 #[inline(always)]
 fn shifted_nominally(direction: Direction, b: Word18, x: Word60) -> Word60
     ensures { result ≡ shifted_nominally direction b x }

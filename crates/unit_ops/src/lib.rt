@@ -1,10 +1,13 @@
-//! What the functional units compute: the value of an instruction, as a function of its operands alone, and where a
-//! branch goes by it.
+//! What the functional units compute: the value of an instruction, as a function of its operands
+//! alone, and where a branch goes by it.
 //!
-//! The operations are the machine's (Control Data 6400/6600 Reference Manual, publication 60100000). This
-//! project's choice are: the order of `GE` and `LT` and the equality of `EQ` and `NE` (`BTest` of
-//! `instructions`); that a nominal shift to the right by more than 63 places leaves +0; and the zeros of
-//! sums and the long shifts and masks (`word60`).
+//! The operations are the machine's (Control Data 6400/6600 Reference Manual, publication
+//! 60100000). This project chose the order of `GE` and `LT` and the equality of `EQ` and `NE`
+//! (`BTest` of `instructions`), that a nominal shift to the right by more than 63 places leaves +0,
+//! and the zeros of sums and the long shifts and masks (`word60`).
+//!
+//! Callers rely on `value`: for each instruction that has a unit it answers exactly `value_of` of
+//! `specs/Values`. Begin with `value` in `compute`, beside that definition.
 #![tactic(auto)]
 
 mod compute;
@@ -26,7 +29,7 @@ pub struct Operands {
     pub place: Word18,
 }
 
-/// What a unit answers.
+/// The value that a unit computes, by what the machine does with it.
 #[derive(Clone, Copy, Debug, PartialEq, Eq)]
 pub enum UnitValue {
     /// For Xi.
@@ -39,7 +42,7 @@ pub enum UnitValue {
     Store(Word18, Word60),
     /// The address that a branch goes to, and None where it is not taken.
     Jump(Option<Word18>),
-    /// Of a return jump: the address that a jump to `back` is stored at; the next instruction is in the word
-    /// after it. `back` is the address of the word after the return jump's. Both go on from 777777 to 0.
+    /// For a return jump: the address that a jump to `back` is stored at; the next instruction is in the word after it.
+    /// `back` is the address of the word after the return jump's. Both go on from 777777 to 0.
     Link { at: Word18, back: Word18 },
 }

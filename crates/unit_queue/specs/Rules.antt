@@ -19,8 +19,8 @@ sender sent = view_of true false sent []
 abbrev pub taker : List Item → View
 taker got = view_of false true [] got
 
--- of the passes, by their numbers, only the writer's sends, and it knows all that was sent; only the reader's takes,
--- and it knows all that was taken
+-- among the passes, by their numbers, only the writer's pass sends, and it knows all that was sent; only the reader's
+-- pass takes, and it knows all that was taken
 abbrev pub Fits : ℕ → ℕ → List Item → List Item → ℕ → View → Type 0
 Fits writer reader sent got port v =
     (v.sends ≡ true → (port ≡ writer) × (v.sent ≡ sent)) × (v.takes ≡ true → (port ≡ reader) × (v.got ≡ got))

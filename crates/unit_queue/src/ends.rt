@@ -207,7 +207,7 @@ impl Lane {
             closed: _,
         } = ended;
         self.queue.absorb::<Ends>(&mut pass.pass, sender);
-        // A pop at which it is known that nothing can be found.
+        // This pop finds nothing, as the rule shows.
         let found = self.queue.pop_as::<Settles, R>(rt, &mut pass.pass);
         let _ = found;
     }

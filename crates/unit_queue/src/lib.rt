@@ -1,7 +1,12 @@
-//! A lane carries the reservations of one unit from the thread that issues to the thread that serves the unit.
+//! A lane carries the reservations of one unit from the thread that issues to the thread that
+//! serves the unit.
 //!
-//! The 6600 had no such thing: the scoreboard drove all units at once (Thornton, scoreboard). Lanes are this
-//! project's choice, for a machine whose units are threads.
+//! The 6600 had no such thing: the scoreboard drove all units at once (Thornton, scoreboard). Lanes
+//! are this project's choice, for a machine whose units are threads.
+//!
+//! Callers rely on `Lane::send` and `Lane::take`: what was taken, followed by what still waits, is
+//! what was sent, in order, and nothing comes after `Item::Closed`. Begin with `Lane` in `ends`;
+//! `rule` has the steps that the queue allows.
 #![tactic(auto)]
 
 ghost use Rattle.std.specs.Prelude.{◌≡◌, [], MatchResult};

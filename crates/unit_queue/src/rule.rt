@@ -1,5 +1,5 @@
-//! The rule that every step on a lane keeps, and the three kinds of step: a note is pushed, `Closed` is pushed, and
-//! an item is popped. Nothing of this exists in the running program but the items.
+//! The rule that every step on a lane keeps, and the three kinds of step: a note is pushed, `Closed` is pushed, and an
+//! item is popped. In the running program only the items exist.
 
 use crate::item::Item;
 use crossbeam_queue::protocol::{Join, Lesson, Outcome, Protocol, Split};

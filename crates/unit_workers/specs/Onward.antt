@@ -1,4 +1,4 @@
--- How what is seen of a machine's log goes on. Source: ours.
+-- How the log that a caller has seen grows. Source: ours.
 use Rattle.std.specs.Prelude.{◌≡◌, ◌≤◌}
 use Rattle.sequential.specs.Log.{issued}
 use Rattle.program_order.specs.Snapped.{Snapped}

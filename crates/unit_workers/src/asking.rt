@@ -30,7 +30,7 @@ impl<'a> FreeRequests<'a> {
     }
 }
 
-/// Asks for an exchange as soon as no other request waits. It answers whether it asked, which it doesn't where the
+/// Asks for an exchange as soon as no other request waits. It answers whether it asked; it doesn't ask where the
 /// machine's users were told to end.
 ///
 /// # Errors
@@ -62,7 +62,7 @@ fn ask_in_turn<K: Naming, R: Wait>(
 /// Makes the requests one after another, until the machine's users are told to end.
 ///
 /// # Errors
-/// What was refused, but for what others' events help against.
+/// What was refused, except what the events of others can help against.
 fn ask_each<K: Naming, R: Wait>(
     rt: &R,
     shared: &Shared<K>,
@@ -83,7 +83,7 @@ fn ask_each<K: Naming, R: Wait>(
 /// or not.
 ///
 /// # Errors
-/// What was refused, but for what others' events help against.
+/// What was refused, except what the events of others can help against.
 pub fn ask_all<K: Naming, R: Wait>(
     rt: &R,
     shared: &Shared<K>,

@@ -23,7 +23,7 @@ enum Course {
     Ends,
 }
 
-/// Whether a run ends where an issue is refused so: the machine is halted or faulted, or its budget is used up.
+/// Whether this refusal of an issue ends a run: the machine is halted or faulted, or its budget is used up.
 fn ends_run(refusal: &Refusal) -> bool
     ensures { result ≡ is_end refusal.now }
 {
@@ -73,8 +73,8 @@ impl<'a> Agenda<'a> {
         Some(at)
     }
 
-    /// An exchange was made, and the request that follows it with it. The exchange was that of the request that was
-    /// taken last, unless this one had still to be asked for.
+    /// An exchange was made, and so was the request that follows it. The exchange was the one of the request that was
+    /// taken last, unless that request had still to be made.
     fn exchanged(&mut self) {
         if self.refused.is_some() {
             self.refused = None;
@@ -146,7 +146,7 @@ fn finish<K: Naming, R: Wait>(
 ) -> Result<Course, Refusal>
     ensures onward { GoesOnFrom seen.old seen.new }
 {
-    // Looked at first: who asks counts afterwards, so where none is left all were asked for.
+    // This comes first: a thread that asks counts afterwards, so where none is left all were asked for.
     let are_left = agenda.free.are_left();
     match exchange(rt, shared, seen, agenda) {
         Err(Refusal::Nothing) => {}
@@ -165,7 +165,7 @@ fn finish<K: Naming, R: Wait>(
 /// exchange that waits.
 ///
 /// # Errors
-/// What was refused, but for what others' events help against.
+/// What was refused, except what the events of others can help against.
 fn step<K: Naming, R: Wait>(
     rt: &R,
     shared: &Shared<K>,

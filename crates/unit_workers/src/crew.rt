@@ -107,7 +107,7 @@ impl<'a> Pairs<'a> {
         let divide = Pair::open(alloc, Unit::Divide, &mut lanes.divide);
         let increment1 = Pair::open(alloc, Unit::Increment1, &mut lanes.increment1);
         let increment2 = Pair::open(alloc, Unit::Increment2, &mut lanes.increment2);
-        // Looked at once: an early return for each lane would have to drop those made before it, seven ways.
+        // One look at all: an early return for each lane would have to drop the lanes made before it, in seven ways.
         let first = branch.zip(boolean).zip(shift.zip(long_add));
         let last = divide.zip(increment1.zip(increment2));
         let (((branch, boolean), (shift, long_add)), (divide, (increment1, increment2))) =

@@ -2,17 +2,17 @@
 
 use instruction_table::Unit;
 
-/// Is called by a worker while no lock is held, so that it may wait for others. Both are told the reservation's unit
-/// and number.
+/// What the worker of a unit calls at two moments of each reservation: before it computes, and after it stored. It
+/// holds no lock then, so a gate may wait for others. Both calls tell the reservation's unit and number.
 pub trait Gate: Drop {
-    /// Ahead of computing, after the operands were read.
+    /// Before the worker computes; it has read the operands.
     fn before(&mut self, unit: Unit, number: u64);
 
     /// After the result was stored.
     fn stored(&mut self, unit: Unit, number: u64);
 }
 
-/// A gate that holds nobody.
+/// A gate that holds up nobody.
 #[derive(Clone, Copy, Debug, Drop)]
 pub struct Open;
 

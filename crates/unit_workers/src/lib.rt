@@ -1,6 +1,11 @@
-//! Threads that drive a machine under its lock: a worker for each unit, one for memory, and the thread that issues. So
-//! the units really work side by side, as those of the 6600 did (Thornton, functional units). That each is a thread is
-//! this project's choice.
+//! Threads that drive a machine under its lock: a worker for each unit, one for memory, and the
+//! thread that issues. So the units really work side by side, as those of the 6600 did (Thornton,
+//! functional units). That each is a thread is this project's choice.
+//!
+//! Callers rely on `run_threads`: it ends with a snapshot of the machine that it was given, with
+//! that machine's boot memory and budget, whose log begins with that machine's and keeps to the
+//! budget. Nothing promises that a run ends. Begin with `run_threads` in `running`; `conducting`
+//! issues, `working` and `serving` are a unit's worker, `storing` memory's.
 #![tactic(auto)]
 
 mod asking;

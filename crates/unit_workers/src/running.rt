@@ -20,7 +20,7 @@ use std::sync::Wait;
 use std::thread;
 use std::thread::{Scope, Threads};
 
-/// What a run is to do.
+/// What a run by threads has to do: the package with which it starts, and the exchanges for which it asks.
 #[derive(Drop)]
 pub struct Orders {
     /// The absolute address of the package with which it starts.
@@ -32,7 +32,7 @@ pub struct Orders {
     pub free: Vec<u32>,
 }
 
-/// A run at its end.
+/// What a run by threads leaves: the drained machine, and what each unit's worker did.
 #[derive(Drop)]
 pub struct Ended {
     /// The drained machine.
@@ -172,7 +172,7 @@ fn run_lanes<K: Naming + Send + Sync, G: Gate + Send, R: Threads + Wait + Sync>(
     run_scope(rt, shared, pairs, places, gates, agenda, free, seen, other)
 }
 
-/// Makes the first exchange, and then runs. Each of the two threads that ask for exchanges has what it has seen.
+/// Makes the first exchange, and then runs. Each of the two threads that ask for exchanges keeps what it has seen.
 ///
 /// # Errors
 /// What the machine refuses, and `OutOfMemory`, also where a thread couldn't be started.
@@ -218,13 +218,13 @@ fn run_beside<K: Naming + Send + Sync, G: Gate + Send, R: Threads + Wait + Sync>
     ended
 }
 
-/// Runs a machine by threads: one for each of the seven units, one for memory, one that makes the requests at any
-/// time, and this one, which issues. The run starts with the exchange for the package at `orders.start`. It ends where
-/// the machine is drained and either it is halted, faulted or out of budget, no request waits, none is due and none at
-/// any time is left; or it is out of budget in the middle of a word, where the exchange that waits can't be made. A
-/// request after more instructions than are issued by then isn't made. What it ends with is of the same machine: its
-/// boot memory, its log and what was added to it, and its budget, which the log keeps to. The machine is drained first: what was issued
-/// before has no note on a lane, by which a worker would serve it.
+/// Runs a machine by threads: one for each of the seven units, one for memory, one that makes the requests at any time,
+/// and this one, which issues. The run starts with the exchange for the package at `orders.start`. It ends where the
+/// machine is drained and either it is halted, faulted or out of budget, no request waits, none is due and none at any
+/// time is left; or it is out of budget in the middle of a word, where the exchange that waits can't be made. A request
+/// after more instructions than are issued by then isn't made. The snapshot at its end has this machine's boot memory
+/// and budget; its log begins with the machine's and keeps to the budget. The run drains the machine first, since no
+/// lane has a note of an instruction that was issued before.
 ///
 /// # Errors
 /// What the machine refuses before; `Nothing` where the machine's seats were given out before; `OutOfMemory`, also

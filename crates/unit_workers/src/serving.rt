@@ -9,7 +9,7 @@ use machine::{Finished, Loaded, Note, Reserved, Seat};
 use machine_lock::{Naming, Shared};
 use std::sync::Wait;
 
-/// Reads as soon as no operand is awaited: it tries again where others stored.
+/// Reads the operands as soon as none of them is awaited. It tries again after others have stored.
 ///
 /// # Errors
 /// The token, where it is a stranger's.
@@ -100,9 +100,9 @@ pub fn serve_waiting<K: Naming, G: Gate, R: Wait>(
     }
 }
 
-/// Takes a reservation through its unit, from claim to store, and gives the seat back. It answers whether it was
-/// stored, which it isn't only where the claim or a later step was refused as a stranger's; the reservation is given
-/// up then. The gate is called ahead of computing, which takes no lock, and after the store.
+/// Takes a reservation through its unit, from claim to store, and gives the seat back. It answers whether the result
+/// was stored. That fails only where the claim or a later step was refused as a stranger's, and the reservation is then
+/// given up. It calls the gate before it computes, which takes no lock, and after the store.
 pub fn serve<K: Naming, G: Gate, R: Wait>(
     rt: &R,
     shared: &Shared<K>,

@@ -14,7 +14,8 @@ struct Known {
     has_loads: bool,
 }
 
-/// Has memory take the reference in a place, 0 to 3, if it may; the bank that it waits for is freed where it is busy.
+/// Lets memory take the reference in a place, 0 to 3, if it may. Where the bank of that reference is busy, it frees the
+/// bank.
 fn accept<K: Naming, R: Wait>(rt: &R, shared: &Shared<K>, place: u8) -> Result<(), Refusal> {
     match shared.accept(rt, place) {
         Err(Refusal::BankBusy(bank)) => {

@@ -13,8 +13,8 @@ use std::snapshot::Snapshot;
 use std::sync::Wait;
 use unit_queue::{Item, Lane, SendPass, TakePass};
 
-/// What a worker did: the items that it took from its lane, which the end for taking remembers, and how many of the
-/// notes among them were stored or strange.
+/// What a unit's worker did: the items that it took from its lane, which the end for taking remembers, and how many of
+/// the notes among them were stored or strange.
 #[derive(Drop)]
 pub struct Tally {
     pub(crate) unit: Unit,
@@ -26,7 +26,7 @@ pub struct Tally {
     ghost ended: { is_closed pass.got ≡ true },
 }
 
-/// The number after this one. It never returns where there is none, which no worker lives to see.
+/// The number after this one. It never returns at the largest number, to which no worker counts.
 fn one_more<R: Wait>(rt: &R, number: u64) -> u64
     ensures { result ≡ number + 1 }
 {
@@ -38,7 +38,8 @@ fn one_more<R: Wait>(rt: &R, number: u64) -> u64
 }
 
 /// Serves the notes of a lane until it is closed, and leaves the seat. Each note is stored or strange: a stranger's
-/// reservation is given up. By as many as were stored the seat's count grew. The pass has to be this lane's.
+/// reservation is given up. The seat's count grows by the number of those that were stored. The pass has to be this
+/// lane's.
 pub fn worker<K: Naming, G: Gate, R: Wait>(
     rt: &R,
     shared: &Shared<K>,
@@ -96,7 +97,7 @@ impl Tally {
         self.unit
     }
 
-    /// How many reservations were stored: by so much the seat's count grew.
+    /// How many reservations were stored; the seat's count grew by as many.
     pub fn stored(&self) -> u64
         ensures { result ≡ self.now.stored }
     {

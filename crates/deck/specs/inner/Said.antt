@@ -1,4 +1,4 @@
--- What a deck's line says, as the program has taken it apart.
+-- What a line of a deck says, by the parts into which the program takes it apart.
 -- Source: ours.
 use Rattle.std.specs.Prelude.{ℕ, List}
 use Rattle.std.specs.Borrow.{Bor}

@@ -1,4 +1,4 @@
--- What the parts of holding a session answer, read and write.
+-- What the parts of a session answer, read and write.
 -- Source: ours.
 use Rattle.std.specs.Prelude.{◌≡◌, ℕ, Bool, true, false, List, [], ◌∷◌, ◌++◌, Option, Result, Ok, Err}
 use Rattle.std.specs.Io.KnownBytes.{Keeps, Appends}
@@ -52,7 +52,8 @@ Hears n Ends xs ys = (heard n (lines_of xs) ≡ Ends) × IsTaken (lines_of xs) y
 Hears n Drains xs ys = (heard n (lines_of xs) ≡ Drains) × IsTaken (lines_of xs) ys
 Hears n (Faulty fault) xs ys = (heard n (lines_of xs) ≡ Faulty fault) × (ys ≡ left_heard n xs (lines_of xs))
 
--- the event was made or refused, which led on from wherever the machine was reached, and its answer's line written
+-- the event was made or refused, which leads on from whatever led to the machine, and the line of its answer was
+-- written
 abbrev pub IsMade : {E : Type 0} → Result (Unit {0}) E → Processor → Processor → Event → Option (List ℕ)
     → Option (List ℕ) → Type 0
 IsMade result w v event old new = (answer : Result Done Refusal) × IsAnswer w event answer

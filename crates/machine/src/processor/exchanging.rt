@@ -8,8 +8,7 @@ use crate::{Answer, Done, Machine};
 use relocation::PACKAGE_WORDS;
 
 impl Machine {
-    /// An exchange is asked for. Room is made in the log for three entries, so that issues and exchanges take no
-    /// memory.
+    /// An exchange is asked for. The log gets room for three entries, so that issues and exchanges take no memory.
     pub(crate) fn ask(&mut self, at: u32) -> Answer
         ensures answer { IsAnswer self.old (Ask at) result }
         ensures after { self.new ≡ settled self.old (Ask at) result }

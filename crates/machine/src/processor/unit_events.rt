@@ -15,8 +15,8 @@ use sequential::{fault_after, jump, number, reference};
 use unit_ops::{Operands, UnitValue, value};
 
 impl Machine {
-    /// A unit reads its operands, all in this step. It answers the instruction that waited, and
-    /// what it has read.
+    /// A unit reads all its operands in this step. It answers the instruction that waited, and what it
+    /// has read.
     pub(crate) fn read_operands(&mut self, unit: Unit) -> Result<(Pending, Operands), Refusal>
         ensures answer { allowed self.old (Read unit) ≡ refusal_in result }
         ensures after { MatchResult result (λ read. self.new ≡ after self.old (Read unit))

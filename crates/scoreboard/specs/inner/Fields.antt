@@ -1,4 +1,4 @@
--- What the fields of a board are asked, and what an issue or a store event changes in them. A seat is the field of
+-- Questions to the fields of a board, and what an issue or a store event changes in the fields. A seat is the field of
 -- one unit or of one load channel.
 -- Source: Thornton, scoreboard; docs/scoreboard.md sets the fields beside his.
 use Rattle.std.specs.Prelude.{ℕ, Bool, false, ◌&&◌, ◌||◌, nat_lt, List, [], ◌∷◌, Option, Some, None, is_some, map}
