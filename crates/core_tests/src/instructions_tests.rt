@@ -112,7 +112,7 @@ const SHAPES: [(&str, bool, bool, bool); 6] = [
     ("SX6 B1+10", false, false, false),
 ];
 
-/// Branches, references and stores are told apart.
+/// Which instructions are branches, which make references, and which store.
 #[test]
 fn tells_references(rt: HostRuntime) {
     for (text, branch, reference, store) in SHAPES.as_slice() {

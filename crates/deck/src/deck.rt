@@ -61,7 +61,7 @@ pub enum LineError {
 pub enum DeckError {
     /// A line of the deck is refused.
     Deck { line: u32, fault: DeckFault },
-    /// No memory was to be had.
+    /// Memory ran out.
     OutOfMemory,
     /// A read failed.
     Read,

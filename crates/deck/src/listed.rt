@@ -37,7 +37,7 @@ impl<T: Drop> Listed<T> {
     /// One more.
     ///
     /// # Errors
-    /// No memory was to be had.
+    /// Memory ran out.
     pub(crate) fn push(&mut self, value: T) -> Result<(), AllocError>
         ensures { self.new ≡ (if is_ok result then self.old ++ value ∷ [] else self.old) }
     {

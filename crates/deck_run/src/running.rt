@@ -13,11 +13,11 @@ use std::sync::Wait;
 use std::thread::Threads;
 use unit_workers::{Gates, Open, Orders, run_threads};
 
-/// What a run of this deck is to do: it starts with the package of `start`, and makes the requests of the `ask`
-/// lines, after so many instructions or at any time.
+/// What a run of this deck has to do: it starts with the package of `start`, and makes the requests of the `ask` lines,
+/// after so many instructions or at any time.
 ///
 /// # Errors
-/// No memory was to be had.
+/// Memory ran out.
 #[tactic(auto, using(std::proofs::lemmas::List::map_more))]
 fn orders(alloc: Global, deck: &Deck) -> Result<Orders, AllocError>
     ensures start { IfOk result (λ orders. orders.start ≡ deck.now.start) }

@@ -8,7 +8,7 @@ use std::io::Read;
 #[derive(Clone, Copy, Debug, PartialEq, Eq)]
 pub struct ReadFailed;
 
-/// Bytes one after another, and whether a read of them failed so far.
+/// A device that gives bytes one after another, and tells whether a read failed so far.
 pub trait Input {
     /// The bytes that are left, where they are known.
     ghost remaining: { Self → Option (List ℕ) };

@@ -8,7 +8,7 @@ use std::io::Write;
 #[derive(Clone, Copy, Debug, PartialEq, Eq)]
 pub struct WriteFailed;
 
-/// Bytes are written at the end, and it tells whether a write failed so far and whether bytes still wait to be
+/// A device that takes bytes at its end, and tells whether a write failed so far and whether bytes still wait to be
 /// handed on.
 pub trait Output {
     /// The bytes that it holds, where they are known.

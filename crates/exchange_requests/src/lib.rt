@@ -52,7 +52,7 @@ impl Requests {
     /// instruction and before all others, and the others.
     ///
     /// # Errors
-    /// No memory was to be had.
+    /// Memory ran out.
     pub fn new(alloc: Global, start: u32, asks: &[Ask]) -> Result<Requests, AllocError>
         ensures left { IfOk result (λ requests. KeepsTies ((start, 0) ∷ asks.now) requests.asks) }
         ensures issued { IfOk result (λ requests. requests.issued ≡ 0) }

@@ -106,7 +106,7 @@ pub enum Refusal {
     PackageRange,
     /// E20: a line of the deck or the schedule is refused; lines are numbered from 1.
     Deck { line: u32, fault: DeckFault },
-    /// E21: no memory was to be had.
+    /// E21: memory ran out.
     OutOfMemory,
     /// E22: a read failed.
     Read,

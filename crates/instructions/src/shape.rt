@@ -53,7 +53,7 @@ impl Instr {
         }
     }
 
-    /// The registers that it writes at its store event: all its results but the X register of a load.
+    /// The registers that it writes at its store event: all its results except the X register of a load.
     #[tactic(auto, unfolding(crate::specs::Shape::shape_of, crate::specs::Shape::puts_of))]
     pub fn puts(&self) -> ArrayVec<Reg, 2>
         ensures { result.items ≡ puts_of (shape_of self.now) }

@@ -86,7 +86,7 @@ impl Allowance {
         }
     }
 
-    /// The same of what stands behind its letter.
+    /// The same for what follows its letter.
     fn written(&self, digits: &[u8]) -> Option<Entry>
         ensures entry { result ≡ written_in self.now (slice_split (λ b. b == 61) digits.now) }
         ensures within { IfSome result (λ entry. entry_count entry ≤ self.now.instructions) }

@@ -24,7 +24,7 @@ use std::io::{Read, Write};
 pub enum SessionError {
     /// A line of the schedule is refused.
     Line { line: u32, fault: DeckFault },
-    /// No memory was to be had for the dump.
+    /// Memory for the dump ran out.
     OutOfMemory,
     /// A read failed.
     Read,

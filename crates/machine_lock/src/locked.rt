@@ -151,8 +151,8 @@ impl<K: Naming> Locked<K> {
     }
 
     /// The event `Exchange` and, once it was made, the event `Ask` for the next package, if there is one. It answers
-    /// what each of them was answered. Its caller has then made the last step of the log, the exchange, or else has seen
-    /// the log.
+    /// what each of them was answered. Its caller has then made the last step of the log, the exchange, or else has
+    /// seen the log.
     ///
     /// # Errors
     /// What an exchange may refuse, and what a request may.
@@ -183,8 +183,8 @@ impl<K: Naming> Locked<K> {
         }
     }
 
-    /// A peripheral access. Its caller has then made the last step of the log, or else has seen the log; a word that was
-    /// read is that of the log's replay.
+    /// A peripheral access. Its caller has then made the last step of the log, or else has seen the log; a word that
+    /// was read is that of the log's replay.
     ///
     /// # Errors
     /// What a peripheral access may refuse.
@@ -291,8 +291,8 @@ impl<K: Naming> Locked<K> {
         stored
     }
 
-    /// The state, the log, the boot memory and the budget of the machine, if it is drained. Its caller has then seen the
-    /// log.
+    /// The state, the log, the boot memory and the budget of the machine, if it is drained. Its caller has then seen
+    /// the log.
     ///
     /// # Errors
     /// `NotDrained` or `OutOfMemory`.

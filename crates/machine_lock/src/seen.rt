@@ -9,8 +9,8 @@ use std::alloc::Global;
 use std::marker::Model;
 use std::sync::Arc;
 
-/// What its holder has seen of the machine under the lock: the memory and the budget with which it was booted, the steps
-/// of the log from boot on, as far as the holder has seen it, and which of them the holder made.
+/// What its holder has seen of the machine under the lock: the memory and the budget with which it was booted, the
+/// steps of the log from boot on, as far as the holder has seen it, and which of them the holder made.
 #[derive(Drop)]
 pub struct Seen<K: Naming> {
     pub(crate) pass: Pass,

@@ -281,8 +281,8 @@ impl<K: Naming> Shared<K> {
         }
     }
 
-    /// A peripheral processor reads the word at an absolute address: the event `PpRead`. It is then the last step of the
-    /// log that its caller has seen, and the caller's own, and the word is that of the replay of this log; after a
+    /// A peripheral processor reads the word at an absolute address: the event `PpRead`. It is then the last step of
+    /// the log that its caller has seen, and the caller's own, and the word is that of the replay of this log; after a
     /// refusal its caller has seen the log.
     ///
     /// # Errors
@@ -304,8 +304,8 @@ impl<K: Naming> Shared<K> {
         }
     }
 
-    /// A peripheral processor writes a word to an absolute address: the event `PpWrite`. It is then the last step of the
-    /// log that its caller has seen, and the caller's own; after a refusal its caller has seen the log.
+    /// A peripheral processor writes a word to an absolute address: the event `PpWrite`. It is then the last step of
+    /// the log that its caller has seen, and the caller's own; after a refusal its caller has seen the log.
     ///
     /// # Errors
     /// What a peripheral access may refuse.

@@ -117,7 +117,7 @@ impl<K: Naming> Word<K> {
         *me = self.hand_back(pass);
     }
 
-    /// The same of an exchange at that address.
+    /// The same for an exchange at that address.
     fn record_exchange<J: Chosen>(&self, pass: &mut Pass, me: &mut Pass, at: u32)
         requires pass { IsKeeper K.table pass.old.me.0.seen pass.old }
         requires me { IsCaller K.table me.old.me.0.seen me.old.me.0.mine me.old }
@@ -130,7 +130,7 @@ impl<K: Naming> Word<K> {
         self.record_step::<J>(pass, me);
     }
 
-    /// The same of a peripheral processor's reading of the word at that address.
+    /// The same for a peripheral processor that reads the word at that address.
     fn record_read<J: Chosen>(&self, pass: &mut Pass, me: &mut Pass, at: u32)
         requires pass { IsKeeper K.table pass.old.me.0.seen pass.old }
         requires me { IsCaller K.table me.old.me.0.seen me.old.me.0.mine me.old }
@@ -143,7 +143,7 @@ impl<K: Naming> Word<K> {
         self.record_step::<J>(pass, me);
     }
 
-    /// The same of a peripheral processor's writing of that word to that address.
+    /// The same for a peripheral processor that writes that word to that address.
     fn record_write<J: Chosen>(&self, pass: &mut Pass, me: &mut Pass, at: u32, word: Word60)
         requires pass { IsKeeper K.table pass.old.me.0.seen pass.old }
         requires me { IsCaller K.table me.old.me.0.seen me.old.me.0.mine me.old }
@@ -156,7 +156,7 @@ impl<K: Naming> Word<K> {
         self.record_step::<J>(pass, me);
     }
 
-    /// The same of the last step of a machine.
+    /// The same for the last step of a machine.
     pub(crate) fn record<J: Chosen>(&self, pass: &mut Pass, me: &mut Pass, machine: &Machine)
         requires pass { IsKeeper K.table pass.old.me.0.seen pass.old }
         requires me { IsCaller K.table me.old.me.0.seen me.old.me.0.mine me.old }

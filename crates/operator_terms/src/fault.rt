@@ -21,7 +21,7 @@ pub enum ProgramFault {
     Read,
     #[error("E23 write failed")]
     Write,
-    /// The machine refused what a run asks of it, which it never does: the deck was judged.
+    /// The machine refused a step of a run. As far as is known it never does, since the deck was judged.
     #[error("the machine refused a step of the run")]
     Stuck,
 }

@@ -19,7 +19,7 @@ pub enum Status {
     AddressFault = 4,
     /// The budget is used up.
     Running = 5,
-    /// No memory was to be had.
+    /// Memory ran out.
     OutOfMemory = 6,
     /// A read or a write failed.
     Device = 7,

@@ -113,7 +113,7 @@ abbrev pub put_any : RegisterFile → Option Reg → ℕ → RegisterFile
 put_any g None v = g
 put_any g (Some r) v = put g r v
 
--- the state after all but the reference itself: registers, jump and fault flag
+-- the state after everything except the reference itself: registers, jump and fault flag
 unfoldable pub do_now : Bounds → State → Work → State
 do_now b s work = mark (go (write_all s work.puts) work.jump) (fault_of b work.reference)
 

@@ -134,7 +134,7 @@ fn stores_told<K: Naming, R: Wait>(
     Ok((is_made, leave(seat), after, refused, told(&shared)))
 }
 
-/// What was sent to one unit is told to its worker alone, and the end to all.
+/// A note that is sent to one unit raises the signal of its worker alone; the end raises all.
 #[test]
 fn the_end_is_told_to_all(rt: HostRuntime) -> Result<(), Fail> {
     let machine = booted(rt.alloc(), &[])?;

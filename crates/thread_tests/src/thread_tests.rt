@@ -52,7 +52,7 @@ pub(crate) const REGISTERS: [(u32, &str); 5] = [
 /// A reservation: its unit and number.
 type Numbered = (Unit, u64);
 
-/// A run that asks for no exchange but the first, and its end.
+/// A run that asks for no exchange except the first, and its end.
 #[derive(Clone, Copy, Drop)]
 struct Run<'a> {
     /// What it shows.

@@ -9,8 +9,8 @@ pub record GoesOnFrom (old new : Known) : Type 0 where
   pub booted : new.booted ≡ old.booted
   pub log : StartsWith new.log old.log
 
--- the snapshot is of the machine of which that was seen: its log begins with what was seen, and has no more instructions
--- than the machine's budget
+-- the snapshot is of the machine of which that was seen: its log begins with what was seen, and has no more
+-- instructions than the machine's budget
 pub record EndsFrom (old : Known) (snapshot : Snapped) : Type 0 where
   pub boot_memory : snapshot.boot_memory ≡ old.booted.memory
   pub budget : snapshot.budget ≡ old.booted.budget

@@ -109,7 +109,8 @@ fn ask_due<K: Naming, R: Wait>(
 }
 
 /// Makes the exchange that waits, as soon as the machine is drained, and asks for the one that follows it, so that no
-/// request at any time comes between the two. Where the machine runs in the middle of a word the exchange can't be made.
+/// request at any time comes between the two. Where the machine runs in the middle of a word the exchange can't be
+/// made.
 ///
 /// # Errors
 /// What else was refused.

@@ -98,7 +98,7 @@ pub struct Pairs<'a> {
 }
 
 impl<'a> Pairs<'a> {
-    /// Makes all seven lanes, each in its place. None where no memory was to be had.
+    /// Makes all seven lanes, each in its place. None where memory ran out.
     pub fn open(alloc: Global, lanes: &'a mut Lanes) -> Option<Pairs<'a>> {
         let branch = Pair::open(alloc, Unit::Branch, &mut lanes.branch);
         let boolean = Pair::open(alloc, Unit::Boolean, &mut lanes.boolean);

@@ -50,7 +50,7 @@ pub struct Line<'a> {
     lane: &'a Lane,
     sender: SendPass,
     started: Option<Worker>,
-    /// Is never reset, so that after the first few pauses each is a yield.
+    /// It is never reset, so after the first few pauses each one lets others run.
     backoff: Backoff,
     ghost sends: { sender.id ≡ lane.now.id },
     ghost serves: { ForSome started (λ h. h.promise.0.value.id ≡ lane.now.id) },
@@ -107,7 +107,7 @@ impl<'a> Pair<'a> {
         }
     }
 
-    /// Makes a unit's lane, which is kept in the place. None where no memory was to be had.
+    /// Makes a unit's lane, which is kept in the place. None where memory ran out.
     pub fn open(alloc: Global, unit: Unit, place: &'a mut Option<Lane>) -> Option<Pair<'a>> {
         let (lane, sender, taker) = lane(alloc, unit).ok()?;
         Some(Pair::of(place.insert(lane), sender, taker))

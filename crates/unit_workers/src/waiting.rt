@@ -14,8 +14,8 @@ const AWAKE: u32 = 64;
 /// How a thread waits: it has one for all of its waits.
 #[derive(Drop)]
 pub struct Waiting {
-    /// Is never reset: its first seven pauses spin, and each later one lets others run. A spin is longer than most waits,
-    /// and on few processors it holds up those that are waited for.
+    /// It is never reset: its first seven pauses spin, and each later one lets others run. A spin is longer than most
+    /// waits, and on few processors it holds up those that are waited for.
     backoff: Backoff,
     /// The looks that found nothing since the wait began.
     looks: u32,
