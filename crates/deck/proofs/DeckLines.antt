@@ -6,7 +6,7 @@ use Rattle.std.proofs.lemmas.Bool.{lt-ltb, le-ltb}
 use Rattle.std.proofs.Math.Seq.{drop-append_seam}
 use Rattle.device_text.specs.Device.{Moves}
 use Rattle.device_text.specs.Line.{IsText, LineTaken, left_after, lines_of}
-use Rattle.device_text.specs.declared.line.Took.TheVariants.{Whole, Long, Nothing}
+use Rattle.device_text.specs.declared.line.LineRead.TheVariants.{Whole, Long, Nothing}
 use Rattle.device_text.proofs.Moving.{Moves-weaker, Moves-trans}
 use Rattle.deck.specs.Deck.{Judgement, Good, Bad, deck, goes_on, read_all, read_from, read_on, judged_first}
 use Rattle.deck.specs.Deck.{judged_line}

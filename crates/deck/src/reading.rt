@@ -8,7 +8,7 @@ ghost use Rattle.deck.specs.Reading.{is_cut, is_read};
 use crate::deck::{Deck, DeckError, LineError, Step};
 use crate::judging::{judge, judge_first};
 use arrayvec::ArrayVec;
-use device_text::{Input, Took, Watched, read_line};
+use device_text::{Input, LineRead, CheckedReader, read_line};
 use instruction_table::{DeckFault, Refusal};
 use std::alloc::Global;
 use std::io::Read;
@@ -29,12 +29,12 @@ fn next_line<I: Input>(
     ensures same { I.lender input.new ≡ I.lender input.old }
 {
     match read_line(input, line) {
-        Ok(Took::Whole) => Ok(()),
-        Ok(Took::Long) => Err(DeckError::Deck {
+        Ok(LineRead::Whole) => Ok(()),
+        Ok(LineRead::Long) => Err(DeckError::Deck {
             line: number,
             fault: DeckFault::Long,
         }),
-        Ok(Took::Nothing) => Err(DeckError::Deck {
+        Ok(LineRead::Nothing) => Err(DeckError::Deck {
             line: number,
             fault: DeckFault::NoEnd,
         }),
@@ -108,7 +108,7 @@ pub fn refusal(error: DeckError) -> Refusal
 pub fn read_deck<R: Read>(alloc: Global, reader: &mut R) -> Result<Deck, Refusal>
     ensures { Moves (R.remaining reader.old) (R.remaining reader.new) (λ xs ys. GivesDeck result (deck xs) ys) }
 {
-    let mut input = Watched::new(reader);
+    let mut input = CheckedReader::new(reader);
     let result = read_deck_from(alloc, &mut input);
     // No effect at run time. The proof reads what the reader has left from this use.
     let _ = &*input.into_inner();

@@ -5,7 +5,7 @@ ghost use Rattle.job_deck.specs.inner.Holding.{Hears};
 
 use crate::schedule::{Spoken, spoken_in};
 use arrayvec::ArrayVec;
-use device_text::{Input, Output, ReadFailed, Took, read_line};
+use device_text::{Input, Output, ReadFailed, LineRead, read_line};
 use instruction_table::DeckFault;
 
 /// Reads line `number` of a schedule that comes after line `before`, and nothing past it, and answers what
@@ -30,9 +30,9 @@ pub fn hear<I: Input, O: Output>(
 {
     let mut line = ArrayVec::new();
     match read_line(input, &mut line) {
-        Ok(Took::Whole) => Ok(spoken_in(line.as_slice())),
-        Ok(Took::Long) => Ok(Spoken::Faulty(DeckFault::Long)),
-        Ok(Took::Nothing) => Ok(Spoken::Faulty(DeckFault::NoEnd)),
+        Ok(LineRead::Whole) => Ok(spoken_in(line.as_slice())),
+        Ok(LineRead::Long) => Ok(Spoken::Faulty(DeckFault::Long)),
+        Ok(LineRead::Nothing) => Ok(Spoken::Faulty(DeckFault::NoEnd)),
         Err(error) => Err(error),
     }
 }

@@ -17,7 +17,7 @@ mod session;
 
 pub use answering::put_answer;
 pub use deck::{Ask, Deck, DeckError, Image, Listed, Show, read_deck, read_deck_from};
-pub use device_text::{Input, Output, ReadFailed, Tracked, Watched, WatchedBuffer, WriteFailed};
+pub use device_text::{Input, Output, ReadFailed, CheckedWriter, CheckedReader, CheckedBufReader, WriteFailed};
 pub use dumping::{dump, dump_to};
 pub use listing::{list, list_to};
 pub use logs::read_log;

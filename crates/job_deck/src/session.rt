@@ -13,7 +13,7 @@ use crate::ending::finish;
 use crate::hearing::hear;
 use crate::schedule::Spoken;
 use deck::{Deck, read_deck_from, refusal};
-use device_text::{Input, Output, Tracked, Watched, WriteFailed};
+use device_text::{Input, Output, CheckedWriter, CheckedReader, WriteFailed};
 use instruction_table::{DeckFault, Refusal};
 use machine::{Event, Machine};
 use std::alloc::Global;
@@ -193,8 +193,8 @@ pub fn events<R: Read, W: Write>(
     ensures { Moves (R.remaining reader.old) (R.remaining reader.new)
         (λ xs ys. Performs result budget (deck xs) ys (W.contents writer.old) (W.contents writer.new)) }
 {
-    let mut input = Watched::new(reader);
-    let mut output = Tracked::new(writer);
+    let mut input = CheckedReader::new(reader);
+    let mut output = CheckedWriter::new(writer);
     let result = events_to(alloc, &mut input, &mut output, budget);
     // No effect at run time. The proof reads what reader and writer hold from these uses.
     let _ = &*input.into_inner();

@@ -3,7 +3,7 @@ use clap::Error;
 use clap::error::ErrorKind;
 use command_line::{Request, read_arguments};
 use deck_run::{replay_log, run_deck};
-use job_deck::{Tracked, WatchedBuffer, events_to, list_to};
+use job_deck::{CheckedWriter, CheckedBufReader, events_to, list_to};
 use operator_terms::{ProgramFault, Status};
 use std::alloc::Global;
 use std::io;
@@ -63,8 +63,8 @@ fn perform<T: Threads + Wait + Sync, R: Read, W: Write>(
     let Ok(mut writer) = BufWriter::new(alloc, output) else {
         return Err(ProgramFault::OutOfMemory);
     };
-    let mut input = WatchedBuffer::new(&mut reader);
-    let mut output = Tracked::new(&mut writer);
+    let mut input = CheckedBufReader::new(&mut reader);
+    let mut output = CheckedWriter::new(&mut writer);
     match request {
         Request::Run(budget) => run_deck(rt, alloc, &mut input, &mut output, budget),
         Request::Replay(log) => replay_log(alloc, &mut input, &mut output, log),

@@ -8,7 +8,7 @@ use super::dump::dump_text;
 use super::schedule::Schedule;
 use super::{branch_schedules, exchange_schedules, reference_schedules, register_schedules};
 use instruction_table::{Refusal, Unit};
-use job_deck::{Deck, Spoken, Tracked, dump, events, put_answer, read_deck, spoken_in};
+use job_deck::{Deck, Spoken, CheckedWriter, dump, events, put_answer, read_deck, spoken_in};
 use machine::{Answer, Event, Machine, Snapshot};
 use machine_lock::{Ground, Naming};
 use relocation::Storage;
@@ -63,7 +63,7 @@ fn events_of(alloc: Global, schedule: &Schedule) -> Result<Vec<Event>, Fail> {
 /// The lines that answers have in a session.
 fn text_of(alloc: Global, answers: &[Answer]) -> Result<Vec<u8>, Fail> {
     let mut text = Vec::new(alloc);
-    let mut output = Tracked::new(&mut text);
+    let mut output = CheckedWriter::new(&mut text);
     for answer in answers {
         put_answer(&mut output, answer)?;
     }

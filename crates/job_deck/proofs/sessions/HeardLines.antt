@@ -7,7 +7,7 @@ use Rattle.device_text.specs.Device.{Moves}
 use Rattle.device_text.specs.Line.{IsText, LineTaken, lines_of}
 use Rattle.job_deck.specs.Schedule.{heard, left_heard, spoken}
 use Rattle.job_deck.specs.inner.Holding.{Hears}
-use Rattle.device_text.specs.declared.line.Took.TheVariants.{Whole, Long, Nothing}
+use Rattle.device_text.specs.declared.line.LineRead.TheVariants.{Whole, Long, Nothing}
 use Rattle.job_deck.specs.declared.schedule.Spoken.{Spoken}
 use Rattle.job_deck.specs.declared.schedule.Spoken.TheVariants.{Makes, Ends, Drains, Faulty}
 use Rattle.device_text.proofs.Lines.{FirstHas, lines_whole, lines_first_long}
