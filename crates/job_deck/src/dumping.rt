@@ -9,7 +9,7 @@ ghost use Rattle.instructions.specs.declared.refusal.Refusal.TheVariants.{Write 
 ghost use Rattle.sequential.specs.Log.{entries_of};
 
 use deck::{Deck, Show};
-use device_text::{Output, Piece, CheckedWriter, WriteFailed, put_pieces};
+use device_text::{CheckedWriter, Output, Piece, WriteFailed, put_pieces};
 use instruction_table::{Halt, Refusal};
 use registers::RegisterFile;
 use relocation::{Area, Storage};

@@ -5,7 +5,7 @@ ghost use Rattle.job_deck.specs.inner.Holding.{Hears};
 
 use crate::schedule::{Spoken, spoken_in};
 use arrayvec::ArrayVec;
-use device_text::{Input, Output, ReadFailed, LineRead, read_line};
+use device_text::{Input, LineRead, Output, ReadFailed, read_line};
 use instruction_table::DeckFault;
 
 /// Reads line `number` of a schedule that comes after line `before`, and nothing past it, and answers what

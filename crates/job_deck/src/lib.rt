@@ -16,8 +16,10 @@ mod schedule;
 mod session;
 
 pub use answering::put_answer;
-pub use deck::{Ask, Deck, DeckError, Image, Listed, Show, read_deck, read_deck_from};
-pub use device_text::{Input, Output, ReadFailed, CheckedWriter, CheckedReader, CheckedBufReader, WriteFailed};
+pub use deck::{Ask, Deck, DeckError, Image, LineList, Show, read_deck, read_deck_from};
+pub use device_text::{
+    CheckedBufReader, CheckedReader, CheckedWriter, Input, Output, ReadFailed, WriteFailed,
+};
 pub use dumping::{dump, dump_to};
 pub use listing::{list, list_to};
 pub use logs::read_log;

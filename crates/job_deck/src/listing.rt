@@ -7,7 +7,7 @@ ghost use Rattle.job_deck.specs.Listing.{listing, Lists};
 ghost use Rattle.job_deck.specs.Listing.{is_read_refusal, is_write_refusal};
 
 use deck::{Image, read_deck_from, refusal};
-use device_text::{Input, Output, Piece, CheckedWriter, CheckedReader, WriteFailed, put_pieces};
+use device_text::{CheckedReader, CheckedWriter, Input, Output, Piece, WriteFailed, put_pieces};
 use instruction_table::{Decoded, Refusal, decode};
 use std::alloc::Global;
 use std::io::{Read, Write};

@@ -7,7 +7,7 @@ ghost use Rattle.job_deck.specs.Replaying.{replayed, Prints, Replays};
 use crate::dumping::dump_to;
 use crate::logs::read_log;
 use deck::{Deck, read_deck_from, refusal};
-use device_text::{Input, Output, CheckedWriter, CheckedReader};
+use device_text::{CheckedReader, CheckedWriter, Input, Output};
 use instruction_table::Refusal;
 use sequential::State;
 use std::alloc::Global;

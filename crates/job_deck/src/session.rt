@@ -13,7 +13,7 @@ use crate::ending::finish;
 use crate::hearing::hear;
 use crate::schedule::Spoken;
 use deck::{Deck, read_deck_from, refusal};
-use device_text::{Input, Output, CheckedWriter, CheckedReader, WriteFailed};
+use device_text::{CheckedReader, CheckedWriter, Input, Output, WriteFailed};
 use instruction_table::{DeckFault, Refusal};
 use machine::{Event, Machine};
 use std::alloc::Global;

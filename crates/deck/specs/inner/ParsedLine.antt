@@ -6,14 +6,14 @@ use Rattle.deck.specs.declared.parsing.Line.{Line}
 use Rattle.deck.specs.declared.parsing.Line.TheVariants as says
 
 -- the line with the bytes of its fields in place of what refers to them
-abbrev pub said : Line (Bor (List ℕ)) → Line (List ℕ)
-said (says.Core w) = says.Core w.now
-said (says.At a) = says.At a.now
-said (says.Word v) = says.Word v.now
-said (says.Code texts) = says.Code texts.now
-said (says.Start n) = says.Start n.now
-said (says.Show a b) = says.Show a.now b.now
-said (says.Ask a k) = says.Ask a.now k.now
-said (says.AskFree a) = says.AskFree a.now
-said says.End = says.End
-said says.Unknown = says.Unknown
+abbrev pub line_with_bytes : Line (Bor (List ℕ)) → Line (List ℕ)
+line_with_bytes (says.Core w) = says.Core w.now
+line_with_bytes (says.At a) = says.At a.now
+line_with_bytes (says.Word v) = says.Word v.now
+line_with_bytes (says.Code texts) = says.Code texts.now
+line_with_bytes (says.Start n) = says.Start n.now
+line_with_bytes (says.Show a b) = says.Show a.now b.now
+line_with_bytes (says.Ask a k) = says.Ask a.now k.now
+line_with_bytes (says.AskFree a) = says.AskFree a.now
+line_with_bytes says.End = says.End
+line_with_bytes says.Unknown = says.Unknown
