@@ -8,11 +8,11 @@
 mod answering;
 mod dumping;
 mod ending;
-mod hearing;
 mod listing;
 mod logs;
 mod replaying;
 mod schedule;
+mod schedule_reading;
 mod session;
 
 pub use answering::put_answer;
@@ -24,5 +24,5 @@ pub use dumping::{dump, dump_to};
 pub use listing::{list, list_to};
 pub use logs::read_log;
 pub use replaying::{replay, replay_to};
-pub use schedule::{Spoken, spoken_in};
+pub use schedule::{ScheduleLine, parse_schedule_line};
 pub use session::{events, events_to};

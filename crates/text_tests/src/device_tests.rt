@@ -4,8 +4,8 @@ ghost use Rattle.std.specs.Prelude.{Some};
 
 use arrayvec::ArrayVec;
 use device_text::{
-    Input, Output, Piece, ReadFailed, LineRead, CheckedWriter, CheckedReader, CheckedBufReader, WriteFailed,
-    first_field, number, put_pieces, read_line, unit_named,
+    CheckedBufReader, CheckedReader, CheckedWriter, Input, LineRead, Output, Piece, ReadFailed,
+    WriteFailed, first_field, number, put_pieces, read_line, unit_named,
 };
 use instruction_table::Unit;
 use std::alloc::{AllocError, Global};
@@ -137,7 +137,10 @@ fn long_lines(rt: HostRuntime) -> Result<(), Fail> {
         let text = sevens(rt.alloc(), length)?;
         let mut bytes = text.as_slice();
         let mut line = ArrayVec::new();
-        let read: Result<LineRead, ReadFailed> = read_line(&mut CheckedReader::new(&mut bytes), &mut line);
+        let read: Result<LineRead, ReadFailed> = read_line(
+            &mut CheckedReader::new(&mut bytes),
+            &mut line,
+        );
         assert!(rt; read == Ok(took) && line.len() == length as usize);
     }
     Ok(())
