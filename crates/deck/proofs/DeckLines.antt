@@ -6,10 +6,10 @@ use Rattle.std.proofs.lemmas.Bool.{lt-ltb, le-ltb}
 use Rattle.std.proofs.Math.Seq.{drop-append_seam}
 use Rattle.device_text.specs.Device.{Moves}
 use Rattle.device_text.specs.Line.{IsText, LineTaken, left_after, lines_of}
-use Rattle.device_text.specs.declared.line.Took.TheVariants.{Whole, Long, Nothing}
+use Rattle.device_text.specs.declared.line.LineRead.TheVariants.{Whole, Long, Nothing}
 use Rattle.device_text.proofs.Moving.{Moves-weaker, Moves-trans}
-use Rattle.deck.specs.Deck.{Judgement, Good, Bad, deck, goes_on, read_all, read_from, read_on, judged_first}
-use Rattle.deck.specs.Deck.{judged_line}
+use Rattle.deck.specs.Deck.{LineOutcome, Good, Bad, deck, goes_on, read_all, read_from, read_on, applied_first_line}
+use Rattle.deck.specs.Deck.{applied_line}
 use Rattle.deck.specs.declared.deck.Step.TheVariants.{Ends}
 use Rattle.deck.specs.Reading.{Refuses, GivesErr, FollowsErr}
 use Rattle.deck.specs.declared.deck.Draft.{Draft}
@@ -71,36 +71,38 @@ first_refused a b e m =
     Moves-weaker a b (λ xs ys. Refuses 1 e xs ys (lines_of xs)) (λ xs ys. GivesErr e (deck xs) ys)
     (λ xs ys h. refused_first e xs ys (lines_of xs) h) m
 
-err_on : (n : ℕ) (e : DeckError) (j : Judgement) (rest : List ℕ) (next : _) → FollowsErr n e j
+err_on : (n : ℕ) (e : DeckError) (j : LineOutcome) (rest : List ℕ) (next : _) → FollowsErr n e j
     → GivesErr e (read_on n j rest next) rest
 err_on n (errors.Deck m fault) j rest next h = rw (h.1, h.0) refl
 err_on n errors.OutOfMemory j rest next h = tt
 err_on n errors.Read j rest next h = tt
 
 -- one line on
-first_on : (text xs ys : List ℕ) → length text ≤ 200 → Taken text xs ys
-    → deck xs ≡ read_on 1 (judged_first text) ys (λ s. read_from 2 s ys (lines_of ys))
-first_on text xs ys short t =
+reading_after_the_first_line : (text xs ys : List ℕ) → length text ≤ 200 → Taken text xs ys
+    → deck xs ≡ read_on 1 (applied_first_line text) ys (λ s. read_from 2 s ys (lines_of ys))
+reading_after_the_first_line text xs ys short t =
     ap (read_all xs) t
-    ∙ ap (λ rest. read_on 1 (judged_first text) rest (λ s. read_from 2 s ys (lines_of ys)))
+    ∙ ap (λ rest. read_on 1 (applied_first_line text) rest (λ s. read_from 2 s ys (lines_of ys)))
     (left_short text xs ys short)
 
 pub first_err : (a b : Option (List ℕ)) (text : List ℕ) (e : DeckError) → length text ≤ 200 → Moves a b (Taken text)
-    → FollowsErr 1 e (judged_first text) → Moves a b (λ xs ys. GivesErr e (deck xs) ys)
+    → FollowsErr 1 e (applied_first_line text) → Moves a b (λ xs ys. GivesErr e (deck xs) ys)
 first_err a b text e short m h = Moves-weaker a b (Taken text) (λ xs ys. GivesErr e (deck xs) ys)
-    (λ xs ys t. subst (λ r. GivesErr e r ys) (sym (first_on text xs ys short t))
-    (err_on 1 e (judged_first text) ys (λ s. read_from 2 s ys (lines_of ys)) h)) m
+    (λ xs ys t. subst (λ r. GivesErr e r ys) (sym (reading_after_the_first_line text xs ys short t))
+    (err_on 1 e (applied_first_line text) ys (λ s. read_from 2 s ys (lines_of ys)) h)) m
 
 pub first_goes : (a b : Option (List ℕ)) (text : List ℕ) (d : Draft) → length text ≤ 200 → Moves a b (Taken text)
-    → judged_first text ≡ goes_on d → Moves a b (λ xs ys. deck xs ≡ read_from 2 d ys (lines_of ys))
+    → applied_first_line text ≡ goes_on d → Moves a b (λ xs ys. deck xs ≡ read_from 2 d ys (lines_of ys))
 first_goes a b text d short m h =
     Moves-weaker a b (Taken text) (λ xs ys. deck xs ≡ read_from 2 d ys (lines_of ys))
-    (λ xs ys t. first_on text xs ys short t ∙ ap (λ j. read_on 1 j ys (λ s. read_from 2 s ys (lines_of ys))) h) m
+    (λ xs ys t. reading_after_the_first_line text xs ys short t
+    ∙ ap (λ j. read_on 1 j ys (λ s. read_from 2 s ys (lines_of ys))) h) m
 
 pub first_ends : (a b : Option (List ℕ)) (text : List ℕ) (d : Deck) → length text ≤ 200 → Moves a b (Taken text)
-    → judged_first text ≡ Ok (Ends d) → Moves a b (λ xs ys. deck xs ≡ Good d 1 ys)
+    → applied_first_line text ≡ Ok (Ends d) → Moves a b (λ xs ys. deck xs ≡ Good d 1 ys)
 first_ends a b text d short m h = Moves-weaker a b (Taken text) (λ xs ys. deck xs ≡ Good d 1 ys)
-    (λ xs ys t. first_on text xs ys short t ∙ ap (λ j. read_on 1 j ys (λ s. read_from 2 s ys (lines_of ys))) h) m
+    (λ xs ys t. reading_after_the_first_line text xs ys short t
+    ∙ ap (λ j. read_on 1 j ys (λ s. read_from 2 s ys (lines_of ys))) h) m
 
 -- ---- a later line
 
@@ -127,40 +129,40 @@ later_refused a b c n d e low told m =
     (λ xs ys zs p q. subst (λ r. GivesErr e r zs) (sym p) (refused_later n d e ys zs (lines_of ys) low q)) told m
 
 -- one line on
-line_on : (n : ℕ) (d : Draft) (text xs ys zs : List ℕ) → n ≤ 10000000 → length text ≤ 200 → ReadsOn n d xs ys
-    → Taken text ys zs
-    → deck xs ≡ read_on n (judged_line d text) zs (λ s. read_from (n + 1) s zs (lines_of zs))
-line_on n d text xs ys zs low short p q =
+reading_after_a_line : (n : ℕ) (d : Draft) (text xs ys zs : List ℕ) → n ≤ 10000000 → length text ≤ 200
+    → ReadsOn n d xs ys → Taken text ys zs
+    → deck xs ≡ read_on n (applied_line d text) zs (λ s. read_from (n + 1) s zs (lines_of zs))
+reading_after_a_line n d text xs ys zs low short p q =
     let within : ltb 10000000 n ≡ false = le-ltb _ _ low in
     p ∙ ap (read_from n d ys) q
     ∙ ap (λ b. cond b (Bad n faults.Lines ys)
-    (read_on n (judged_line d text) (left_after ys (text, zs))
+    (read_on n (applied_line d text) (left_after ys (text, zs))
     (λ s. read_from (n + 1) s zs (lines_of zs)))) within
-    ∙ ap (λ rest. read_on n (judged_line d text) rest (λ s. read_from (n + 1) s zs (lines_of zs)))
+    ∙ ap (λ rest. read_on n (applied_line d text) rest (λ s. read_from (n + 1) s zs (lines_of zs)))
     (left_short text ys zs short)
 
 pub later_err : (a b c : Option (List ℕ)) (n : ℕ) (d : Draft) (text : List ℕ) (e : DeckError) → n ≤ 10000000
     → length text ≤ 200 → Moves a b (ReadsOn n d) → Moves b c (Taken text)
-    → FollowsErr n e (judged_line d text) → Moves a c (λ xs ys. GivesErr e (deck xs) ys)
+    → FollowsErr n e (applied_line d text) → Moves a c (λ xs ys. GivesErr e (deck xs) ys)
 later_err a b c n d text e low short told m h =
     Moves-trans a b c (ReadsOn n d) (Taken text) (λ xs ys. GivesErr e (deck xs) ys)
-    (λ xs ys zs p q. subst (λ r. GivesErr e r zs) (sym (line_on n d text xs ys zs low short p q))
-    (err_on n e (judged_line d text) zs (λ s. read_from (n + 1) s zs (lines_of zs)) h)) told m
+    (λ xs ys zs p q. subst (λ r. GivesErr e r zs) (sym (reading_after_a_line n d text xs ys zs low short p q))
+    (err_on n e (applied_line d text) zs (λ s. read_from (n + 1) s zs (lines_of zs)) h)) told m
 
 pub later_goes : (a b c : Option (List ℕ)) (n : ℕ) (d : Draft) (text : List ℕ) (next : Draft) → n ≤ 10000000
     → length text ≤ 200 → Moves a b (ReadsOn n d) → Moves b c (Taken text)
-    → judged_line d text ≡ goes_on next → Moves a c (ReadsOn (n + 1) next)
+    → applied_line d text ≡ goes_on next → Moves a c (ReadsOn (n + 1) next)
 later_goes a b c n d text next low short told m h =
     Moves-trans a b c (ReadsOn n d) (Taken text) (ReadsOn (n + 1) next)
-    (λ xs ys zs p q. line_on n d text xs ys zs low short p q
+    (λ xs ys zs p q. reading_after_a_line n d text xs ys zs low short p q
     ∙ ap (λ j. read_on n j zs (λ s. read_from (n + 1) s zs (lines_of zs))) h) told m
 
 pub later_ends : (a b c : Option (List ℕ)) (n : ℕ) (d : Draft) (text : List ℕ) (whole : Deck) → n ≤ 10000000
     → length text ≤ 200 → Moves a b (ReadsOn n d) → Moves b c (Taken text)
-    → judged_line d text ≡ Ok (Ends whole) → Moves a c (λ xs ys. deck xs ≡ Good whole n ys)
+    → applied_line d text ≡ Ok (Ends whole) → Moves a c (λ xs ys. deck xs ≡ Good whole n ys)
 later_ends a b c n d text whole low short told m h =
     Moves-trans a b c (ReadsOn n d) (Taken text) (λ xs ys. deck xs ≡ Good whole n ys)
-    (λ xs ys zs p q. line_on n d text xs ys zs low short p q
+    (λ xs ys zs p q. reading_after_a_line n d text xs ys zs low short p q
     ∙ ap (λ j. read_on n j zs (λ s. read_from (n + 1) s zs (lines_of zs))) h) told m
 
 all_read : (n : ℕ) (d : Draft) (bytes : List ℕ) (lines : List (List ℕ × List ℕ)) → 10000000 < n

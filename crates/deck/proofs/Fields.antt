@@ -2,17 +2,17 @@
 use Rattle.std.proofs.Common.{◌≡◌, ℕ, true, false, cond, eqb, List, [], ◌∷◌, refl}
 use Rattle.std.specs.List.{onto_first}
 use Rattle.device_text.specs.Text.{fields_of}
-use Rattle.deck.specs.Deck.{said_of}
+use Rattle.deck.specs.Deck.{parsed_fields}
 use Rattle.deck.specs.declared.parsing.Line.TheVariants.{Unknown}
 
 too_many_onto : (w a b d : List ℕ) (x : ℕ) (parts : List (List ℕ))
-    → said_of (w ∷ a ∷ b ∷ d ∷ onto_first x parts) ≡ Unknown
+    → parsed_fields (w ∷ a ∷ b ∷ d ∷ onto_first x parts) ≡ Unknown
 too_many_onto w a b d x [] = refl
 too_many_onto w a b d x (part ∷ parts) = refl
 
 -- five fields say nothing
-pub too_many : (w a b d rest : List ℕ) → said_of (w ∷ a ∷ b ∷ d ∷ fields_of rest) ≡ Unknown
+pub too_many : (w a b d rest : List ℕ) → parsed_fields (w ∷ a ∷ b ∷ d ∷ fields_of rest) ≡ Unknown
 too_many w a b d [] = refl
 too_many w a b d (x ∷ xs) =
-    elim (eqb x 32) as (λ v. said_of (w ∷ a ∷ b ∷ d ∷ cond v ([] ∷ fields_of xs) (onto_first x (fields_of xs)))
+    elim (eqb x 32) as (λ v. parsed_fields (w ∷ a ∷ b ∷ d ∷ cond v ([] ∷ fields_of xs) (onto_first x (fields_of xs)))
     ≡ Unknown) [ true ↦ refl | false ↦ too_many_onto w a b d x (fields_of xs) ]

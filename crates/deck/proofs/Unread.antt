@@ -3,8 +3,8 @@ use Rattle.std.proofs.Common.{◌≡◌, ◌≢◌, ℕ, suc, ◌+◌, ◌≤◌
 use Rattle.std.proofs.Common.{◌++◌, length, drop, codes, Option, Ok, Err, refl, sym, subst, arith}
 use Rattle.std.proofs.lemmas.Bool.{ne_eqb}
 use Rattle.std.proofs.lemmas.List.Elements.{All-head, All-tail}
-use Rattle.deck.specs.Deck.{Reading, Bad, Judgement, deck, read_all, read_from, read_on}
-use Rattle.deck.specs.Deck.{begins_with, judged, judged_core, judged_line, refuse_if, said_in}
+use Rattle.deck.specs.Deck.{Reading, Bad, LineOutcome, deck, read_all, read_from, read_on}
+use Rattle.deck.specs.Deck.{begins_with, applied, applied_core, applied_line, refuse_if, parsed_line}
 use Rattle.device_text.specs.Device.{Moves}
 use Rattle.device_text.specs.Line.{IsText, ReadsPart, left_after, lines_of, onto}
 use Rattle.device_text.specs.Text.{fields_of}
@@ -46,14 +46,14 @@ after_part (b ∷ part) ys h =
     rw (ne_eqb b 10 (All-head (λ b. b ≢ 10) b part h))
     (after_onto (length ys) b (lines_of (part ++ ys)) (after_part part ys (All-tail (λ b. b ≢ 10) b part h)))
 
-on_within : (k n : ℕ) (j : Judgement) (rest : List ℕ) (next : Draft → Reading) → length rest ≤ k
+on_within : (k n : ℕ) (j : LineOutcome) (rest : List ℕ) (next : Draft → Reading) → length rest ≤ k
     → ((s : Draft) → EndsWithin k (next s)) → EndsWithin k (read_on n j rest next)
 on_within k n (Ok (Goes s)) rest next l h = h s
 on_within k n (Ok (Ends whole)) rest next l h = l
 on_within k n (Err fault) rest next l h = tt
 
 -- the same of a line that may be too long
-line_within : (k n : ℕ) (long : Bool) (j : Judgement) (bytes rest : List ℕ) (next : Draft → Reading) → length rest ≤ k
+line_within : (k n : ℕ) (long : Bool) (j : LineOutcome) (bytes rest : List ℕ) (next : Draft → Reading) → length rest ≤ k
     → ((s : Draft) → EndsWithin k (next s))
     → EndsWithin k (read_on n (refuse_if long faults.Long j) (cond long (drop 201 bytes) rest) next)
 line_within k n true j bytes rest next l h = tt
@@ -65,9 +65,9 @@ from_within k n s bytes [] h = tt
 from_within k n s bytes (line ∷ lines) h =
     elim (ltb 10000000 n) as (λ v. EndsWithin k
     (cond v (Bad n faults.Lines bytes)
-    (read_on n (judged_line s line.0) (left_after bytes line) (λ t. read_from (n + 1) t line.1 lines)))) [
+    (read_on n (applied_line s line.0) (left_after bytes line) (λ t. read_from (n + 1) t line.1 lines)))) [
       | true ↦ tt
-      | false ↦ line_within k n (ltb 200 (length line.0)) (judged s (said_in line.0)) bytes line.1
+      | false ↦ line_within k n (ltb 200 (length line.0)) (applied s (parsed_line line.0)) bytes line.1
           (λ t. read_from (n + 1) t line.1 lines) h.0 (λ t. from_within k (n + 1) t line.1 lines h.1)
     ]
 
@@ -76,8 +76,8 @@ all_within : (k : ℕ) (bytes : List ℕ) (lines : List (List ℕ × List ℕ)) 
 all_within k bytes [] h = tt
 all_within k bytes (line ∷ lines) h =
     line_within k 1 (ltb 200 (length line.0))
-    (refuse_if (not (begins_with (codes "core") (fields_of line.0))) faults.First (judged_core (said_in line.0))) bytes
-    line.1 (λ s. read_from 2 s line.1 lines) h.0 (λ s. from_within k 2 s line.1 lines h.1)
+    (refuse_if (not (begins_with (codes "core") (fields_of line.0))) faults.First (applied_core (parsed_line line.0)))
+    bytes line.1 (λ s. read_from 2 s line.1 lines) h.0 (λ s. from_within k 2 s line.1 lines h.1)
 
 -- what is left is at most what is after the deck
 abbrev pub Unread : List ℕ → List ℕ → Type 0

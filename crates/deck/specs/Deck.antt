@@ -1,4 +1,4 @@
--- What a deck's lines say, and how a deck is judged, one line after another. Decks, lines and what a line does are the
+-- What a deck's lines say, and how they apply to a deck, one after another. Decks, lines and what a line does are the
 -- types of the code.
 -- Source: ours.
 use Rattle.std.specs.Prelude.{ℕ, ◌+◌, Bool, false, not, List, [], ◌∷◌, ◌++◌, length, Option, Some, None, is_some}
@@ -20,22 +20,22 @@ use Rattle.instructions.specs.declared.refusal.DeckFault.{DeckFault}
 use Rattle.instructions.specs.declared.refusal.DeckFault.TheVariants as faults
 
 -- what the fields say of a line that isn't a `code` line
-abbrev pub said_of : List (List ℕ) → Line (List ℕ)
-said_of [] = says.Unknown
-said_of (word ∷ []) = if bytes_eq word (codes "end") then says.End else says.Unknown
-said_of (word ∷ a ∷ []) =
+abbrev pub parsed_fields : List (List ℕ) → Line (List ℕ)
+parsed_fields [] = says.Unknown
+parsed_fields (word ∷ []) = if bytes_eq word (codes "end") then says.End else says.Unknown
+parsed_fields (word ∷ a ∷ []) =
     if bytes_eq word (codes "core") then says.Core a
     else if bytes_eq word (codes "at") then says.At a
     else if bytes_eq word (codes "word") then says.Word a
     else if bytes_eq word (codes "start") then says.Start a
     else says.Unknown
-said_of (word ∷ a ∷ b ∷ []) =
+parsed_fields (word ∷ a ∷ b ∷ []) =
     if bytes_eq word (codes "show") then says.Show a b
     else if bytes_eq word (codes "ask") && bytes_eq b (codes "free") then says.AskFree a
     else says.Unknown
-said_of (word ∷ a ∷ b ∷ c ∷ []) =
+parsed_fields (word ∷ a ∷ b ∷ c ∷ []) =
     if bytes_eq word (codes "ask") && bytes_eq b (codes "after") then says.Ask a c else says.Unknown
-said_of (word ∷ a ∷ b ∷ c ∷ d ∷ more) = says.Unknown
+parsed_fields (word ∷ a ∷ b ∷ c ∷ d ∷ more) = says.Unknown
 
 -- the first field is this word
 abbrev pub begins_with : List ℕ → List (List ℕ) → Bool
@@ -43,28 +43,29 @@ begins_with word [] = false
 begins_with word (field ∷ more) = bytes_eq field word
 
 -- what follows the word `code`, where it is more than a space; else the fault is `unknown`
-abbrev pub said_code : List ℕ → Line (List ℕ)
-said_code rest = if nat_lt 1 (length rest) then says.Code rest else says.Unknown
+abbrev pub parsed_code : List ℕ → Line (List ℕ)
+parsed_code rest = if nat_lt 1 (length rest) then says.Code rest else says.Unknown
 
 -- what a line says
-abbrev pub said_in : List ℕ → Line (List ℕ)
-said_in text =
-    if begins_with (codes "code") (fields_of text) then said_code (from_space text) else said_of (fields_of text)
+abbrev pub parsed_line : List ℕ → Line (List ℕ)
+parsed_line text =
+    if begins_with (codes "code") (fields_of text) then parsed_code (from_space text)
+    else parsed_fields (fields_of text)
 
 -- what a line does to a deck: it goes on, it is whole, or the line is at fault
-abbrev pub Judgement : Type 0
-Judgement = Result Step DeckFault
+abbrev pub LineOutcome : Type 0
+LineOutcome = Result Step DeckFault
 
 -- the deck goes on
-abbrev pub goes_on : Draft → Judgement
+abbrev pub goes_on : Draft → LineOutcome
 goes_on draft = Ok (Goes draft)
 
 -- the fault where the test holds, else what follows
-abbrev pub refuse_if : Bool → DeckFault → Judgement → Judgement
+abbrev pub refuse_if : Bool → DeckFault → LineOutcome → LineOutcome
 refuse_if bad fault next = if bad then Err fault else next
 
 -- what follows with the number, or the fault `number` where there is none
-abbrev pub with_number : Option ℕ → (ℕ → Judgement) → Judgement
+abbrev pub with_number : Option ℕ → (ℕ → LineOutcome) → LineOutcome
 with_number None next = Err faults.Number
 with_number (Some n) next = next n
 
@@ -78,13 +79,13 @@ begun n = record { image = blank n; place = 0; start = None; asks = []; free = [
 
 -- what a `core` line does as the first line; its faults are `unknown` for a wrong number of fields, `number` and
 -- `size`
-abbrev pub judged_core : Line (List ℕ) → Judgement
-judged_core (says.Core w) =
+abbrev pub applied_core : Line (List ℕ) → LineOutcome
+applied_core (says.Core w) =
     with_number (number_of 10 6 w) (λ n. refuse_if (is_no_size n) faults.Size (goes_on (begun n)))
-judged_core other = Err faults.Unknown
+applied_core other = Err faults.Unknown
 
 -- what an `end` line does: the deck is whole, or the fault is `no start`
-abbrev pub ended : Draft → Option ℕ → Judgement
+abbrev pub ended : Draft → Option ℕ → LineOutcome
 ended d None = Err faults.NoStart
 ended d (Some n) = Ok (Ends (record { image = d.image; start = n; asks = d.asks; free = d.free; shows = d.shows }))
 
@@ -97,7 +98,7 @@ abbrev pub has_all_asks : Draft → Bool
 has_all_asks d = nat_le 64 (length d.asks + length d.free)
 
 -- a deck that has one more request for an exchange with the package at n, or its fault: `many`, and then `package`
-abbrev pub with_request : Draft → ℕ → Draft → Judgement
+abbrev pub with_request : Draft → ℕ → Draft → LineOutcome
 with_request d n next =
     refuse_if (has_all_asks d) faults.Many (refuse_if (not (package_fits n (size d))) faults.Package (goes_on next))
 
@@ -107,47 +108,48 @@ with_word d w = record d { image = placed_at d.image d.place w; place = d.place 
 
 -- the texts of a `code` line give a word, or one is no instruction's (`instruction`), or they have more than four
 -- parcels (`full`)
-abbrev pub coded : Draft → Option (List ℕ) → Judgement
+abbrev pub coded : Draft → Option (List ℕ) → LineOutcome
 coded d None = Err faults.Instruction
 coded d (Some parcels) = refuse_if (nat_lt 4 (length parcels)) faults.Full (goes_on (with_word d (word_of parcels)))
 
 -- what a later line does, or the first of its faults in this order: `unknown`, `number`, `size`, `repeated`, `many`,
 -- `range`, `package`, `instruction`, `full`, `no start`
-abbrev pub judged : Draft → Line (List ℕ) → Judgement
-judged d (says.Core w) =
+abbrev pub applied : Draft → Line (List ℕ) → LineOutcome
+applied d (says.Core w) =
     with_number (number_of 10 6 w) (λ n. refuse_if (is_no_size n) faults.Size (Err faults.Repeated))
-judged d (says.At a) =
+applied d (says.At a) =
     with_number (number_of 8 6 a)
     (λ n. refuse_if (nat_le (size d) n) faults.Range (goes_on (record d { place = n })))
-judged d (says.Word v) =
+applied d (says.Word v) =
     with_number (from_octal 20 v) (λ w. refuse_if (nat_le (size d) d.place) faults.Range (goes_on (with_word d w)))
-judged d (says.Code texts) = refuse_if (nat_le (size d) d.place) faults.Range (coded d (parcels_in (items_of texts)))
-judged d (says.Start a) =
+applied d (says.Code texts) = refuse_if (nat_le (size d) d.place) faults.Range (coded d (parcels_in (items_of texts)))
+applied d (says.Start a) =
     with_number (number_of 8 6 a)
     (λ n. refuse_if (is_some d.start) faults.Repeated
     (refuse_if (not (package_fits n (size d))) faults.Package (goes_on (record d { start = Some n }))))
-judged d (says.Show a b) =
+applied d (says.Show a b) =
     with_number (number_of 8 6 a) (λ low. with_number (number_of 8 6 b) (λ high.
     refuse_if (nat_le 64 (length d.shows)) faults.Many
     (refuse_if (nat_le (size d) high || nat_lt high low) faults.Range
     (goes_on (record d { shows = d.shows ++ record { first = low; last = high } ∷ [] })))))
-judged d (says.Ask a k) =
+applied d (says.Ask a k) =
     with_number (number_of 8 6 a) (λ n. with_number (number_of 10 8 k) (λ count.
     refuse_if (nat_lt 10000000 count) faults.Number
     (with_request d n (record d { asks = d.asks ++ record { at = n; after = count } ∷ [] }))))
-judged d (says.AskFree a) = with_number (number_of 8 6 a) (λ n. with_request d n (record d { free = d.free ++ n ∷ [] }))
-judged d says.End = ended d d.start
-judged d says.Unknown = Err faults.Unknown
+applied d (says.AskFree a) =
+    with_number (number_of 8 6 a) (λ n. with_request d n (record d { free = d.free ++ n ∷ [] }))
+applied d says.End = ended d d.start
+applied d says.Unknown = Err faults.Unknown
 
 -- the first line: how long it is (`long`), its first field (`first`), and then what it says
-abbrev pub judged_first : List ℕ → Judgement
-judged_first text =
+abbrev pub applied_first_line : List ℕ → LineOutcome
+applied_first_line text =
     refuse_if (nat_lt 200 (length text)) faults.Long
-    (refuse_if (not (begins_with (codes "core") (fields_of text))) faults.First (judged_core (said_in text)))
+    (refuse_if (not (begins_with (codes "core") (fields_of text))) faults.First (applied_core (parsed_line text)))
 
 -- a later line: how long it is (`long`), and then what it says
-abbrev pub judged_line : Draft → List ℕ → Judgement
-judged_line d text = refuse_if (nat_lt 200 (length text)) faults.Long (judged d (said_in text))
+abbrev pub applied_line : Draft → List ℕ → LineOutcome
+applied_line d text = refuse_if (nat_lt 200 (length text)) faults.Long (applied d (parsed_line text))
 
 -- what reading a deck gives: the deck, the number of its `end` line and the bytes after it; or the number of a line,
 -- its fault and the bytes that are left unread
@@ -156,7 +158,7 @@ pub data Reading : Type 0 where
   Bad : ℕ → DeckFault → List ℕ → Reading
 
 -- how reading goes on after line n, which leaves these bytes
-abbrev pub read_on : ℕ → Judgement → List ℕ → (Draft → Reading) → Reading
+abbrev pub read_on : ℕ → LineOutcome → List ℕ → (Draft → Reading) → Reading
 read_on n (Ok (Goes draft)) rest next = next draft
 read_on n (Ok (Ends whole)) rest next = Good whole n rest
 read_on n (Err fault) rest next = Bad n fault rest
@@ -166,13 +168,13 @@ read_on n (Err fault) rest next = Bad n fault rest
 abbrev pub read_from : ℕ → Draft → List ℕ → List (List ℕ × List ℕ) → Reading
 read_from n d bytes [] = Bad n (if nat_lt 10000000 n then faults.Lines else faults.NoEnd) bytes
 read_from n d bytes (line ∷ lines) = if nat_lt 10000000 n then Bad n faults.Lines bytes
-    else read_on n (judged_line d line.0) (left_after bytes line) (λ next. read_from (n + 1) next line.1 lines)
+    else read_on n (applied_line d line.0) (left_after bytes line) (λ next. read_from (n + 1) next line.1 lines)
 
 -- reading a deck from its first line on; where there is no line the fault is `no end` in line 1
 abbrev pub read_all : List ℕ → List (List ℕ × List ℕ) → Reading
 read_all bytes [] = Bad 1 faults.NoEnd bytes
 read_all bytes (line ∷ lines) =
-    read_on 1 (judged_first line.0) (left_after bytes line) (λ draft. read_from 2 draft line.1 lines)
+    read_on 1 (applied_first_line line.0) (left_after bytes line) (λ draft. read_from 2 draft line.1 lines)
 
 -- the deck that the bytes begin with
 abbrev pub deck : List ℕ → Reading

@@ -1,7 +1,7 @@
 -- What reading a deck answers.
 -- Source: ours.
 use Rattle.std.specs.Prelude.{◌≡◌, ℕ, ◌<◌, ◌≤◌, List, [], ◌∷◌, length, drop, Bool, true, false, Result, Ok, Err, ⊤}
-use Rattle.deck.specs.Deck.{Judgement, Reading, Good, Bad}
+use Rattle.deck.specs.Deck.{LineOutcome, Reading, Good, Bad}
 use Rattle.deck.specs.declared.deck.Deck.{Deck}
 use Rattle.deck.specs.declared.deck.Step.{Step}
 use Rattle.deck.specs.declared.deck.LineError.{LineError}
@@ -41,25 +41,25 @@ Refuses n errors.OutOfMemory xs ys lines = ⊥
 Refuses n errors.Read xs ys lines = ⊤
 
 -- a fault is the one that the line has; nothing is claimed where memory ran out
-abbrev pub AnswersErr : LineError → Judgement → Type 0
-AnswersErr (line_errors.Faulty fault) judged = judged ≡ Err fault
-AnswersErr line_errors.OutOfMemory judged = ⊤
+abbrev pub AnswersErr : LineError → LineOutcome → Type 0
+AnswersErr (line_errors.Faulty fault) applied = applied ≡ Err fault
+AnswersErr line_errors.OutOfMemory applied = ⊤
 
 -- the answer for a line is what the line does to a deck, unless memory ran out
-abbrev pub Answers : Result Step LineError → Judgement → Type 0
-Answers (Ok step) judged = judged ≡ Ok step
-Answers (Err e) judged = AnswersErr e judged
+abbrev pub Answers : Result Step LineError → LineOutcome → Type 0
+Answers (Ok step) applied = applied ≡ Ok step
+Answers (Err e) applied = AnswersErr e applied
 
 -- what line n does to a deck, unless memory ran out
-abbrev pub FollowsErr : ℕ → DeckError → Judgement → Type 0
-FollowsErr n (errors.Deck m fault) judged = (m ≡ n) × (judged ≡ Err fault)
-FollowsErr n errors.OutOfMemory judged = ⊤
-FollowsErr n errors.Read judged = ⊥
+abbrev pub FollowsErr : ℕ → DeckError → LineOutcome → Type 0
+FollowsErr n (errors.Deck m fault) applied = (m ≡ n) × (applied ≡ Err fault)
+FollowsErr n errors.OutOfMemory applied = ⊤
+FollowsErr n errors.Read applied = ⊥
 
 -- the answer for line n is what the line does to a deck, unless memory ran out
-abbrev pub Follows : ℕ → Result Step DeckError → Judgement → Type 0
-Follows n (Ok step) judged = judged ≡ Ok step
-Follows n (Err e) judged = FollowsErr n e judged
+abbrev pub Follows : ℕ → Result Step DeckError → LineOutcome → Type 0
+Follows n (Ok step) applied = applied ≡ Ok step
+Follows n (Err e) applied = FollowsErr n e applied
 
 -- the refusal says the same as the error
 abbrev pub GivesRefusal : DeckError → Refusal → Type 0

@@ -1,5 +1,5 @@
 use crate::Image;
-use crate::listed::Listed;
+use crate::line_list::LineList;
 use instruction_table::DeckFault;
 use word60::Word18;
 
@@ -25,9 +25,9 @@ pub struct Ask {
 pub struct Deck {
     pub image: Image,
     pub start: u32,
-    pub asks: Listed<Ask>,
-    pub free: Listed<u32>,
-    pub shows: Listed<Show>,
+    pub asks: LineList<Ask>,
+    pub free: LineList<u32>,
+    pub shows: LineList<Show>,
 }
 
 /// A deck whose `end` line hasn't come.
@@ -37,9 +37,9 @@ pub struct Draft {
     /// Where the next word goes.
     pub place: u32,
     pub start: Option<u32>,
-    pub asks: Listed<Ask>,
-    pub free: Listed<u32>,
-    pub shows: Listed<Show>,
+    pub asks: LineList<Ask>,
+    pub free: LineList<u32>,
+    pub shows: LineList<Show>,
 }
 
 /// How a deck goes on after a line.

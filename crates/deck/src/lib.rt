@@ -7,15 +7,15 @@
 //! `read_deck` in `reading`; `judging` has what each line does.
 #![tactic(auto)]
 
+mod applying;
 mod coding;
 mod deck;
 mod image;
-mod judging;
-mod listed;
+mod line_list;
 mod parsing;
 mod reading;
 
 pub use deck::{Ask, Deck, DeckError, Show};
 pub use image::Image;
-pub use listed::Listed;
+pub use line_list::LineList;
 pub use reading::{read_deck, read_deck_from, refusal};

@@ -1,7 +1,7 @@
 ghost use Rattle.std.specs.Prelude.{◌≡◌, ◌==◌, ◌<◌, ◌∷◌, []};
 ghost use Rattle.device_text.specs.Text.{fields_of, other_parts, from_space};
-ghost use Rattle.deck.specs.Deck.{said_of, said_in, said_code};
-ghost use Rattle.deck.specs.inner.Said.{said};
+ghost use Rattle.deck.specs.Deck.{parsed_fields, parsed_line, parsed_code};
+ghost use Rattle.deck.specs.inner.ParsedLine.{line_with_bytes};
 
 use device_text::{first_field, place_of};
 
@@ -32,7 +32,7 @@ pub enum Line<Field> {
 
 /// What a line says that begins with the word `code`.
 fn code_line(text: &[u8]) -> Line<&[u8]>
-    ensures { said result ≡ said_code (from_space text.now) }
+    ensures { line_with_bytes result ≡ parsed_code (from_space text.now) }
 {
     match place_of(text, b' ') {
         Some(at) if text.len() - at > 1 => Line::Code(&text[at..]),
@@ -43,7 +43,7 @@ fn code_line(text: &[u8]) -> Line<&[u8]>
 /// What a line of four fields or more says.
 #[tactic(auto, using(crate::proofs::Fields::too_many))]
 fn line_of_four<'a>(word: &[u8], first: &'a [u8], second: &[u8], rest: &'a [u8]) -> Line<&'a [u8]>
-    ensures { said result ≡ said_of (word.now ∷ first.now ∷ second.now ∷ fields_of rest.now) }
+    ensures { line_with_bytes result ≡ parsed_fields (word.now ∷ first.now ∷ second.now ∷ fields_of rest.now) }
 {
     let (third, rest) = first_field(rest);
     let Some(_) = rest else {
@@ -58,7 +58,7 @@ fn line_of_four<'a>(word: &[u8], first: &'a [u8], second: &[u8], rest: &'a [u8])
 
 /// What a line says that begins with another word.
 fn line_of_fields<'a>(word: &[u8], rest: Option<&'a [u8]>) -> Line<&'a [u8]>
-    ensures { said result ≡ said_of (word.now ∷ other_parts 32 rest.entry) }
+    ensures { line_with_bytes result ≡ parsed_fields (word.now ∷ other_parts 32 rest.entry) }
 {
     let Some(rest) = rest else {
         return if word == b"end".as_slice() {
@@ -96,7 +96,7 @@ fn line_of_fields<'a>(word: &[u8], rest: Option<&'a [u8]>) -> Line<&'a [u8]>
 
 /// What a line says.
 pub fn parse_line(text: &[u8]) -> Line<&[u8]>
-    ensures { said result ≡ said_in text.now }
+    ensures { line_with_bytes result ≡ parsed_line text.now }
 {
     let (word, rest) = first_field(text);
     if word == b"code".as_slice() {

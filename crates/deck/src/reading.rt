@@ -1,14 +1,14 @@
 ghost use Rattle.std.specs.Prelude.{◌≡◌, ◌||◌, ◌≤◌, ◌∷◌, length, false, true, OnOk, IfOk, IfErr};
 ghost use Rattle.device_text.specs.Device.{Moves};
-ghost use Rattle.deck.specs.Deck.{deck, Judgement};
+ghost use Rattle.deck.specs.Deck.{deck, LineOutcome};
 ghost use Rattle.device_text.specs.Line.{ReadsPart, lines_of};
 ghost use Rattle.deck.specs.Reading.{Answers, EndsWithin, Follows, Gives, GivesDeck, GivesRefusal, Refuses};
 ghost use Rattle.deck.specs.Reading.{is_cut, is_read};
 
+use crate::applying::{apply_first_line, apply_line};
 use crate::deck::{Deck, DeckError, LineError, Step};
-use crate::judging::{judge, judge_first};
 use arrayvec::ArrayVec;
-use device_text::{Input, Took, Watched, read_line};
+use device_text::{CheckedReader, Input, LineRead, read_line};
 use instruction_table::{DeckFault, Refusal};
 use std::alloc::Global;
 use std::io::Read;
@@ -29,12 +29,12 @@ fn next_line<I: Input>(
     ensures same { I.lender input.new ≡ I.lender input.old }
 {
     match read_line(input, line) {
-        Ok(Took::Whole) => Ok(()),
-        Ok(Took::Long) => Err(DeckError::Deck {
+        Ok(LineRead::Whole) => Ok(()),
+        Ok(LineRead::Long) => Err(DeckError::Deck {
             line: number,
             fault: DeckFault::Long,
         }),
-        Ok(Took::Nothing) => Err(DeckError::Deck {
+        Ok(LineRead::Nothing) => Err(DeckError::Deck {
             line: number,
             fault: DeckFault::NoEnd,
         }),
@@ -44,7 +44,7 @@ fn next_line<I: Input>(
 
 /// The step, or the error of line `number`.
 fn located(number: u32, step: Result<Step, LineError>) -> Result<Step, DeckError>
-    ensures follows { (judged : Judgement) → Answers step judged → Follows number result judged }
+    ensures follows { (applied : LineOutcome) → Answers step applied → Follows number result applied }
     ensures read { is_read result ≡ false }
 {
     match step {
@@ -73,13 +73,13 @@ pub fn read_deck_from<I: Input>(alloc: Global, input: &mut I) -> Result<(Deck, u
 {
     let mut line = ArrayVec::new();
     next_line(input, &mut line, 1)?;
-    let mut draft = match located(1, judge_first(alloc, line.as_slice()))? {
+    let mut draft = match located(1, apply_first_line(alloc, line.as_slice()))? {
         Step::Goes(draft) => draft,
         Step::Ends(deck) => return Ok((deck, 1)),
     };
     for number in 2..=10_000_000u32 {
         next_line(input, &mut line, number)?;
-        match located(number, judge(draft, line.as_slice()))? {
+        match located(number, apply_line(draft, line.as_slice()))? {
             Step::Goes(next) => draft = next,
             Step::Ends(deck) => return Ok((deck, number)),
         }
@@ -108,7 +108,7 @@ pub fn refusal(error: DeckError) -> Refusal
 pub fn read_deck<R: Read>(alloc: Global, reader: &mut R) -> Result<Deck, Refusal>
     ensures { Moves (R.remaining reader.old) (R.remaining reader.new) (λ xs ys. GivesDeck result (deck xs) ys) }
 {
-    let mut input = Watched::new(reader);
+    let mut input = CheckedReader::new(reader);
     let result = read_deck_from(alloc, &mut input);
     // No effect at run time. The proof reads what the reader has left from this use.
     let _ = &*input.into_inner();

@@ -4,7 +4,7 @@ use Rattle.std.proofs.Common.{◌∙◌, subst, arith, All, inl, inr}
 use Rattle.std.proofs.lemmas.Bool.{ne_eqb}
 use Rattle.std.proofs.lemmas.List.Elements.{All-head, All-tail}
 use Rattle.device_text.specs.Line.{IsText, LineTaken, lines_of, onto}
-use Rattle.device_text.specs.declared.line.Took.TheVariants.{Whole}
+use Rattle.device_text.specs.declared.line.LineRead.TheVariants.{Whole}
 
 -- what each has, the first and the others have
 All-uncons : {X : Type 0} (P : X → Type 0) (x : X) (xs : List X) → All P (x ∷ xs) → P x × All P xs

@@ -2,8 +2,8 @@
 -- Source: ours.
 use Rattle.std.specs.Prelude.{◌≡◌, ◌≢◌, ℕ, ◌≤◌, ◌<◌, List, [], ◌∷◌, ◌++◌, length, drop, All, ◌⊎◌, ◌==◌}
 use Rattle.std.specs.Prelude.{nat_lt, if◌then◌else◌}
-use Rattle.device_text.specs.declared.line.Took.{Took}
-use Rattle.device_text.specs.declared.line.Took.TheVariants.{Whole, Long, Nothing}
+use Rattle.device_text.specs.declared.line.LineRead.{LineRead}
+use Rattle.device_text.specs.declared.line.LineRead.TheVariants.{Whole, Long, Nothing}
 
 -- a byte goes onto the first line
 abbrev pub onto : ℕ → List (List ℕ × List ℕ) → List (List ℕ × List ℕ)
@@ -30,13 +30,13 @@ abbrev pub ReadsPart : List ℕ → List ℕ → Type 0
 ReadsPart xs ys = (part : List ℕ) × IsText part × (xs ≡ part ++ ys)
 
 -- the text that a reading of a line leaves
-abbrev pub LineText : Took → List ℕ → Type 0
+abbrev pub LineText : LineRead → List ℕ → Type 0
 LineText Whole text = IsText text × (length text ≤ 200)
 LineText Long text = IsText text × (length text ≡ 201)
 LineText Nothing text = text ≡ []
 
 -- what a reading of a line took from xs, and left as ys
-abbrev pub LineTaken : Took → List ℕ → List ℕ → List ℕ → Type 0
+abbrev pub LineTaken : LineRead → List ℕ → List ℕ → List ℕ → Type 0
 LineTaken Whole text xs ys = (xs ≡ text ++ 10 ∷ ys) ⊎ ((0 < length text) × (xs ≡ text) × (ys ≡ []))
 LineTaken Long text xs ys = xs ≡ text ++ ys
 LineTaken Nothing text xs ys = (xs ≡ []) × (ys ≡ [])

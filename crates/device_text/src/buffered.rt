@@ -3,27 +3,27 @@ ghost use Rattle.std.specs.Prelude.{◌≡◌, false};
 use crate::input::{Input, ReadFailed};
 use std::io::BufRead;
 
-/// Any buffered reader, watched for failures. A byte is taken out of its buffer, which costs much less than a
-/// read of one byte.
+/// Any buffered reader, with a check of each read for failure. A byte is taken out of its buffer, which costs
+/// much less than a read of one byte.
 #[derive(Drop)]
-pub struct WatchedBuffer<'a, R> {
+pub struct CheckedBufReader<'a, R> {
     reader: &'a mut R,
     failed: bool,
 }
 
-impl<'a, R: BufRead> WatchedBuffer<'a, R> {
-    pub fn new(reader: &'a mut R) -> WatchedBuffer<'a, R>
+impl<'a, R: BufRead> CheckedBufReader<'a, R> {
+    pub fn new(reader: &'a mut R) -> CheckedBufReader<'a, R>
         ensures reader { result.reader ≡ reader.entry }
         ensures fresh { result.failed ≡ false }
     {
-        WatchedBuffer {
+        CheckedBufReader {
             reader,
             failed: false,
         }
     }
 }
 
-impl<'a, R: BufRead> Input for WatchedBuffer<'a, R> {
+impl<'a, R: BufRead> Input for CheckedBufReader<'a, R> {
     ghost remaining = { λ w. R.remaining w.reader.now };
 
     ghost has_failed = { λ w. w.failed };

@@ -27,19 +27,19 @@ pub trait Input {
         ensures same { lender self.new ≡ lender self.old };
 }
 
-/// Any reader, watched for failures.
+/// Any reader, with a check of each read for failure.
 #[derive(Drop)]
-pub struct Watched<'a, R> {
+pub struct CheckedReader<'a, R> {
     reader: &'a mut R,
     failed: bool,
 }
 
-impl<'a, R: Read> Watched<'a, R> {
-    pub fn new(reader: &'a mut R) -> Watched<'a, R>
+impl<'a, R: Read> CheckedReader<'a, R> {
+    pub fn new(reader: &'a mut R) -> CheckedReader<'a, R>
         ensures reader { result.reader ≡ reader.entry }
         ensures fresh { result.failed ≡ false }
     {
-        Watched {
+        CheckedReader {
             reader,
             failed: false,
         }
@@ -49,12 +49,12 @@ impl<'a, R: Read> Watched<'a, R> {
     pub fn into_inner(self) -> &'a mut R
         ensures { result ≡ self.entry.reader }
     {
-        let Watched { reader, failed: _ } = self;
+        let CheckedReader { reader, failed: _ } = self;
         reader
     }
 }
 
-impl<'a, R: Read> Input for Watched<'a, R> {
+impl<'a, R: Read> Input for CheckedReader<'a, R> {
     ghost remaining = { λ w. R.remaining w.reader.now };
 
     ghost has_failed = { λ w. w.failed };

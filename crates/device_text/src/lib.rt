@@ -16,11 +16,11 @@ mod output;
 mod piece;
 mod spelling;
 
-pub use buffered::WatchedBuffer;
+pub use buffered::CheckedBufReader;
 pub use digits::number;
 pub use fields::{first_field, first_part, place_of};
-pub use input::{Input, ReadFailed, Watched};
-pub use line::{Took, read_line};
-pub use output::{Output, Tracked, WriteFailed};
+pub use input::{CheckedReader, Input, ReadFailed};
+pub use line::{LineRead, read_line};
+pub use output::{CheckedWriter, Output, WriteFailed};
 pub use piece::{Piece, put_pieces};
 pub use spelling::unit_named;

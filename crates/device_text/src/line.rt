@@ -7,7 +7,7 @@ use arrayvec::ArrayVec;
 
 /// What a reading of a line found.
 #[derive(Clone, Copy, Debug, PartialEq, Eq)]
-pub enum Took {
+pub enum LineRead {
     /// A whole line of at most 200 bytes.
     Whole,
     /// 201 bytes of a longer line, and no more of it.
@@ -20,10 +20,13 @@ pub enum Took {
 ///
 /// # Errors
 /// Where a read fails; the line then has the bytes that were read before.
-pub fn read_line<I: Input>(input: &mut I, line: &mut ArrayVec<u8, 201>) -> Result<Took, ReadFailed>
-    ensures text { IfOk result (λ took. LineText took line.new.items) }
-    ensures ok { IfOk result (λ took. Moves (I.remaining input.old) (I.remaining input.new)
-        (LineTaken took line.new.items)) }
+pub fn read_line<I: Input>(
+    input: &mut I,
+    line: &mut ArrayVec<u8, 201>,
+) -> Result<LineRead, ReadFailed>
+    ensures text { IfOk result (λ line_read. LineText line_read line.new.items) }
+    ensures ok { IfOk result (λ line_read. Moves (I.remaining input.old) (I.remaining input.new)
+        (LineTaken line_read line.new.items)) }
     ensures err { OnErr result (Moves (I.remaining input.old) (I.remaining input.new)
         (λ xs ys. xs ≡ line.new.items ++ ys)) }
     ensures part { OnErr result (IsText line.new.items) }
@@ -35,14 +38,14 @@ pub fn read_line<I: Input>(input: &mut I, line: &mut ArrayVec<u8, 201>) -> Resul
         match input.next_byte()? {
             None => {
                 return Ok(if line.is_empty() {
-                    Took::Nothing
+                    LineRead::Nothing
                 } else {
-                    Took::Whole
+                    LineRead::Whole
                 });
             }
-            Some(b'\n') => return Ok(Took::Whole),
+            Some(b'\n') => return Ok(LineRead::Whole),
             Some(byte) => line.push(byte),
         }
     }
-    Ok(Took::Long)
+    Ok(LineRead::Long)
 }

@@ -38,21 +38,21 @@ pub trait Output {
         ensures same { lender self.new ≡ lender self.old };
 }
 
-/// Any writer, watched for failures.
+/// Any writer, with a check of each write for failure.
 #[derive(Drop)]
-pub struct Tracked<'a, W> {
+pub struct CheckedWriter<'a, W> {
     writer: &'a mut W,
     failed: bool,
     waits: bool,
 }
 
-impl<'a, W: Write> Tracked<'a, W> {
-    pub fn new(writer: &'a mut W) -> Tracked<'a, W>
+impl<'a, W: Write> CheckedWriter<'a, W> {
+    pub fn new(writer: &'a mut W) -> CheckedWriter<'a, W>
         ensures writer { result.writer ≡ writer.entry }
         ensures fresh { result.failed ≡ false }
         ensures nothing_put { result.waits ≡ false }
     {
-        Tracked {
+        CheckedWriter {
             writer,
             failed: false,
             waits: false,
@@ -63,7 +63,7 @@ impl<'a, W: Write> Tracked<'a, W> {
     pub fn into_inner(self) -> &'a mut W
         ensures { result ≡ self.entry.writer }
     {
-        let Tracked {
+        let CheckedWriter {
             writer,
             failed: _,
             waits: _,
@@ -72,7 +72,7 @@ impl<'a, W: Write> Tracked<'a, W> {
     }
 }
 
-impl<'a, W: Write> Output for Tracked<'a, W> {
+impl<'a, W: Write> Output for CheckedWriter<'a, W> {
     ghost contents = { λ w. W.contents w.writer.now };
 
     ghost has_failed = { λ w. w.failed };

@@ -1,6 +1,6 @@
 -- What a schedule says, how far a session has come, how it ends, and what is answered where none begins.
 pub mod Speaking
-pub mod HeardLines
+pub mod ScheduleLines
 pub mod Sessions
 pub mod Endings
 pub mod Unbegun

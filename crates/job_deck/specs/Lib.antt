@@ -1,5 +1,5 @@
--- What the program prints and answers, and what it reads besides decks. Told says what a session answers; Holding, in
--- inner, ties the answers of its parts to that.
+-- What the program prints and answers, and what it reads besides decks. SessionResult says what a session answers;
+-- SessionParts, in inner, ties the answers of its parts to that.
 -- Source: ours.
 pub mod Dump
 pub mod Listing
@@ -8,5 +8,5 @@ pub mod Replaying
 pub mod Schedule
 pub mod AnswerText
 pub mod Session
-pub mod Told
+pub mod SessionResult
 pub mod inner

@@ -18,15 +18,15 @@ abbrev pub whole_allowance : Allowance
 whole_allowance =
     record { after_count = false; instructions = 10000000; exchanges = 1000000; accesses = 1000000 }
 
--- a nought in front and a digit after it
-abbrev pub has_nought_in_front : List ℕ → Bool
-has_nought_in_front [] = false
-has_nought_in_front (d ∷ []) = false
-has_nought_in_front (d ∷ e ∷ more) = d == 48
+-- a leading zero: a nought and a digit after it
+abbrev pub has_leading_zero : List ℕ → Bool
+has_leading_zero [] = false
+has_leading_zero (d ∷ []) = false
+has_leading_zero (d ∷ e ∷ more) = d == 48
 
--- the number that the digits are, without noughts in front
-abbrev pub plain_number : ℕ → ℕ → List ℕ → Option ℕ
-plain_number base most digits = if has_nought_in_front digits then None else number_of base most digits
+-- the number that the digits are, without leading zeros
+abbrev pub number_without_leading_zeros : ℕ → ℕ → List ℕ → Option ℕ
+number_without_leading_zeros base most digits = if has_leading_zero digits then None else number_of base most digits
 
 -- the entry of an exchange, if its address is a number and one more exchange may come
 abbrev pub exchange_in : Allowance → Option ℕ → Option Entry
@@ -38,9 +38,9 @@ abbrev pub count_in : Allowance → Option ℕ → Option Entry
 count_in left None = None
 count_in left (Some n) = if left.after_count || (n == 0) || nat_lt left.instructions n then None else Some (Count n)
 
--- the word that the digits are, without noughts in front
-abbrev pub plain_word : List ℕ → Option ℕ
-plain_word digits = if has_nought_in_front digits then None else from_octal 20 digits
+-- the word that the digits are, without leading zeros
+abbrev pub word_without_leading_zeros : List ℕ → Option ℕ
+word_without_leading_zeros digits = if has_leading_zero digits then None else from_octal 20 digits
 
 -- the entry of a word that was read, if its address is a number and one more access may come
 abbrev pub read_in : Allowance → Option ℕ → Option Entry
@@ -57,7 +57,8 @@ write_in left (Some a) (Some w) = if left.accesses == 0 then None else Some (PpW
 abbrev pub written_in : Allowance → List (List ℕ) → Option Entry
 written_in left [] = None
 written_in left (address ∷ []) = None
-written_in left (address ∷ word ∷ []) = write_in left (plain_number 8 6 address) (plain_word word)
+written_in left (address ∷ word ∷ []) =
+    write_in left (number_without_leading_zeros 8 6 address) (word_without_leading_zeros word)
 written_in left (address ∷ word ∷ other ∷ more) = None
 
 -- the entry of a field: `E` and one to six octal digits, `I` and one to eight decimal digits, `R` and one to six octal
@@ -65,9 +66,9 @@ written_in left (address ∷ word ∷ other ∷ more) = None
 abbrev pub entry_in : Allowance → List ℕ → Option Entry
 entry_in left [] = None
 entry_in left (letter ∷ digits) =
-    if letter == 69 then exchange_in left (plain_number 8 6 digits)
-    else if letter == 73 then count_in left (plain_number 10 8 digits)
-    else if letter == 82 then read_in left (plain_number 8 6 digits)
+    if letter == 69 then exchange_in left (number_without_leading_zeros 8 6 digits)
+    else if letter == 73 then count_in left (number_without_leading_zeros 10 8 digits)
+    else if letter == 82 then read_in left (number_without_leading_zeros 8 6 digits)
     else if letter == 87 then written_in left (slice_split (λ b. b == 61) digits)
     else None
 

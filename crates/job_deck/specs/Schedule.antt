@@ -10,29 +10,29 @@ use Rattle.program_order.specs.declared.event.Event.TheVariants as events
 use Rattle.device_text.specs.Line.{left_after}
 use Rattle.device_text.specs.Text.{fields_of, number_of}
 use Rattle.device_text.specs.Names.{unit_named}
-use Rattle.job_deck.specs.declared.schedule.Spoken.{Spoken}
-use Rattle.job_deck.specs.declared.schedule.Spoken.TheVariants.{Makes, Ends, Drains, Faulty}
+use Rattle.job_deck.specs.declared.schedule.ScheduleLine.{ScheduleLine}
+use Rattle.job_deck.specs.declared.schedule.ScheduleLine.TheVariants.{Makes, Ends, Drains, Faulty}
 
 -- the event with the unit, or the fault `unknown` where there is no such unit
-abbrev pub with_unit : Option FunctionalUnit → (FunctionalUnit → Event) → Spoken
+abbrev pub with_unit : Option FunctionalUnit → (FunctionalUnit → Event) → ScheduleLine
 with_unit None event = Faulty faults.Unknown
 with_unit (Some unit) event = Makes (event unit)
 
 -- the event with the number, or the fault `number` where there is none; that it names no place, channel, bank or
 -- package is no fault of the line
-abbrev pub with_number : Option ℕ → (ℕ → Event) → Spoken
+abbrev pub with_number : Option ℕ → (ℕ → Event) → ScheduleLine
 with_number None event = Faulty faults.Number
 with_number (Some n) event = Makes (event n)
 
 -- the writing of the word to the address, or the fault `number` where one of them is no number
-abbrev pub with_word : Option ℕ → Option ℕ → Spoken
+abbrev pub with_word : Option ℕ → Option ℕ → ScheduleLine
 with_word None word = Faulty faults.Number
 with_word (Some address) None = Faulty faults.Number
 with_word (Some address) (Some word) = Makes (events.PpWrite address word)
 
 -- a line of one field: `issue`, `exchange`, `end` or `drain`; any other has the fault `unknown`
-abbrev pub spoken_alone : List ℕ → Spoken
-spoken_alone word =
+abbrev pub line_of_one_field : List ℕ → ScheduleLine
+line_of_one_field word =
     if bytes_eq word (codes "issue") then Makes events.Issue
     else if bytes_eq word (codes "exchange") then Makes events.Exchange
     else if bytes_eq word (codes "end") then Ends
@@ -40,8 +40,8 @@ spoken_alone word =
     else Faulty faults.Unknown
 
 -- a line of two fields with a number: places, channels and banks are decimal, addresses octal
-abbrev pub spoken_number : List ℕ → List ℕ → Spoken
-spoken_number word field =
+abbrev pub line_with_number : List ℕ → List ℕ → ScheduleLine
+line_with_number word field =
     if bytes_eq word (codes "accept") then with_number (number_of 10 2 field) events.Accept
     else if bytes_eq word (codes "return") then with_number (number_of 10 2 field) events.Return
     else if bytes_eq word (codes "bank") then with_number (number_of 10 2 field) events.BankFree
@@ -50,41 +50,41 @@ spoken_number word field =
     else Faulty faults.Unknown
 
 -- a line of two fields: after `read`, `finish` and `store` comes a unit, else a number
-abbrev pub spoken_with : List ℕ → List ℕ → Spoken
-spoken_with word field =
+abbrev pub line_of_two_fields : List ℕ → List ℕ → ScheduleLine
+line_of_two_fields word field =
     if bytes_eq word (codes "read") then with_unit (unit_named field) events.Read
     else if bytes_eq word (codes "finish") then with_unit (unit_named field) events.Finish
     else if bytes_eq word (codes "store") then with_unit (unit_named field) events.Store
-    else spoken_number word field
+    else line_with_number word field
 
 -- a line of three fields: `ppwrite` with an address and a word, both octal
-abbrev pub spoken_write : List ℕ → List ℕ → List ℕ → Spoken
-spoken_write word field other =
+abbrev pub line_of_three_fields : List ℕ → List ℕ → List ℕ → ScheduleLine
+line_of_three_fields word field other =
     if bytes_eq word (codes "ppwrite") then with_word (number_of 8 6 field) (from_octal 20 other)
     else Faulty faults.Unknown
 
 -- what a line says by its fields; with more than three of them it has the fault `unknown`
-abbrev pub spoken_of : List (List ℕ) → Spoken
-spoken_of [] = Faulty faults.Unknown
-spoken_of (word ∷ []) = spoken_alone word
-spoken_of (word ∷ field ∷ []) = spoken_with word field
-spoken_of (word ∷ field ∷ other ∷ []) = spoken_write word field other
-spoken_of (word ∷ field ∷ other ∷ one ∷ more) = Faulty faults.Unknown
+abbrev pub line_of_fields : List (List ℕ) → ScheduleLine
+line_of_fields [] = Faulty faults.Unknown
+line_of_fields (word ∷ []) = line_of_one_field word
+line_of_fields (word ∷ field ∷ []) = line_of_two_fields word field
+line_of_fields (word ∷ field ∷ other ∷ []) = line_of_three_fields word field other
+line_of_fields (word ∷ field ∷ other ∷ one ∷ more) = Faulty faults.Unknown
 
 -- what a line of at most 200 bytes says
-abbrev pub spoken : List ℕ → Spoken
-spoken text = spoken_of (fields_of text)
+abbrev pub schedule_line : List ℕ → ScheduleLine
+schedule_line text = line_of_fields (fields_of text)
 
 -- what line n says, the first of these lines, of which each comes with the bytes after it: past line 10,000,000 the
 -- fault is `lines`, where no line is left before that `no end`, and in a line of more than 200 bytes `long`
-abbrev pub heard : ℕ → List (List ℕ × List ℕ) → Spoken
-heard n [] = Faulty (if nat_lt 10000000 n then faults.Lines else faults.NoEnd)
-heard n (line ∷ more) =
+abbrev pub line_says : ℕ → List (List ℕ × List ℕ) → ScheduleLine
+line_says n [] = Faulty (if nat_lt 10000000 n then faults.Lines else faults.NoEnd)
+line_says n (line ∷ more) =
     if nat_lt 10000000 n then Faulty faults.Lines
     else if nat_lt 200 (length line.0) then Faulty faults.Long
-    else spoken line.0
+    else schedule_line line.0
 
--- what is left of these bytes once line n was heard, the first of their lines: past line 10,000,000 all of them
-abbrev pub left_heard : ℕ → List ℕ → List (List ℕ × List ℕ) → List ℕ
-left_heard n bytes [] = bytes
-left_heard n bytes (line ∷ more) = if nat_lt 10000000 n then bytes else left_after bytes line
+-- what is left of these bytes once line n was read, the first of their lines: past line 10,000,000 all of them
+abbrev pub left_after_line : ℕ → List ℕ → List (List ℕ × List ℕ) → List ℕ
+left_after_line n bytes [] = bytes
+left_after_line n bytes (line ∷ more) = if nat_lt 10000000 n then bytes else left_after bytes line

@@ -14,15 +14,15 @@ use Rattle.program_order.specs.Working.{Works}
 use Rattle.deck.specs.declared.deck.Show.{Show}
 use Rattle.job_deck.specs.AnswerText.{answer_line}
 use Rattle.job_deck.specs.Dump.{dump_text, log_line}
-use Rattle.job_deck.specs.Schedule.{heard}
-use Rattle.job_deck.specs.declared.schedule.Spoken.{Spoken}
-use Rattle.job_deck.specs.declared.schedule.Spoken.TheVariants.{Makes, Ends, Drains, Faulty}
+use Rattle.job_deck.specs.Schedule.{line_says}
+use Rattle.job_deck.specs.declared.schedule.ScheduleLine.{ScheduleLine}
+use Rattle.job_deck.specs.declared.schedule.ScheduleLine.TheVariants.{Makes, Ends, Drains, Faulty}
 
 -- the lines from line n on say these events, one a line, and then these are left
 abbrev pub Says : ℕ → List Event → List (List ℕ × List ℕ) → List (List ℕ × List ℕ) → Type 0
 Says n [] lines left = lines ≡ left
 Says n (e ∷ events) [] left = ⊥
-Says n (e ∷ events) (line ∷ lines) left = (heard n (line ∷ lines) ≡ Makes e) × Says (n + 1) events lines left
+Says n (e ∷ events) (line ∷ lines) left = (line_says n (line ∷ lines) ≡ Makes e) × Says (n + 1) events lines left
 
 -- a session so far, with machine w and these lines from line n on: the first lines said events, and each event got an
 -- answer that may be given. IsLed relates events and their answers with a machine to which they lead, from some
@@ -65,7 +65,7 @@ not_drained_text w = concat (codes "NOT DRAINED\n" ∷ log_line (entries_of w.lo
 -- what may be written for what a line says: an answer's line; at `end` the dump, or that the machine isn't drained; at
 -- `drain` the dump of the machine to which at most forty accepted events lead, none of them an issue, a request or an
 -- exchange, and to which so many such events more lead from wherever the first machine was reached
-abbrev pub IsReply : Spoken → Processor → List Show → List ℕ → Type 0
+abbrev pub IsReply : ScheduleLine → Processor → List Show → List ℕ → Type 0
 IsReply (Makes e) w shows text = (answer : Result Done Refusal) × IsAnswer w e answer × (text ≡ answer_line answer)
 IsReply Ends w shows text = IsDump w shows text ⊎ ((is_pending w.pending ≡ true) × (text ≡ not_drained_text w))
 IsReply Drains w shows text =
@@ -73,7 +73,7 @@ IsReply Drains w shows text =
 IsReply (Faulty fault) w shows text = ⊥
 
 -- the line ends the session: it says `end` or `drain`
-abbrev pub IsLast : Spoken → Type 0
+abbrev pub IsLast : ScheduleLine → Type 0
 IsLast (Makes e) = ⊥
 IsLast Ends = Unit {0}
 IsLast Drains = Unit {0}

@@ -1,2 +1,2 @@
 -- What ties the parts of the code to the definitions that a reader checks. Source: ours.
-pub mod Holding
+pub mod SessionParts

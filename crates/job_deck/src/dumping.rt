@@ -9,7 +9,7 @@ ghost use Rattle.instructions.specs.declared.refusal.Refusal.TheVariants.{Write 
 ghost use Rattle.sequential.specs.Log.{entries_of};
 
 use deck::{Deck, Show};
-use device_text::{Output, Piece, Tracked, WriteFailed, put_pieces};
+use device_text::{CheckedWriter, Output, Piece, WriteFailed, put_pieces};
 use instruction_table::{Halt, Refusal};
 use registers::RegisterFile;
 use relocation::{Area, Storage};
@@ -328,7 +328,7 @@ pub fn dump<W: Write>(state: &State, log: &Log, deck: &Deck, writer: &mut W) -> 
         (dump_text state.now (entries_of log.now.steps) deck.now.shows) }
     ensures refusal { OnErr result (result ≡ Err WriteRefusal) }
 {
-    let mut output = Tracked::new(writer);
+    let mut output = CheckedWriter::new(writer);
     let result = dump_to(&mut output, state, log, deck);
     // No effect at run time. The proof reads what the writer holds from this use.
     let _ = &*output.into_inner();

@@ -2,7 +2,7 @@ ghost use Rattle.std.specs.Prelude.{◌≡◌, ◌||◌, OnOk, false};
 ghost use Rattle.in_flight.specs.Lookup.{is_pending};
 ghost use Rattle.device_text.specs.Device.{NothingWaits, Writes, failed_after};
 ghost use Rattle.job_deck.specs.Session.{not_drained_text};
-ghost use Rattle.job_deck.specs.inner.Holding.{Closes, Dumps, is_write_error, last_said};
+ghost use Rattle.job_deck.specs.inner.SessionParts.{Closes, Dumps, is_write_error, last_line};
 
 use crate::dumping::{dump_to, put_log_line};
 use crate::session::SessionError;
@@ -62,7 +62,7 @@ fn print_not_drained<O: Output>(output: &mut O, machine: &Machine) -> Result<(),
 /// # Errors
 /// As `put_drained`.
 fn put_end<O: Output>(output: &mut O, machine: &Machine, deck: &Deck) -> Result<(), SessionError>
-    ensures closed { Closes result (last_said false) machine.now deck.now.shows (O.contents output.old)
+    ensures closed { Closes result (last_line false) machine.now deck.now.shows (O.contents output.old)
         (O.contents output.new) }
     ensures write { O.has_failed output.new ≡ (O.has_failed output.old || is_write_error result) }
     ensures handed_on { OnOk result (O.waits output.new ≡ false) }
@@ -88,7 +88,7 @@ pub fn finish<O: Output>(
     deck: &Deck,
     drains: bool,
 ) -> Result<(), SessionError>
-    ensures closed { Closes result (last_said drains) machine.old deck.now.shows (O.contents output.old)
+    ensures closed { Closes result (last_line drains) machine.old deck.now.shows (O.contents output.old)
         (O.contents output.new) }
     ensures write { O.has_failed output.new ≡ (O.has_failed output.old || is_write_error result) }
     ensures handed_on { OnOk result (O.waits output.new ≡ false) }

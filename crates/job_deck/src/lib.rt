@@ -11,19 +11,21 @@
 mod answering;
 mod dumping;
 mod ending;
-mod hearing;
 mod listing;
 mod logs;
 mod replaying;
 mod schedule;
+mod schedule_reading;
 mod session;
 
 pub use answering::put_answer;
-pub use deck::{Ask, Deck, DeckError, Image, Listed, Show, read_deck, read_deck_from};
-pub use device_text::{Input, Output, ReadFailed, Tracked, Watched, WatchedBuffer, WriteFailed};
+pub use deck::{Ask, Deck, DeckError, Image, LineList, Show, read_deck, read_deck_from};
+pub use device_text::{
+    CheckedBufReader, CheckedReader, CheckedWriter, Input, Output, ReadFailed, WriteFailed,
+};
 pub use dumping::{dump, dump_to};
 pub use listing::{list, list_to};
 pub use logs::read_log;
 pub use replaying::{replay, replay_to};
-pub use schedule::{Spoken, spoken_in};
+pub use schedule::{ScheduleLine, parse_schedule_line};
 pub use session::{events, events_to};

@@ -7,7 +7,7 @@ ghost use Rattle.job_deck.specs.Listing.{listing, Lists};
 ghost use Rattle.job_deck.specs.Listing.{is_read_refusal, is_write_refusal};
 
 use deck::{Image, read_deck_from, refusal};
-use device_text::{Input, Output, Piece, Tracked, Watched, WriteFailed, put_pieces};
+use device_text::{CheckedReader, CheckedWriter, Input, Output, Piece, WriteFailed, put_pieces};
 use instruction_table::{Decoded, Refusal, decode};
 use std::alloc::Global;
 use std::io::{Read, Write};
@@ -159,8 +159,8 @@ pub fn list<R: Read, W: Write>(alloc: Global, reader: &mut R, writer: &mut W) ->
     ensures { Moves (R.remaining reader.old) (R.remaining reader.new)
         (λ xs ys. Lists result (deck xs) ys (W.contents writer.old) (W.contents writer.new)) }
 {
-    let mut input = Watched::new(reader);
-    let mut output = Tracked::new(writer);
+    let mut input = CheckedReader::new(reader);
+    let mut output = CheckedWriter::new(writer);
     let result = list_to(alloc, &mut input, &mut output);
     // No effect at run time. The proof reads what reader and writer hold from these uses.
     let _ = &*input.into_inner();

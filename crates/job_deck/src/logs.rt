@@ -3,9 +3,9 @@ ghost use Rattle.std.specs.List.{slice_split};
 ghost use Rattle.instructions.specs.declared.refusal.Refusal.TheVariants.{OutOfMemory};
 ghost use Rattle.sequential.specs.Log.{steps_of, issued};
 ghost use Rattle.device_text.specs.Text.{fields_of};
-ghost use Rattle.job_deck.specs.LogText.{whole_allowance, has_nought_in_front, plain_number, exchange_in, count_in};
-ghost use Rattle.job_deck.specs.LogText.{entry_in, entry_count, spent, steps_in, log_in, LogHas, plain_word, read_in};
-ghost use Rattle.job_deck.specs.LogText.{write_in, written_in};
+ghost use Rattle.job_deck.specs.LogText.{whole_allowance, has_leading_zero, number_without_leading_zeros};
+ghost use Rattle.job_deck.specs.LogText.{word_without_leading_zeros, entry_in, entry_count, exchange_in, count_in};
+ghost use Rattle.job_deck.specs.LogText.{read_in, write_in, written_in, spent, steps_in, log_in, LogHas};
 
 use device_text::{first_part, number};
 use instruction_table::Refusal;
@@ -40,22 +40,22 @@ impl Allowance {
     }
 
     /// An exchange, if one may come.
-    fn exchange(&self, digits: &[u8]) -> Option<Entry>
-        ensures entry { result ≡ exchange_in self.now (plain_number 8 6 digits.now) }
+    fn exchange_entry(&self, digits: &[u8]) -> Option<Entry>
+        ensures entry { result ≡ exchange_in self.now (number_without_leading_zeros 8 6 digits.now) }
         ensures within { IfSome result (λ entry. entry_count entry ≤ self.now.instructions) }
     {
-        match plain_octal(digits) {
+        match octal_without_leading_zeros(digits) {
             Some(at) if self.exchanges > 0 => Some(Entry::Exchange(at)),
             _ => None,
         }
     }
 
     /// A count, if it may come.
-    fn count(&self, digits: &[u8]) -> Option<Entry>
-        ensures entry { result ≡ count_in self.now (plain_number 10 8 digits.now) }
+    fn count_entry(&self, digits: &[u8]) -> Option<Entry>
+        ensures entry { result ≡ count_in self.now (number_without_leading_zeros 10 8 digits.now) }
         ensures within { IfSome result (λ entry. entry_count entry ≤ self.now.instructions) }
     {
-        let count = plain_decimal(digits)?;
+        let count = decimal_without_leading_zeros(digits)?;
         if self.after_count || count == 0 || count > self.instructions {
             None
         } else {
@@ -64,30 +64,31 @@ impl Allowance {
     }
 
     /// A word that was read, if one more access may come.
-    fn read(&self, digits: &[u8]) -> Option<Entry>
-        ensures entry { result ≡ read_in self.now (plain_number 8 6 digits.now) }
+    fn read_entry(&self, digits: &[u8]) -> Option<Entry>
+        ensures entry { result ≡ read_in self.now (number_without_leading_zeros 8 6 digits.now) }
         ensures within { IfSome result (λ entry. entry_count entry ≤ self.now.instructions) }
     {
-        match plain_octal(digits) {
+        match octal_without_leading_zeros(digits) {
             Some(at) if self.accesses > 0 => Some(Entry::PpRead(at)),
             _ => None,
         }
     }
 
     /// A word that was written, if one more access may come.
-    fn write(&self, address: &[u8], word: &[u8]) -> Option<Entry>
-        ensures entry { result ≡ write_in self.now (plain_number 8 6 address.now) (plain_word word.now) }
+    fn write_entry(&self, address: &[u8], word: &[u8]) -> Option<Entry>
+        ensures entry { result ≡ write_in self.now (number_without_leading_zeros 8 6 address.now)
+            (word_without_leading_zeros word.now) }
         ensures within { IfSome result (λ entry. entry_count entry ≤ self.now.instructions) }
     {
-        let at = plain_octal(address)?;
-        match plain_word(word) {
+        let at = octal_without_leading_zeros(address)?;
+        match word_without_leading_zeros(word) {
             Some(word) if self.accesses > 0 => Some(Entry::PpWrite(at, word)),
             _ => None,
         }
     }
 
     /// The same for what follows its letter.
-    fn written(&self, digits: &[u8]) -> Option<Entry>
+    fn written_entry(&self, digits: &[u8]) -> Option<Entry>
         ensures entry { result ≡ written_in self.now (slice_split (λ b. b == 61) digits.now) }
         ensures within { IfSome result (λ entry. entry_count entry ≤ self.now.instructions) }
     {
@@ -95,7 +96,7 @@ impl Allowance {
             return None;
         };
         match first_part(rest, b'=') {
-            (word, None) => self.write(address, word),
+            (word, None) => self.write_entry(address, word),
             (_, Some(_)) => None,
         }
     }
@@ -106,10 +107,10 @@ impl Allowance {
         ensures within { IfSome result (λ entry. entry_count entry ≤ self.now.instructions) }
     {
         match field {
-            [b'E', digits @ ..] => self.exchange(digits),
-            [b'I', digits @ ..] => self.count(digits),
-            [b'R', digits @ ..] => self.read(digits),
-            [b'W', digits @ ..] => self.written(digits),
+            [b'E', digits @ ..] => self.exchange_entry(digits),
+            [b'I', digits @ ..] => self.count_entry(digits),
+            [b'R', digits @ ..] => self.read_entry(digits),
+            [b'W', digits @ ..] => self.written_entry(digits),
             _ => None,
         }
     }
@@ -147,17 +148,17 @@ impl Allowance {
 }
 
 /// Whether a nought stands in front of another digit.
-fn has_nought_in_front(digits: &[u8]) -> bool
-    ensures { result ≡ has_nought_in_front digits.now }
+fn has_leading_zero(digits: &[u8]) -> bool
+    ensures { result ≡ has_leading_zero digits.now }
 {
     digits.len() > 1 && digits[0] == b'0'
 }
 
-/// An address of one to six octal digits without noughts in front.
-fn plain_octal(digits: &[u8]) -> Option<u32>
-    ensures value { result ≡ plain_number 8 6 digits.now }
+/// An address of one to six octal digits without leading zeros.
+fn octal_without_leading_zeros(digits: &[u8]) -> Option<u32>
+    ensures value { result ≡ number_without_leading_zeros 8 6 digits.now }
 {
-    if has_nought_in_front(digits) {
+    if has_leading_zero(digits) {
         return None;
     }
     match number(8, 6, digits) {
@@ -166,21 +167,21 @@ fn plain_octal(digits: &[u8]) -> Option<u32>
     }
 }
 
-/// A word of one to twenty octal digits without noughts in front.
-fn plain_word(digits: &[u8]) -> Option<Word60>
-    ensures value { result ≡ plain_word digits.now }
+/// A word of one to twenty octal digits without leading zeros.
+fn word_without_leading_zeros(digits: &[u8]) -> Option<Word60>
+    ensures value { result ≡ word_without_leading_zeros digits.now }
 {
-    if has_nought_in_front(digits) {
+    if has_leading_zero(digits) {
         return None;
     }
     Word60::from_octal(digits)
 }
 
-/// A number of one to eight decimal digits without noughts in front.
-fn plain_decimal(digits: &[u8]) -> Option<u64>
-    ensures value { result ≡ plain_number 10 8 digits.now }
+/// A number of one to eight decimal digits without leading zeros.
+fn decimal_without_leading_zeros(digits: &[u8]) -> Option<u64>
+    ensures value { result ≡ number_without_leading_zeros 10 8 digits.now }
 {
-    if has_nought_in_front(digits) {
+    if has_leading_zero(digits) {
         return None;
     }
     number(10, 8, digits)

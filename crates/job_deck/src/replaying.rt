@@ -7,7 +7,7 @@ ghost use Rattle.job_deck.specs.Replaying.{replayed, Prints, Replays};
 use crate::dumping::dump_to;
 use crate::logs::read_log;
 use deck::{Deck, read_deck_from, refusal};
-use device_text::{Input, Output, Tracked, Watched};
+use device_text::{CheckedReader, CheckedWriter, Input, Output};
 use instruction_table::Refusal;
 use sequential::State;
 use std::alloc::Global;
@@ -88,8 +88,8 @@ pub fn replay<R: Read, W: Write>(
     ensures { Moves (R.remaining reader.old) (R.remaining reader.new)
         (λ xs ys. Replays result (deck xs) ys text.now (W.contents writer.old) (W.contents writer.new)) }
 {
-    let mut input = Watched::new(reader);
-    let mut output = Tracked::new(writer);
+    let mut input = CheckedReader::new(reader);
+    let mut output = CheckedWriter::new(writer);
     let result = replay_to(alloc, &mut input, &mut output, text);
     // No effect at run time. The proof reads what reader and writer hold from these uses.
     let _ = &*input.into_inner();

@@ -1,6 +1,7 @@
 ghost use Rattle.std.specs.Prelude.{◌≡◌, ◌∷◌};
 ghost use Rattle.device_text.specs.Text.{fields_of, number_of, other_parts};
-ghost use Rattle.job_deck.specs.Schedule.{spoken, spoken_alone, spoken_number, spoken_of, spoken_with, spoken_write};
+ghost use Rattle.job_deck.specs.Schedule.{schedule_line, line_of_fields, line_of_one_field, line_of_two_fields};
+ghost use Rattle.job_deck.specs.Schedule.{line_of_three_fields, line_with_number};
 
 use device_text::{first_field, number, unit_named};
 use instruction_table::DeckFault;
@@ -9,7 +10,7 @@ use word60::Word60;
 
 /// What a line of a schedule says.
 #[derive(Clone, Copy, Debug, Drop, PartialEq, Eq)]
-pub enum Spoken {
+pub enum ScheduleLine {
     /// This event is to be made.
     Makes(Event),
     /// It was the last line.
@@ -41,25 +42,25 @@ fn address(digits: &[u8]) -> Option<u32>
 }
 
 /// What a line of one field says.
-fn spoken_alone(word: &[u8]) -> Spoken
-    ensures { result ≡ spoken_alone word.now }
+fn line_of_one_field(word: &[u8]) -> ScheduleLine
+    ensures { result ≡ line_of_one_field word.now }
 {
     if word == b"issue".as_slice() {
-        Spoken::Makes(Event::Issue)
+        ScheduleLine::Makes(Event::Issue)
     } else if word == b"exchange".as_slice() {
-        Spoken::Makes(Event::Exchange)
+        ScheduleLine::Makes(Event::Exchange)
     } else if word == b"end".as_slice() {
-        Spoken::Ends
+        ScheduleLine::Ends
     } else if word == b"drain".as_slice() {
-        Spoken::Drains
+        ScheduleLine::Drains
     } else {
-        Spoken::Faulty(DeckFault::Unknown)
+        ScheduleLine::Faulty(DeckFault::Unknown)
     }
 }
 
 /// What a line of two fields says that names no unit.
-fn spoken_number(word: &[u8], field: &[u8]) -> Spoken
-    ensures { result ≡ spoken_number word.now field.now }
+fn line_with_number(word: &[u8], field: &[u8]) -> ScheduleLine
+    ensures { result ≡ line_with_number word.now field.now }
 {
     let event = if word == b"accept".as_slice() {
         small_number(field).map(Event::Accept)
@@ -72,17 +73,17 @@ fn spoken_number(word: &[u8], field: &[u8]) -> Spoken
     } else if word == b"ppread".as_slice() {
         address(field).map(Event::PpRead)
     } else {
-        return Spoken::Faulty(DeckFault::Unknown);
+        return ScheduleLine::Faulty(DeckFault::Unknown);
     };
     match event {
-        Some(event) => Spoken::Makes(event),
-        None => Spoken::Faulty(DeckFault::Number),
+        Some(event) => ScheduleLine::Makes(event),
+        None => ScheduleLine::Faulty(DeckFault::Number),
     }
 }
 
 /// What a line of two fields says.
-fn spoken_with(word: &[u8], field: &[u8]) -> Spoken
-    ensures { result ≡ spoken_with word.now field.now }
+fn line_of_two_fields(word: &[u8], field: &[u8]) -> ScheduleLine
+    ensures { result ≡ line_of_two_fields word.now field.now }
 {
     let event = if word == b"read".as_slice() {
         unit_named(field).map(Event::Read)
@@ -91,57 +92,57 @@ fn spoken_with(word: &[u8], field: &[u8]) -> Spoken
     } else if word == b"store".as_slice() {
         unit_named(field).map(Event::Store)
     } else {
-        return spoken_number(word, field);
+        return line_with_number(word, field);
     };
     match event {
-        Some(event) => Spoken::Makes(event),
-        None => Spoken::Faulty(DeckFault::Unknown),
+        Some(event) => ScheduleLine::Makes(event),
+        None => ScheduleLine::Faulty(DeckFault::Unknown),
     }
 }
 
 /// What a line of three fields says.
-fn spoken_write(word: &[u8], field: &[u8], other: &[u8]) -> Spoken
-    ensures { result ≡ spoken_write word.now field.now other.now }
+fn line_of_three_fields(word: &[u8], field: &[u8], other: &[u8]) -> ScheduleLine
+    ensures { result ≡ line_of_three_fields word.now field.now other.now }
 {
     if word != b"ppwrite".as_slice() {
-        return Spoken::Faulty(DeckFault::Unknown);
+        return ScheduleLine::Faulty(DeckFault::Unknown);
     }
     let Some(at) = address(field) else {
-        return Spoken::Faulty(DeckFault::Number);
+        return ScheduleLine::Faulty(DeckFault::Number);
     };
     match Word60::from_octal(other) {
-        Some(word) => Spoken::Makes(Event::PpWrite(at, word)),
-        None => Spoken::Faulty(DeckFault::Number),
+        Some(word) => ScheduleLine::Makes(Event::PpWrite(at, word)),
+        None => ScheduleLine::Faulty(DeckFault::Number),
     }
 }
 
 /// What a line says by its first two fields and what comes after them.
-fn spoken_further(word: &[u8], field: &[u8], rest: &[u8]) -> Spoken
-    ensures { result ≡ spoken_of (word.now ∷ field.now ∷ fields_of rest.now) }
+fn line_of_more_fields(word: &[u8], field: &[u8], rest: &[u8]) -> ScheduleLine
+    ensures { result ≡ line_of_fields (word.now ∷ field.now ∷ fields_of rest.now) }
 {
     match first_field(rest) {
-        (other, None) => spoken_write(word, field, other),
-        (_, Some(_)) => Spoken::Faulty(DeckFault::Unknown),
+        (other, None) => line_of_three_fields(word, field, other),
+        (_, Some(_)) => ScheduleLine::Faulty(DeckFault::Unknown),
     }
 }
 
 /// What a line says by its first field and what comes after it.
-fn spoken_of(word: &[u8], rest: Option<&[u8]>) -> Spoken
-    ensures { result ≡ spoken_of (word.now ∷ other_parts 32 rest.entry) }
+fn line_of_fields(word: &[u8], rest: Option<&[u8]>) -> ScheduleLine
+    ensures { result ≡ line_of_fields (word.now ∷ other_parts 32 rest.entry) }
 {
     let Some(rest) = rest else {
-        return spoken_alone(word);
+        return line_of_one_field(word);
     };
     match first_field(rest) {
-        (field, None) => spoken_with(word, field),
-        (field, Some(more)) => spoken_further(word, field, more),
+        (field, None) => line_of_two_fields(word, field),
+        (field, Some(more)) => line_of_more_fields(word, field, more),
     }
 }
 
 /// What a line says.
-pub fn spoken_in(text: &[u8]) -> Spoken
-    ensures { result ≡ spoken text.now }
+pub fn parse_schedule_line(text: &[u8]) -> ScheduleLine
+    ensures { result ≡ schedule_line text.now }
 {
     let (word, rest) = first_field(text);
-    spoken_of(word, rest)
+    line_of_fields(word, rest)
 }

@@ -5,15 +5,15 @@ ghost use Rattle.program_order.specs.Processor.{boot_processor};
 ghost use Rattle.deck.specs.Deck.{deck};
 ghost use Rattle.device_text.specs.Device.{Moves, NothingWaits, failed_after};
 ghost use Rattle.job_deck.specs.Listing.{is_read_refusal, is_write_refusal};
-ghost use Rattle.job_deck.specs.inner.Holding.{Converses, IsMade, is_read_error, is_write_error, refusal_of};
-ghost use Rattle.job_deck.specs.Told.{Performs, Tells};
+ghost use Rattle.job_deck.specs.inner.SessionParts.{AnswersLines, IsMade, is_read_error, is_write_error, refusal_of};
+ghost use Rattle.job_deck.specs.SessionResult.{Performs, RunsSession};
 
 use crate::answering::put_answer;
 use crate::ending::finish;
-use crate::hearing::hear;
-use crate::schedule::Spoken;
+use crate::schedule::ScheduleLine;
+use crate::schedule_reading::read_schedule_line;
 use deck::{Deck, read_deck_from, refusal};
-use device_text::{Input, Output, Tracked, Watched, WriteFailed};
+use device_text::{CheckedReader, CheckedWriter, Input, Output, WriteFailed};
 use instruction_table::{DeckFault, Refusal};
 use machine::{Event, Machine};
 use std::alloc::Global;
@@ -48,7 +48,7 @@ fn make<O: Output>(output: &mut O, machine: &mut Machine, event: Event) -> Resul
 ///
 /// # Errors
 /// A line and its fault, and a failed read or write.
-fn converse<I: Input, O: Output>(
+fn answer_lines<I: Input, O: Output>(
     input: &mut I,
     output: &mut O,
     machine: &mut Machine,
@@ -56,7 +56,7 @@ fn converse<I: Input, O: Output>(
 ) -> Result<bool, SessionError>
     requires { before ≤ 10000000 }
     ensures told { Moves (I.remaining input.old) (I.remaining input.new)
-        (λ xs ys. Converses result machine.old machine.new (before + 1) xs ys (O.contents output.old)
+        (λ xs ys. AnswersLines result machine.old machine.new (before + 1) xs ys (O.contents output.old)
         (O.contents output.new)) }
     ensures read { I.has_failed input.new ≡ (I.has_failed input.old || is_read_error result) }
     ensures write { O.has_failed output.new ≡ (O.has_failed output.old || is_write_error result) }
@@ -65,17 +65,17 @@ fn converse<I: Input, O: Output>(
     ensures output { O.lender output.new ≡ O.lender output.old }
 {
     for number in before + 1..10_000_001u32 {
-        match hear(input, output, before, number) {
+        match read_schedule_line(input, output, before, number) {
             Err(_) => return Err(SessionError::Read),
-            Ok(Spoken::Ends) => return Ok(false),
-            Ok(Spoken::Drains) => return Ok(true),
-            Ok(Spoken::Faulty(fault)) => {
+            Ok(ScheduleLine::Ends) => return Ok(false),
+            Ok(ScheduleLine::Drains) => return Ok(true),
+            Ok(ScheduleLine::Faulty(fault)) => {
                 return Err(SessionError::Line {
                     line: number,
                     fault,
                 });
             }
-            Ok(Spoken::Makes(event)) => match make(output, machine, event) {
+            Ok(ScheduleLine::Makes(event)) => match make(output, machine, event) {
                 Ok(()) => {}
                 Err(_) => return Err(SessionError::Write),
             },
@@ -87,12 +87,12 @@ fn converse<I: Input, O: Output>(
     })
 }
 
-/// Holds a session: answers the lines of a schedule that come after line `before`, and does what the last
+/// Runs a session: answers the lines of a schedule that come after line `before`, and does what the last
 /// one says.
 ///
 /// # Errors
 /// A line and its fault, want of memory for the dump, and a failed read or write.
-fn hold<I: Input, O: Output>(
+fn run_session<I: Input, O: Output>(
     input: &mut I,
     output: &mut O,
     machine: &mut Machine,
@@ -101,7 +101,7 @@ fn hold<I: Input, O: Output>(
 ) -> Result<(), SessionError>
     requires { before ≤ 10000000 }
     ensures told { Moves (I.remaining input.old) (I.remaining input.new)
-        (λ xs ys. Tells result (GoesOn machine.old) machine.old (before + 1) deck.now.shows xs ys
+        (λ xs ys. RunsSession result (GoesOn machine.old) machine.old (before + 1) deck.now.shows xs ys
         (O.contents output.old) (O.contents output.new)) }
     ensures read { I.has_failed input.new ≡ (I.has_failed input.old || is_read_error result) }
     ensures write { O.has_failed output.new ≡ (O.has_failed output.old || is_write_error result) }
@@ -110,7 +110,7 @@ fn hold<I: Input, O: Output>(
     ensures input { I.lender input.new ≡ I.lender input.old }
     ensures output { O.lender output.new ≡ O.lender output.old }
 {
-    match converse(input, output, machine, before) {
+    match answer_lines(input, output, machine, before) {
         Ok(drains) => finish(output, machine, deck, drains),
         Err(error) => Err(error),
     }
@@ -173,7 +173,7 @@ pub fn events_to<I: Input, O: Output>(
         Ok(machine) => machine,
         Err(_) => return Err(Refusal::OutOfMemory),
     };
-    match hold(input, output, &mut machine, &deck, lines) {
+    match run_session(input, output, &mut machine, &deck, lines) {
         Ok(()) => Ok(()),
         Err(error) => Err(session_refusal(error)),
     }
@@ -193,8 +193,8 @@ pub fn events<R: Read, W: Write>(
     ensures { Moves (R.remaining reader.old) (R.remaining reader.new)
         (λ xs ys. Performs result budget (deck xs) ys (W.contents writer.old) (W.contents writer.new)) }
 {
-    let mut input = Watched::new(reader);
-    let mut output = Tracked::new(writer);
+    let mut input = CheckedReader::new(reader);
+    let mut output = CheckedWriter::new(writer);
     let result = events_to(alloc, &mut input, &mut output, budget);
     // No effect at run time. The proof reads what reader and writer hold from these uses.
     let _ = &*input.into_inner();

@@ -19,11 +19,11 @@ fn main(rt: HostRuntime) -> ExitCode {
     let mut stderr = rt.stderr();
     let mut words = match env::args(&rt) {
         Ok(words) => words,
-        Err(error) => return ExitCode::from(program::unreadable(&mut stderr, error)),
+        Err(error) => return ExitCode::from(program::report_bad_argument(&mut stderr, error)),
     };
     let _ = words.next();
     let Ok(words) = words.collect::<Vec<String>>(rt.alloc()) else {
-        return ExitCode::from(program::refused(&mut stderr, ProgramFault::OutOfMemory));
+        return ExitCode::from(program::report_fault(&mut stderr, ProgramFault::OutOfMemory));
     };
     ExitCode::from(program::program(
         &rt,

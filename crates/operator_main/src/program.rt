@@ -3,7 +3,7 @@ use clap::Error;
 use clap::error::ErrorKind;
 use command_line::{Request, read_arguments};
 use deck_run::{replay_log, run_deck};
-use job_deck::{Tracked, WatchedBuffer, events_to, list_to};
+use job_deck::{CheckedBufReader, CheckedWriter, events_to, list_to};
 use operator_terms::{ProgramFault, Status};
 use std::alloc::Global;
 use std::io;
@@ -16,7 +16,7 @@ const FAULT_LINE: usize = 64;
 
 /// Says on the fault stream why the program ends, in one write, so that the lines of programs that run side by
 /// side don't mix. Answers the exit status.
-pub fn refused<F: Write>(faults: &mut F, fault: ProgramFault) -> u8 {
+pub fn report_fault<F: Write>(faults: &mut F, fault: ProgramFault) -> u8 {
     let mut line = ArrayVec::<u8, FAULT_LINE>::new();
     let _ = writeln!(line, "cdc6600: {fault}");
     let _ = faults.write_all(line.as_slice());
@@ -24,9 +24,9 @@ pub fn refused<F: Write>(faults: &mut F, fault: ProgramFault) -> u8 {
 }
 
 /// The answer where the arguments can't be had: they are no text, or there is no memory for them.
-pub fn unreadable<F: Write>(faults: &mut F, error: io::Error) -> u8 {
+pub fn report_bad_argument<F: Write>(faults: &mut F, error: io::Error) -> u8 {
     if error.kind() == io::ErrorKind::OutOfMemory {
-        return refused(faults, ProgramFault::OutOfMemory);
+        return report_fault(faults, ProgramFault::OutOfMemory);
     }
     let _ = faults.write_all(b"error: an argument is no text\n");
     Status::Usage.code()
@@ -34,9 +34,9 @@ pub fn unreadable<F: Write>(faults: &mut F, error: io::Error) -> u8 {
 
 /// The answer to a command line that names no work: `clap`'s text, to the output where help was asked
 /// for.
-fn unparsed<W: Write, F: Write>(output: &mut W, faults: &mut F, error: Error) -> u8 {
+fn report_usage<W: Write, F: Write>(output: &mut W, faults: &mut F, error: Error) -> u8 {
     if error.kind() == ErrorKind::OutOfMemory {
-        return refused(faults, ProgramFault::OutOfMemory);
+        return report_fault(faults, ProgramFault::OutOfMemory);
     }
     if error.use_stderr() {
         let _ = write!(faults, "{error}");
@@ -44,7 +44,7 @@ fn unparsed<W: Write, F: Write>(output: &mut W, faults: &mut F, error: Error) ->
     }
     match write!(output, "{error}") {
         Ok(()) => Status::Stopped.code(),
-        Err(_) => refused(faults, ProgramFault::Write),
+        Err(_) => report_fault(faults, ProgramFault::Write),
     }
 }
 
@@ -63,8 +63,8 @@ fn perform<T: Threads + Wait + Sync, R: Read, W: Write>(
     let Ok(mut writer) = BufWriter::new(alloc, output) else {
         return Err(ProgramFault::OutOfMemory);
     };
-    let mut input = WatchedBuffer::new(&mut reader);
-    let mut output = Tracked::new(&mut writer);
+    let mut input = CheckedBufReader::new(&mut reader);
+    let mut output = CheckedWriter::new(&mut writer);
     match request {
         Request::Run(budget) => run_deck(rt, alloc, &mut input, &mut output, budget),
         Request::Replay(log) => replay_log(alloc, &mut input, &mut output, log),
@@ -91,10 +91,10 @@ pub fn program<T: Threads + Wait + Sync, R: Read, W: Write, F: Write>(
 ) -> u8 {
     let request = match read_arguments(alloc, words) {
         Ok(request) => request,
-        Err(error) => return unparsed(output, faults, error),
+        Err(error) => return report_usage(output, faults, error),
     };
     match perform(rt, alloc, request, input, output) {
         Ok(status) => status.code(),
-        Err(fault) => refused(faults, fault),
+        Err(fault) => report_fault(faults, fault),
     }
 }

@@ -8,7 +8,9 @@ use super::dump::dump_text;
 use super::schedule::Schedule;
 use super::{branch_schedules, exchange_schedules, reference_schedules, register_schedules};
 use instruction_table::{Refusal, Unit};
-use job_deck::{Deck, Spoken, Tracked, dump, events, put_answer, read_deck, spoken_in};
+use job_deck::{
+    CheckedWriter, Deck, ScheduleLine, dump, events, parse_schedule_line, put_answer, read_deck,
+};
 use machine::{Answer, Event, Machine, Snapshot};
 use machine_lock::{Ground, Naming};
 use relocation::Storage;
@@ -52,8 +54,8 @@ fn printed_by(alloc: Global, schedule: &Schedule) -> Result<Vec<u8>, AllocError>
 fn events_of(alloc: Global, schedule: &Schedule) -> Result<Vec<Event>, Fail> {
     let mut events = Vec::new(alloc);
     for (line, _) in schedule.steps {
-        match spoken_in(line.as_bytes()) {
-            Spoken::Makes(event) => events.push(event)?,
+        match parse_schedule_line(line.as_bytes()) {
+            ScheduleLine::Makes(event) => events.push(event)?,
             _ => return Err(Fail::from(*line)),
         }
     }
@@ -63,7 +65,7 @@ fn events_of(alloc: Global, schedule: &Schedule) -> Result<Vec<Event>, Fail> {
 /// The lines that answers have in a session.
 fn text_of(alloc: Global, answers: &[Answer]) -> Result<Vec<u8>, Fail> {
     let mut text = Vec::new(alloc);
-    let mut output = Tracked::new(&mut text);
+    let mut output = CheckedWriter::new(&mut text);
     for answer in answers {
         put_answer(&mut output, answer)?;
     }

@@ -4,8 +4,8 @@ ghost use Rattle.std.specs.Prelude.{Some};
 
 use arrayvec::ArrayVec;
 use device_text::{
-    Input, Output, Piece, ReadFailed, Took, Tracked, Watched, WatchedBuffer, WriteFailed,
-    first_field, number, put_pieces, read_line, unit_named,
+    CheckedBufReader, CheckedReader, CheckedWriter, Input, LineRead, Output, Piece, ReadFailed,
+    WriteFailed, first_field, number, put_pieces, read_line, unit_named,
 };
 use instruction_table::Unit;
 use std::alloc::{AllocError, Global};
@@ -94,11 +94,11 @@ fn unit_names(rt: HostRuntime) -> Result<(), Fail> {
 }
 
 /// What is taken of a text call by call, and the line: an empty one, one without an end, and nothing after it.
-const LINES: [(Took, &str); 4] = [
-    (Took::Whole, "one"),
-    (Took::Whole, ""),
-    (Took::Whole, "last"),
-    (Took::Nothing, ""),
+const LINES: [(LineRead, &str); 4] = [
+    (LineRead::Whole, "one"),
+    (LineRead::Whole, ""),
+    (LineRead::Whole, "last"),
+    (LineRead::Nothing, ""),
 ];
 
 /// The lines of a text.
@@ -116,8 +116,8 @@ fn expect_lines<I: Input>(rt: &impl Abort, input: &mut I) -> Result<(), Fail> {
 fn lines(rt: HostRuntime) -> Result<(), Fail> {
     let mut bytes = b"one\n\nlast".as_slice();
     let mut buffered = bytes;
-    expect_lines(&rt, &mut Watched::new(&mut bytes))?;
-    expect_lines(&rt, &mut WatchedBuffer::new(&mut buffered))
+    expect_lines(&rt, &mut CheckedReader::new(&mut bytes))?;
+    expect_lines(&rt, &mut CheckedBufReader::new(&mut buffered))
 }
 
 /// A line of so many sevens, and a text after it.
@@ -133,11 +133,14 @@ fn sevens(alloc: Global, length: u32) -> Result<Vec<u8>, AllocError> {
 /// A line of 200 bytes is whole, and of a longer one 201 bytes are taken.
 #[test]
 fn long_lines(rt: HostRuntime) -> Result<(), Fail> {
-    for (length, took) in [(200u32, Took::Whole), (201, Took::Long)] {
+    for (length, took) in [(200u32, LineRead::Whole), (201, LineRead::Long)] {
         let text = sevens(rt.alloc(), length)?;
         let mut bytes = text.as_slice();
         let mut line = ArrayVec::new();
-        let read: Result<Took, ReadFailed> = read_line(&mut Watched::new(&mut bytes), &mut line);
+        let read: Result<LineRead, ReadFailed> = read_line(
+            &mut CheckedReader::new(&mut bytes),
+            &mut line,
+        );
         assert!(rt; read == Ok(took) && line.len() == length as usize);
     }
     Ok(())
@@ -153,7 +156,7 @@ fn pieces(rt: HostRuntime) -> Result<(), Fail> {
             most,
             handed_on: 0,
         };
-        let mut output = Tracked::new(&mut dripping);
+        let mut output = CheckedWriter::new(&mut dripping);
         let pieces = [
             Piece::UnitName(Unit::LongAdd),
             Piece::Text(b" "),

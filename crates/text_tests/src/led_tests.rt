@@ -22,9 +22,9 @@ use std::alloc::Global;
 use std::io::{Read, Write};
 use std::test::Fail;
 
-/// Holds a session to its last line. Its lines say events, the lines that are written first are the answers to them,
+/// Runs a session to its last line. Its lines say events, the lines that are written first are the answers to them,
 /// and the machine to which those lead from the deck's memory is faithful to them.
-fn held<R: Read, W: Write>(
+fn faithful_session<R: Read, W: Write>(
     alloc: Global,
     reader: &mut R,
     writer: &mut W,
@@ -63,9 +63,9 @@ fn to_its_end(rt: HostRuntime) -> Result<(), Fail> {
         drain\n"
         .as_bytes();
     let mut output = Vec::new(rt.alloc());
-    let held = held(rt.alloc(), &mut input, &mut output, 4);
+    let result = faithful_session(rt.alloc(), &mut input, &mut output, 4);
     let text = output.as_slice();
-    assert!(rt; held.is_ok() && text.starts_with(b"ok\nok\nok increment1 1\nP "));
+    assert!(rt; result.is_ok() && text.starts_with(b"ok\nok\nok increment1 1\nP "));
     assert!(rt; text.ends_with(b"LOG E40 I1\n"));
     Ok(())
 }

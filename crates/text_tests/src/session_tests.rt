@@ -53,15 +53,15 @@ const BOOTED: &str = "\
     LOG none\n";
 
 /// Whether a session from a reader ends so, and has written these bytes by then.
-fn is_held<R: Read>(
+fn session_ends_so<R: Read>(
     alloc: Global,
     reader: &mut R,
     wanted: Result<(), Refusal>,
     written: &[u8],
 ) -> bool {
     let mut output = Vec::new(alloc);
-    let held = events(alloc, reader, &mut output, 4);
-    held == wanted && output.as_slice() == written
+    let result = events(alloc, reader, &mut output, 4);
+    result == wanted && output.as_slice() == written
 }
 
 /// The session of a deck with its schedule, which writes these texts and leaves the rest.
@@ -75,7 +75,7 @@ fn expect_session(
     let bytes = joined(rt.alloc(), [deck, schedule, rest].as_slice())?;
     let written = joined(rt.alloc(), texts)?;
     let mut input = bytes.as_slice();
-    let is_written = is_held(rt.alloc(), &mut input, Ok(()), written.as_slice());
+    let is_written = session_ends_so(rt.alloc(), &mut input, Ok(()), written.as_slice());
     assert!(rt; is_written && input == rest.as_bytes());
     Ok(())
 }
@@ -136,7 +136,7 @@ fn expect_fault(
     let bytes = joined(rt.alloc(), [DECK, schedule].as_slice())?;
     let mut input = bytes.as_slice();
     let refused = Err(Refusal::Deck { line, fault });
-    assert!(rt; is_held(rt.alloc(), &mut input, refused, answers.as_bytes()));
+    assert!(rt; session_ends_so(rt.alloc(), &mut input, refused, answers.as_bytes()));
     Ok(())
 }
 
@@ -197,7 +197,7 @@ fn fails_after(alloc: Global, bytes: &[u8], fails_from: u64, answers: &str) -> b
         turn: 0,
         fails_from,
     };
-    is_held(alloc, &mut input, Err(Refusal::Read), answers.as_bytes())
+    session_ends_so(alloc, &mut input, Err(Refusal::Read), answers.as_bytes())
 }
 
 /// Each line is answered before the next is read.
@@ -219,8 +219,8 @@ fn answers_to_a_failing_writer(rt: HostRuntime) -> Result<(), Fail> {
         turn: 0,
         fails_from: 5,
     };
-    let held = events(rt.alloc(), &mut input, &mut output, 4);
-    let is_cut = held == Err(Refusal::Write) && output.bytes.as_slice() == b"E1 h".as_slice();
+    let result = events(rt.alloc(), &mut input, &mut output, 4);
+    let is_cut = result == Err(Refusal::Write) && output.bytes.as_slice() == b"E1 h".as_slice();
     assert!(rt; is_cut && input == b"issue\n".as_slice());
     Ok(())
 }

@@ -9,8 +9,8 @@ use Rattle.sequential.specs.declared.log.Entry.TheVariants.{Issued as Count, Exc
 use Rattle.sequential.specs.Log.{steps_of, issued}
 use Rattle.sequential.specs.Replay.{LogStep, Issued}
 use Rattle.sequential.proofs.Entries.{issued-append, issued-replicate}
-use Rattle.job_deck.specs.LogText.{entry_in, entry_count, spent, put_steps, with_entry, steps_in, plain_number}
-use Rattle.job_deck.specs.LogText.{plain_word, write_in, written_in}
+use Rattle.job_deck.specs.LogText.{entry_in, entry_count, spent, put_steps, with_entry, steps_in, write_in, written_in}
+use Rattle.job_deck.specs.LogText.{number_without_leading_zeros, word_without_leading_zeros}
 use Rattle.job_deck.specs.declared.logs.Allowance.{Allowance}
 
 pub before_none : (found : Option (List LogStep)) → found ≡ put_steps [] found
@@ -89,7 +89,8 @@ two_signs left digits a rest w more e f =
 
 pub one_sign : (left : Allowance) (digits a rest w : List ℕ) (found : Option Entry)
     → slice_split (λ b. b == 61) digits ≡ a ∷ slice_split (λ b. b == 61) rest
-    → slice_split (λ b. b == 61) rest ≡ w ∷ [] → found ≡ write_in left (plain_number 8 6 a) (plain_word w)
+    → slice_split (λ b. b == 61) rest ≡ w ∷ []
+    → found ≡ write_in left (number_without_leading_zeros 8 6 a) (word_without_leading_zeros w)
     → found ≡ written_in left (slice_split (λ b. b == 61) digits)
 one_sign left digits a rest w found e f h =
     h ∙ ap (λ l. written_in left (a ∷ l)) (sym f) ∙ ap (written_in left) (sym e)

@@ -17,11 +17,11 @@ use Rattle.job_deck.specs.AnswerText.{answer_line}
 use Rattle.device_text.specs.Device.{Moves}
 use Rattle.job_deck.specs.Dump.{dump_text}
 use Rattle.device_text.specs.Line.{lines_of}
-use Rattle.job_deck.specs.Schedule.{heard}
+use Rattle.job_deck.specs.Schedule.{line_says}
 use Rattle.job_deck.specs.Session.{IsDump, IsLast, IsReply, Session}
-use Rattle.job_deck.specs.inner.Holding.{Closes, Converses, Dumps, last_said, refusal_of}
-use Rattle.job_deck.specs.Told.{Performs, Tells, TellsFromBoot}
-use Rattle.job_deck.specs.declared.schedule.Spoken.{Spoken}
+use Rattle.job_deck.specs.inner.SessionParts.{Closes, AnswersLines, Dumps, last_line, refusal_of}
+use Rattle.job_deck.specs.SessionResult.{Performs, RunsSession, RunsSessionFromBoot}
+use Rattle.job_deck.specs.declared.schedule.ScheduleLine.{ScheduleLine}
 use Rattle.job_deck.specs.declared.session.SessionError.{SessionError}
 use Rattle.job_deck.specs.declared.session.SessionError.TheVariants as errors
 use Rattle.device_text.proofs.Moving.{Moves-trans, Moves-weaker}
@@ -43,35 +43,35 @@ is_dump w s state l log m shows drained same_state same_log same_memory r e f =
 -- what is dumped of a drained machine closes a session that says `drain`
 pub drain_closes : (r : Result (Unit {0}) SessionError) (drains : Bool) (w v : Processor) (count : ℕ)
     (shows : List Show) (old new : Option (List ℕ)) → drains ≡ true → Works w v count → GoesOnByWork w count v
-    → Dumps r v shows old new → Closes r (last_said drains) w shows old new
+    → Dumps r v shows old new → Closes r (last_line drains) w shows old new
 drain_closes r drains w v count shows old new d a b h =
-    subst (λ x. Closes r (last_said x) w shows old new) (sym d) (closes r h)
+    subst (λ x. Closes r (last_line x) w shows old new) (sym d) (closes r h)
   where
-    closes : (r : Result (Unit {0}) SessionError) → Dumps r v shows old new → Closes r (last_said true) w shows old new
+    closes : (r : Result (Unit {0}) SessionError) → Dumps r v shows old new → Closes r (last_line true) w shows old new
     closes (Ok x) k = (k.0, (v, count, a, b, k.1), k.2)
     closes (Err (errors.Line m fault)) k = absurd k
     closes (Err errors.OutOfMemory) k = k
     closes (Err errors.Read) k = absurd k
     closes (Err errors.Write) k = (k.0, (v, count, a, b, k.1), k.2)
 
-is_last : (drains : Bool) → IsLast (last_said drains)
+is_last : (drains : Bool) → IsLast (last_line drains)
 is_last true = tt
 is_last false = tt
 
 -- the reply to the last line, by what the next line of a session says
-reply_there : (said told : Spoken) (w v : Processor) (shows : List Show) (text : List ℕ) → told ≡ said → w ≡ v
+reply_there : (said told : ScheduleLine) (w v : Processor) (shows : List Show) (text : List ℕ) → told ≡ said → w ≡ v
     → IsReply said v shows text → IsReply told w shows text
 reply_there said told w v shows text e f h =
     subst (λ x. IsReply told x shows text) (sym f) (subst (λ x. IsReply x v shows text) (sym e) h)
 
 closed_there : (r : Result (Unit {0}) SessionError) (drains : Bool) (w v : Processor) (n : ℕ) (shows : List Show)
-    (xs ys : List ℕ) (old mid new : Option (List ℕ)) → Converses (Ok drains) w v n xs ys old mid
-    → Closes r (last_said drains) v shows mid new → Tells r (GoesOn w) w n shows xs ys old new
+    (xs ys : List ℕ) (old mid new : Option (List ℕ)) → AnswersLines (Ok drains) w v n xs ys old mid
+    → Closes r (last_line drains) v shows mid new → RunsSession r (GoesOn w) w n shows xs ys old new
 closed_there (Ok x) drains w v n shows xs ys old mid new h k = (
   h.0,
   k.0,
   subst IsLast (sym h.2) (is_last drains),
-  reply_there (last_said drains) (heard h.0.number h.0.left) h.0.machine v shows k.0 h.2 h.1 k.1,
+  reply_there (last_line drains) (line_says h.0.number h.0.left) h.0.machine v shows k.0 h.2 h.1 k.1,
   h.3,
   Appends-trans old mid new h.0.text k.0 h.4 k.2,
 )
@@ -83,23 +83,23 @@ closed_there (Err errors.Write) drains w v n shows xs ys old mid new h k =
     let cut = k.2 in (
       h.0,
       k.0,
-      reply_there (last_said drains) (heard h.0.number h.0.left) h.0.machine v shows k.0 h.2 h.1 k.1,
+      reply_there (last_line drains) (line_says h.0.number h.0.left) h.0.machine v shows k.0 h.2 h.1 k.1,
       h.3,
       (cut.1.0, cut.0, cut.1.1, Appends-trans old mid new h.0.text cut.1.0 h.4 cut.1.2),
     )
 
 pub session_closed : (a b : Option (List ℕ)) (r : Result (Unit {0}) SessionError) (drains : Bool) (w v : Processor)
     (n : ℕ) (shows : List Show) (old mid new : Option (List ℕ))
-    → Moves a b (λ xs ys. Converses (Ok drains) w v n xs ys old mid) → Closes r (last_said drains) v shows mid new
-    → Moves a b (λ xs ys. Tells r (GoesOn w) w n shows xs ys old new)
+    → Moves a b (λ xs ys. AnswersLines (Ok drains) w v n xs ys old mid) → Closes r (last_line drains) v shows mid new
+    → Moves a b (λ xs ys. RunsSession r (GoesOn w) w n shows xs ys old new)
 session_closed a b r drains w v n shows old mid new told closed =
-    Moves-weaker a b (λ xs ys. Converses (Ok drains) w v n xs ys old mid)
-    (λ xs ys. Tells r (GoesOn w) w n shows xs ys old new)
+    Moves-weaker a b (λ xs ys. AnswersLines (Ok drains) w v n xs ys old mid)
+    (λ xs ys. RunsSession r (GoesOn w) w n shows xs ys old new)
     (λ xs ys h. closed_there r drains w v n shows xs ys old mid new h closed) told
 
 stopped_there : (e : SessionError) (w v : Processor) (n : ℕ) (shows : List Show) (xs ys : List ℕ)
-    (old new : Option (List ℕ)) → Converses (Err e) w v n xs ys old new
-    → Tells (Err e) (GoesOn w) w n shows xs ys old new
+    (old new : Option (List ℕ)) → AnswersLines (Err e) w v n xs ys old new
+    → RunsSession (Err e) (GoesOn w) w n shows xs ys old new
 stopped_there (errors.Line m fault) w v n shows xs ys old new h = h
 stopped_there errors.OutOfMemory w v n shows xs ys old new h = absurd h
 stopped_there errors.Read w v n shows xs ys old new h = h
@@ -112,11 +112,11 @@ stopped_there errors.Write w v n shows xs ys old new h = (
 )
 
 pub session_stopped : (a b : Option (List ℕ)) (e : SessionError) (w v : Processor) (n : ℕ) (shows : List Show)
-    (old new : Option (List ℕ)) → Moves a b (λ xs ys. Converses (Err e) w v n xs ys old new)
-    → Moves a b (λ xs ys. Tells (Err e) (GoesOn w) w n shows xs ys old new)
+    (old new : Option (List ℕ)) → Moves a b (λ xs ys. AnswersLines (Err e) w v n xs ys old new)
+    → Moves a b (λ xs ys. RunsSession (Err e) (GoesOn w) w n shows xs ys old new)
 session_stopped a b e w v n shows old new told =
-    Moves-weaker a b (λ xs ys. Converses (Err e) w v n xs ys old new)
-    (λ xs ys. Tells (Err e) (GoesOn w) w n shows xs ys old new)
+    Moves-weaker a b (λ xs ys. AnswersLines (Err e) w v n xs ys old new)
+    (λ xs ys. RunsSession (Err e) (GoesOn w) w n shows xs ys old new)
     (λ xs ys h. stopped_there e w v n shows xs ys old new h) told
 
 -- ---- the deck with its schedule
@@ -145,23 +145,23 @@ session_from_boot memory budget n w lines booted s =
       written = s.written;
     }
 
-told_from_boot : (r : Result (Unit {0}) SessionError) (memory : List ℕ) (budget n : ℕ) (w : Processor)
+runs_from_boot : (r : Result (Unit {0}) SessionError) (memory : List ℕ) (budget n : ℕ) (w : Processor)
     (shows : List Show) (xs ys : List ℕ) (old new : Option (List ℕ)) → IsReached memory budget [] [] w
-    → Tells r (GoesOn w) w n shows xs ys old new → Tells r (IsReached memory budget) w n shows xs ys old new
+    → RunsSession r (GoesOn w) w n shows xs ys old new → RunsSession r (IsReached memory budget) w n shows xs ys old new
 unfolding session_from_boot
-told_from_boot (Ok x) memory budget n w shows xs ys old new booted h =
+runs_from_boot (Ok x) memory budget n w shows xs ys old new booted h =
     (session_from_boot memory budget n w (lines_of xs) booted h.0, h.1, h.2, h.3, h.4, h.5)
-told_from_boot (Err (errors.Line m fault)) memory budget n w shows xs ys old new booted h =
+runs_from_boot (Err (errors.Line m fault)) memory budget n w shows xs ys old new booted h =
     (session_from_boot memory budget n w (lines_of xs) booted h.0, h.1, h.2, h.3, h.4)
-told_from_boot (Err errors.OutOfMemory) memory budget n w shows xs ys old new booted h =
+runs_from_boot (Err errors.OutOfMemory) memory budget n w shows xs ys old new booted h =
     (session_from_boot memory budget n w (lines_of xs) booted h.0, h.1, h.2, h.3)
-told_from_boot (Err errors.Read) memory budget n w shows xs ys old new booted h =
+runs_from_boot (Err errors.Read) memory budget n w shows xs ys old new booted h =
     (session_from_boot memory budget n w (lines_of xs) booted h.0, h.1, h.2, h.3, h.4)
-told_from_boot (Err errors.Write) memory budget n w shows xs ys old new booted h =
+runs_from_boot (Err errors.Write) memory budget n w shows xs ys old new booted h =
     (session_from_boot memory budget n w (lines_of xs) booted h.0, h.1, h.2, h.3, h.4)
 
 performed_there : (r : Result (Unit {0}) SessionError) (budget n : ℕ) (d : Deck) (ys zs : List ℕ)
-    (old new : Option (List ℕ)) → TellsFromBoot r budget d n ys zs old new
+    (old new : Option (List ℕ)) → RunsSessionFromBoot r budget d n ys zs old new
     → Performs (refused r) budget (Good d n ys) zs old new
 performed_there (Ok x) budget n d ys zs old new h = h
 performed_there (Err (errors.Line m fault)) budget n d ys zs old new h = h
@@ -172,14 +172,14 @@ performed_there (Err errors.Write) budget n d ys zs old new h = h
 pub performed : (a b c : Option (List ℕ)) (r : Result (Unit {0}) SessionError) (budget n : ℕ) (d : Deck)
     (w : Processor) (old new : Option (List ℕ)) → w ≡ boot_processor d.image.memory budget
     → IsReached d.image.memory budget [] [] w → Moves a b (λ xs ys. deck xs ≡ Good d n ys)
-    → Moves b c (λ ys zs. Tells r (GoesOn w) w (n + 1) d.shows ys zs old new)
+    → Moves b c (λ ys zs. RunsSession r (GoesOn w) w (n + 1) d.shows ys zs old new)
     → Moves a c (λ xs zs. Performs (refused r) budget (deck xs) zs old new)
 performed a b c r budget n d w old new booted reached read told =
     Moves-trans a b c (λ xs ys. deck xs ≡ Good d n ys)
-    (λ ys zs. Tells r (GoesOn w) w (n + 1) d.shows ys zs old new)
+    (λ ys zs. RunsSession r (GoesOn w) w (n + 1) d.shows ys zs old new)
     (λ xs zs. Performs (refused r) budget (deck xs) zs old new) (λ xs ys zs h k.
-    let from_boot = told_from_boot r d.image.memory budget (n + 1) w d.shows ys zs old new reached k in
+    let from_boot = runs_from_boot r d.image.memory budget (n + 1) w d.shows ys zs old new reached k in
     subst (λ x. Performs (refused r) budget x zs old new) (sym h)
     (performed_there r budget n d ys zs old new
-    (subst (λ x. Tells r (IsReached d.image.memory budget) x (n + 1) d.shows ys zs old new) booted
+    (subst (λ x. RunsSession r (IsReached d.image.memory budget) x (n + 1) d.shows ys zs old new) booted
     from_boot))) read told

@@ -18,12 +18,12 @@ use Rattle.program_order.proofs.reaching.Reached.{goes_on_then}
 use Rattle.job_deck.specs.AnswerText.{answer_line}
 use Rattle.device_text.specs.Device.{Moves, WritesFront}
 use Rattle.device_text.specs.Line.{ReadsPart, lines_of}
-use Rattle.job_deck.specs.Schedule.{heard, left_heard}
+use Rattle.job_deck.specs.Schedule.{line_says, left_after_line}
 use Rattle.job_deck.specs.Session.{Says, Session}
-use Rattle.job_deck.specs.Told.{IsRefused}
-use Rattle.job_deck.specs.inner.Holding.{Converses, Hears}
-use Rattle.job_deck.specs.declared.schedule.Spoken.{Spoken}
-use Rattle.job_deck.specs.declared.schedule.Spoken.TheVariants.{Makes, Ends, Drains, Faulty}
+use Rattle.job_deck.specs.SessionResult.{IsRefused}
+use Rattle.job_deck.specs.inner.SessionParts.{AnswersLines, ReadsScheduleLine}
+use Rattle.job_deck.specs.declared.schedule.ScheduleLine.{ScheduleLine}
+use Rattle.job_deck.specs.declared.schedule.ScheduleLine.TheVariants.{Makes, Ends, Drains, Faulty}
 use Rattle.job_deck.specs.declared.session.SessionError.TheVariants as errors
 use Rattle.device_text.proofs.Moving.{Moves-refl, Moves-trans, Moves-weaker}
 
@@ -31,10 +31,10 @@ use Rattle.device_text.proofs.Moving.{Moves-refl, Moves-trans, Moves-weaker}
 
 says_more : (n : ℕ) (events : List Event) (lines left : List (List ℕ × List ℕ)) (m : ℕ) (e : Event)
     (line : List ℕ × List ℕ) (more : List (List ℕ × List ℕ)) → Says n events lines left → m ≡ n + length events
-    → left ≡ line ∷ more → heard m left ≡ Makes e → Says n (events ++ e ∷ []) lines more
+    → left ≡ line ∷ more → line_says m left ≡ Makes e → Says n (events ++ e ∷ []) lines more
 says_more n [] lines left m e line more s k t h =
     let here : m ≡ n = omega (arith, k) in
-    rw (s, t) (subst (λ i. heard i (line ∷ more) ≡ Makes e) here (subst (λ l. heard m l ≡ Makes e) t h), refl)
+    rw (s, t) (subst (λ i. line_says i (line ∷ more) ≡ Makes e) here (subst (λ l. line_says m l ≡ Makes e) t h), refl)
 says_more n (x ∷ events) [] left m e line more s k t h = absurd s
 says_more n (x ∷ events) (y ∷ lines) left m e line more s k t h =
     (s.0, says_more (n + 1) events lines left m e line more s.1 (omega (arith, k)) t h)
@@ -102,7 +102,8 @@ module _ (w : Processor) (n : ℕ) (old : Option (List ℕ)) where
   session_begun a = Moves-refl a (Has n w old) begun
 
   gone_on : (m : ℕ) (v x : Processor) (mid new : Option (List ℕ)) (xs ys zs : List ℕ) (e : Event)
-      (a : Result Done Refusal) → Has m v mid xs ys → Hears m (Makes e) ys zs → IsAnswer v e a → x ≡ settled v e a
+      (a : Result Done Refusal) → Has m v mid xs ys → ReadsScheduleLine m (Makes e) ys zs → IsAnswer v e a
+      → x ≡ settled v e a
       → GoesOn v (e ∷ []) (a ∷ []) x → Appends mid new (answer_line a) → Has (m + 1) x new xs zs
   gone_on m v x mid new xs ys zs e a h k answer left on wrote =
       let s = h.0 in
@@ -112,13 +113,13 @@ module _ (w : Processor) (n : ℕ) (old : Option (List ℕ)) where
       let more = length-append s.events (e ∷ []) in
       let here : IsAnswer (settled_all w s.events s.answers) e a =
       subst (λ y. IsAnswer y e a) (sym same ∙ s.leads) answer in
-      let hears : heard s.number s.left ≡ Makes e =
-      ap (λ l. heard s.number l) h.1 ∙ ap (λ i. heard i (lines_of ys)) at ∙ k.0 in (
+      let says : line_says s.number s.left ≡ Makes e =
+      ap (λ l. line_says s.number l) h.1 ∙ ap (λ i. line_says i (lines_of ys)) at ∙ k.0 in (
         record {
           events = s.events ++ e ∷ [];
           left = lines_of zs;
           said = says_more n s.events (lines_of xs) s.left s.number e (k.1.0, zs) (lines_of zs) s.said number
-              (h.1 ∙ k.1.1) hears;
+              (h.1 ∙ k.1.1) says;
           answers = s.answers ++ a ∷ [];
           answered = answered_more w s.events s.answers e a s.answered here;
           machine = x;
@@ -139,26 +140,29 @@ module _ (w : Processor) (n : ℕ) (old : Option (List ℕ)) where
       )
 
   pub session_on : (a b c mid new : Option (List ℕ)) (m : ℕ) (v x : Processor) (e : Event) → Moves a b (Has m v mid)
-      → Moves b c (Hears m (Makes e))
+      → Moves b c (ReadsScheduleLine m (Makes e))
       → ((answer : Result Done Refusal) × IsAnswer v e answer × (x ≡ settled v e answer)
       × GoesOn v (e ∷ []) (answer ∷ []) x × Appends mid new (answer_line answer)) → Moves a c (Has (m + 1) x new)
   session_on a b c mid new m v x e told taken made =
-      Moves-trans a b c (Has m v mid) (Hears m (Makes e)) (Has (m + 1) x new)
+      Moves-trans a b c (Has m v mid) (ReadsScheduleLine m (Makes e)) (Has (m + 1) x new)
       (λ xs ys zs h k. gone_on m v x mid new xs ys zs e made.0 h k made.1 made.2 made.3 made.4) told taken
 
   -- what the line that comes next says
-  says_next : (m : ℕ) (v : Processor) (new : Option (List ℕ)) (xs ys : List ℕ) (said : Spoken) (h : Has m v new xs ys)
-      → heard m (lines_of ys) ≡ said → heard h.0.number h.0.left ≡ said
-  says_next m v new xs ys said h k = ap (λ l. heard h.0.number l) h.1 ∙ ap (λ i. heard i (lines_of ys)) h.2 ∙ k
+  says_next : (m : ℕ) (v : Processor) (new : Option (List ℕ)) (xs ys : List ℕ) (said : ScheduleLine)
+      (h : Has m v new xs ys)
+      → line_says m (lines_of ys) ≡ said → line_says h.0.number h.0.left ≡ said
+  says_next m v new xs ys said h k =
+      ap (λ l. line_says h.0.number l) h.1 ∙ ap (λ i. line_says i (lines_of ys)) h.2 ∙ k
 
   pub session_cut : (a b c mid new : Option (List ℕ)) (m : ℕ) (v x : Processor) (e : Event) → Moves a b (Has m v mid)
-      → Moves b c (Hears m (Makes e))
+      → Moves b c (ReadsScheduleLine m (Makes e))
       → ((answer : Result Done Refusal) × IsAnswer v e answer × (x ≡ settled v e answer)
       × GoesOn v (e ∷ []) (answer ∷ []) x
-      × WritesFront mid new (answer_line answer)) → Moves a c (λ xs zs. Converses (Err errors.Write) w x n xs zs
+      × WritesFront mid new (answer_line answer)) → Moves a c (λ xs zs. AnswersLines (Err errors.Write) w x n xs zs
       old new)
   session_cut a b c mid new m v x e told taken made =
-      Moves-trans a b c (Has m v mid) (Hears m (Makes e)) (λ xs zs. Converses (Err errors.Write) w x n xs zs old new)
+      Moves-trans a b c (Has m v mid) (ReadsScheduleLine m (Makes e))
+      (λ xs zs. AnswersLines (Err errors.Write) w x n xs zs old new)
       (λ xs ys zs h k.
       let cut = made.4 in (
         h.0,
@@ -171,59 +175,60 @@ module _ (w : Processor) (n : ℕ) (old : Option (List ℕ)) where
       )) told taken
 
   pub session_ends : (a b c new : Option (List ℕ)) (m : ℕ) (v : Processor) → Moves a b (Has m v new)
-      → Moves b c (Hears m Ends) → Moves a c (λ xs zs. Converses (Ok false) w v n xs zs old new)
+      → Moves b c (ReadsScheduleLine m Ends) → Moves a c (λ xs zs. AnswersLines (Ok false) w v n xs zs old new)
   session_ends a b c new m v told taken =
-      Moves-trans a b c (Has m v new) (Hears m Ends) (λ xs zs. Converses (Ok false) w v n xs zs old new)
+      Moves-trans a b c (Has m v new) (ReadsScheduleLine m Ends) (λ xs zs. AnswersLines (Ok false) w v n xs zs old new)
       (λ xs ys zs h k.
       (h.0, h.3, says_next m v new xs ys Ends h k.0, (k.1.0, h.1 ∙ k.1.1), h.4)) told taken
 
   pub session_drains : (a b c new : Option (List ℕ)) (m : ℕ) (v : Processor) → Moves a b (Has m v new)
-      → Moves b c (Hears m Drains) → Moves a c (λ xs zs. Converses (Ok true) w v n xs zs old new)
+      → Moves b c (ReadsScheduleLine m Drains) → Moves a c (λ xs zs. AnswersLines (Ok true) w v n xs zs old new)
   session_drains a b c new m v told taken =
-      Moves-trans a b c (Has m v new) (Hears m Drains) (λ xs zs. Converses (Ok true) w v n xs zs old new)
+      Moves-trans a b c (Has m v new) (ReadsScheduleLine m Drains) (λ xs zs. AnswersLines (Ok true) w v n xs zs old new)
       (λ xs ys zs h k.
       (h.0, h.3, says_next m v new xs ys Drains h k.0, (k.1.0, h.1 ∙ k.1.1), h.4)) told taken
 
   -- the line that comes next was refused, and these bytes are left
   refused_there : (m : ℕ) (v : Processor) (new : Option (List ℕ)) (xs ys zs : List ℕ) (h : Has m v new xs ys)
-      → zs ≡ left_heard m ys (lines_of ys) → IsRefused h.0.number h.0.left xs zs
+      → zs ≡ left_after_line m ys (lines_of ys) → IsRefused h.0.number h.0.left xs zs
   refused_there m v new xs ys zs h k = (
     h.5.0,
     ys,
     h.5.1,
     h.1,
-    k ∙ ap (left_heard m ys) (sym h.1) ∙ ap (λ i. left_heard i ys h.0.left) (sym h.2),
+    k ∙ ap (left_after_line m ys) (sym h.1) ∙ ap (λ i. left_after_line i ys h.0.left) (sym h.2),
   )
 
   pub session_refused : (a b c new : Option (List ℕ)) (m : ℕ) (v : Processor) (fault : DeckFault)
-      → Moves a b (Has m v new) → Moves b c (Hears m (Faulty fault))
-      → Moves a c (λ xs zs. Converses (Err (errors.Line m fault)) w v n xs zs old new)
+      → Moves a b (Has m v new) → Moves b c (ReadsScheduleLine m (Faulty fault))
+      → Moves a c (λ xs zs. AnswersLines (Err (errors.Line m fault)) w v n xs zs old new)
   session_refused a b c new m v fault told taken =
-      Moves-trans a b c (Has m v new) (Hears m (Faulty fault))
-      (λ xs zs. Converses (Err (errors.Line m fault)) w v n xs zs old new) (λ xs ys zs h k.
+      Moves-trans a b c (Has m v new) (ReadsScheduleLine m (Faulty fault))
+      (λ xs zs. AnswersLines (Err (errors.Line m fault)) w v n xs zs old new) (λ xs ys zs h k.
       (h.0, sym h.2, says_next m v new xs ys (Faulty fault) h k.0, refused_there m v new xs ys zs h k.1, h.4)) told
       taken
 
   pub session_unread : (a b c new : Option (List ℕ)) (m : ℕ) (v : Processor) → Moves a b (Has m v new)
-      → Moves b c ReadsPart → Moves a c (λ xs zs. Converses (Err errors.Read) w v n xs zs old new)
+      → Moves b c ReadsPart → Moves a c (λ xs zs. AnswersLines (Err errors.Read) w v n xs zs old new)
   session_unread a b c new m v told taken =
-      Moves-trans a b c (Has m v new) ReadsPart (λ xs zs. Converses (Err errors.Read) w v n xs zs old new)
+      Moves-trans a b c (Has m v new) ReadsPart (λ xs zs. AnswersLines (Err errors.Read) w v n xs zs old new)
       (λ xs ys zs h k.
       (h.0, k.0, k.1, h.1 ∙ ap lines_of k.2, h.4)) told taken
 
-  past_all : (m : ℕ) (lines : List (List ℕ × List ℕ)) → 10000000 < m → heard m lines ≡ Faulty faults.Lines
+  past_all : (m : ℕ) (lines : List (List ℕ × List ℕ)) → 10000000 < m → line_says m lines ≡ Faulty faults.Lines
   past_all m [] h = let past : ltb 10000000 m ≡ true = lt-ltb _ _ h in rw past refl
   past_all m (line ∷ lines) h = let past : ltb 10000000 m ≡ true = lt-ltb _ _ h in rw past refl
 
   past_left : (m : ℕ) (bytes : List ℕ) (lines : List (List ℕ × List ℕ)) → 10000000 < m
-      → bytes ≡ left_heard m bytes lines
+      → bytes ≡ left_after_line m bytes lines
   past_left m bytes [] h = refl
   past_left m bytes (line ∷ lines) h = let past : ltb 10000000 m ≡ true = lt-ltb _ _ h in rw past refl
 
   pub session_over : (a b new : Option (List ℕ)) (m : ℕ) (v : Processor) → m ≡ 10000001 → Moves a b (Has m v new)
-      → Moves a b (λ xs zs. Converses (Err (errors.Line 10000001 faults.Lines)) w v n xs zs old new)
+      → Moves a b (λ xs zs. AnswersLines (Err (errors.Line 10000001 faults.Lines)) w v n xs zs old new)
   session_over a b new m v e told =
-      Moves-weaker a b (Has m v new) (λ xs zs. Converses (Err (errors.Line 10000001 faults.Lines)) w v n xs zs old new)
+      Moves-weaker a b (Has m v new)
+      (λ xs zs. AnswersLines (Err (errors.Line 10000001 faults.Lines)) w v n xs zs old new)
       (λ xs ys h. (
         h.0,
         sym (h.2 ∙ e),

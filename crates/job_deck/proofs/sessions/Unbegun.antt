@@ -12,7 +12,7 @@ use Rattle.deck.specs.declared.deck.DeckError.{DeckError}
 use Rattle.deck.specs.declared.deck.DeckError.TheVariants as errors
 use Rattle.job_deck.specs.Listing.{Lists}
 use Rattle.job_deck.specs.Replaying.{Replays}
-use Rattle.job_deck.specs.Told.{Performs}
+use Rattle.job_deck.specs.SessionResult.{Performs}
 
 -- ---- a listing
 

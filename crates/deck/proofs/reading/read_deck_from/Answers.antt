@@ -1,7 +1,7 @@
 use Rattle.std.proofs.Common.{arith, rules}
 use Rattle.std.proofs.Math.Bool.{or-false}
 use Rattle.std.proofs.lemmas.Result.{err_from_is_err_and}
-use Rattle.deck.specs.Deck.{judged_first, judged_line}
+use Rattle.deck.specs.Deck.{applied_first_line, applied_line}
 use Rattle.deck.proofs.DeckLines.{first_refused, first_err, first_goes, first_ends, later_refused, later_err}
 use Rattle.deck.proofs.DeckLines.{later_goes, later_ends, lines_over}
 use Rattle.deck.proofs.Unread.{first_cut, first_taken, later_cut, later_taken}
@@ -16,8 +16,8 @@ returns-in_err-next_line-clause-deck g c =
 pub returns-in_err-draft-clause-deck : goal.returns-in_err-draft-clause-deck
 returns-in_err-draft-clause-deck g c =
     let text = c.next_line.new.line.items in
-    let judged = rw c.as_slice.ensures.value at c.judge_first.ensures in
-    let follows = c.in_err-draft.ensures.follows (judged_first text) judged in
+    let applied = rw c.as_slice.ensures.value at c.apply_first_line.ensures in
+    let follows = c.in_err-draft.ensures.follows (applied_first_line text) applied in
     let rest = first_err (g.I.Input.remaining c.args.input.now) (g.I.Input.remaining c.next_line.new.input) text _
     c.in_ok-next_line.ensures.text c.in_ok-next_line.ensures.ok follows in
     let p = err_from_is_err_and c.from_residual-in_err-draft.result c.from_residual-in_err-draft.ensures.1 in
@@ -26,16 +26,16 @@ returns-in_err-draft-clause-deck g c =
 pub returns-in-Ends-clause-deck : goal.returns-in-Ends-clause-deck
 returns-in-Ends-clause-deck g c =
     let text = c.next_line.new.line.items in
-    let judged = rw c.as_slice.ensures.value at c.judge_first.ensures in
-    let follows = rw c.in-Ends.is at c.in_ok-draft.ensures.follows (judged_first text) judged in
+    let applied = rw c.as_slice.ensures.value at c.apply_first_line.ensures in
+    let follows = rw c.in-Ends.is at c.in_ok-draft.ensures.follows (applied_first_line text) applied in
     first_ends (g.I.Input.remaining c.args.input.now) (g.I.Input.remaining c.next_line.new.input) text c.in-Ends.deck
     c.in_ok-next_line.ensures.text c.in_ok-next_line.ensures.ok follows
 
 pub loop-number-init : goal.loop-number-init
 loop-number-init g c =
     let text = c.next_line.new.line.items in
-    let judged = rw c.as_slice.ensures.value at c.judge_first.ensures in
-    let follows = rw c.in-Goes.is at c.in_ok-draft.ensures.follows (judged_first text) judged in
+    let applied = rw c.as_slice.ensures.value at c.apply_first_line.ensures in
+    let follows = rw c.in-Goes.is at c.in_ok-draft.ensures.follows (applied_first_line text) applied in
     record {
       told = first_goes (g.I.Input.remaining c.args.input.now) (g.I.Input.remaining c.next_line.new.input) text
           c.in-Goes.draft c.in_ok-next_line.ensures.text c.in_ok-next_line.ensures.ok follows;
@@ -55,8 +55,8 @@ pub returns-in_err-next-clause-deck : goal.returns-in_err-next-clause-deck
 returns-in_err-next-clause-deck g c =
     let text = c.next_line-in-loop-number.new.line.items in
     let draft = c.loop-number.draft in
-    let judged = rw c.as_slice-in-loop-number.ensures.value at c.judge.ensures in
-    let follows = c.in_err-next.ensures.follows (judged_line draft text) judged in
+    let applied = rw c.as_slice-in-loop-number.ensures.value at c.apply_line.ensures in
+    let follows = c.in_err-next.ensures.follows (applied_line draft text) applied in
     let rest = later_err _ _ (g.I.Input.remaining c.next_line-in-loop-number.new.input) c.loop-number.number draft text
     _ (omega arith) c.in_ok-next_line-2.ensures.text c.loop-number.invariant.told c.in_ok-next_line-2.ensures.ok
     follows in
@@ -67,8 +67,8 @@ pub returns-in-Ends-2-clause-deck : goal.returns-in-Ends-2-clause-deck
 returns-in-Ends-2-clause-deck g c =
     let text = c.next_line-in-loop-number.new.line.items in
     let draft = c.loop-number.draft in
-    let judged = rw c.as_slice-in-loop-number.ensures.value at c.judge.ensures in
-    let follows = rw c.in-Ends-2.is at c.in_ok-next.ensures.follows (judged_line draft text) judged in
+    let applied = rw c.as_slice-in-loop-number.ensures.value at c.apply_line.ensures in
+    let follows = rw c.in-Ends-2.is at c.in_ok-next.ensures.follows (applied_line draft text) applied in
     later_ends _ _ (g.I.Input.remaining c.next_line-in-loop-number.new.input) c.loop-number.number draft text
     c.in-Ends-2.deck (omega arith) c.in_ok-next_line-2.ensures.text c.loop-number.invariant.told
     c.in_ok-next_line-2.ensures.ok follows
@@ -81,8 +81,8 @@ pub loop-number-preserved : goal.loop-number-preserved
 loop-number-preserved g c =
     let text = c.next_line-in-loop-number.new.line.items in
     let draft = c.loop-number.draft in
-    let judged = rw c.as_slice-in-loop-number.ensures.value at c.judge.ensures in
-    let follows = rw c.in-Goes-2.is at c.in_ok-next.ensures.follows (judged_line draft text) judged in
+    let applied = rw c.as_slice-in-loop-number.ensures.value at c.apply_line.ensures in
+    let follows = rw c.in-Goes-2.is at c.in_ok-next.ensures.follows (applied_line draft text) applied in
     record {
       told = later_goes _ _ (g.I.Input.remaining c.next_line-in-loop-number.new.input) c.loop-number.number draft text
           c.in-Goes-2.next (omega arith) c.in_ok-next_line-2.ensures.text c.loop-number.invariant.told

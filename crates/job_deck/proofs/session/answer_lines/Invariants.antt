@@ -1,7 +1,7 @@
 use Rattle.std.proofs.Common.{◌≡◌, ◌+◌, ◌<◌, ◌≤◌, false}
 use Rattle.device_text.specs.Device.{Moves}
 use Rattle.job_deck.proofs.sessions.Sessions.{Has}
-use Rattle.job_deck.proofs.session.converse.Given as goal
+use Rattle.job_deck.proofs.session.answer_lines.Given as goal
 
 -- the session has come to this line and this machine, and its answers are handed on
 abbrev pub invariant-loop-number : goal.invariant-loop-number

@@ -1,7 +1,7 @@
 use Rattle.std.proofs.Common.{take, ◌+◌, drop, sym, rules, take-append-drop}
 use Rattle.std.proofs.KnownBytes.{Appends-kept}
 use Rattle.device_text.proofs.Moving.{written}
-use Rattle.device_text.proofs.output.TrackedOutput.put.Goals as goal
+use Rattle.device_text.proofs.output.CheckedWriterOutput.put.Goals as goal
 
 pub loop-written-preserved : goal.loop-written-preserved
 loop-written-preserved g c =

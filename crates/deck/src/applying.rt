@@ -1,14 +1,14 @@
 ghost use Rattle.std.specs.Prelude.{◌≡◌, ◌≤◌, Err, length, MatchOption};
-ghost use Rattle.deck.specs.Deck.{goes_on, judged, judged_core, judged_first, judged_line, with_request};
+ghost use Rattle.deck.specs.Deck.{goes_on, applied, applied_core, applied_first_line, applied_line, with_request};
 ghost use Rattle.deck.specs.declared.deck.Draft.{Draft as SomeDraft};
 ghost use Rattle.deck.specs.declared.parsing.Line.TheVariants as says;
-ghost use Rattle.deck.specs.inner.Said.{said};
+ghost use Rattle.deck.specs.inner.ParsedLine.{line_with_bytes};
 ghost use Rattle.deck.specs.Reading.{Answers};
 
 use crate::Image;
 use crate::coding::{parcels_in, word_of};
 use crate::deck::{Ask, Deck, Draft, LineError, Show, Step};
-use crate::listed::Listed;
+use crate::line_list::LineList;
 use crate::parsing::{Line, parse_line};
 use device_text::{first_field, number};
 use instruction_table::DeckFault;
@@ -30,7 +30,7 @@ const PARCELS: usize = 4;
 
 /// A `core` line as the first line.
 fn core_line(alloc: Global, line: Line<&[u8]>) -> Result<Step, LineError>
-    ensures { Answers result (judged_core (said line.entry)) }
+    ensures { Answers result (applied_core (line_with_bytes line.entry)) }
 {
     let Line::Core(size) = line else {
         return Err(LineError::Faulty(DeckFault::Unknown));
@@ -49,15 +49,15 @@ fn core_line(alloc: Global, line: Line<&[u8]>) -> Result<Step, LineError>
         image,
         place: 0,
         start: None,
-        asks: Listed::new(alloc),
-        free: Listed::new(alloc),
-        shows: Listed::new(alloc),
+        asks: LineList::new(alloc),
+        free: LineList::new(alloc),
+        shows: LineList::new(alloc),
     }))
 }
 
 /// Another `core` line.
 fn core_again(draft: Draft, size: &[u8]) -> Result<Step, LineError>
-    ensures { Answers result (judged draft (says.Core size.now)) }
+    ensures { Answers result (applied draft (says.Core size.now)) }
 {
     Err(LineError::Faulty(match number(10, 6, size) {
         None => DeckFault::Number,
@@ -68,7 +68,7 @@ fn core_again(draft: Draft, size: &[u8]) -> Result<Step, LineError>
 
 /// An `at` line.
 fn at_line(mut draft: Draft, address: &[u8]) -> Result<Step, LineError>
-    ensures { Answers result (judged draft (says.At address.now)) }
+    ensures { Answers result (applied draft (says.At address.now)) }
 {
     let Some(address) = number(8, 6, address) else {
         return Err(LineError::Faulty(DeckFault::Number));
@@ -83,7 +83,7 @@ fn at_line(mut draft: Draft, address: &[u8]) -> Result<Step, LineError>
 
 /// A `word` line.
 fn word_line(mut draft: Draft, value: &[u8]) -> Result<Step, LineError>
-    ensures { Answers result (judged draft (says.Word value.now)) }
+    ensures { Answers result (applied draft (says.Word value.now)) }
 {
     let Some(word) = Word60::from_octal(value) else {
         return Err(LineError::Faulty(DeckFault::Number));
@@ -99,7 +99,7 @@ fn word_line(mut draft: Draft, value: &[u8]) -> Result<Step, LineError>
 /// A `code` line.
 fn code_line(mut draft: Draft, texts: &[u8]) -> Result<Step, LineError>
     requires { length texts.now ≤ 200 }
-    ensures { Answers result (judged draft (says.Code texts.now)) }
+    ensures { Answers result (applied draft (says.Code texts.now)) }
 {
     if draft.place >= draft.image.size() {
         return Err(LineError::Faulty(DeckFault::Range));
@@ -117,7 +117,7 @@ fn code_line(mut draft: Draft, texts: &[u8]) -> Result<Step, LineError>
 
 /// A `start` line.
 fn start_line(mut draft: Draft, address: &[u8]) -> Result<Step, LineError>
-    ensures { Answers result (judged draft (says.Start address.now)) }
+    ensures { Answers result (applied draft (says.Start address.now)) }
 {
     let Some(address) = number(8, 6, address) else {
         return Err(LineError::Faulty(DeckFault::Number));
@@ -135,7 +135,7 @@ fn start_line(mut draft: Draft, address: &[u8]) -> Result<Step, LineError>
 
 /// A `show` line.
 fn show_line(mut draft: Draft, first: &[u8], last: &[u8]) -> Result<Step, LineError>
-    ensures { Answers result (judged draft (says.Show first.now last.now)) }
+    ensures { Answers result (applied draft (says.Show first.now last.now)) }
 {
     let Some(first) = number(8, 6, first) else {
         return Err(LineError::Faulty(DeckFault::Number));
@@ -175,7 +175,7 @@ fn request_fault(draft: &Draft, at: u32) -> Option<DeckFault>
 
 /// A line `ask N after K`.
 fn ask_line(mut draft: Draft, address: &[u8], count: &[u8]) -> Result<Step, LineError>
-    ensures { Answers result (judged draft (says.Ask address.now count.now)) }
+    ensures { Answers result (applied draft (says.Ask address.now count.now)) }
 {
     let Some(address) = number(8, 6, address) else {
         return Err(LineError::Faulty(DeckFault::Number));
@@ -202,7 +202,7 @@ fn ask_line(mut draft: Draft, address: &[u8], count: &[u8]) -> Result<Step, Line
 
 /// A line `ask N free`.
 fn free_line(mut draft: Draft, address: &[u8]) -> Result<Step, LineError>
-    ensures { Answers result (judged draft (says.AskFree address.now)) }
+    ensures { Answers result (applied draft (says.AskFree address.now)) }
 {
     let Some(address) = number(8, 6, address) else {
         return Err(LineError::Faulty(DeckFault::Number));
@@ -219,7 +219,7 @@ fn free_line(mut draft: Draft, address: &[u8]) -> Result<Step, LineError>
 
 /// An `end` line.
 fn end_line(draft: Draft) -> Result<Step, LineError>
-    ensures { Answers result (judged draft says.End) }
+    ensures { Answers result (applied draft says.End) }
 {
     let Draft {
         image,
@@ -242,9 +242,9 @@ fn end_line(draft: Draft) -> Result<Step, LineError>
 }
 
 /// What a later line of at most 200 bytes does to a deck.
-pub fn judge(draft: Draft, text: &[u8]) -> Result<Step, LineError>
+pub fn apply_line(draft: Draft, text: &[u8]) -> Result<Step, LineError>
     requires { length text.now ≤ 200 }
-    ensures { Answers result (judged_line draft text.now) }
+    ensures { Answers result (applied_line draft text.now) }
 {
     match parse_line(text) {
         Line::Core(size) => core_again(draft, size),
@@ -261,9 +261,9 @@ pub fn judge(draft: Draft, text: &[u8]) -> Result<Step, LineError>
 }
 
 /// What the first line of at most 200 bytes begins.
-pub fn judge_first(alloc: Global, text: &[u8]) -> Result<Step, LineError>
+pub fn apply_first_line(alloc: Global, text: &[u8]) -> Result<Step, LineError>
     requires { length text.now ≤ 200 }
-    ensures { Answers result (judged_first text.now) }
+    ensures { Answers result (applied_first_line text.now) }
 {
     let (word, _) = first_field(text);
     if word != b"core".as_slice() {

@@ -5,24 +5,24 @@ use std::marker::Model;
 
 /// What the lines of one kind say, in the order of the lines.
 #[derive(Drop)]
-pub struct Listed<T> {
+pub struct LineList<T> {
     values: Vec<T>,
 }
 
-impl<T> Model for Listed<T> {
+impl<T> Model for LineList<T> {
     ghost use Rattle.std.specs.Prelude.{List};
 
     ghost Value = { List T };
 
-    ghost view = { λ listed. listed.values.items };
+    ghost view = { λ list. list.values.items };
 }
 
-impl<T: Drop> Listed<T> {
+impl<T: Drop> LineList<T> {
     /// Nothing yet.
     pub(crate) fn new(alloc: Global) -> Self
         ensures { result ≡ [] }
     {
-        Listed {
+        LineList {
             values: Vec::new(alloc),
         }
     }

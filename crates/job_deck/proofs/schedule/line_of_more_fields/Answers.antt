@@ -1,6 +1,6 @@
 use Rattle.std.proofs.Common.{sym}
 use Rattle.job_deck.proofs.sessions.Speaking.{four_fields}
-use Rattle.job_deck.proofs.schedule.spoken_further.Goals as goal
+use Rattle.job_deck.proofs.schedule.line_of_more_fields.Goals as goal
 
 pub returns-in_default-Some : goal.returns-in_default-Some
 returns-in_default-Some c = rw (c.first_field.ensures, c.in_default-Some.is-1)

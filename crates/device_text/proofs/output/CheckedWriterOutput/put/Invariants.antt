@@ -1,6 +1,6 @@
 use Rattle.std.proofs.Common.{length, take, ◌-◌, ◌≡◌, ◌≤◌, true}
 use Rattle.std.specs.Io.KnownBytes.{Appends}
-use Rattle.device_text.proofs.output.TrackedOutput.put.Given as goal
+use Rattle.device_text.proofs.output.CheckedWriterOutput.put.Given as goal
 
 -- the writer took the bytes so far
 abbrev pub invariant-loop-written : goal.invariant-loop-written

@@ -1,7 +1,7 @@
 use Rattle.std.proofs.Common.{◌+◌, arith, rules}
 use Rattle.job_deck.proofs.sessions.Sessions.{session_begun, session_on, session_cut, session_ends, session_drains}
 use Rattle.job_deck.proofs.sessions.Sessions.{session_refused, session_unread, session_over}
-use Rattle.job_deck.proofs.session.converse.Goals as goal
+use Rattle.job_deck.proofs.session.answer_lines.Goals as goal
 
 pub loop-number-init : goal.loop-number-init
 loop-number-init g c =
@@ -20,44 +20,44 @@ loop-number-init g c =
 pub returns-in-Err-clause-told : goal.returns-in-Err-clause-told
 returns-in-Err-clause-told g c =
     session_unread c.args.machine.now (c.args.before + 1) (g.O.Output.contents c.args.output.now) _ _
-    (g.I.Input.remaining c.hear.new.input) (g.O.Output.contents c.loop-number.output) c.loop-number.number
+    (g.I.Input.remaining c.read_schedule_line.new.input) (g.O.Output.contents c.loop-number.output) c.loop-number.number
     c.loop-number.machine c.loop-number.invariant.told c.in-Err.ensures.part
 
 pub returns-in-Ok-Ends-clause-told : goal.returns-in-Ok-Ends-clause-told
 returns-in-Ok-Ends-clause-told g c =
     session_ends c.args.machine.now (c.args.before + 1) (g.O.Output.contents c.args.output.now) _ _
-    (g.I.Input.remaining c.hear.new.input) (g.O.Output.contents c.loop-number.output) c.loop-number.number
-    c.loop-number.machine c.loop-number.invariant.told (rw c.in-Ok-Ends.field-0-is at c.in-Ok-Ends.ensures.heard)
+    (g.I.Input.remaining c.read_schedule_line.new.input) (g.O.Output.contents c.loop-number.output) c.loop-number.number
+    c.loop-number.machine c.loop-number.invariant.told (rw c.in-Ok-Ends.field-0-is at c.in-Ok-Ends.ensures.line)
 
 pub returns-in-Ok-Drains-clause-told : goal.returns-in-Ok-Drains-clause-told
 returns-in-Ok-Drains-clause-told g c =
     session_drains c.args.machine.now (c.args.before + 1) (g.O.Output.contents c.args.output.now) _ _
-    (g.I.Input.remaining c.hear.new.input) (g.O.Output.contents c.loop-number.output) c.loop-number.number
+    (g.I.Input.remaining c.read_schedule_line.new.input) (g.O.Output.contents c.loop-number.output) c.loop-number.number
     c.loop-number.machine c.loop-number.invariant.told
-    (rw c.in-Ok-Drains.field-0-is at c.in-Ok-Drains.ensures.heard)
+    (rw c.in-Ok-Drains.field-0-is at c.in-Ok-Drains.ensures.line)
 
 pub returns-in-Ok-Faulty-clause-told : goal.returns-in-Ok-Faulty-clause-told
 returns-in-Ok-Faulty-clause-told g c =
     session_refused c.args.machine.now (c.args.before + 1) (g.O.Output.contents c.args.output.now) _ _
-    (g.I.Input.remaining c.hear.new.input) (g.O.Output.contents c.loop-number.output) c.loop-number.number
+    (g.I.Input.remaining c.read_schedule_line.new.input) (g.O.Output.contents c.loop-number.output) c.loop-number.number
     c.loop-number.machine c.in-Ok-Faulty.fault c.loop-number.invariant.told
-    (rw c.in-Ok-Faulty.field-0-is at c.in-Ok-Faulty.ensures.heard)
+    (rw c.in-Ok-Faulty.field-0-is at c.in-Ok-Faulty.ensures.line)
 
 pub returns-in-Err-make-clause-told : goal.returns-in-Err-make-clause-told
 returns-in-Err-make-clause-told g c =
     session_cut c.args.machine.now (c.args.before + 1) (g.O.Output.contents c.args.output.now) _ _
-    (g.I.Input.remaining c.hear.new.input) (g.O.Output.contents c.loop-number.output)
+    (g.I.Input.remaining c.read_schedule_line.new.input) (g.O.Output.contents c.loop-number.output)
     (g.O.Output.contents c.make.new.output) c.loop-number.number c.loop-number.machine c.make.new.machine
-    c.in-Ok-Makes.event c.loop-number.invariant.told (rw c.in-Ok-Makes.field-0-is at c.in-Ok-Makes.ensures.heard)
+    c.in-Ok-Makes.event c.loop-number.invariant.told (rw c.in-Ok-Makes.field-0-is at c.in-Ok-Makes.ensures.line)
     c.in-Err-make.ensures.made
 
 pub loop-number-preserved : goal.loop-number-preserved
 loop-number-preserved g c =
     record {
       told = session_on c.args.machine.now (c.args.before + 1) (g.O.Output.contents c.args.output.now) _ _
-          (g.I.Input.remaining c.hear.new.input) (g.O.Output.contents c.loop-number.output)
+          (g.I.Input.remaining c.read_schedule_line.new.input) (g.O.Output.contents c.loop-number.output)
           (g.O.Output.contents c.make.new.output) c.loop-number.number c.loop-number.machine c.make.new.machine
-          c.in-Ok-Makes.event c.loop-number.invariant.told (rw c.in-Ok-Makes.field-0-is at c.in-Ok-Makes.ensures.heard)
+          c.in-Ok-Makes.event c.loop-number.invariant.told (rw c.in-Ok-Makes.field-0-is at c.in-Ok-Makes.ensures.line)
           c.in-Ok.ensures.made;
       low = search rules;
       same_input = search rules;

@@ -13,13 +13,13 @@ use Rattle.deck.specs.Deck.{Good, Reading, deck}
 use Rattle.deck.specs.declared.deck.Deck.{Deck}
 use Rattle.device_text.specs.Line.{lines_of}
 use Rattle.job_deck.specs.Session.{Says}
-use Rattle.job_deck.specs.Told.{Performs, TellsFromBoot}
+use Rattle.job_deck.specs.SessionResult.{Performs, RunsSessionFromBoot}
 use Rattle.device_text.proofs.Moving.{Moves-weaker}
-use Rattle.text_tests.proofs.led_tests.held.Goals as goal
+use Rattle.text_tests.proofs.led_tests.faithful_session.Goals as goal
 
--- what is said of a session that was held to its last line
-abbrev IsHeld : Deck → ℕ → List ℕ → Option (List ℕ) → Option (List ℕ) → Type 0
-IsHeld whole n after old new =
+-- what is said of a session that ran to its last line
+abbrev IsFaithfulSession : Deck → ℕ → List ℕ → Option (List ℕ) → Option (List ℕ) → Type 0
+IsFaithfulSession whole n after old new =
     (events : List Event) × ((answers : List (Result Done Refusal))
     × ((w : Processor) × ((left : List (List ℕ × List ℕ)) × ((text : List ℕ)
     × (Says (n + 1) events (lines_of after) left
@@ -30,9 +30,10 @@ abbrev Law : Type 0
 Law = (memory : List ℕ) → (budget : ℕ) → (events : List Event) → (answers : List (Result Done Refusal))
     → (w : Processor) → IsReached memory budget events answers w → IsFaithful memory events answers w
 
-is_held : (law : Law) (x : Unit {0}) (budget : ℕ) (whole : Deck) (n : ℕ) (after rest : List ℕ)
-    (old new : Option (List ℕ)) → TellsFromBoot (Ok x) budget whole n after rest old new → IsHeld whole n after old new
-is_held law x budget whole n after rest old new h =
+is_faithful_session : (law : Law) (x : Unit {0}) (budget : ℕ) (whole : Deck) (n : ℕ) (after rest : List ℕ)
+    (old new : Option (List ℕ)) → RunsSessionFromBoot (Ok x) budget whole n after rest old new
+    → IsFaithfulSession whole n after old new
+is_faithful_session law x budget whole n after rest old new h =
     let s = h.0 in (
       s.events,
       (
@@ -56,11 +57,11 @@ is_held law x budget whole n after rest old new h =
       ),
     )
 
-held_there : (law : Law) (r : Result (Unit {0}) Refusal) (x : Unit {0}) (budget : ℕ) (reading : Reading)
+faithful_session_there : (law : Law) (r : Result (Unit {0}) Refusal) (x : Unit {0}) (budget : ℕ) (reading : Reading)
     (rest : List ℕ) (old new : Option (List ℕ)) → r ≡ Ok x → Performs r budget reading rest old new → (whole : Deck)
-    → (n : ℕ) → (after : List ℕ) → reading ≡ Good whole n after → IsHeld whole n after old new
-held_there law r x budget reading rest old new ok told whole n after e =
-    is_held law x budget whole n after rest old new
+    → (n : ℕ) → (after : List ℕ) → reading ≡ Good whole n after → IsFaithfulSession whole n after old new
+faithful_session_there law r x budget reading rest old new ok told whole n after e =
+    is_faithful_session law x budget whole n after rest old new
     (subst (λ k. Performs (Ok x) budget k rest old new) e
     (subst (λ k. Performs k budget reading rest old new) ok told))
 
@@ -71,7 +72,7 @@ returns g c =
     Moves-weaker (g.R.Read.remaining c.args.reader.now) (g.R.Read.remaining c.events.new.reader)
     (λ xs rest. Performs c.events.result c.args.budget (deck xs) rest old new)
     (λ xs rest. (whole : Deck) → (n : ℕ) → (after : List ℕ) → deck xs ≡ Good whole n after
-    → IsHeld whole n after old new)
-    (λ xs rest told. held_there c.what_is_reached_is_faithful.ensures c.events.result c.in_default.field-0
+    → IsFaithfulSession whole n after old new)
+    (λ xs rest told. faithful_session_there c.what_is_reached_is_faithful.ensures c.events.result c.in_default.field-0
     c.args.budget (deck xs) rest old new c.in_default.is told)
     c.events.ensures

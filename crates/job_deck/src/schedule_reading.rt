@@ -1,11 +1,11 @@
 ghost use Rattle.std.specs.Prelude.{◌≡◌, ◌<◌, ◌≤◌, ◌+◌, IfOk, OnErr, false};
 ghost use Rattle.device_text.specs.Device.{Moves, failed_after};
 ghost use Rattle.device_text.specs.Line.{ReadsPart};
-ghost use Rattle.job_deck.specs.inner.Holding.{Hears};
+ghost use Rattle.job_deck.specs.inner.SessionParts.{ReadsScheduleLine};
 
-use crate::schedule::{Spoken, spoken_in};
+use crate::schedule::{ScheduleLine, parse_schedule_line};
 use arrayvec::ArrayVec;
-use device_text::{Input, Output, ReadFailed, Took, read_line};
+use device_text::{Input, LineRead, Output, ReadFailed, read_line};
 use instruction_table::DeckFault;
 
 /// Reads line `number` of a schedule that comes after line `before`, and nothing past it, and answers
@@ -14,25 +14,25 @@ use instruction_table::DeckFault;
 ///
 /// # Errors
 /// Where a read fails.
-pub fn hear<I: Input, O: Output>(
+pub fn read_schedule_line<I: Input, O: Output>(
     input: &mut I,
     output: &O,
     before: u32,
     number: u32,
-) -> Result<Spoken, ReadFailed>
+) -> Result<ScheduleLine, ReadFailed>
     requires count { number ≤ 10000000 }
     requires handed_on { before + 1 < number → O.waits output.now ≡ false }
-    ensures heard { IfOk result (λ spoken. Moves (I.remaining input.old) (I.remaining input.new)
-        (Hears number spoken)) }
+    ensures line { IfOk result (λ line. Moves (I.remaining input.old) (I.remaining input.new)
+        (ReadsScheduleLine number line)) }
     ensures part { OnErr result (Moves (I.remaining input.old) (I.remaining input.new) ReadsPart) }
     ensures failure { I.has_failed input.new ≡ failed_after (I.has_failed input.old) result }
     ensures same { I.lender input.new ≡ I.lender input.old }
 {
     let mut line = ArrayVec::new();
     match read_line(input, &mut line) {
-        Ok(Took::Whole) => Ok(spoken_in(line.as_slice())),
-        Ok(Took::Long) => Ok(Spoken::Faulty(DeckFault::Long)),
-        Ok(Took::Nothing) => Ok(Spoken::Faulty(DeckFault::NoEnd)),
+        Ok(LineRead::Whole) => Ok(parse_schedule_line(line.as_slice())),
+        Ok(LineRead::Long) => Ok(ScheduleLine::Faulty(DeckFault::Long)),
+        Ok(LineRead::Nothing) => Ok(ScheduleLine::Faulty(DeckFault::NoEnd)),
         Err(error) => Err(error),
     }
 }
