@@ -44,6 +44,7 @@ TOOLS = (".ci/spent-tokens", "tools/build-program-test")
 PAGE = "docs/CHANGING.md"
 PROOFS = re.compile(r"(\d+) passed, (\d+) failed")
 TRIED = re.compile(r"(\d+) wrong bodies, (\d+) not refused")
+PIPED = {"stdout": subprocess.PIPE, "stderr": subprocess.STDOUT, "text": True, "errors": "replace"}
 # A check takes up to 4.3 GB.
 MEMORY_OF_A_CHECK = 5_000_000
 
@@ -56,7 +57,7 @@ def processor_seconds():
 
 def is_silent(command):
     """Whether a check finds nothing: it ends with 0. What it says is printed where it doesn't."""
-    ran = subprocess.run(command, stdout=subprocess.PIPE, stderr=subprocess.STDOUT, text=True, errors="replace", check=False)
+    ran = subprocess.run(command, **PIPED, check=False)
     if ran.returncode:
         print(f"{command}:\n{ran.stdout}", end="", flush=True)
     return ran.returncode == 0
@@ -66,7 +67,7 @@ def counted(words, pattern, environment=None):
     """Runs a command, prints what it says, and gives the two numbers of its last line. One that ends in another way has
     failed once."""
     numbers = None
-    with subprocess.Popen(words, stdout=subprocess.PIPE, stderr=subprocess.STDOUT, text=True, errors="replace", env=environment) as ran:
+    with subprocess.Popen(words, **PIPED, env=environment) as ran:
         for line in ran.stdout:
             print(line, end="", flush=True)
             numbers = pattern.fullmatch(line.strip())

@@ -1,5 +1,5 @@
-"""The program cdc6600 with failing_calls.c, whose functions stand in the place of those of the C library: they fail where
-they are told to, and count the allocations."""
+"""The program cdc6600 with failing_calls.c, whose functions stand in the place of those of the C library: they fail
+where they are told to, and count the allocations."""
 
 import os
 import subprocess

@@ -79,7 +79,7 @@ class Replays:
 
     @lru_cache(maxsize=None)
     def dump(self, log, shown=None):
-        """The lines of the dump after a log; with one word of memory shown, in the place of those that the deck shows."""
+        """The lines of the dump after a log; with one word of memory shown, in the place of those of the deck."""
         lines = [*self.session.deck, f"show {shown} {shown}", "end", ""]
         text = self.session.text if shown is None else "\n".join(lines)
         ran = self.program.run(["replay", log], text.encode("latin-1"))
@@ -129,15 +129,16 @@ class Log:
 class Following:
     """The drawing of a session as it is followed: a row for each reservation, the first one for the machine itself.
 
-    In `marks` stands what a row has at an event, and in `gaps` what its row had before it. `refused` has a line for each
-    refused event, and `ending` the last line."""
+    `marks` has what a row has at an event, and `gaps` what it has before that. `refused` has a line for each refused
+    event, and `ending` is the last line."""
 
     def __init__(self, program, session, file, answers):
         """Asks the program for the answers where there is no file of them.
 
         Raises Fault where the deck is refused, or no schedule comes after it."""
         self.session, self.file = session, file or f"{session.file}, as answered"
-        ran = program.run(["events"] if answers is None else ["list"], session.text.encode("latin-1"))
+        words = ["events"] if answers is None else ["list"]
+        ran = program.run(words, session.text.encode("latin-1"))
         printed = ran.printed.decode("latin-1") if answers is None else answers
         self.answers = printed.removesuffix("\n").split("\n") if printed else []
         self.check_deck(ran.told.decode("latin-1").split("\n", maxsplit=1)[0].removeprefix("cdc6600: "))
@@ -167,7 +168,8 @@ class Following:
                 raise Fault(self.file, f"no answer to {line} of {self.session.file}, {event}")
             self.columns = n + 1
             if not self.step(n, event):
-                raise Fault(self.file, f"line {n + 1}, {self.answers[n]}, is no answer to {line} of {self.session.file}, {event}")
+                no_answer = f"is no answer to {line} of {self.session.file}, {event}"
+                raise Fault(self.file, f"line {n + 1}, {self.answers[n]}, {no_answer}")
         if not self.ending:
             self.stop(len(self.session.events), "the schedule has no end")
 

@@ -66,7 +66,8 @@ class Form:
         left = LETTER_WIDTH * self.wide + MARGIN
         width = max(left + COLUMN * self.following.columns + 2 * MARGIN, LEAST_WIDTH)
         height = LINE * (len(self.labels) + len(self.following.refused) + len(self.legends) + 4)
-        root = ET.Element(f"{{{SVG}}}svg", {"width": str(width), "height": str(height)}, **{"font-family": "monospace", "font-size": "13"})
+        font = {"font-family": "monospace", "font-size": "13"}
+        root = ET.Element(f"{{{SVG}}}svg", {"width": str(width), "height": str(height), **font})
         ET.SubElement(root, f"{{{SVG}}}rect", width="100%", height="100%", fill="white")
         for row in self.labels:
             self.add_row(root, row, left)
