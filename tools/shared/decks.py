@@ -111,9 +111,10 @@ def log_of(dump):
 
 
 def cells_of(page):
-    """The cells of each line of a page that is a row of a table, its head and the line under it too."""
-    lines = [line for line in Path(page).read_text(encoding="utf-8").splitlines() if line.startswith("|")]
-    return [[cell.strip(" ") for cell in line.strip().strip("|").split(" | ")] for line in lines]
+    """The cells of each line of a page that is a row of a table, its head too."""
+    lines = Path(page).read_text(encoding="utf-8").splitlines()
+    rows = [line for line in lines if line.startswith("| ")]
+    return [[cell.strip(" ") for cell in line.strip().strip("|").split(" | ")] for line in rows]
 
 
 def rows_of(page):
