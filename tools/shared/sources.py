@@ -2,7 +2,9 @@
 and the edits that make wrong bodies.
 
 The sources are laid out by `rt fmt`, which the gate holds them to, so they are read line by line and no parser is
-needed. Paths are from the repository's folder on.
+needed. Paths are from the repository's folder on. The runner of wrong bodies has a reader of its own, in
+tools/wrong_bodies, which finds where each item ends and what its body calls: it keeps what it found by a sum of its own
+text, so a change here has no wrong body tried anew.
 """
 
 import re
