@@ -8,15 +8,16 @@
 The parts, in their order:
 
 - small checks, which take no time: that docs/definitions.md names what is there, docs/safety.md each public call,
-  docs/threads.md its example and docs/crates.md the sizes;
+  docs/threads.md its example, docs/crates.md the sizes and docs/CHANGING.md the checks of the gate;
 - `rt ci`: every proof from nothing, every test, the wrong bodies of `must-fail`, and the program's stored run. It keeps
   beside the kit what it proved and tried, by the sums of all that it read, and so proves and tries again only what
   changed, and what stands above that; tests and the program are run each time;
 - wrong bodies: those of `must-fail` again and all others, in groups, over the libraries that `rt ci` left
   (tools/wrong-bodies, which keeps what it tried in the user's cache folder);
-- decks: what the program prints for them, for the largest ones, for those that are cut and bent, and where calls fail,
-  when requests of both kinds are made, which events take memory, that forgotten tokens are refused, and that
-  `./cdc6600` builds no program of which a crate isn't proved.
+- decks (tools/checks): what the program prints for them, for the commands of the pages, for worked schedules, for the
+  largest decks, for those that are cut and bent, and where calls fail, when requests of both kinds are made, and which
+  events take memory; then that forgotten tokens are refused, and that `./cdc6600` builds no program of which a crate
+  isn't proved.
 
 A small check and a check of decks that finds nothing says nothing. Where `rt ci` fails nothing more is tried.
 """
@@ -35,10 +36,15 @@ from pathlib import Path
 
 ROOT = Path(__file__).resolve().parent.parent
 SMALL = (".ci/definitions", ".ci/safety", ".ci/examples", ".ci/sizes")
-DECKS = tuple(f"decks/{name}" for name in ("check", "schedules", "both-kinds", "large", "mutations", "failures", "allocations"))
+BODIES = ("tools/wrong-bodies-test", "tools/wrong-bodies")
+CHECKS = ("decks", "pages", "schedules", "both-kinds", "large", "mutations", "failures", "allocations")
+DECKS = tuple(f"tools/checks/{name}" for name in CHECKS)
 TOOLS = (".ci/spent-tokens", "tools/build-program-test")
+# The page whose table says what each of them checks.
+PAGE = "docs/CHANGING.md"
 PROOFS = re.compile(r"(\d+) passed, (\d+) failed")
-BODIES = re.compile(r"(\d+) wrong bodies, (\d+) not refused")
+TRIED = re.compile(r"(\d+) wrong bodies, (\d+) not refused")
+PIPED = {"stdout": subprocess.PIPE, "stderr": subprocess.STDOUT, "text": True, "errors": "replace"}
 # A check takes up to 4.3 GB.
 MEMORY_OF_A_CHECK = 5_000_000
 
@@ -51,7 +57,7 @@ def processor_seconds():
 
 def is_silent(command):
     """Whether a check finds nothing: it ends with 0. What it says is printed where it doesn't."""
-    ran = subprocess.run(command, stdout=subprocess.PIPE, stderr=subprocess.STDOUT, text=True, errors="replace", check=False)
+    ran = subprocess.run(command, **PIPED, check=False)
     if ran.returncode:
         print(f"{command}:\n{ran.stdout}", end="", flush=True)
     return ran.returncode == 0
@@ -61,7 +67,7 @@ def counted(words, pattern, environment=None):
     """Runs a command, prints what it says, and gives the two numbers of its last line. One that ends in another way has
     failed once."""
     numbers = None
-    with subprocess.Popen(words, stdout=subprocess.PIPE, stderr=subprocess.STDOUT, text=True, errors="replace", env=environment) as ran:
+    with subprocess.Popen(words, **PIPED, env=environment) as ran:
         for line in ran.stdout:
             print(line, end="", flush=True)
             numbers = pattern.fullmatch(line.strip())
@@ -100,6 +106,16 @@ def silent(commands):
     return found.count(True), found.count(False)
 
 
+def small_checks():
+    """The small checks, and that the page has a row for each check of the gate."""
+    passed, failed = silent(SMALL)
+    rows = re.findall(r"^\| `([^`]*)` \|", Path(PAGE).read_text(encoding="utf-8"), re.MULTILINE)
+    missing = [name for name in SMALL + BODIES + DECKS + TOOLS if name not in rows]
+    for name in missing:
+        print(f"{PAGE}: no row of a table begins with `{name}`", flush=True)
+    return (passed, failed + 1) if missing else (passed + 1, failed)
+
+
 def proofs(is_anew):
     """`rt ci` starts a check only where there is memory for what it may need at most, by its size. With the two largest
     beside each other processors stay idle; where there is memory for a check on each, all are used."""
@@ -112,8 +128,9 @@ def proofs(is_anew):
 
 def bodies(is_anew):
     """The runner's own tests, and then all wrong bodies: how many were refused, and how many weren't."""
-    passed, failed = silent(["tools/wrong-bodies-test"])
-    tried, let_through = counted(["tools/wrong-bodies", "--after-rt-ci", *["--anew"] * is_anew], BODIES)
+    test, runner = BODIES
+    passed, failed = silent([test])
+    tried, let_through = counted([runner, "--after-rt-ci", *["--anew"] * is_anew], TRIED)
     return passed + tried - let_through, failed + let_through
 
 
@@ -125,7 +142,7 @@ def changed():
 
 def whole(gate, is_anew):
     """Every part, up to one in which something fails."""
-    gate.part("small checks", lambda: silent(SMALL))
+    gate.part("small checks", small_checks)
     if not gate.failed:
         gate.part("proofs and tests", lambda: proofs(is_anew))
     if not gate.failed:
@@ -135,7 +152,7 @@ def whole(gate, is_anew):
 
 def quick(gate):
     """The parts of a look in between."""
-    gate.part("small checks", lambda: silent(SMALL))
+    gate.part("small checks", small_checks)
     gate.part("what changed", changed)
 
 

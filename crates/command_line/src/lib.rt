@@ -2,7 +2,7 @@
 //!
 //! Callers rely on `read_arguments`: it answers the `Request` of the words, or the error of `clap`,
 //! which reads them. Its contract says nothing of which words ask for what; the tests of
-//! `operator_main` and decks/check show that. What is proved is that it is safe and ends. Begin
+//! `operator_main` and tools/checks/pages show that. What is proved is that it is safe and ends. Begin
 //! with `Request` in `arguments`; `accepted` has the commands and their options.
 #![tactic(auto)]
 

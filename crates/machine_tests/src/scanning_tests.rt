@@ -108,19 +108,19 @@ const CONFLICTS: [Program; 6] = [
     },
 ];
 
-/// The programs of the folder decks/.
+/// The programs of the folder decks/run/.
 ///
 /// The words are those that the deck of that name places in memory; a hyphen of the name is `_` here, and
 /// `loop_deck` has the words of loop.deck. decks/README.md says what each deck shows. This prints the lines of a
 /// program:
 ///
-///     ./cdc6600 list < decks/NAME.deck | sed -E 's/^0*([0-7]+) ([0-7]+) .*/(0o\1, "\2"),/'
+///     ./cdc6600 list < decks/run/NAME.deck | sed -E 's/^0*([0-7]+) ([0-7]+) .*/(0o\1, "\2"),/'
 ///
 /// two-adds-code.deck has the words of two-adds.deck.
 ///
 /// The counts are those of all ten rounds, in the order of `Event`. Where no exchange is asked for on the way, the
-/// first is ten times the count after `I` in the deck's dump, as `LOG E40 I6` in decks/two-adds.dump: each round comes
-/// to the program's end. The program of endless.deck has none.
+/// first is ten times the count after `I` in the deck's dump, as `LOG E40 I6` in decks/run/two-adds.dump: each round
+/// comes to the program's end. The program of endless.deck has none.
 const DECKS: [Program; 18] = [
     // A sum and a difference.
     Program {

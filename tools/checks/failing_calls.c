@@ -1,4 +1,5 @@
-/* Makes one call of a program fail, or each from one on, and counts such calls; failing_calls.py loads it with LD_PRELOAD.
+/* Makes one call of a program fail, or each from one on, and counts such calls. failing_calls.py has it loaded by
+ * LD_PRELOAD.
  *
  *     FAILING_CALL    memory (malloc, calloc, realloc and the like), thread (pthread_create), read (of standard input),
  *                     write (to standard output) or told (a write to standard error)

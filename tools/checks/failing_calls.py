@@ -1,0 +1,41 @@
+"""The program cdc6600 with failing_calls.c, whose functions stand in the place of those of the C library: they fail
+where they are told to, and count the allocations."""
+
+import os
+import subprocess
+from itertools import count
+from pathlib import Path
+
+from shared.program import Program
+
+SOURCE = Path(__file__).resolve().with_suffix(".c")
+
+
+class Failing:
+    """The program, with the library of failing calls, which is built in a folder."""
+
+    def __init__(self, folder):
+        self.program, self.folder, self.runs = Program(), Path(folder), count()
+        self.library = self.folder / "failing_calls.so"
+        compiler = os.environ.get("CC", "cc")
+        subprocess.run([compiler, "-O1", "-shared", "-fPIC", "-o", self.library, SOURCE, "-ldl"], check=True)
+
+    def run(self, words, text, call="", at=0, later=False, short=False):
+        """How a run ended, and whether a call failed."""
+        mark = self.folder / f"failed{next(self.runs)}"
+        how = {"FAILING_CALL": call, "FAILING_AT": str(at), "FAILING_MARK": str(mark), "LD_PRELOAD": str(self.library)}
+        how |= {"FAILING_FROM": "1"} if later else {}
+        how |= {"FAILING_SHORT": "1"} if short else {}
+        ran = self.program.run(words, text, environment=how)
+        failed = mark.exists()
+        mark.unlink(missing_ok=True)
+        return ran, failed
+
+    def allocations(self, words, text):
+        """How a run ended, and how often memory was asked for."""
+        counted = self.folder / f"counted{next(self.runs)}"
+        how = {"FAILING_CALL": "memory", "FAILING_COUNT": str(counted), "LD_PRELOAD": str(self.library)}
+        ran = self.program.run(words, text, environment=how)
+        number = int(counted.read_text(encoding="ascii"))
+        counted.unlink()
+        return ran, number

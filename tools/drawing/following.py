@@ -1,0 +1,319 @@
+"""Follows a session's events and their answers, and puts a mark for each event into the row of its reservation.
+
+Each answer has to fit: what the machine is to have done for it, by what it did before, and at the end the log that the
+drawing leads to. Words of memory and registers are those that `replay` prints for the log up to an event.
+"""
+
+import re
+from functools import lru_cache
+
+UNITS = "(?:branch|boolean|shift|add|longadd|multiply1|multiply2|divide|increment1|increment2)"
+EVENT = re.compile(
+    rf"issue|exchange|end|drain|(?:accept|return|bank) [0-9][0-9]?|ask [0-7]{{1,6}}|(?:read|finish|store) {UNITS}"
+    r"|ppread [0-7]{1,6}|ppwrite [0-7]{1,6} [0-7]{1,20}"
+)
+ENDS = ("end", "drain")
+LETTER = {"issue": "I", "read": "R", "finish": "F", "store": "S", "accept": "A", "return": "L", "bank": "B", "ask": "Q",
+          "exchange": "X", "drain": "D", "end": "E", "ppread": "P", "ppwrite": "W"}
+AFTER = {"issue": "read", "read": "finish", "finish": "store"}
+REFUSABLE = {
+    "issue": "E1 E2 E3 E4 E5 E6 E7 E8", "read": "E9 E15", "finish": "E15", "store": "E10 E11 E12 E15",
+    "accept": "E13 E14 E15", "return": "E10 E15", "bank": "E15", "ask": "E3 E17 E19 E21", "exchange": "E15 E18 E25",
+    "ppread": "E3 E21 E26 E27", "ppwrite": "E3 E21 E26 E27",
+}
+# How a pending reservation is drawn: in its unit, in the hopper, in its channel.
+RESERVED, IN_HOPPER, IN_CHANNEL = "-", "=", "~"
+PLACES = 4
+
+
+class Fault(Exception):
+    """What is wrong with a file. Its text is the line for the user."""
+
+    def __init__(self, file, what):
+        super().__init__(f"{file}: {what}")
+
+
+class Session:
+    """A session by its text: the deck's lines without those that show words, and the events of the schedule."""
+
+    def __init__(self, file, text):
+        self.file, self.text = file, text
+        lines = text.removesuffix("\n").split("\n")
+        self.deck_end = lines.index("end") + 1 if "end" in lines else 0
+        self.deck = [line for line in lines[: max(self.deck_end - 1, 0)] if not line.startswith("show ")]
+        self.events = []
+        for line in lines[self.deck_end :] if self.deck_end else []:
+            self.events.append(line)
+            if line in ENDS:
+                break
+
+    @property
+    def core(self):
+        """How many words the memory has."""
+        found = re.match(r"core (\d+)", self.text)
+        return int(found[1]) if found else 0
+
+
+class Reservation:
+    """An issued instruction: the unit and its text, its part in memory, how far it is, and how it is drawn."""
+
+    def __init__(self, unit, text):
+        self.unit, self.text = unit, text
+        self.phase, self.state, self.is_in_range = "issue", RESERVED, False
+        self.channel = int(text[2]) if re.match(r"SA[1-5] ", text) else 0
+        self.refers = bool(re.match(r"SA[1-7] |RJ ", text))
+
+
+class Machine:
+    """The row of the machine itself: what isn't of one reservation."""
+
+    def __init__(self):
+        self.state = ""
+
+
+class Replays:
+    """What the program prints for the session's deck and a log, and the texts of instructions."""
+
+    def __init__(self, program, session, answers):
+        self.program, self.session, self.answers = program, session, answers
+
+    @lru_cache(maxsize=None)
+    def dump(self, log, shown=None):
+        """The lines of the dump after a log; with one word of memory shown, in the place of those of the deck."""
+        lines = [*self.session.deck, f"show {shown} {shown}", "end", ""]
+        text = self.session.text if shown is None else "\n".join(lines)
+        ran = self.program.run(["replay", log], text.encode("latin-1"))
+        if ran.told:
+            told = ran.told.decode("latin-1").split("\n", maxsplit=1)[0].removeprefix("cdc6600: ")
+            raise Fault(self.answers, f"they are not those of {self.session.file}: {told}")
+        return ran.printed.decode("latin-1").splitlines()
+
+    def field(self, log, line, place):
+        """A field of a line of the dump after a log, both numbered from 0."""
+        return self.dump(log)[line].split()[place]
+
+    def number(self, log, line, place):
+        """The number that such a field has in octal digits."""
+        return int(self.field(log, line, place), 8)
+
+    def word(self, log, address):
+        """A word of memory after a log, as its digits."""
+        return self.dump(log, address)[-2][9:]
+
+    def instruction(self, log):
+        """The text of the instruction that is issued next after a log. It is listed as the first one of a word."""
+        word, parcel = self.field(log, 0, 5), int(self.field(log, 0, 3))
+        if word == "none":
+            word = self.word(log, f"{self.number(log, 2, 1) + self.number(log, 0, 1):o}")
+        word = (word[5 * parcel :] + "0" * 15)[:20]
+        listed = self.program.run(["list"], f"core 32\nword {word}\nstart 0\nend\n".encode()).printed.decode()
+        return listed.split("\n", maxsplit=1)[0].split(";", maxsplit=1)[0][28:]
+
+
+class Log:
+    """The log of what was made so far. In `before` it is that before its last run of instructions."""
+
+    def __init__(self):
+        self.text, self.before, self.run = "none", "", 0
+
+    def add_instruction(self):
+        self.run += 1
+        self.text = f"{self.before} I{self.run}"
+
+    def add(self, entry):
+        """Adds an exchange or a peripheral access."""
+        self.text = self.before = entry if self.text == "none" else f"{self.text} {entry}"
+        self.run = 0
+
+
+class Following:
+    """The drawing of a session as it is followed: a row for each reservation, the first one for the machine itself.
+
+    `marks` has what a row has at an event, and `gaps` what it has before that. `refused` has a line for each refused
+    event, and `ending` is the last line."""
+
+    def __init__(self, program, session, file, answers):
+        """Asks the program for the answers where there is no file of them.
+
+        Raises Fault where the deck is refused, or no schedule comes after it."""
+        self.session, self.file = session, file or f"{session.file}, as answered"
+        words = ["events"] if answers is None else ["list"]
+        ran = program.run(words, session.text.encode("latin-1"))
+        printed = ran.printed.decode("latin-1") if answers is None else answers
+        self.answers = printed.removesuffix("\n").split("\n") if printed else []
+        self.check_deck(ran.told.decode("latin-1").split("\n", maxsplit=1)[0].removeprefix("cdc6600: "))
+        self.replays, self.log = Replays(program, session, self.file), Log()
+        self.rows, self.marks, self.gaps, self.columns = [Machine()], {}, {}, 0
+        self.holders, self.places, self.channels, self.asked = {}, {}, {}, None
+        self.refused, self.ending, self.has_accesses = [], "", False
+
+    def check_deck(self, told):
+        """A fault of a line of the schedule is drawn; any other one is told."""
+        found = re.match(r"E20 line (\d+)", told)
+        if told and not (found and self.session.deck_end and int(found[1]) > self.session.deck_end):
+            raise Fault(self.session.file, told)
+        if not self.session.events:
+            raise Fault(self.session.file, "no schedule comes after its deck")
+
+    def follow(self):
+        """Draws each event up to the schedule's end, or to a line that is none.
+
+        Raises Fault where an answer doesn't fit."""
+        for n, event in enumerate(self.session.events):
+            line = f"line {self.session.deck_end + n + 1}"
+            if not EVENT.fullmatch(event):
+                self.stop(n, "no event: " + re.sub(r"[^ -~]", "?", event)[:60])
+                return
+            if n >= len(self.answers):
+                raise Fault(self.file, f"no answer to {line} of {self.session.file}, {event}")
+            self.columns = n + 1
+            if not self.step(n, event):
+                no_answer = f"is no answer to {line} of {self.session.file}, {event}"
+                raise Fault(self.file, f"line {n + 1}, {self.answers[n]}, {no_answer}")
+        if not self.ending:
+            self.stop(len(self.session.events), "the schedule has no end")
+
+    def stop(self, n, why):
+        """Draws that the schedule stops here. No answer may be left."""
+        if n < len(self.answers):
+            raise Fault(self.file, f"line {n + 1}, {self.answers[n]}, answers no event of {self.session.file}")
+        self.ending = f"stops at line {self.session.deck_end + n + 1}: {why}"
+
+    def step(self, n, event):
+        """Draws an event; whether the answer fits."""
+        self.gaps.update({(row, n): it.state for row, it in enumerate(self.rows)})
+        kind, *fields = event.split(" ")
+        if kind in ENDS:
+            return self.close(n, kind)
+        row, said = self.about(kind, fields), self.answers[n]
+        if said.startswith("ok"):
+            return self.make(n, kind, fields, row, said)
+        code = said.split(" ")[0]
+        self.marks[row, n] = code
+        self.refused.append(noted(n, event, said))
+        return bool(re.match(r"E[0-9]+ ", said)) and code in REFUSABLE[kind].split()
+
+    def about(self, kind, fields):
+        """The row that an event is about. A load is in its channel from its store event on."""
+        if kind in ("read", "finish", "store"):
+            return self.holders.get(fields[0], 0)
+        if kind == "accept":
+            return self.places.get(int(fields[0]), 0)
+        return self.channels.get(int(fields[0]), 0) if kind == "return" else 0
+
+    def make(self, n, kind, fields, row, said):
+        """Draws an event that is made; whether the answer fits."""
+        if kind == "issue" and said != "ok":
+            return self.issue(n, said)
+        self.marks[row, n] = LETTER[kind] + (str(int(fields[0])) if kind == "bank" else "")
+        if kind in ("ppread", "ppwrite"):
+            return self.access(kind, fields, said)
+        if kind in ("accept", "return", *AFTER.values()):
+            return row != 0 and self.move(n, kind, fields[0], row) and said == "ok"
+        if kind == "issue":
+            self.log.add_instruction()
+        elif kind != "bank":
+            return said == "ok" and self.exchange(kind, fields)
+        return said == "ok"
+
+    def exchange(self, kind, fields):
+        """Draws a request for an exchange, or its exchange; whether it may come here."""
+        is_asked = self.asked is not None
+        if kind == "ask":
+            self.asked, self.rows[0].state = f"{int(fields[0], 8):o}", RESERVED
+            return not is_asked
+        if is_asked:
+            self.log.add(f"E{self.asked}")
+        self.asked, self.rows[0].state = None, ""
+        return is_asked
+
+    def access(self, kind, fields, said):
+        """Draws a peripheral access; whether the answer fits. A word that is read is the one that the log up to there
+        leaves."""
+        self.has_accesses = True
+        address, *words = [plain(digits) for digits in fields]
+        if kind == "ppwrite":
+            self.log.add(f"W{address}={words[0]}")
+            return said == "ok"
+        word = self.replays.word(self.log.text, address)
+        self.log.add(f"R{address}")
+        return said == f"ok {word}"
+
+    def issue(self, n, said):
+        """Draws an issue that reserves a unit; whether the answer fits."""
+        found = re.fullmatch(rf"ok ({UNITS}) ([0-9]+)", said)
+        row = len(self.rows)
+        if not found or int(found[2]) != row or self.holders.get(found[1]):
+            return False
+        it = Reservation(found[1], self.replays.instruction(self.log.text))
+        self.log.add_instruction()
+        it.is_in_range = not it.refers or self.is_in_range(it.text)
+        self.rows.append(it)
+        self.holders[it.unit], self.marks[row, n] = row, "I"
+        return True
+
+    def is_in_range(self, text):
+        """Whether the reference of the instruction that was just logged is within the field and the memory. A load or a
+        store has the address that it sets."""
+        log = self.log.text
+        address = int(text[3:], 8) if text.startswith("RJ ") else self.replays.number(log, 3, int(text[2]) + 1)
+        return address < self.replays.number(log, 2, 3) and address + self.replays.number(log, 2, 1) < self.session.core
+
+    def move(self, n, kind, what, row):
+        """Draws an event of a reservation after its issue; whether it may come here."""
+        it = self.rows[row]
+        if kind == "accept":
+            self.places[int(what)] = 0
+            it.state = IN_CHANNEL if it.channel else ""
+            return True
+        if kind == "return":
+            is_due = it.state == IN_CHANNEL
+            self.channels[int(what)], it.state = 0, ""
+            return is_due
+        if AFTER.get(it.phase) != kind:
+            return False
+        it.phase = kind
+        return kind != "store" or self.store(n, row)
+
+    def store(self, n, row):
+        """Draws the store event of a reservation: its reference, if any, takes the first free place or is out of range.
+        Whether there is a place."""
+        it = self.rows[row]
+        self.holders[it.unit], it.state, self.marks[row, n] = 0, "", "S"
+        if not it.refers:
+            return True
+        if it.channel:
+            self.channels[it.channel] = row
+        if not it.is_in_range:
+            self.marks[row, n], it.state = "O", IN_CHANNEL if it.channel else ""
+            return True
+        place = next((number for number in range(PLACES) if not self.places.get(number)), None)
+        if place is not None:
+            self.places[place], it.state, self.marks[row, n] = row, IN_HOPPER, f"H{place}"
+        return place is not None
+
+    def close(self, n, kind):
+        """Draws the last line of a schedule; whether the rest of the answers is what the program prints for the log."""
+        log, rest = self.log.text, self.answers[n:]
+        if kind == "drain":
+            self.marks.update({(row, n): "D" for row, it in enumerate(self.rows) if not row or it.state})
+        if kind == "end" and rest[0] == "NOT DRAINED":
+            self.ending = noted(n, kind, f"{rest[0]}; LOG {log}")
+            return rest[1:] == [f"LOG {log}"]
+        self.ending = noted(n, kind, f"drained; LOG {log}")
+        dump = self.replays.dump(log)
+        for number, line in enumerate(dump):
+            came = rest[number] if number < len(rest) else ""
+            if line != came:
+                raise Fault(self.file, f"line {n + number + 1}, {came}, where the log {log} gives {line}")
+        return len(rest) == len(dump)
+
+
+def noted(n, line, said):
+    """A line for what is said of an event."""
+    return f"{n + 1:3d} {line:<17} {said}"
+
+
+def plain(digits):
+    """Octal digits without noughts in front."""
+    return digits.lstrip("0") or "0"

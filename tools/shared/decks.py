@@ -1,0 +1,122 @@
+"""The decks and sessions of the folder decks/, each with the files that belong to it, and the tables of its pages."""
+
+import re
+from functools import cached_property
+from pathlib import Path
+
+from .program import ROOT
+
+FOLDER = ROOT / "decks"
+RUN, SESSIONS, PAGES = FOLDER / "run", FOLDER / "sessions", FOLDER / "pages"
+
+
+class Stored:
+    """A deck or a session by its file. What stands beside it is named as it is, with another ending."""
+
+    def __init__(self, file):
+        self.file, self.name = Path(file), Path(file).stem
+
+    def __str__(self):
+        return str(self.file.relative_to(ROOT))
+
+    @cached_property
+    def text(self):
+        """What the file has."""
+        return self.file.read_bytes()
+
+    def beside(self, ending, otherwise=None):
+        """What the file with this ending has, or what stands for it where there is none."""
+        file = self.file.with_suffix(f".{ending}")
+        return file.read_bytes() if file.is_file() else otherwise
+
+
+class Deck(Stored):
+    """A deck, and what `run` and `list` do with it."""
+
+    @property
+    def dump(self):
+        """What `run` prints, or none where the deck is refused."""
+        return self.beside("dump")
+
+    @property
+    def listing(self):
+        """What `list` prints, or none where no file has it."""
+        return self.beside("list")
+
+    @property
+    def status(self):
+        """The exit status of its run."""
+        return int(self.beside("status", b"0"))
+
+    @property
+    def arguments(self):
+        """Further arguments of its run, words without spaces in them."""
+        return self.beside("arguments", b"").decode().split()
+
+    @property
+    def told(self):
+        """What is written to standard error."""
+        return self.beside("told", b"")
+
+    @property
+    def logs(self):
+        """The logs that its run may have, where they depend on how threads fall; else none."""
+        return self.beside("logs", b"").decode().splitlines()
+
+
+class Session(Stored):
+    """A session, and what `events` does with it."""
+
+    @property
+    def answers(self):
+        """What `events` prints."""
+        return self.beside("answers")
+
+    @property
+    def timeline(self):
+        """What tools/timeline draws."""
+        return self.beside("timeline")
+
+    @property
+    def schedule(self):
+        """The lines after the deck's end."""
+        lines = self.text.decode().splitlines()
+        return lines[lines.index("end") + 1 :]
+
+
+def decks():
+    """All decks, by their names."""
+    return [Deck(file) for file in sorted(RUN.glob("*.deck"))]
+
+
+def sessions():
+    """All sessions, by their names."""
+    return [Session(file) for file in sorted(SESSIONS.glob("*.session"))]
+
+
+def deck(name):
+    """The deck of this name."""
+    return Deck(RUN / f"{name}.deck")
+
+
+def session(name):
+    """The session of this name."""
+    return Session(SESSIONS / f"{name}.session")
+
+
+def log_of(dump):
+    """The log at the end of a dump, or none."""
+    found = re.findall(rb"^LOG (.*)$", dump, re.MULTILINE)
+    return found[-1].decode() if found else None
+
+
+def cells_of(page):
+    """The cells of each line of a page that is a row of a table, its head too."""
+    lines = Path(page).read_text(encoding="utf-8").splitlines()
+    rows = [line for line in lines if line.startswith("| ")]
+    return [[cell.strip(" ") for cell in line.strip().strip("|").split(" | ")] for line in rows]
+
+
+def rows_of(page):
+    """The rows of a page whose first cell is a text in backquotes; no backquote is in what is given."""
+    return [[cell.replace("`", "") for cell in cells] for cells in cells_of(page) if cells[0].startswith("`")]

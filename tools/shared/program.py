@@ -1,0 +1,60 @@
+"""The program cdc6600, run with a time limit."""
+
+import os
+import subprocess
+import sys
+from pathlib import Path
+from typing import NamedTuple
+
+ROOT = Path(__file__).resolve().parents[2]
+BUILT = ROOT / "crates/operator_main/out/operator_main"
+# A run that takes longer has failed.
+SECONDS = 60
+
+
+class Ran(NamedTuple):
+    """How a run ended: its status, and what it wrote to standard output and to standard error."""
+
+    status: int
+    printed: bytes
+    told: bytes
+
+
+def named_program():
+    """The program that CDC6600 names, or none."""
+    return os.environ.get("CDC6600") or None
+
+
+def program_path():
+    """The program that CDC6600 names; else the one that `./cdc6600` builds, which is asked to build it where a source
+    is newer. What is run then is the executable, without the script's look for newer sources at each run."""
+    if not named_program():
+        if subprocess.run([ROOT / "cdc6600", "--help"], stdout=subprocess.DEVNULL, check=False).returncode:
+            sys.exit(f"{sys.argv[0]}: the program could not be built")
+    return named_program() or str(BUILT)
+
+
+class Program:
+    """The program, to be run any number of times."""
+
+    def __init__(self, path=None):
+        self.path = path or program_path()
+
+    def run(self, words, text=b"", seconds=SECONDS, environment=None):
+        """Runs it with these words and this standard input. A run that doesn't end in time is ended, and its status is
+        that of `timeout`, 124."""
+        try:
+            ran = subprocess.run(
+                [self.path, *words], input=text, capture_output=True, timeout=seconds, env=environment, check=False
+            )
+        except subprocess.TimeoutExpired:
+            return Ran(124, b"", b"it didn't end in %d seconds\n" % seconds)
+        return Ran(ran.returncode, ran.stdout, ran.stderr)
+
+
+def tell(faults):
+    """Writes each fault to standard error, after the name of the check that runs; its status."""
+    check = Path(sys.argv[0]).resolve().relative_to(ROOT)
+    for fault in faults:
+        print(f"{check}: {fault}", file=sys.stderr)
+    return 1 if faults else 0
