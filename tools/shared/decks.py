@@ -7,11 +7,15 @@ from pathlib import Path
 from .program import ROOT
 
 FOLDER = ROOT / "decks"
+# The deck of the first run stands where its path is shortest; what it prints stands with that of the others.
+FIRST = FOLDER / "two-adds.deck"
 RUN, SESSIONS, PAGES = FOLDER / "run", FOLDER / "sessions", FOLDER / "pages"
 
 
 class Stored:
-    """A deck or a session by its file. What stands beside it is named as it is, with another ending."""
+    """A deck or a session by its file. What belongs to it is named as it is, with another ending, in its kind's folder."""
+
+    folder = None
 
     def __init__(self, file):
         self.file, self.name = Path(file), Path(file).stem
@@ -26,12 +30,14 @@ class Stored:
 
     def beside(self, ending, otherwise=None):
         """What the file with this ending has, or what stands for it where there is none."""
-        file = self.file.with_suffix(f".{ending}")
+        file = self.folder / f"{self.name}.{ending}"
         return file.read_bytes() if file.is_file() else otherwise
 
 
 class Deck(Stored):
     """A deck, and what `run` and `list` do with it."""
+
+    folder = RUN
 
     @property
     def dump(self):
@@ -67,6 +73,8 @@ class Deck(Stored):
 class Session(Stored):
     """A session, and what `events` does with it."""
 
+    folder = SESSIONS
+
     @property
     def answers(self):
         """What `events` prints."""
@@ -86,7 +94,7 @@ class Session(Stored):
 
 def decks():
     """All decks, by their names."""
-    return [Deck(file) for file in sorted(RUN.glob("*.deck"))]
+    return [Deck(file) for file in sorted([FIRST, *RUN.glob("*.deck")], key=lambda file: file.stem)]
 
 
 def sessions():
@@ -96,7 +104,7 @@ def sessions():
 
 def deck(name):
     """The deck of this name."""
-    return Deck(RUN / f"{name}.deck")
+    return Deck(FIRST if name == FIRST.stem else RUN / f"{name}.deck")
 
 
 def session(name):
