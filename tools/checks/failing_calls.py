@@ -3,6 +3,7 @@ where they are told to, and count the allocations."""
 
 import os
 import subprocess
+import sys
 from itertools import count
 from pathlib import Path
 
@@ -17,8 +18,15 @@ class Failing:
     def __init__(self, folder):
         self.program, self.folder, self.runs = Program(), Path(folder), count()
         self.library = self.folder / "failing_calls.so"
-        compiler = os.environ.get("CC", "cc")
-        subprocess.run([compiler, "-O1", "-shared", "-fPIC", "-o", self.library, SOURCE, "-ldl"], check=True)
+        self.build(os.environ.get("CC", "cc"))
+
+    def build(self, compiler):
+        """Builds the library, or ends this process with a line that says why it can't."""
+        words = [compiler, "-O1", "-shared", "-fPIC", "-o", self.library, SOURCE, "-ldl"]
+        try:
+            subprocess.run(words, check=True)
+        except (OSError, subprocess.CalledProcessError) as fault:
+            sys.exit(f"{SOURCE.name}: it could not be built: {fault}")
 
     def run(self, words, text, call="", at=0, later=False, short=False):
         """How a run ended, and whether a call failed."""
