@@ -13,7 +13,7 @@ RUN, SESSIONS, PAGES = FOLDER / "run", FOLDER / "sessions", FOLDER / "pages"
 
 
 class Stored:
-    """A deck or a session by its file. What belongs to it has its name with another ending, in the folder of its kind."""
+    """A deck or a session by its file. What belongs to it has its name with another ending, in its kind's folder."""
 
     folder = None
 
