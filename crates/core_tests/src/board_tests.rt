@@ -99,7 +99,7 @@ fn make(board: &mut Board, call: Call) -> Answer {
     Fine
 }
 
-/// The place of the first call to a new board that isn't answered so, None if all are.
+/// The position of the first call to a new board that isn't answered so, None if all are.
 fn first_wrong(calls: &[(Call, Answer)]) -> Option<usize> {
     let mut board = Board::new();
     for index in 0..calls.len() {

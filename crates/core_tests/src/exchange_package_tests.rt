@@ -50,8 +50,8 @@ const OUTGOING: [u64; 16] = [
 
 fn words(numbers: &[u64; 16]) -> [Word60; 16] {
     let mut words = [Word60::default(); 16];
-    for place in 0..16 {
-        words[place] = word(numbers[place]);
+    for position in 0..16 {
+        words[position] = word(numbers[position]);
     }
     words
 }

@@ -93,10 +93,10 @@ impl Known {
     }
 }
 
-/// What stands at a place of a word.
+/// What stands at a position of a word.
 #[derive(Clone, Copy, Drop)]
 enum Reading {
-    /// An instruction, and the place after it.
+    /// An instruction, and the position after it.
     Legal(Known, u8),
     /// A refused operation, by its digits f and m.
     Refused(u8, u8),
@@ -122,7 +122,7 @@ const FOUR: u64 = 0o36312_37421_46000_00000;
 /// SA1 B0+10; BX3 X1*X2; SX2 B1+B2.
 const THREE: u64 = 0o51100_00010_11312_76212;
 
-/// What a case shows, a word, a place below 4, and what stands there.
+/// What a case shows, a word, a position below 4, and what stands there.
 const READINGS: [(&str, u64, u8, Reading); 11] = [
     ("a sum", FOUR, 0, Legal(Sum, 1)),
     ("a difference", FOUR, 1, Legal(Difference, 2)),
@@ -162,22 +162,22 @@ const READINGS: [(&str, u64, u8, Reading); 11] = [
     ),
 ];
 
-/// Whether a place below 4 is decoded so, also where its first digits are known.
-fn is_decoded_so(number: u64, place: u8, reading: &Reading) -> bool {
-    let (word, place) = (word(number), place % 4);
+/// Whether a position below 4 is decoded so, also where its first digits are known.
+fn is_decoded_so(number: u64, position: u8, reading: &Reading) -> bool {
+    let (word, position) = (word(number), position % 4);
     let wanted = reading.decoded();
-    decode(word, place) == wanted && decode_as(word, place, first_digits(word, place)) == wanted
+    decode(word, position) == wanted && decode_as(word, position, first_digits(word, position)) == wanted
 }
 
-/// Each place is decoded as the cases say.
+/// Each position is decoded as the cases say.
 #[test]
 fn decodes(rt: HostRuntime) {
-    for (name, number, place, reading) in READINGS.as_slice() {
-        assert!(rt; is_decoded_so(*number, *place, reading), "{name}");
+    for (name, number, position, reading) in READINGS.as_slice() {
+        assert!(rt; is_decoded_so(*number, *position, reading), "{name}");
     }
 }
 
-/// The first digits at two places, and the opcodes of a branch and of an increment.
+/// The first digits at two positions, and the opcodes of a branch and of an increment.
 #[test]
 fn names_opcodes(rt: HostRuntime) {
     let digits = [first_digits(word(FOUR), 0), first_digits(word(FOUR), 1)];

@@ -1,7 +1,7 @@
 //! What holds of an instruction by itself. Instructions are given as texts.
 
 use crate::fixtures::{Register, digit, instruction};
-use List::{Puts, Results, Sources};
+use List::{Sets, Results, Sources};
 use Register::{A, B, X};
 use instructions::{Digit, Reg, SixBits, UnitKind, operand_registers, results, sources, unit_kind};
 
@@ -19,15 +19,15 @@ enum List {
     Sources,
     Results,
     /// What is written at the store event.
-    Puts,
+    Sets,
 }
 
 fn is_list(found: &[Reg], wanted: &[Register]) -> bool {
     if found.len() != wanted.len() {
         return false;
     }
-    for place in 0..wanted.len() {
-        if Register::of(found[place]) != wanted[place] {
+    for position in 0..wanted.len() {
+        if Register::of(found[position]) != wanted[position] {
             return false;
         }
     }
@@ -39,7 +39,7 @@ fn has_list(text: &str, list: List, wanted: &[Register]) -> bool {
     match list {
         Sources => is_list(sources(&instr).as_slice(), wanted),
         Results => is_list(results(&instr).as_slice(), wanted),
-        Puts => is_list(instr.puts().as_slice(), wanted),
+        Sets => is_list(instr.sets().as_slice(), wanted),
     }
 }
 
@@ -58,9 +58,9 @@ const LISTS: [(&str, &str, List, &[Register]); 11] = [
     ("a store has one", "SA6 B0+10", Results, &[A(6)]),
     ("B0 is no result", "SB0 B2+10", Results, &[]),
     ("B3 is one", "SB3 B2+10", Results, &[B(3)]),
-    ("X1 of a load comes later", "SA1 B0+10", Puts, &[A(1)]),
-    ("an increment of X", "SX1 B0+10", Puts, &[X(1)]),
-    ("a return jump writes no register", "RJ 10", Puts, &[]),
+    ("X1 of a load comes later", "SA1 B0+10", Sets, &[A(1)]),
+    ("an increment of X", "SX1 B0+10", Sets, &[X(1)]),
+    ("a return jump writes no register", "RJ 10", Sets, &[]),
 ];
 
 /// The lists hold these registers, in this order.

@@ -3,7 +3,7 @@
 //!
 //! There is a file for each crate or subject. The first table is `RESERVES_A_FREE_UNIT` in
 //! `board_tests`: calls to a new scoreboard, one a row, with the answer of each. Where an
-//! instruction is needed the tables have its text. `fixtures` has what constants can hold in place
+//! instruction is needed the tables have its text. `fixtures` has what constants can hold in position
 //! of registers and words.
 #![tactic(auto)]
 

@@ -61,7 +61,7 @@ type Case = (
     &'static [(Ask, bool)],
 );
 
-/// The place of the first question that isn't answered so by the instruction in its unit, None if all are.
+/// The position of the first question that isn't answered so by the instruction in its unit, None if all are.
 fn first_wrong(case: &Case) -> Option<usize> {
     let (_, text, unit, stage, questions) = *case;
     let Some(instr) = read_text(text) else {

@@ -1,4 +1,4 @@
-//! The machine that does one instruction at a time: places, fetches, steps, references, exchanges and logs.
+//! The machine that does one instruction at a time: positions, fetches, steps, references, exchanges and logs.
 
 use crate::fixtures::{Computed, Register, Stand, digit, index, instruction, number_of, word};
 use Stand::{OutOfRange, Refused, Running, Stopped, Straddling};
@@ -6,7 +6,7 @@ use instructions::{Halt, ParcelNumber, Refusal};
 use registers::RegisterFile;
 use relocation::{Access, Area, Storage};
 use sequential::{
-    Entry, Fetched, Log, Place, ProgramReference, State, faults, jump, number, operands, reference,
+    Entry, Fetched, Log, ProgramPosition, ProgramReference, State, faults, jump, number, operands, reference,
     replay, step,
 };
 use std::alloc::Global;
@@ -29,10 +29,10 @@ const ZEROS: u64 = 0o51000_00005_61000_00005;
 /// Four passes.
 const PASSES: u64 = 0o46000_46000_46000_46000;
 
-/// The place at a parcel of this held word, which stands at 5; the place after it where the parcel is 4.
-fn held_at(held: u64, parcel: u8) -> Place {
+/// The position at a parcel of this held word, which stands at 5; the position after it where the parcel is 4.
+fn held_at(held: u64, parcel: u8) -> ProgramPosition {
     match ParcelNumber::new(parcel) {
-        Some(parcel) => Place {
+        Some(parcel) => ProgramPosition {
             p: index(5),
             parcel,
             held: Some(word(held)),
@@ -41,9 +41,9 @@ fn held_at(held: u64, parcel: u8) -> Place {
     }
 }
 
-/// The place at the beginning of the word at an address.
-fn beginning(p: u32) -> Place {
-    Place {
+/// The position at the beginning of the word at an address.
+fn beginning(p: u32) -> ProgramPosition {
+    ProgramPosition {
         p: index(p),
         parcel: ParcelNumber::default(),
         held: None,
@@ -55,14 +55,14 @@ fn beginning(p: u32) -> Place {
 fn moves_on(rt: HostRuntime) {
     let last = index(0o777777);
     let found = [
-        Place::after(last, word(PASSES), 3),
-        Place::after(last, word(PASSES), 4),
-        Place::at(last),
+        ProgramPosition::after_parcel(last, word(PASSES), 3),
+        ProgramPosition::after_parcel(last, word(PASSES), 4),
+        ProgramPosition::at(last),
         held_at(PASSES, 2).after_jump(None),
         held_at(PASSES, 2).after_jump(Some(index(0))),
     ];
     let wanted = [
-        Place {
+        ProgramPosition {
             p: last,
             ..held_at(PASSES, 3)
         },
@@ -87,7 +87,7 @@ enum Outcome {
     Takes(&'static str),
 }
 
-fn fetched(outcome: &Outcome, next: Place) -> Fetched {
+fn fetched(outcome: &Outcome, next: ProgramPosition) -> Fetched {
     match *outcome {
         Outcome::Halts(stand) => match stand.halt() {
             Some(halt) => Fetched::Halting(halt, next),
@@ -204,7 +204,7 @@ const FETCHES: [Fetch; 17] = [
 fn fetches_from_a_held_word(rt: HostRuntime) -> Result<(), Fail> {
     let mut state = State::boot(Storage::new(rt.alloc(), 32)?);
     for (name, held, parcel, outcome, next) in FETCHES.as_slice() {
-        state.place = held_at(*held, *parcel);
+        state.position = held_at(*held, *parcel);
         let wanted = fetched(outcome, held_at(*held, *next));
         assert_eq!(rt; state.fetch(), wanted, "{name}");
     }
@@ -232,11 +232,11 @@ fn fetches_from_memory(rt: HostRuntime) -> Result<(), Fail> {
     let mut state = State::boot(memory);
     let booted = (state.halt, state.fetch());
     state.area = area(4, 0);
-    state.place = beginning(3);
+    state.position = beginning(3);
     let last = state.fetch();
-    state.place = beginning(4);
+    state.position = beginning(4);
     let beyond = state.fetch();
-    let passing = Fetched::Passing(Place {
+    let passing = Fetched::Passing(ProgramPosition {
         p: index(3),
         ..held_at(PASSES, 1)
     });
@@ -280,9 +280,9 @@ fn steps_over_one_instruction(rt: HostRuntime) -> Result<(), Fail> {
     state.fault = true;
     for (name, before, after, held, parcel, next) in STEPS.as_slice() {
         state.halt = before.halt();
-        state.place = held_at(*held, *parcel);
+        state.position = held_at(*held, *parcel);
         step(&mut state);
-        let is_stepped = state.halt == after.halt() && state.place == held_at(*held, *next);
+        let is_stepped = state.halt == after.halt() && state.position == held_at(*held, *next);
         assert!(rt; is_stepped && state.fault, "{name}");
     }
     Ok(())
@@ -293,20 +293,20 @@ fn steps_over_one_instruction(rt: HostRuntime) -> Result<(), Fail> {
 fn halts_out_of_range(rt: HostRuntime) -> Result<(), Fail> {
     let mut state = State::boot(Storage::new(rt.alloc(), 32)?);
     state.halt = None;
-    state.place = beginning(5);
+    state.position = beginning(5);
     step(&mut state);
     assert_eq!(rt;
-        (state.halt, state.place),
+        (state.halt, state.position),
         (Some(Halt::FetchRange), beginning(5))
     );
     Ok(())
 }
 
-/// What an exchange changes: the place, the halt, the range and the registers, and the first ten words of a package
+/// What an exchange changes: the position, the halt, the range and the registers, and the first ten words of a package
 /// in memory.
 #[derive(Clone, Copy, Debug, Drop, PartialEq, Eq)]
 struct Seen {
-    place: Place,
+    position: ProgramPosition,
     halt: Option<Halt>,
     area: Area,
     registers: RegisterFile,
@@ -320,7 +320,7 @@ fn what_is_seen(state: &State) -> Seen {
         None
     };
     Seen {
-        place: state.place,
+        position: state.position,
         halt: state.halt,
         area: state.area,
         registers: state.registers,
@@ -343,7 +343,7 @@ fn after_exchange() -> Seen {
     let zero = Word60::default();
     let status = word(0o00000001_000000_000000);
     Seen {
-        place: beginning(0o100),
+        position: beginning(0o100),
         halt: None,
         area: Area {
             fl: index(0o200),
@@ -669,7 +669,7 @@ const REPLAYS: [Replay; 5] = [
         10,
     ),
     (
-        "a peripheral processor puts another word into the package",
+        "a peripheral processor sets another word into the package",
         &[
             Did::PpWrite(0o51, 7),
             Did::Exchange(0o40),
@@ -696,23 +696,23 @@ const REPLAYS: [Replay; 5] = [
     ),
 ];
 
-/// What a replay answers, why the machine is then halted, at which place, and with what in X3.
-type Replayed = (Result<(), Refusal>, Option<Halt>, Place, Word60);
+/// What a replay answers, why the machine is then halted, at which position, and with what in X3.
+type Replayed = (Result<(), Refusal>, Option<Halt>, ProgramPosition, Word60);
 
 /// What the replay of a log makes of the doubling machine.
 fn replayed(alloc: Global, steps: &[Did]) -> Result<Replayed, Fail> {
     let mut state = doubling(alloc)?;
     let done = replay(&mut state, &log_of(alloc, steps)?);
     let x3 = state.registers.get(Register::X(3).reg());
-    Ok((done, state.halt, state.place, x3))
+    Ok((done, state.halt, state.position, x3))
 }
 
 /// A log is replayed so.
 #[test]
 fn replays(rt: HostRuntime) -> Result<(), Fail> {
     for (name, steps, answer, stand, parcel, x3) in REPLAYS.as_slice() {
-        let place = match *parcel {
-            Some(parcel) => Place {
+        let position = match *parcel {
+            Some(parcel) => ProgramPosition {
                 p: index(0),
                 ..held_at(DOUBLING, parcel)
             },
@@ -720,7 +720,7 @@ fn replays(rt: HostRuntime) -> Result<(), Fail> {
         };
         let found = replayed(rt.alloc(), steps)?;
         assert!(rt;
-            found == (*answer, stand.halt(), place, word(*x3)),
+            found == (*answer, stand.halt(), position, word(*x3)),
             "{name}"
         );
     }

@@ -59,7 +59,7 @@ const MADE: [(&str, Operation, u64, u64, u64); 19] = [
     ("bits of both", And, 0o14, 0o12, 0o10),
     ("bits of either", Or, 0o14, 0o12, 0o16),
     ("bits of one alone", Xor, 0o14, 0o12, 0o6),
-    ("turned by more than all places", Rotate(63), 1, 0, 0o10),
+    ("turned by more than all positions", Rotate(63), 1, 0, 0o10),
     ("turned from the top to the bottom", Rotate(3), TOP, 0, 4),
     (
         "shifted with its sign",

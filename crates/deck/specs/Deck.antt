@@ -75,7 +75,7 @@ is_no_size n = nat_lt n 32 || nat_lt 131072 n
 
 -- a deck with a memory of so many words, and nothing else yet
 abbrev pub begun : ℕ → Draft
-begun n = record { image = blank n; place = 0; start = None; asks = []; free = []; shows = [] }
+begun n = record { image = blank n; next_address = 0; start = None; asks = []; free = []; shows = [] }
 
 -- what a `core` line does as the first line; its faults are `unknown` for a wrong number of fields, `number` and
 -- `size`
@@ -102,9 +102,9 @@ abbrev pub with_request : Draft → ℕ → Draft → LineOutcome
 with_request d n next =
     refuse_if (has_all_asks d) faults.Many (refuse_if (not (package_fits n (size d))) faults.Package (goes_on next))
 
--- a word goes to the place, which moves on by one
+-- a word goes to the next address, which moves on by one
 abbrev pub with_word : Draft → ℕ → Draft
-with_word d w = record d { image = placed_at d.image d.place w; place = d.place + 1 }
+with_word d w = record d { image = placed_at d.image d.next_address w; next_address = d.next_address + 1 }
 
 -- the texts of a `code` line give a word, or one is no instruction's (`instruction`), or they have more than four
 -- parcels (`full`)
@@ -119,10 +119,10 @@ applied d (says.Core w) =
     with_number (number_of 10 6 w) (λ n. refuse_if (is_no_size n) faults.Size (Err faults.Repeated))
 applied d (says.At a) =
     with_number (number_of 8 6 a)
-    (λ n. refuse_if (nat_le (size d) n) faults.Range (goes_on (record d { place = n })))
+    (λ n. refuse_if (nat_le (size d) n) faults.Range (goes_on (record d { next_address = n })))
 applied d (says.Word v) =
-    with_number (from_octal 20 v) (λ w. refuse_if (nat_le (size d) d.place) faults.Range (goes_on (with_word d w)))
-applied d (says.Code texts) = refuse_if (nat_le (size d) d.place) faults.Range (coded d (parcels_in (items_of texts)))
+    with_number (from_octal 20 v) (λ w. refuse_if (nat_le (size d) d.next_address) faults.Range (goes_on (with_word d w)))
+applied d (says.Code texts) = refuse_if (nat_le (size d) d.next_address) faults.Range (coded d (parcels_in (items_of texts)))
 applied d (says.Start a) =
     with_number (number_of 8 6 a)
     (λ n. refuse_if (is_some d.start) faults.Repeated

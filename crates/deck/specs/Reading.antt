@@ -23,7 +23,7 @@ abbrev pub Gives : Result (Deck × ℕ) DeckError → Reading → List ℕ → T
 Gives (Ok found) reading rest = reading ≡ Good found.0 found.1 rest
 Gives (Err e) reading rest = GivesErr e reading rest
 
--- the same with a refusal in place of the error; of the refusals only these three come
+-- the same with a refusal instead of the error; of the refusals only these three come
 abbrev pub GivesDeck : Result Deck Refusal → Reading → List ℕ → Type 0
 GivesDeck (Ok deck) reading rest = (n : ℕ) × (reading ≡ Good deck n rest)
 GivesDeck (Err (refusals.Deck n fault)) reading rest = reading ≡ Bad n fault rest

@@ -47,7 +47,7 @@ fn core_line(alloc: Global, line: Line<&[u8]>) -> Result<Step, LineError>
     };
     Ok(Step::Goes(Draft {
         image,
-        place: 0,
+        next_address: 0,
         start: None,
         asks: LineList::new(alloc),
         free: LineList::new(alloc),
@@ -77,7 +77,7 @@ fn at_line(mut draft: Draft, address: &[u8]) -> Result<Step, LineError>
     if address >= draft.image.size() {
         return Err(LineError::Faulty(DeckFault::Range));
     }
-    draft.place = address;
+    draft.next_address = address;
     Ok(Step::Goes(draft))
 }
 
@@ -88,11 +88,11 @@ fn word_line(mut draft: Draft, value: &[u8]) -> Result<Step, LineError>
     let Some(word) = Word60::from_octal(value) else {
         return Err(LineError::Faulty(DeckFault::Number));
     };
-    if draft.place >= draft.image.size() {
+    if draft.next_address >= draft.image.size() {
         return Err(LineError::Faulty(DeckFault::Range));
     }
-    draft.image.place(draft.place, word);
-    draft.place += 1;
+    draft.image.put(draft.next_address, word);
+    draft.next_address += 1;
     Ok(Step::Goes(draft))
 }
 
@@ -101,7 +101,7 @@ fn code_line(mut draft: Draft, texts: &[u8]) -> Result<Step, LineError>
     requires { length texts.now ≤ 200 }
     ensures { Answers result (applied draft (says.Code texts.now)) }
 {
-    if draft.place >= draft.image.size() {
+    if draft.next_address >= draft.image.size() {
         return Err(LineError::Faulty(DeckFault::Range));
     }
     let Some(parcels) = parcels_in(texts) else {
@@ -110,8 +110,8 @@ fn code_line(mut draft: Draft, texts: &[u8]) -> Result<Step, LineError>
     if parcels.len() > PARCELS {
         return Err(LineError::Faulty(DeckFault::Full));
     }
-    draft.image.place(draft.place, word_of(parcels.as_slice()));
-    draft.place += 1;
+    draft.image.put(draft.next_address, word_of(parcels.as_slice()));
+    draft.next_address += 1;
     Ok(Step::Goes(draft))
 }
 
@@ -223,7 +223,7 @@ fn end_line(draft: Draft) -> Result<Step, LineError>
 {
     let Draft {
         image,
-        place: _,
+        next_address: _,
         start,
         asks,
         free,

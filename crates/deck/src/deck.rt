@@ -35,7 +35,7 @@ pub struct Deck {
 pub struct Draft {
     pub image: Image,
     /// Where the next word goes.
-    pub place: u32,
+    pub next_address: u32,
     pub start: Option<u32>,
     pub asks: LineList<Ask>,
     pub free: LineList<u32>,

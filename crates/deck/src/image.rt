@@ -69,7 +69,7 @@ impl Image {
     }
 
     /// Places a word at an absolute address, which is below the size.
-    pub fn place(&mut self, address: u32, word: Word60)
+    pub fn put(&mut self, address: u32, word: Word60)
         requires { address < length self.old.memory }
         ensures { self.new ≡ placed_at self.old address word }
     {

@@ -26,7 +26,7 @@ room base most v d cs low fits few digits is small =
     let times : suc v * base ≤ base ^ length cs * base = mul-le-mul_right base up in
     omega (arith, power, product, times)
 
--- room, for the digits before place i of a text
+-- room, for the digits before position i of a text
 pub room_at : (base most v d b i : ℕ) (text : List ℕ) → 2 ≤ base → base ^ most ≤ 2 ^ 64 → length text ≤ most
     → i < length text → list_all (λ c. is_digit c base) (take i text) ≡ true → v ≡ digits_value base (take i text)
     → d < base → b ≡ base → v * b + d < 2 ^ 64

@@ -59,7 +59,7 @@ fn any_older(earlier: &[Entered], later: &Reference) -> bool
 }
 
 /// What stands in the place, if its bank takes it, and how many entered before it.
-pub fn acceptance(
+pub fn reference_to_accept(
     entered: &[Entered],
     busy: &[bool],
     place: u8,

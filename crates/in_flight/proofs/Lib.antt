@@ -1,4 +1,4 @@
 pub mod Opened
 pub mod asking
-pub mod seating
+pub mod in_slots
 pub mod answering

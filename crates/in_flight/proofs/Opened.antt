@@ -4,9 +4,9 @@ use Rattle.hopper.specs.Queue.{enter_answer}
 use Rattle.scoreboard.specs.Reservations as board
 use Rattle.scoreboard.specs.Reservations.{returning_to}
 use Rattle.in_flight.specs.Flight.{entered_at, outstanding_of, queue_with}
-use Rattle.in_flight.specs.Lookup.{enters, sought}
+use Rattle.in_flight.specs.Lookup.{enters, located}
 use Rattle.in_flight.specs.Pending.{progress_of, reservation_of, returning, to_come}
-use Rattle.in_flight.proofs.asking.Asked.{comes}
+use Rattle.in_flight.proofs.asking.PendingReservations.{comes}
 
 -- a reference that enters the hopper, and the hopper after it
 unfoldable pub entering : Unit {0}
@@ -15,7 +15,7 @@ entering = tt
 
 -- the pending instruction that leaves a unit, and what is left of it
 unfoldable pub leaving : Unit {0}
-unfolding sought enters outstanding_of seek
+unfolding located enters outstanding_of seek
 leaving = tt
 
 -- a register that is a result still to come, by the instruction's phase

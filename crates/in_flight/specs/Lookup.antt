@@ -6,14 +6,14 @@ use Rattle.instructions.specs.Finding.{Found}
 use Rattle.hopper.specs.Hopper.{free_place}
 use Rattle.scoreboard.specs.Units.{same_unit}
 use Rattle.in_flight.specs.declared.pending.Arrival.{Arrival}
-use Rattle.in_flight.specs.declared.pending.HopperEntry.{HopperEntry}
+use Rattle.hopper.specs.declared.reference.Reference.{Reference}
 use Rattle.in_flight.specs.declared.pending.Outstanding.{Outstanding}
 use Rattle.in_flight.specs.declared.pending.Outstanding.TheVariants.{Entered, Accepted}
 use Rattle.in_flight.specs.declared.pending.Pending.{Pending}
 use Rattle.in_flight.specs.declared.pending.Phase.{Phase}
 use Rattle.in_flight.specs.declared.pending.Phase.TheVariants.{Before, After}
 use Rattle.in_flight.specs.declared.pending.Stage.{Stage}
-use Rattle.in_flight.specs.declared.slots.Sought.{Sought}
+use Rattle.in_flight.specs.declared.slots.Located.{Located}
 
 -- the stage in that phase, before the store event
 unfoldable pub stage_in : Phase → Option Stage
@@ -25,13 +25,13 @@ unfoldable pub stage_at : FunctionalUnit → Pending → Option Stage
 stage_at unit m = if same_unit m.unit unit then stage_in m.phase else None
 
 -- the reference in that phase, if it waits in the place of this number
-unfoldable pub entry_in : ℕ → Phase → Option HopperEntry
+unfoldable pub entry_in : ℕ → Phase → Option Reference
 entry_in p (Before t) = None
-entry_in p (After (Entered place a access)) = if place == p then Some (record { a = a; access = access }) else None
+entry_in p (After (Entered place a access)) = if place == p then Some (record { address = a; access = access }) else None
 entry_in p (After (Accepted n word)) = None
 
 -- the reference in a hopper place
-unfoldable pub entry_at : ℕ → Pending → Option HopperEntry
+unfoldable pub entry_at : ℕ → Pending → Option Reference
 entry_at p m = entry_in p m.phase
 
 -- the load in that phase, if it waits in the channel of this number
@@ -45,9 +45,9 @@ unfoldable pub arrival_at : ℕ → Pending → Option Arrival
 arrival_at c m = arrival_in c m.phase
 
 -- what is known of the one that was found
-unfoldable pub sought : {K : Type 0} → Option (Found Pending K) → Option (Sought K)
-sought None = None
-sought (Some f) = Some (record { pending = f.item; answer = f.answer })
+unfoldable pub located : {K : Type 0} → Option (Found Pending K) → Option (Located K)
+located None = None
+located (Some f) = Some (record { pending = f.item; answer = f.answer })
 
 -- the oldest of the pending instructions
 unfoldable pub first_of : List Pending → Option Pending

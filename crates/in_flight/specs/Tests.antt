@@ -13,7 +13,7 @@ use Rattle.instructions.specs.declared.refusal.Refusal.TheVariants.{UnitBusy, Re
 use Rattle.instructions.specs.declared.refusal.Refusal.TheVariants.{ResultHeld, HopperFull, OutOfTurn, BankBusy}
 use Rattle.instructions.specs.declared.refusal.Refusal.TheVariants.{OlderAtAddress, Nothing}
 use Rattle.instructions.specs.Finding.{Found}
-use Rattle.instructions.specs.Shape.{shape_of, puts_of, results, has_reference}
+use Rattle.instructions.specs.Shape.{shape_of, sets_of, results, has_reference}
 use Rattle.instructions.specs.Operands.{uses, sources_of}
 use Rattle.hopper.specs.Hopper.{bank_of}
 use Rattle.scoreboard.specs.Conflicts as conflict
@@ -22,7 +22,7 @@ use Rattle.scoreboard.specs.Units.{first_unit}
 use Rattle.sequential.specs.declared.fetching.Fetched.{Fetched}
 use Rattle.sequential.specs.declared.fetching.Fetched.TheVariants.{Halting, Passing, Taking}
 use Rattle.in_flight.specs.declared.pending.Arrival.{Arrival}
-use Rattle.in_flight.specs.declared.pending.HopperEntry.{HopperEntry}
+use Rattle.hopper.specs.declared.reference.Reference.{Reference}
 use Rattle.in_flight.specs.declared.pending.Pending.{Pending}
 use Rattle.in_flight.specs.declared.pending.Stage.{Stage}
 use Rattle.in_flight.specs.declared.pending.Stage.TheVariants.{Waiting, Read as HasRead, Finished}
@@ -90,8 +90,8 @@ read_tests (Finished v) earlier i = nothing
 abbrev pub store_conflicts : List Pending → List Pending → Instr → Bool → List Test
 store_conflicts ms earlier i entering =
     record {
-      fails = result_held reservation_of earlier (puts_of (shape_of i));
-      refusal = ResultHeld (first_such (to_be_read earlier) (puts_of (shape_of i)));
+      fails = result_held reservation_of earlier (sets_of (shape_of i));
+      refusal = ResultHeld (first_such (to_be_read earlier) (sets_of (shape_of i)));
     }
     ∷ record { fails = entering && is_none (place_for ms); refusal = HopperFull }
     ∷ record { fails = has_reference (shape_of i) && out_of_turn reservation_of earlier; refusal = OutOfTurn }
@@ -100,10 +100,10 @@ store_conflicts ms earlier i entering =
 -- ---- the events of memory ----
 
 -- E13, bank busy; E14, older at address: an older reference to that address waits, and at least one of the two stores
-unfoldable pub accept_tests : List Bool → List Pending → HopperEntry → List Test
+unfoldable pub accept_tests : List Bool → List Pending → Reference → List Test
 accept_tests busy earlier entry =
-    record { fails = slice_index_or busy (bank_of entry.a) false; refusal = BankBusy (bank_of entry.a) }
-    ∷ record { fails = list_any (holds_back entry.a entry.access) earlier; refusal = OlderAtAddress }
+    record { fails = slice_index_or busy (bank_of entry.address) false; refusal = BankBusy (bank_of entry.address) }
+    ∷ record { fails = list_any (holds_back entry.address entry.access) earlier; refusal = OlderAtAddress }
     ∷ []
 
 -- E10, result held (third order): an earlier instruction has still to read the X register of the load

@@ -6,7 +6,7 @@ ghost use Rattle.instructions.specs.Shape.{shape_of};
 ghost use Rattle.hopper.specs.Hopper.{bank_of};
 ghost use Rattle.hopper.specs.Queue.{place_for as free_in};
 ghost use Rattle.sequential.specs.declared.fetching.Fetched.TheVariants.{Taking};
-ghost use Rattle.sequential.specs.declared.place.Place.{Place as SomePlace};
+ghost use Rattle.sequential.specs.declared.position.ProgramPosition.{ProgramPosition as SomePosition};
 ghost use Rattle.sequential.specs.Work.{operands};
 ghost use Rattle.in_flight.specs.declared.pending.Phase.TheVariants.{Before};
 ghost use Rattle.in_flight.specs.declared.pending.Stage.{Stage as SomeStage};
@@ -17,14 +17,14 @@ ghost use Rattle.in_flight.specs.Tests.{accept_tests, return_tests, free_tests};
 ghost use Rattle.in_flight.specs.Flight.{left_by, outstanding_of, IsRestOf, unit_taken, reserved_in, with_pending};
 ghost use Rattle.in_flight.specs.Flight.{entered_at, rest_at, queue_with, queue_after};
 ghost use Rattle.in_flight.specs.Pending.{has_read, is_branch, delays_fetch, delays_access};
-ghost use Rattle.in_flight.specs.Lookup.{first_of, sought, stage_at, entry_at, arrival_at, in_phase, kept, enters};
+ghost use Rattle.in_flight.specs.Lookup.{first_of, located, stage_at, entry_at, arrival_at, in_phase, kept, enters};
 ghost use Rattle.in_flight.specs.Lookup.{place_for, is_pending};
 ghost use Rattle.instructions.specs.Finding.{replaced, Found, seek};
-ghost use Rattle.in_flight.specs.inner.Slots.{IsSlotted};
+ghost use Rattle.in_flight.specs.inner.OwnSlots.{HasOwnSlots};
 ghost use Rattle.in_flight.specs.Apart.{IsApart};
 
 use crate::slots::Slots;
-use crate::{Arrival, Outstanding, Pending, Phase, Sought, Stage};
+use crate::{Arrival, Outstanding, Pending, Phase, Located, Stage};
 use hopper::{Hopper, Reference};
 use instruction_table::{Digit, Instr, Refusal, Unit, unit_kind};
 use registers::RegisterFile;
@@ -157,8 +157,8 @@ impl InFlight {
     }
 
     /// The instruction that holds the unit, with its stage.
-    pub fn find(&self, unit: Unit) -> Option<Sought<Stage>>
-        ensures { result ≡ sought (seek (stage_at unit) self.now.pending) }
+    pub fn find(&self, unit: Unit) -> Option<Located<Stage>>
+        ensures { result ≡ located (seek (stage_at unit) self.now.pending) }
     {
         self.slots.find_stage(unit)
     }
@@ -177,7 +177,7 @@ impl InFlight {
     /// `UnitBusy`, `ResultReserved`.
     pub fn reserve(&mut self, instr: &Instr, at: Word18) -> Result<(Unit, u64), Refusal>
         requires number { self.old.last + 1 < 2 ^ 64 }
-        ensures answer { (place : SomePlace)
+        ensures answer { (place : SomePosition)
             → refusal_of (reservation_tests self.old.pending (Taking instr.now place)) ≡ refusal_in result }
         ensures reservation { IfOk result
             (λ reserved. (reserved.0 ≡ unit_taken self.old instr.now) × (reserved.1 ≡ suc self.old.last)) }
@@ -213,7 +213,7 @@ impl InFlight {
     ) -> Result<(Pending, Operands), Refusal>
         ensures answer { refusal_of (tests_found (seek (stage_at unit) self.old.pending)
             (λ f. read_tests f.answer f.earlier f.item.instr)) ≡ refusal_in result }
-        ensures pending { IfOk result (λ read. sought (seek (stage_at unit) self.old.pending)
+        ensures pending { IfOk result (λ read. located (seek (stage_at unit) self.old.pending)
             ≡ Some (record { pending = read.0; answer = Waiting })) }
         ensures operands { IfOk result (λ read. read.1 ≡ operands read.0.instr read.0.at registers.now) }
         ensures after { MatchResult result
@@ -239,7 +239,7 @@ impl InFlight {
 
     /// The unit's instruction, which has read its operands, has its value.
     pub fn finish(&mut self, unit: Unit, value: UnitValue)
-        requires { IfSome (sought (seek (stage_at unit) self.old.pending)) (λ s. has_read s.answer ≡ true) }
+        requires { IfSome (located (seek (stage_at unit) self.old.pending)) (λ s. has_read s.answer ≡ true) }
         ensures { self.new ≡ with_pending self.old
             (replaced (seek (stage_at unit) self.old.pending) self.old.pending
             (λ m. in_phase m (Before (Finished value)) ∷ [])) }
@@ -267,7 +267,7 @@ impl InFlight {
     /// The unit's instruction leaves it; what is left of it enters the hopper or waits in its channel.
     pub fn leave(&mut self, unit: Unit, rest: &Option<Rest>)
         requires apart { Pairs IsApart self.old.pending }
-        requires rest { IfSome (sought (seek (stage_at unit) self.old.pending))
+        requires rest { IfSome (located (seek (stage_at unit) self.old.pending))
             (λ s. IsRestOf (shape_of s.pending.instr) rest.now) }
         requires room { enters (outstanding_of 0 rest.now) ≡ true → is_none (place_for self.old.pending) ≡ false }
         ensures { self.new ≡ with_pending self.old
@@ -289,11 +289,11 @@ impl InFlight {
     /// `Nothing`, `BankBusy`, `OlderAtAddress`.
     pub fn accept(&mut self, place: u8, memory: &Storage) -> Result<Reference, Refusal>
         requires apart { Pairs IsApart self.old.pending }
-        requires slotted { IsSlotted (length memory.now) self.old.pending }
+        requires own_slots { HasOwnSlots (length memory.now) self.old.pending }
         ensures answer { refusal_of (tests_found (seek (entry_at place) self.old.pending)
             (λ f. accept_tests self.old.busy f.earlier f.answer)) ≡ refusal_in result }
         ensures entry { IfOk result (λ reference. IfSome (seek (entry_at place) self.old.pending)
-            (λ f. f.answer ≡ record { a = reference.address; access = reference.access })) }
+            (λ f. f.answer ≡ record { address = reference.address; access = reference.access })) }
         ensures after { MatchResult result
             (λ reference. self.new ≡ record self.old {
               pending = replaced (seek (entry_at place) self.old.pending) self.old.pending

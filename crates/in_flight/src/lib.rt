@@ -13,5 +13,5 @@ mod pending;
 mod slots;
 
 pub use flight::{InFlight, Rest};
-pub use pending::{Arrival, HopperEntry, Outstanding, Pending, Phase, Stage};
-pub use slots::Sought;
+pub use pending::{Arrival, Outstanding, Pending, Phase, Stage};
+pub use slots::Located;

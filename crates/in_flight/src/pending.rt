@@ -3,6 +3,7 @@ ghost use Rattle.sequential.specs.Work.{operands};
 ghost use Rattle.in_flight.specs.Pending.{is_waiting, is_finished};
 ghost use Rattle.in_flight.specs.Lookup.{stage_at, entry_at, arrival_at};
 
+use hopper::Reference;
 use instruction_table::{Digit, Instr, Unit};
 use registers::RegisterFile;
 use relocation::Access;
@@ -51,14 +52,6 @@ pub struct Pending {
     pub number: u64,
     pub unit: Unit,
     pub phase: Phase,
-}
-
-/// A reference in a place of the hopper.
-#[derive(Clone, Copy, Debug, Drop, PartialEq, Eq)]
-pub struct HopperEntry {
-    /// The absolute address.
-    pub a: u32,
-    pub access: Access,
 }
 
 /// A load that waits in its channel.
@@ -131,13 +124,13 @@ impl Pending {
 
     /// Its reference, if it stands in the place of the hopper.
     #[tactic(auto, unfolding(crate::specs::Lookup::entry_at, crate::specs::Lookup::entry_in))]
-    pub(crate) fn entry_in(&self, place: u8) -> Option<HopperEntry>
+    pub(crate) fn entry_in(&self, place: u8) -> Option<Reference>
         ensures { result ≡ entry_at place self.now }
     {
         match self.phase {
             Phase::Before(_) => None,
             Phase::After(Outstanding::Entered(taken, a, access)) => if taken == place {
-                Some(HopperEntry { a, access })
+                Some(Reference { address: a, access })
             } else {
                 None
             },

@@ -5,17 +5,17 @@ ghost use Rattle.instructions.specs.Each.{Each};
 ghost use Rattle.in_flight.specs.declared.pending.Phase.TheVariants.{Before, After};
 ghost use Rattle.in_flight.specs.declared.pending.Stage.TheVariants.{Waiting};
 ghost use Rattle.instructions.specs.Finding.{seek, replaced};
-ghost use Rattle.in_flight.specs.Lookup.{stage_at, entry_at, arrival_at, in_phase, kept, sought, first_of};
-ghost use Rattle.in_flight.specs.inner.Seats.{HasRoom, places_with, channels_with, has_none, lower_of, lowest_of};
+ghost use Rattle.in_flight.specs.Lookup.{stage_at, entry_at, arrival_at, in_phase, kept, located, first_of};
+ghost use Rattle.in_flight.specs.inner.Slots.{HasRoom, places_with, channels_with, has_none, lower_of, lowest_of};
 
-use crate::{Arrival, HopperEntry, Outstanding, Pending, Phase, Stage};
+use crate::{Arrival, Outstanding, Pending, Phase, Stage};
 use instruction_table::Unit;
 use scoreboard::unit_number;
 use std::marker::Model;
 
 /// A pending instruction that was sought, with its answer to what was asked.
 #[derive(Clone, Copy, Drop)]
-pub struct Sought<K> {
+pub struct Located<K> {
     pub pending: Pending,
     pub answer: K,
 }
@@ -35,9 +35,9 @@ impl Model for Slots {
 
     ghost Value = { List Pending };
 
-    ghost use Rattle.in_flight.specs.inner.Seats.{seats, in_order, IsRight};
+    ghost use Rattle.in_flight.specs.inner.Slots.{slots, in_order, IsRight};
 
-    ghost view = { λ p. in_order (seats p.units p.places p.channels) };
+    ghost view = { λ p. in_order (slots p.units p.places p.channels) };
 
     ghost invariant = { λ p. IsRight p.units p.places p.channels };
 }
@@ -61,7 +61,7 @@ impl Pending {
 }
 
 /// What is left of an instruction goes to its place or its channel.
-#[tactic(auto, unfolding(crate::specs::inner::Seats::places_with, crate::specs::inner::Seats::channels_with))]
+#[tactic(auto, unfolding(crate::specs::inner::Slots::places_with, crate::specs::inner::Slots::channels_with))]
 fn put_rest(
     places: &mut [Option<Pending>],
     channels: &mut [Option<Pending>],
@@ -87,25 +87,25 @@ fn put_rest(
     }
 }
 
-/// What the seat holds, None if there is no such seat.
-fn seat_at(seats: &[Option<Pending>], index: usize) -> Option<Pending>
-    ensures { result ≡ slice_index_or seats.now index None }
+/// What the slot holds, None if there is no such slot.
+fn slot_at(slots: &[Option<Pending>], index: usize) -> Option<Pending>
+    ensures { result ≡ slice_index_or slots.now index None }
 {
-    match seats.get(index) {
-        Some(seat) => *seat,
+    match slots.get(index) {
+        Some(slot) => *slot,
         None => None,
     }
 }
 
-/// Whether no seat is held.
-fn none_held(seats: &[Option<Pending>]) -> bool
-    ensures { result ≡ list_all is_none seats.now }
+/// Whether no slot is held.
+fn none_held(slots: &[Option<Pending>]) -> bool
+    ensures { result ≡ list_all is_none slots.now }
 {
-    seats.iter().all(|seat| seat.is_none())
+    slots.iter().all(|slot| slot.is_none())
 }
 
 /// The one with the lower number, or the only one.
-#[tactic(auto, unfolding(crate::specs::inner::Seats::lower_of))]
+#[tactic(auto, unfolding(crate::specs::inner::Slots::lower_of))]
 fn lower(first: &Option<Pending>, second: &Option<Pending>) -> Option<Pending>
     ensures { result ≡ lower_of first.now second.now }
 {
@@ -124,13 +124,13 @@ fn lower(first: &Option<Pending>, second: &Option<Pending>) -> Option<Pending>
     }
 }
 
-/// The one with the lowest number in the seats.
-fn lowest(seats: &[Option<Pending>]) -> Option<Pending>
-    ensures { result ≡ lowest_of seats.now }
+/// The one with the lowest number in the slots.
+fn lowest(slots: &[Option<Pending>]) -> Option<Pending>
+    ensures { result ≡ lowest_of slots.now }
 {
     let mut found = None;
-    for seat in seats {
-        found = lower(&found, seat);
+    for slot in slots {
+        found = lower(&found, slot);
     }
     found
 }
@@ -169,16 +169,16 @@ impl Slots {
     }
 
     /// The instruction that holds the unit, with its stage.
-    pub fn find_stage(&self, unit: Unit) -> Option<Sought<Stage>>
-        ensures { result ≡ sought (seek (stage_at unit) self.now) }
+    pub fn find_stage(&self, unit: Unit) -> Option<Located<Stage>>
+        ensures { result ≡ located (seek (stage_at unit) self.now) }
     {
         let index = index_of(unit);
-        let seat = self.units[index];
-        let Some(pending) = seat else {
+        let slot = self.units[index];
+        let Some(pending) = slot else {
             return None;
         };
         match pending.stage_in(unit) {
-            Some(answer) => Some(Sought { pending, answer }),
+            Some(answer) => Some(Located { pending, answer }),
             None => None,
         }
     }
@@ -199,8 +199,8 @@ impl Slots {
         ensures { self.new ≡ replaced (seek (stage_at unit) self.old) self.old (λ m. kept m later.now) }
     {
         let index = index_of(unit);
-        let seat = self.units[index];
-        let Some(pending) = seat else {
+        let slot = self.units[index];
+        let Some(pending) = slot else {
             return;
         };
         self.units[index] = None;
@@ -208,16 +208,16 @@ impl Slots {
     }
 
     /// The instruction that stands in a place of the hopper, with its reference.
-    pub fn find_entry(&self, place: u8) -> Option<Sought<HopperEntry>>
+    pub fn find_entry(&self, place: u8) -> Option<Located<Reference>>
         requires { place < 4 }
-        ensures { result ≡ sought (seek (entry_at place) self.now) }
+        ensures { result ≡ located (seek (entry_at place) self.now) }
     {
-        let seat = self.places[usize::from(place)];
-        let Some(pending) = seat else {
+        let slot = self.places[usize::from(place)];
+        let Some(pending) = slot else {
             return None;
         };
         match pending.entry_in(place) {
-            Some(answer) => Some(Sought { pending, answer }),
+            Some(answer) => Some(Located { pending, answer }),
             None => None,
         }
     }
@@ -229,8 +229,8 @@ impl Slots {
         ensures { self.new ≡ replaced (seek (entry_at place) self.old) self.old (λ m. kept m later.now) }
     {
         let index = usize::from(place);
-        let seat = self.places[index];
-        let Some(pending) = seat else {
+        let slot = self.places[index];
+        let Some(pending) = slot else {
             return;
         };
         self.places[index] = None;
@@ -238,16 +238,16 @@ impl Slots {
     }
 
     /// The instruction that waits in a channel, with its word.
-    pub fn find_arrival(&self, channel: u8) -> Option<Sought<Arrival>>
-        ensures found { result ≡ sought (seek (arrival_at channel) self.now) }
+    pub fn find_arrival(&self, channel: u8) -> Option<Located<Arrival>>
+        ensures found { result ≡ located (seek (arrival_at channel) self.now) }
         ensures range { IfSome result (λ s. channel < 8) }
     {
-        let seat = seat_at(&self.channels, usize::from(channel));
-        let Some(pending) = seat else {
+        let slot = slot_at(&self.channels, usize::from(channel));
+        let Some(pending) = slot else {
             return None;
         };
         match pending.arrival_in(channel) {
-            Some(answer) => Some(Sought { pending, answer }),
+            Some(answer) => Some(Located { pending, answer }),
             None => None,
         }
     }
@@ -258,8 +258,8 @@ impl Slots {
         ensures { self.new ≡ replaced (seek (arrival_at channel) self.old) self.old (λ m. []) }
     {
         let index = usize::from(channel);
-        let seat = self.channels[index];
-        let Some(_) = seat else {
+        let slot = self.channels[index];
+        let Some(_) = slot else {
             return;
         };
         self.channels[index] = None;

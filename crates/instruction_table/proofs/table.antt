@@ -1,4 +1,4 @@
--- What is read at a place is what the table says.
+-- What is read at a position is what the table says.
 pub mod DecodingLaws
 pub mod Refusals
 pub mod RoundTrip

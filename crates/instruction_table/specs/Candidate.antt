@@ -1,4 +1,4 @@
--- The only instruction that can have a given text: its first two letters say at which places the digits stand. This
+-- The only instruction that can have a given text: its first two letters say at which positions the digits stand. This
 -- says nothing of what texts mean, since a candidate counts only where its spelling is the text (`instr_of` of
 -- Spelling.antt).
 -- Source: ours.
@@ -23,7 +23,7 @@ use Rattle.instructions.specs.declared.instr.Instr.TheVariants.{Stop, Pass, Retu
 use Rattle.instructions.specs.declared.instr.Instr.TheVariants.{Invert, Logical, ShiftBy, ShiftNominal, LongAdd, Mask}
 use Rattle.instructions.specs.declared.instr.Instr.TheVariants.{CountOnes, Increment}
 
--- the octal digit at a place of a text
+-- the octal digit at a position of a text
 abbrev pub digit_of : List ℕ → ℕ → ℕ
 digit_of t n = (slice_index t n - 48) % 8
 
@@ -32,7 +32,7 @@ abbrev pub number_after : ℕ → List ℕ → ℕ
 number_after n [] = n
 number_after n (c ∷ cs) = number_after ((n * 8 + (c - 48) % 8) % 2 ^ 18) cs
 
--- the number of 18 bits that the octal digits from a place on give
+-- the number of 18 bits that the octal digits from a position on give
 unfoldable pub number_of : List ℕ → ℕ → ℕ
 number_of t n = number_after 0 (drop n t)
 

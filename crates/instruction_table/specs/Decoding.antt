@@ -150,26 +150,26 @@ entry_of parcel following =
     entry (rows (parcel / 2 ^ 12) (parcel / 2 ^ 6 % 8) (parcel / 2 ^ 3 % 8) (parcel % 8)
     (parcel % 8 * 2 ^ 15 + following)) (parcel / 2 ^ 9 % 8)
 
--- a reading at a place of a word: an instruction and the place after it, a refused opcode, or a straddle
+-- a reading at a position of a word: an instruction and the position after it, a refused opcode, or a straddle
 abbrev pub settled : TableEntry → ℕ → Decoded
-settled (Short instr) place = Legal instr (place + 1)
-settled (Long instr) place = if nat_lt place 3 then Legal instr (place + 2) else Straddle
-settled (Refused op) place = RefusedOp op
+settled (Short instr) position = Legal instr (position + 1)
+settled (Long instr) position = if nat_lt position 3 then Legal instr (position + 2) else Straddle
+settled (Refused op) position = RefusedOp op
 
--- the parcel after a place, and 0 after the last
+-- the parcel after a position, and 0 after the last
 abbrev pub following_at : ℕ → ℕ → ℕ
-following_at word place = if nat_lt place 3 then parcel_at word (place + 1) else 0
+following_at word position = if nat_lt position 3 then parcel_at word (position + 1) else 0
 
--- the two digits of the opcode, as one number, that the reading of a place begins with
+-- the two digits of the opcode, as one number, that the reading of a position begins with
 abbrev pub digits_at : ℕ → ℕ → ℕ
-digits_at word place = parcel_at word place / 2 ^ 9
+digits_at word position = parcel_at word position / 2 ^ 9
 
--- the one reading of a place: a refused opcode comes before its length
+-- the one reading of a position: a refused opcode comes before its length
 unfoldable pub reading_at : ℕ → ℕ → Decoded
-reading_at word place = settled (entry_of (parcel_at word place) (following_at word place)) place
+reading_at word position = settled (entry_of (parcel_at word position) (following_at word position)) position
 
--- the place after an instruction comes after its own, in the word or at its end
+-- the position after an instruction comes after its own, in the word or at its end
 abbrev pub GoesOn : ℕ → Decoded → Type 0
-GoesOn place (Legal instr next) = (place < next) × (next ≤ 4)
-GoesOn place (RefusedOp op) = ⊤
-GoesOn place Straddle = ⊤
+GoesOn position (Legal instr next) = (position < next) × (next ≤ 4)
+GoesOn position (RefusedOp op) = ⊤
+GoesOn position Straddle = ⊤

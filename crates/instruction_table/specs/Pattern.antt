@@ -47,14 +47,14 @@ IsReadAs instr parcels = IsInstr instr × (used_in instr parcels ≡ parcels_of 
 abbrev pub IsNoCode : Op → Type 0
 IsNoCode op = (instr : Instr) → IsInstr instr → op_of instr ≢ op
 
--- n parcels of a word, from a place on
+-- n parcels of a word, from a position on
 abbrev pub parcels_from : ℕ → ℕ → ℕ → List ℕ
-parcels_from word place zero = []
-parcels_from word place (suc n) = parcel_at word place ∷ parcels_from word (place + 1) n
+parcels_from word position zero = []
+parcels_from word position (suc n) = parcel_at word position ∷ parcels_from word (position + 1) n
 
--- What is read at a place is what the table says: an instruction as its row has it; a refused opcode, which stands
+-- What is read at a position is what the table says: an instruction as its row has it; a refused opcode, which stands
 -- there and which no row has; or, in parcel 3, an instruction of two parcels, as it would be read with zeros after it.
 abbrev pub IsByTable : ℕ → ℕ → Decoded → Type 0
-IsByTable word place (Legal instr next) = IsReadAs instr (parcels_from word place (next - place))
-IsByTable word place (Refused op) = (op ≡ op_at (parcel_at word place)) × IsNoCode op
-IsByTable word place Straddle = (place ≡ 3) × ((instr : Instr) × IsReadAs instr (parcel_at word place ∷ 0 ∷ []))
+IsByTable word position (Legal instr next) = IsReadAs instr (parcels_from word position (next - position))
+IsByTable word position (Refused op) = (op ≡ op_at (parcel_at word position)) × IsNoCode op
+IsByTable word position Straddle = (position ≡ 3) × ((instr : Instr) × IsReadAs instr (parcel_at word position ∷ 0 ∷ []))

@@ -12,15 +12,15 @@ use crate::{
 use parcel::parcel_of;
 use word60::{Word18, Word60};
 
-/// What stands at a place of a word: one of these three, and one only.
+/// What stands at a position of a word: one of these three, and one only.
 #[derive(Clone, Copy, Debug, PartialEq, Eq)]
 pub enum Decoded {
-    /// An instruction, and the place after it, 1 to 4.
+    /// An instruction, and the position after it, 1 to 4.
     Legal(Instr, u8),
     /// An opcode that this machine does not have. It is refused before its length is looked at, so in the
-    /// last place too; that is this project's choice.
+    /// last position too; that is this project's choice.
     Refused(Op),
-    /// An instruction of two parcels in the last place: it would go on in the next word, and the machine halts.
+    /// An instruction of two parcels in the last position: it would go on in the next word, and the machine halts.
     /// That it halts there is this project's choice.
     Straddle,
 }
@@ -222,14 +222,14 @@ fn entry_at(parcel: u16, following: u16) -> TableEntry
     }
 }
 
-/// The parcel after a place, and 0 after the last.
+/// The parcel after a position, and 0 after the last.
 #[inline(always)]
-fn following(word: Word60, place: u8) -> u16
-    ensures value { result ≡ following_at word place }
+fn following(word: Word60, position: u8) -> u16
+    ensures value { result ≡ following_at word position }
     ensures range { result < 2 ^ 15 }
 {
-    if place < 3 {
-        parcel_of(word, place + 1)
+    if position < 3 {
+        parcel_of(word, position + 1)
     } else {
         0
     }
@@ -238,51 +238,51 @@ fn following(word: Word60, place: u8) -> u16
 /// The same as `decode`, with the two digits that the reading begins with. Where these are a constant, the compiler
 /// leaves only what is done with them.
 #[inline(always)]
-pub fn decode_as(word: Word60, place: u8, digits: u16) -> Decoded
-    requires place { place < 4 }
-    requires digits { digits ≡ digits_at word place }
-    ensures value { result ≡ reading_at word place }
-    ensures range { GoesOn place result }
+pub fn decode_as(word: Word60, position: u8, digits: u16) -> Decoded
+    requires position { position < 4 }
+    requires digits { digits ≡ digits_at word position }
+    ensures value { result ≡ reading_at word position }
+    ensures range { GoesOn position result }
 {
-    let low = parcel_of(word, place) % 0x200;
-    match entry_at(digits * 0x200 + low, following(word, place)) {
-        TableEntry::Short(instr) => Decoded::Legal(instr, place + 1),
-        TableEntry::Long(instr) if place < 3 => Decoded::Legal(instr, place + 2),
+    let low = parcel_of(word, position) % 0x200;
+    match entry_at(digits * 0x200 + low, following(word, position)) {
+        TableEntry::Short(instr) => Decoded::Legal(instr, position + 1),
+        TableEntry::Long(instr) if position < 3 => Decoded::Legal(instr, position + 2),
         TableEntry::Long(_) => Decoded::Straddle,
         TableEntry::Refused(op) => Decoded::Refused(op),
     }
 }
 
-/// The two digits that the reading of a word from a place on begins with, as one number from 0 to 63.
+/// The two digits that the reading of a word from a position on begins with, as one number from 0 to 63.
 #[inline(always)]
-pub fn first_digits(word: Word60, place: u8) -> u16
-    requires { place < 4 }
-    ensures value { result ≡ digits_at word place }
+pub fn first_digits(word: Word60, position: u8) -> u16
+    requires { position < 4 }
+    ensures value { result ≡ digits_at word position }
     ensures range { result < 64 }
 {
-    parcel_of(word, place) >> 9
+    parcel_of(word, position) >> 9
 }
 
-/// The reading of a word from a place on, 0 to 3 from the uppermost parcel down.
+/// The reading of a word from a position on, 0 to 3 from the uppermost parcel down.
 ///
 /// Fields that an instruction does not use are ignored, which is this project's choice: i, j and k of `PS` and
 /// `NO`, j of `RJ` and `JP`, k of `BXi Xj`, j of `BXi -Xk` and `CXi Xk`.
 #[inline(always)]
-pub fn decode(word: Word60, place: u8) -> Decoded
-    requires { place < 4 }
-    ensures value { result ≡ reading_at word place }
-    ensures range { GoesOn place result }
+pub fn decode(word: Word60, position: u8) -> Decoded
+    requires { position < 4 }
+    ensures value { result ≡ reading_at word position }
+    ensures range { GoesOn position result }
 
     // Where the parcels of an instruction stand, that instruction is read.
-    ensures encoded { (instr : Instr) → IsInstr instr → StandsAt word place (parcels_of instr)
-        → result ≡ Decoded.Legal instr (place + length (parcels_of instr)) }
+    ensures encoded { (instr : Instr) → IsInstr instr → StandsAt word position (parcels_of instr)
+        → result ≡ Decoded.Legal instr (position + length (parcels_of instr)) }
 
     // The same, whatever stands in the fields that the instruction doesn't use.
-    ensures pattern { (instr : Instr) (n : ℕ) → place + n ≤ 4 → IsReadAs instr (parcels_from word place n)
-        → result ≡ Decoded.Legal instr (place + n) }
+    ensures pattern { (instr : Instr) (n : ℕ) → position + n ≤ 4 → IsReadAs instr (parcels_from word position n)
+        → result ≡ Decoded.Legal instr (position + n) }
 
     // What is read and what is refused both agree with the instruction table.
-    ensures table { IsByTable word place result }
+    ensures table { IsByTable word position result }
 {
-    decode_as(word, place, first_digits(word, place))
+    decode_as(word, position, first_digits(word, position))
 }

@@ -12,21 +12,21 @@ use crate::{
 };
 use word60::Word18;
 
-/// The byte at a place, and 0 past the end.
+/// The byte at a position, and 0 past the end.
 fn byte(text: &[u8], at: usize) -> u8
     ensures { result ≡ slice_index text.now at }
 {
     text.get(at).copied().unwrap_or(0)
 }
 
-/// The octal digit at a place, and some digit where none stands there.
+/// The octal digit at a position, and some digit where none stands there.
 fn digit(text: &[u8], at: usize) -> Digit
     ensures { result ≡ digit_of text.now at }
 {
     Digit::low(u16::from(byte(text, at).saturating_sub(b'0')))
 }
 
-/// The octal number from a place on, modulo 2^18.
+/// The octal number from a position on, modulo 2^18.
 fn number(text: &[u8], from: usize) -> u32
     ensures value { result ≡ number_of text.now from }
     ensures range { result < 2 ^ 18 }
@@ -38,14 +38,14 @@ fn number(text: &[u8], from: usize) -> u32
     number
 }
 
-/// The address from a place on.
+/// The address from a position on.
 fn address(text: &[u8], from: usize) -> Word18
     ensures { result ≡ number_of text.now from }
 {
     Word18::from_bits(number(text, from))
 }
 
-/// The count of places or bits from a place on.
+/// The count of positions or bits from a position on.
 fn count(text: &[u8], from: usize) -> SixBits
     ensures { result ≡ number_of text.now from % 64 }
 {

@@ -106,7 +106,7 @@ fn put_address(text: &mut InstrText, front: &str, address: Word18)
     put_octal(text, address.get());
 }
 
-/// Adds a space and a count of places or bits.
+/// Adds a space and a count of positions or bits.
 #[tactic(auto, using(crate::proofs::texts::OctalLaws::octal_length_2))]
 fn put_count(text: &mut InstrText, count: SixBits)
     requires { array_string_len text.old ≤ 10 }

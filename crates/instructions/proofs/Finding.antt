@@ -35,7 +35,7 @@ unfolding seek found_here found_further
 seek_nobody f [] h = refl
 seek_nobody f (m ∷ ms) h = ap (λ o. found_here o m ms (seek f ms)) h.0 ∙ ap (found_further m) (seek_nobody f ms h.1)
 
--- others stand in its place
+-- others stand in its position
 pub replaced_around : {M K : Type 0} (f : M → Option K) (g : M → List M) (es : List M) (m : M) (x : K) (ls : List M)
     → Each (λ e. f e ≡ None) es → f m ≡ Some x → replaced (seek f (es ++ m ∷ ls)) (es ++ m ∷ ls) g ≡ es ++ (g m ++ ls)
 unfolding replaced put_back

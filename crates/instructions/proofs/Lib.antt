@@ -2,4 +2,4 @@ pub mod Opened
 pub mod Lists
 pub mod Sorted
 pub mod Finding
-pub mod Seats
+pub mod Slots

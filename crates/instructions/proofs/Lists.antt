@@ -57,7 +57,7 @@ pub each_append : {X : Type 0} (P : X → Type 0) (xs ys : List X) → Each P xs
 each_append P [] ys h k = k
 each_append P (x ∷ xs) ys h k = (h.0, each_append P xs ys h.1 k)
 
--- each element before a place has the relation to the one there
+-- each element before a position has the relation to the one there
 pub pairs_before : {X : Type 0} (R : X → X → Type 0) (xs : List X) (y : X) (ys : List X) → Pairs R (xs ++ y ∷ ys)
     → Each (λ x. R x y) xs
 pairs_before R [] y ys h = tt

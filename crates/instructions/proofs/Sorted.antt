@@ -1,4 +1,4 @@
--- The list in order, when one place is read, changed or emptied.
+-- The list in order, when one position is read, changed or emptied.
 use Rattle.std.proofs.Common.{◌≡◌, ◌≢◌, ℕ, zero, suc, ◌<◌, ◌≤◌, Bool, true, false, cond, List, [], ◌∷◌, ◌++◌, Option}
 use Rattle.std.proofs.Common.{Some, None, refl, ap, ◌∙◌, ltb, length, set, get_or, arith}
 use Rattle.std.specs.Prelude.{◌||◌, ◌&&◌}
@@ -27,7 +27,7 @@ any_insert key f x (y ∷ ys) = by_test (ltb (key x) (key y)) (any_insert key f 
     by_test true e = refl
     by_test false e = ap (λ z. f y || z) e ∙ or_exchange (f y) (f x) (list_any f ys)
 
--- a test over the list in order is a test over the places
+-- a test over the list in order is a test over the positions
 pub any_sort : {K : Type 0} (key : K → ℕ) (f : K → Bool) (xs : List K) → list_any f (sort_by key xs) ≡ list_any f xs
 unfolding sort_by
 any_sort key f [] = refl
@@ -123,14 +123,14 @@ insert_comm key x y (z ∷ zs) ne =
         absurd (let a = ltb-true _ _ eyx in let b = ltb-false _ _ eyz in let c = ltb-true _ _ exz in omega arith)
     by_tests ih false exy true eyx false exz false eyz = rw (exz, eyz) (ap (λ l. z ∷ l) ih)
 
--- the one among the places goes in last
+-- the one among the positions goes in last
 pub sort_around : {K : Type 0} (key : K → ℕ) (fs : List K) (m : K) (bs : List K) → Each (λ a. key a ≢ key m) fs
     → sort_by key (fs ++ m ∷ bs) ≡ insert_by key m (sort_by key (fs ++ bs))
 unfolding sort_by
 sort_around key [] m bs h = refl
 sort_around key (a ∷ fs) m bs h = ap (insert_by key a) (sort_around key fs m bs h.1) ∙ insert_comm key a m _ h.0
 
--- ---- an order from places that differ ----
+-- ---- an order from positions that differ ----
 
 insert_each : {K : Type 0} (key : K → ℕ) (P : K → Type 0) (x : K) (ys : List K) → P x → Each P ys
     → Each P (insert_by key x ys)
@@ -180,7 +180,7 @@ insert_increasing key x (y ∷ ys) ne h = by_test (ltb (key x) (key y)) refl (in
         let d : key x ≢ key y = ne.0 in
         (insert_each key (λ z. key y < key z) x ys (omega arith) h.0, k)
 
--- places with different numbers make an increasing list
+-- positions with different numbers make an increasing list
 pub sort_increasing : {K : Type 0} (key : K → ℕ) (xs : List K) → Pairs (λ a b. key a ≢ key b) xs
     → IsIncreasing key (sort_by key xs)
 unfolding sort_by
@@ -198,7 +198,7 @@ insert_last key x (y ∷ ys) h =
     ap (λ b. cond b (x ∷ y ∷ ys) (y ∷ insert_by key x ys)) (le-ltb (key x) (key y) (omega arith))
     ∙ ap (λ l. y ∷ l) (insert_last key x ys h.1)
 
--- ---- a list of places ----
+-- ---- a list of positions ----
 
 pub any_somes : {K : Type 0} (f : K → Bool) (g : Option K → Bool) → g None ≡ false → ((x : K) → g (Some x) ≡ f x)
     → (os : List (Option K)) → list_any g os ≡ list_any f (somes os)
@@ -208,7 +208,7 @@ any_somes f g none some (None ∷ os) = ap (λ b. b || list_any g os) none ∙ a
 any_somes f g none some (Some x ∷ os) =
     ap (λ b. b || list_any g os) (some x) ∙ ap (λ z. f x || z) (any_somes f g none some os)
 
--- what stands around a place
+-- what stands around a position
 unfoldable pub before_place : {K : Type 0} → List (Option K) → ℕ → List K
 before_place [] i = []
 before_place (o ∷ os) zero = []
@@ -221,7 +221,7 @@ after_place (o ∷ os) zero = somes os
 after_place (None ∷ os) (suc i) = after_place os i
 after_place (Some x ∷ os) (suc i) = after_place os i
 
--- a place that is filled, whatever it held
+-- a position that is filled, whatever it held
 pub somes-set_some : {K : Type 0} (os : List (Option K)) (i : ℕ) (y : K) → i < length os
     → somes (set os i (Some y)) ≡ before_place os i ++ y ∷ after_place os i
 unfolding somes before_place after_place
@@ -231,7 +231,7 @@ somes-set_some (Some x ∷ os) zero y h = refl
 somes-set_some (None ∷ os) (suc i) y h = somes-set_some os i y (omega arith)
 somes-set_some (Some x ∷ os) (suc i) y h = ap (λ l. x ∷ l) (somes-set_some os i y (omega arith))
 
--- a place that is emptied
+-- a position that is emptied
 pub somes-set_none : {K : Type 0} (os : List (Option K)) (i : ℕ) → i < length os
     → somes (set os i None) ≡ before_place os i ++ after_place os i
 unfolding somes before_place after_place
@@ -241,7 +241,7 @@ somes-set_none (Some x ∷ os) zero h = refl
 somes-set_none (None ∷ os) (suc i) h = somes-set_none os i (omega arith)
 somes-set_none (Some x ∷ os) (suc i) h = ap (λ l. x ∷ l) (somes-set_none os i (omega arith))
 
--- a place that holds something
+-- a position that holds something
 pub somes-at : {K : Type 0} (os : List (Option K)) (i : ℕ) (x : K) → get_or os i None ≡ Some x
     → somes os ≡ before_place os i ++ x ∷ after_place os i
 unfolding somes before_place after_place
@@ -251,7 +251,7 @@ somes-at (Some y ∷ os) zero x h = let e : y ≡ x = cc in ap (λ z. z ∷ some
 somes-at (None ∷ os) (suc i) x h = somes-at os i x h
 somes-at (Some y ∷ os) (suc i) x h = ap (λ l. y ∷ l) (somes-at os i x h)
 
--- a place that holds nothing
+-- a position that holds nothing
 pub somes-empty : {K : Type 0} (os : List (Option K)) (i : ℕ) → get_or os i None ≡ None → i < length os
     → somes os ≡ before_place os i ++ after_place os i
 unfolding somes before_place after_place

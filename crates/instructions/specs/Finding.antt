@@ -1,4 +1,4 @@
--- To find one of a list, such as the pending instructions in issue order, and to put others in its place.
+-- To find one of a list, such as the pending instructions in issue order, and to put others in its position.
 -- Source: ours.
 use Rattle.std.specs.Prelude.{List, [], ◌∷◌, ◌++◌, Option, Some, None}
 
@@ -28,11 +28,11 @@ unfoldable pub seek : {M K : Type 0} → (M → Option K) → List M → Option 
 seek f [] = None
 seek f (m ∷ ms) = found_here (f m) m ms (seek f ms)
 
--- others put in the place of the one that was found
+-- others put in the position of the one that was found
 unfoldable pub put_back : {M K : Type 0} → Found M K → List M → List M
 put_back f ms = f.earlier ++ (ms ++ f.later)
 
--- the list with others in the place of the one that was found
+-- the list with others in the position of the one that was found
 unfoldable pub replaced : {M K : Type 0} → Option (Found M K) → List M → (M → List M) → List M
 replaced None ms g = ms
 replaced (Some f) ms g = put_back f (g f.item)

@@ -11,7 +11,7 @@ use Rattle.instructions.specs.Operands.{uses, by_reference}
 -- what an instruction does with its value: it writes registers, loads, stores, jumps or links
 pub data Shape : Type 0 where
   -- writes its results (none for SB0, a pass and a stop), and makes no reference
-  Puts : (registers : List Reg) → Shape
+  Sets : (registers : List Reg) → Shape
   -- SA1 to SA5: writes An and loads Xn
   Loads : (n : ℕ) → Shape
   -- SA6 and SA7: writes An and stores Xn
@@ -27,20 +27,20 @@ shape_of (ReturnJump K) = Links
 shape_of (Jump i K) = Jumps
 shape_of (BranchX test j K) = Jumps
 shape_of (BranchB test i j K) = Jumps
-shape_of (Increment TargetA i addends) = by_reference i (Puts (A 0 ∷ [])) (Loads i) (Stores i)
-shape_of instr = Puts (uses instr).results
+shape_of (Increment TargetA i addends) = by_reference i (Sets (A 0 ∷ [])) (Loads i) (Stores i)
+shape_of instr = Sets (uses instr).results
 
 -- the registers that are written at the store event
-unfoldable pub puts_of : Shape → List Reg
-puts_of (Puts rs) = rs
-puts_of (Loads n) = A n ∷ []
-puts_of (Stores n) = A n ∷ []
-puts_of Jumps = []
-puts_of Links = []
+unfoldable pub sets_of : Shape → List Reg
+sets_of (Sets rs) = rs
+sets_of (Loads n) = A n ∷ []
+sets_of (Stores n) = A n ∷ []
+sets_of Jumps = []
+sets_of Links = []
 
 -- the register that is written when the load returns
 unfoldable pub loads_of : Shape → List Reg
-loads_of (Puts rs) = []
+loads_of (Sets rs) = []
 loads_of (Loads n) = X n ∷ []
 loads_of (Stores n) = []
 loads_of Jumps = []
@@ -49,11 +49,11 @@ loads_of Links = []
 -- the result registers: those written at the store event, and then the one that is loaded; E8 result reserved names the
 -- first of them that is a result still to come
 unfoldable pub results : Shape → List Reg
-results shape = puts_of shape ++ loads_of shape
+results shape = sets_of shape ++ loads_of shape
 
 -- it jumps or may jump
 unfoldable pub is_branch_shape : Shape → Bool
-is_branch_shape (Puts rs) = false
+is_branch_shape (Sets rs) = false
 is_branch_shape (Loads n) = false
 is_branch_shape (Stores n) = false
 is_branch_shape Jumps = true
@@ -61,7 +61,7 @@ is_branch_shape Links = true
 
 -- it reads or writes a word of memory
 unfoldable pub has_reference : Shape → Bool
-has_reference (Puts rs) = false
+has_reference (Sets rs) = false
 has_reference (Loads n) = true
 has_reference (Stores n) = true
 has_reference Jumps = false
@@ -69,7 +69,7 @@ has_reference Links = true
 
 -- it writes a word of memory
 unfoldable pub has_store : Shape → Bool
-has_store (Puts rs) = false
+has_store (Sets rs) = false
 has_store (Loads n) = false
 has_store (Stores n) = true
 has_store Jumps = false

@@ -2,7 +2,7 @@ ghost use Rattle.std.specs.Prelude.{◌≡◌, ◌<◌, ◌+◌, ◌*◌, ◌%�
 
 use std::marker::Model;
 
-/// A number below `N`: a field of an instruction, or of the place of one.
+/// A number below `N`: a field of an instruction, or of the position of one.
 #[derive(Clone, Copy, Debug, Drop, PartialEq, Eq)]
 pub struct Below<const N: u8> {
     value: u8,
@@ -23,7 +23,7 @@ impl<const N: u8> Model for Below<N> {
 /// An octal digit of an instruction, 0 to 7, such as a register's number.
 pub type Digit = Below<8>;
 
-/// The digits j and k of an instruction read as one number: a count of places or bits, 0 to 63.
+/// The digits j and k of an instruction read as one number: a count of positions or bits, 0 to 63.
 pub type SixBits = Below<64>;
 
 /// The number of a parcel in its word: 0, the uppermost, to 3.

@@ -227,7 +227,7 @@ pub enum Instr {
         j: Digit,
         k: Digit,
     },
-    /// `LXi jk` and `AXi jk`, 20 and 21: Xi by a count of 0 to 63 places.
+    /// `LXi jk` and `AXi jk`, 20 and 21: Xi by a count of 0 to 63 positions.
     ShiftBy {
         direction: Direction,
         i: Digit,

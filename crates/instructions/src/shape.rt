@@ -1,5 +1,5 @@
 ghost use Rattle.std.specs.Prelude.{◌≡◌};
-ghost use Rattle.instructions.specs.Shape.{shape_of, puts_of, is_branch_shape, has_reference, has_store};
+ghost use Rattle.instructions.specs.Shape.{shape_of, sets_of, is_branch_shape, has_reference, has_store};
 
 use crate::{Instr, Reg, Target, results};
 use arrayvec::ArrayVec;
@@ -54,9 +54,9 @@ impl Instr {
     }
 
     /// The registers that it writes at its store event: all its results except the X register of a load.
-    #[tactic(auto, unfolding(crate::specs::Shape::shape_of, crate::specs::Shape::puts_of))]
-    pub fn puts(&self) -> ArrayVec<Reg, 2>
-        ensures { result.items ≡ puts_of (shape_of self.now) }
+    #[tactic(auto, unfolding(crate::specs::Shape::shape_of, crate::specs::Shape::sets_of))]
+    pub fn sets(&self) -> ArrayVec<Reg, 2>
+        ensures { result.items ≡ sets_of (shape_of self.now) }
     {
         match *self {
             Instr::Increment {

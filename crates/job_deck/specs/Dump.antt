@@ -9,7 +9,7 @@ use Rattle.registers.specs.declared.file.RegisterFile.{RegisterFile}
 use Rattle.relocation.specs.declared.area.Area.{Area}
 use Rattle.sequential.specs.declared.log.Entry.{Entry}
 use Rattle.sequential.specs.declared.log.Entry.TheVariants as entries
-use Rattle.sequential.specs.declared.place.Place.{Place}
+use Rattle.sequential.specs.declared.position.ProgramPosition.{ProgramPosition}
 use Rattle.sequential.specs.declared.state.State.{State}
 use Rattle.device_text.specs.Pieces.{reason_text, trimmed}
 use Rattle.deck.specs.declared.deck.Show.{Show}
@@ -20,9 +20,9 @@ held_text None = codes "none"
 held_text (Some word) = octal_text 20 word
 
 -- the line `P p PARCEL n HELD w`
-abbrev pub place_line : Place → List ℕ
-place_line place = concat (codes "P " ∷ octal_text 6 place.p ∷ codes " PARCEL " ∷ ((48 + place.parcel) ∷ [])
-    ∷ codes " HELD " ∷ held_text place.held ∷ codes "\n" ∷ [])
+abbrev pub place_line : ProgramPosition → List ℕ
+place_line position = concat (codes "P " ∷ octal_text 6 position.p ∷ codes " PARCEL " ∷ ((48 + position.parcel) ∷ [])
+    ∷ codes " HELD " ∷ held_text position.held ∷ codes "\n" ∷ [])
 
 -- the first half of the line `HALT h FAULT f`: `running`, or why the machine is halted
 abbrev pub halt_text : Option Halt → List ℕ
@@ -62,7 +62,7 @@ x_lines x = flat_map (x_line x) (addresses 8 0)
 
 -- the lines of P, of halt and fault, and of RA, FL and EM
 abbrev pub state_lines : State → List ℕ
-state_lines s = concat (place_line s.place ∷ halt_text s.halt ∷ fault_text s.fault ∷ area_line s.area ∷ [])
+state_lines s = concat (place_line s.position ∷ halt_text s.halt ∷ fault_text s.fault ∷ area_line s.area ∷ [])
 
 -- the lines of A, B and X; B0 is always +0
 abbrev pub register_lines : RegisterFile → List ℕ

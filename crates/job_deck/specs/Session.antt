@@ -10,7 +10,7 @@ use Rattle.program_order.specs.Reached.{GoesOnByWork}
 use Rattle.program_order.specs.Run.{IsAnswer, IsAnswered, settled_all}
 use Rattle.in_flight.specs.Lookup.{is_pending}
 use Rattle.program_order.specs.Processor.{Processor, replayed}
-use Rattle.program_order.specs.Working.{Works}
+use Rattle.program_order.specs.Drain.{Works}
 use Rattle.deck.specs.declared.deck.Show.{Show}
 use Rattle.job_deck.specs.AnswerText.{answer_line}
 use Rattle.job_deck.specs.Dump.{dump_text, log_line}

@@ -13,7 +13,7 @@ use device_text::{CheckedWriter, Output, Piece, WriteFailed, put_pieces};
 use instruction_table::{Halt, Refusal};
 use registers::RegisterFile;
 use relocation::{Area, Storage};
-use sequential::{Entry, Log, Place, State};
+use sequential::{Entry, Log, ProgramPosition, State};
 use std::io::Write;
 use word60::{Word18, Word60};
 
@@ -28,16 +28,16 @@ fn held_piece(held: &Option<Word60>) -> Piece<'static>
 }
 
 /// The line of P, the next parcel and the held word.
-fn place_line(place: &Place) -> [Piece<'static>; 7]
-    ensures { text_of_all result ≡ place_line place.now }
+fn place_line(position: &ProgramPosition) -> [Piece<'static>; 7]
+    ensures { text_of_all result ≡ place_line position.now }
 {
     [
         Piece::Text(b"P "),
-        Piece::Index(place.p),
+        Piece::Index(position.p),
         Piece::Text(b" PARCEL "),
-        Piece::Parcel(place.parcel),
+        Piece::Parcel(position.parcel),
         Piece::Text(b" HELD "),
-        held_piece(&place.held),
+        held_piece(&position.held),
         Piece::Text(b"\n"),
     ]
 }
@@ -145,7 +145,7 @@ fn put_state<O: Output>(output: &mut O, state: &State) -> Result<(), WriteFailed
     ensures failure { O.has_failed output.new ≡ failed_after (O.has_failed output.old) result }
     ensures same { O.lender output.new ≡ O.lender output.old }
 {
-    put_pieces(output, &place_line(&state.place))?;
+    put_pieces(output, &place_line(&state.position))?;
     put_pieces(output, &halt_text(&state.halt))?;
     put_pieces(output, &fault_text(state.fault))?;
     put_pieces(output, &area_line(&state.area))

@@ -1,7 +1,7 @@
 -- A name for each list of definitions that a proof opens at once.
 use Rattle.sequential.specs.State.{absolute, bounds_of}
 use Rattle.sequential.specs.Work.{work_of}
-use Rattle.in_flight.specs.Lookup.{sought}
+use Rattle.in_flight.specs.Lookup.{located}
 use Rattle.in_flight.specs.Tests.{nothing, refusal_of, tests_found}
 use Rattle.program_order.specs.Issue.{fetch_waits, waits_at}
 use Rattle.program_order.specs.Units.{finish_tests, store_tests}
@@ -13,5 +13,5 @@ waiting_fetch = tt
 
 -- the tests of a unit that finishes or stores, and the first refusal among them
 unfoldable pub unit_tests : Unit {0}
-unfolding refusal_of tests_found nothing sought finish_tests store_tests work_of
+unfolding refusal_of tests_found nothing located finish_tests store_tests work_of
 unit_tests = tt

@@ -6,7 +6,7 @@ use Rattle.std.proofs.lemmas.List.{append-nil}
 use Rattle.std.specs.Prelude.{Result, Ok, Err, MatchResult}
 use Rattle.instructions.specs.declared.refusal.Refusal.{Refusal}
 use Rattle.sequential.specs.Replay.{LogStep, Issued, Exchanged, boot, replay}
-use Rattle.sequential.specs.Taken.{taken}
+use Rattle.sequential.specs.UnitIssues.{taken}
 use Rattle.program_order.specs.declared.event.Done.{Done}
 use Rattle.program_order.specs.declared.event.Done.TheVariants.{Issued as DoneIssue, Word, Made as DoneMade}
 use Rattle.program_order.specs.declared.event.Event.{Event}
@@ -22,9 +22,9 @@ use Rattle.program_order.proofs.keeping.Telling.{exchange_asked}
 use Rattle.program_order.proofs.theorem.Headline.{Books, books_after}
 use Rattle.program_order.proofs.theorem.Theorem.{made_allowed}
 use Rattle.atomic_table.specs.Table.{Me}
-use Rattle.machine_lock.specs.Known.{Known, known, StartsWith, IsMade, Learnt, note_in, word_in, IsNoteOf, IsWhyOf}
-use Rattle.machine_lock.specs.Known.{Booted, booted_by, booted_with, HasReplay, IsWordOf}
-use Rattle.machine_lock.specs.inner.Kept.{IsCurrent, access_step, is_access, is_of_memory}
+use Rattle.machine_lock.specs.CallerKnowledge.{Known, known, StartsWith, IsMade, Learnt, note_in, word_in, IsNoteOf, IsWhyOf}
+use Rattle.machine_lock.specs.CallerKnowledge.{Booted, booted_by, booted_with, HasReplay, IsWordOf}
+use Rattle.machine_lock.specs.inner.LockInvariant.{IsCurrent, access_step, is_access, is_of_memory}
 use Rattle.machine_lock.specs.inner.Rules.{History, Knowing, history, past, keeper, caller, Continues}
 use Rattle.machine_lock.proofs.Lists.{last_step, last_step-push}
 

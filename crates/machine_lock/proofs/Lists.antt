@@ -1,4 +1,4 @@
--- Lists that begin one another, places in lists, and views at their numbers.
+-- Lists that begin one another, positions in lists, and views at their numbers.
 use Rattle.std.proofs.Common.{◌≡◌, ◌⊎◌, ℕ, zero, suc, ◌==◌, ◌||◌, Bool, true, false, List, [], ◌∷◌, ◌++◌, length}
 use Rattle.std.proofs.Common.{replicate, take, ◌+◌, ◌<◌, get_or, add-one, refl, sym, ap, ◌∙◌, ⊎_elim, inl, inr, arith}
 use Rattle.std.proofs.Common.{append_assoc}
@@ -12,7 +12,7 @@ use Rattle.sequential.specs.Log.{steps_of}
 use Rattle.sequential.specs.declared.log.Entry.{Entry}
 use Rattle.sequential.specs.declared.log.Entry.TheVariants.{Issued as Count, Exchange, PpRead, PpWrite}
 use Rattle.sequential.proofs.Runs.{taken_steps}
-use Rattle.machine_lock.specs.Known.{StartsWith, is_in}
+use Rattle.machine_lock.specs.CallerKnowledge.{StartsWith, is_in}
 use Rattle.machine_lock.specs.inner.Rules.{Knowing}
 
 pub starts_all : (xs : List LogStep) → StartsWith xs xs
@@ -42,18 +42,18 @@ in_append p (x ∷ xs) ys e = by_head (p == x) refl (in_append p xs ys)
 pub in_one : (p x : ℕ) → is_in p (x ∷ []) ≡ true → p ≡ x
 in_one p x e = grind (arith, nat_tests)
 
--- these places go to another owner
+-- these positions go to another owner
 abbrev pub give : (ℕ → ℕ) → List ℕ → ℕ → ℕ → ℕ
-give owner places to p = if is_in p places then to else owner p
+give owner positions to p = if is_in p positions then to else owner p
 
-pub give_in : (owner : ℕ → ℕ) (places : List ℕ) (to p : ℕ) → is_in p places ≡ true → give owner places to p ≡ to
-give_in owner places to p e = ap (λ (b : Bool). if b then to else owner p) e
+pub give_in : (owner : ℕ → ℕ) (positions : List ℕ) (to p : ℕ) → is_in p positions ≡ true → give owner positions to p ≡ to
+give_in owner positions to p e = ap (λ (b : Bool). if b then to else owner p) e
 
-pub give_out : (owner : ℕ → ℕ) (places : List ℕ) (to p : ℕ) → (is_in p places ≡ true → ⊥)
-    → give owner places to p ≡ owner p
-give_out owner places to p out = by_test (is_in p places) refl
+pub give_out : (owner : ℕ → ℕ) (positions : List ℕ) (to p : ℕ) → (is_in p positions ≡ true → ⊥)
+    → give owner positions to p ≡ owner p
+give_out owner positions to p out = by_test (is_in p positions) refl
   where
-    by_test : (b : Bool) → is_in p places ≡ b → give owner places to p ≡ owner p
+    by_test : (b : Bool) → is_in p positions ≡ b → give owner positions to p ≡ owner p
     by_test true e = absurd (out e)
     by_test false e = ap (λ (b : Bool). if b then to else owner p) e
 

@@ -9,9 +9,9 @@ use Rattle.atomic_table.proofs.Lists.{at_set, set_again}
 use Rattle.sequential.specs.Replay.{LogStep}
 use Rattle.sequential.specs.Log.{steps_of}
 use Rattle.sequential.specs.declared.log.Entry.{Entry}
-use Rattle.machine_lock.specs.Known.{Booted, is_in, AreApart}
+use Rattle.machine_lock.specs.CallerKnowledge.{Booted, is_in, AreApart}
 use Rattle.machine_lock.specs.inner.Rules.{History, Knowing, history, nothing, fresh, spent, Continues, knowing, keeper}
-use Rattle.machine_lock.specs.inner.Rules.{caller, with_told, kept_back, handed_back, shared_out, AreOf, Fits}
+use Rattle.machine_lock.specs.inner.Rules.{caller, with_told, kept_back, handed_back, shared_out, BelongTo, Fits}
 use Rattle.machine_lock.specs.inner.Rules.{IsCounted, Added, Looked}
 use Rattle.machine_lock.proofs.Lists.{starts_all, starts_more, at_snoc, in_append, in_one, give, give_in}
 use Rattle.machine_lock.proofs.Lists.{give_out, steps_of-more}
@@ -46,8 +46,8 @@ fits_snoc seat begun h owner views w mine others j u e =
     (λ i. (sym x.0 i, x.1 i)) mine)
     (at_snoc views w u j e)
 
--- no places
-none_of : (owner : ℕ → ℕ) (by : ℕ) (log : List LogStep) → AreOf owner by log []
+-- no positions
+none_of : (owner : ℕ → ℕ) (by : ℕ) (log : List LogStep) → BelongTo owner by log []
 none_of owner by log p e = absurd (off e)
 
 -- a pass that knows nothing
@@ -60,21 +60,21 @@ blank seat begun h owner by = record {
   apart = λ p a b. off a;
 }
 
--- what the others know stays true where places of one pass change hands
-kept_by_others : (seat : ℕ) (begun : Bool) (k : History) (owner : ℕ → ℕ) (places : List ℕ) (from to j : ℕ)
-    (u : Knowing) → ((p : ℕ) → is_in p places ≡ true → owner p ≡ from) → j ≢ from → Fits seat begun k owner j u
-    → Fits seat begun k (give owner places to) j u
-kept_by_others seat begun k owner places from to j u of apart h = record {
+-- what the others know stays true where positions of one pass change hands
+kept_by_others : (seat : ℕ) (begun : Bool) (k : History) (owner : ℕ → ℕ) (positions : List ℕ) (from to j : ℕ)
+    (u : Knowing) → ((p : ℕ) → is_in p positions ≡ true → owner p ≡ from) → j ≢ from → Fits seat begun k owner j u
+    → Fits seat begun k (give owner positions to) j u
+kept_by_others seat begun k owner positions from to j u of apart h = record {
   keeps = h.keeps;
   knows = h.knows;
   mine = λ p e. (
     (h.mine p e).0,
-    give_out owner places to p (λ i. apart (sym (h.mine p e).1 ∙ of p i))
+    give_out owner positions to p (λ i. apart (sym (h.mine p e).1 ∙ of p i))
         ∙ (h.mine p e).1,
   );
   theirs = λ p e. (
     (h.theirs p e).0,
-    give_out owner places to p (λ i. apart (sym (h.theirs p e).1 ∙ of p i))
+    give_out owner positions to p (λ i. apart (sym (h.theirs p e).1 ∙ of p i))
         ∙ (h.theirs p e).1,
   );
   apart = h.apart;
@@ -127,14 +127,14 @@ shares id v s h at =
           (λ j u e. h.fits j u (subst (λ l. get_elem? l j ≡ some u) same e));
     }
 
-pub hands_over : (id : ℕ) (k : History) (places : List ℕ) → Splits IsCounted id (caller k places) spent
-    (caller k places)
-hands_over id k places s h at =
-    let v : Knowing = caller k places in
+pub hands_over : (id : ℕ) (k : History) (positions : List ℕ) → Splits IsCounted id (caller k positions) spent
+    (caller k positions)
+hands_over id k positions s h at =
+    let v : Knowing = caller k positions in
     let vs : List Knowing = set s.views id spent in
     let n = length vs in
     let mine = h.fits id v at in
-    let owner = give h.owner places n in
+    let owner = give h.owner positions n in
     record {
       seat = h.seat;
       begun = h.begun;
@@ -146,12 +146,12 @@ hands_over id k places s h at =
           (record {
             keeps = λ e. absurd (off e);
             knows = mine.knows;
-            mine = λ p e. ((mine.mine p e).0, give_in h.owner places n p e);
+            mine = λ p e. ((mine.mine p e).0, give_in h.owner positions n p e);
             theirs = none_of owner n h.h.log;
             apart = λ p a b. off b;
           })
           (fits_set h.seat h.begun h.h owner s.views id spent (blank h.seat h.begun h.h owner id)
-          (λ j u apart e. kept_by_others h.seat h.begun h.h h.owner places id n j u (λ p i. (mine.mine p i).1) apart
+          (λ j u apart e. kept_by_others h.seat h.begun h.h h.owner positions id n j u (λ p i. (mine.mine p i).1) apart
           (h.fits j u e)));
     }
 
@@ -283,25 +283,25 @@ adds slots id me x is kn s h _ at _ =
     let m = mine.knows kn in
     let here : v.seen ≡ h.h = (mine.keeps is).2 m.0 in
     let log = h.h.log in
-    let place = length log in
+    let position = length log in
     let now : History = history h.h.booted (log ++ x ∷ []) in
-    let longer : length now.log ≡ place + 1 = omega (arith, length-append log (x ∷ [])) in
-    let owner = give h.owner (place ∷ []) id in
-    let old : (p : ℕ) → p < place → give h.owner (place ∷ []) id p ≡ h.owner p = λ p less. give_out h.owner
-    (place ∷ []) id p (λ i. let e = in_one p place i in omega arith) in
-    let at_place : length v.seen.log ≡ place = ap (λ (y : History). length y.log) here in
+    let longer : length now.log ≡ position + 1 = omega (arith, length-append log (x ∷ [])) in
+    let owner = give h.owner (position ∷ []) id in
+    let old : (p : ℕ) → p < position → give h.owner (position ∷ []) id p ≡ h.owner p = λ p less. give_out h.owner
+    (position ∷ []) id p (λ i. let e = in_one p position i in omega arith) in
+    let at_place : length v.seen.log ≡ position = ap (λ (y : History). length y.log) here in
     let w : Knowing = knowing v.keeps v.knows (history v.seen.booted (v.seen.log ++ x ∷ [])) v.mine v.told
     (v.theirs ++ length v.seen.log ∷ []) in
-    let mine_of : AreOf owner id now.log v.mine = λ p e. let t = mine.mine p e in (omega arith, old p t.0 ∙ t.1) in
-    let theirs_of : AreOf owner id now.log (v.theirs ++ length v.seen.log ∷ []) = λ p e.
+    let mine_of : BelongTo owner id now.log v.mine = λ p e. let t = mine.mine p e in (omega arith, old p t.0 ∙ t.1) in
+    let theirs_of : BelongTo owner id now.log (v.theirs ++ length v.seen.log ∷ []) = λ p e.
     ⊎_elim (λ (a : is_in p v.theirs ≡ true). let t = mine.theirs p a in
     (let less = t.0 in omega arith, old p t.0 ∙ t.1))
-    (λ (b : is_in p (length v.seen.log ∷ []) ≡ true). let q : p ≡ place = in_one p (length v.seen.log) b ∙ at_place in
-    (omega arith, give_in h.owner (place ∷ []) id p (ap (λ k. is_in p (k ∷ [])) (sym at_place) ∙ b)))
+    (λ (b : is_in p (length v.seen.log ∷ []) ≡ true). let q : p ≡ position = in_one p (length v.seen.log) b ∙ at_place in
+    (omega arith, give_in h.owner (position ∷ []) id p (ap (λ k. is_in p (k ∷ [])) (sym at_place) ∙ b)))
     (in_append p v.theirs (length v.seen.log ∷ []) e) in
     let apart_now : AreApart v.mine (v.theirs ++ length v.seen.log ∷ []) = λ p a e.
     ⊎_elim (λ (b : is_in p v.theirs ≡ true). mine.apart p a b)
-    (λ (b : is_in p (length v.seen.log ∷ []) ≡ true). let q : p ≡ place = in_one p (length v.seen.log) b
+    (λ (b : is_in p (length v.seen.log ∷ []) ≡ true). let q : p ≡ position = in_one p (length v.seen.log) b
     ∙ at_place in let less = (mine.mine p a).0 in omega arith)
     (in_append p v.theirs (length v.seen.log ∷ []) e) in (
       w,
@@ -390,9 +390,9 @@ starts slots id boot s h _ at _ =
 
 -- ---- views that were given in another way ----
 
-pub own_caller : (m : Me ℕ Knowing) (h : History) (places : List ℕ) → m ≡ (caller h places, [])
+pub own_caller : (m : Me ℕ Knowing) (h : History) (positions : List ℕ) → m ≡ (caller h positions, [])
     → m ≡ (caller m.0.seen m.0.mine, [])
-own_caller m h places e = e ∙ ap (λ (x : Me ℕ Knowing). (caller x.0.seen x.0.mine, [])) (sym e)
+own_caller m h positions e = e ∙ ap (λ (x : Me ℕ Knowing). (caller x.0.seen x.0.mine, [])) (sym e)
 
 pub started_none : (m : Me ℕ Knowing) (boot : Booted) → m ≡ (keeper (history boot []), [])
     → m ≡ (keeper (history boot (steps_of [])), [])

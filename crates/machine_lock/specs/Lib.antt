@@ -1,4 +1,4 @@
 -- The definitions of the machine under a lock: what its callers have seen, and what the lock keeps.
 -- Source: ours.
-pub mod Known
+pub mod CallerKnowledge
 pub mod inner

@@ -1,3 +1,3 @@
 -- What ties the fields of the code to the definitions that a reader checks. Source: ours.
-pub mod Kept
+pub mod LockInvariant
 pub mod Rules

@@ -11,10 +11,10 @@ ghost use Rattle.program_order.specs.Refusals.{is_ask_refusal};
 ghost use Rattle.program_order.specs.Run.{IsAnswer, settled};
 ghost use Rattle.machine.specs.Tokens.{one_more};
 ghost use Rattle.program_order.specs.Events.{after};
-ghost use Rattle.machine_lock.specs.Known.{IsMade, Learnt, HasReplay, IsNoteOf, IsWhyOf, IsWordOf, note_in};
-ghost use Rattle.machine_lock.specs.Known.{word_in};
-ghost use Rattle.machine_lock.specs.inner.Kept.{IsAsked, IsCurrent, access_step, is_access, is_of_memory};
-ghost use Rattle.machine_lock.specs.inner.Kept.{next_after, with_processor};
+ghost use Rattle.machine_lock.specs.CallerKnowledge.{IsMade, Learnt, HasReplay, IsNoteOf, IsWhyOf, IsWordOf, note_in};
+ghost use Rattle.machine_lock.specs.CallerKnowledge.{word_in};
+ghost use Rattle.machine_lock.specs.inner.LockInvariant.{IsAsked, IsCurrent, access_step, is_access, is_of_memory};
+ghost use Rattle.machine_lock.specs.inner.LockInvariant.{next_after, with_processor};
 ghost use Rattle.machine_lock.specs.inner.Rules.{IsKeeper, past};
 
 use crate::Seen;
@@ -37,7 +37,7 @@ pub(crate) struct Locked<K: Naming> {
 }
 
 impl<K: Naming> Model for Locked<K> {
-    ghost use Rattle.machine_lock.specs.inner.Kept.{Kept, IsLocked};
+    ghost use Rattle.machine_lock.specs.inner.LockInvariant.{Kept, IsLocked};
 
     ghost Value = { Kept };
 

@@ -69,14 +69,14 @@ impl<J: Chosen> Play<u8, View> for Adds<J> {
 
 /// What the machine whose log begins was booted with.
 pub(crate) trait Begun {
-    ghost use Rattle.machine_lock.specs.Known.{Booted};
+    ghost use Rattle.machine_lock.specs.CallerKnowledge.{Booted};
 
     ghost booted: { Booted };
 }
 
 impl Begun for Brand {
     ghost use Rattle.std.specs.Prelude.{[]};
-    ghost use Rattle.machine_lock.specs.Known.{booted_with};
+    ghost use Rattle.machine_lock.specs.CallerKnowledge.{booted_with};
 
     ghost booted = { booted_with [] 0 };
 }

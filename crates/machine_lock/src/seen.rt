@@ -1,6 +1,6 @@
 ghost use Rattle.std.specs.Prelude.{◌≡◌, [], MatchResult};
 ghost use Rattle.instructions.specs.declared.refusal.Refusal.TheVariants.{OutOfMemory};
-ghost use Rattle.machine_lock.specs.Known.{known};
+ghost use Rattle.machine_lock.specs.CallerKnowledge.{known};
 
 use crate::rule::{Naming, Pass};
 use crate::word::Word;
@@ -18,7 +18,7 @@ pub struct Seen<K: Naming> {
 }
 
 impl<K: Naming> Model for Seen<K> {
-    ghost use Rattle.machine_lock.specs.Known.{Known, known};
+    ghost use Rattle.machine_lock.specs.CallerKnowledge.{Known, known};
     ghost use Rattle.machine_lock.specs.inner.Rules.{IsCaller};
 
     ghost Value = { Known };

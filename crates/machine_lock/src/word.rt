@@ -2,7 +2,7 @@
 ghost use Rattle.std.specs.Prelude.{◌≡◌, ◌++◌, ◌∷◌, [], true, length, replicate};
 ghost use Rattle.sequential.specs.Log.{steps_of};
 ghost use Rattle.sequential.specs.Replay.{Issued};
-ghost use Rattle.machine_lock.specs.Known.{AreApart};
+ghost use Rattle.machine_lock.specs.CallerKnowledge.{AreApart};
 ghost use Rattle.machine_lock.specs.inner.Rules.{history, past, fresh, Continues, with_told, kept_back};
 ghost use Rattle.machine_lock.specs.inner.Rules.{handed_back, Added, Looked, IsKeeper, IsCaller};
 

@@ -18,7 +18,7 @@ use Rattle.in_flight.specs.Pending.{returning}
 use Rattle.in_flight.specs.declared.pending.Pending.{Pending}
 use Rattle.in_flight.specs.declared.pending.Stage.{Stage}
 use Rattle.in_flight.specs.Flight.{Flight, IsRestOf, reserved_in, outstanding_of}
-use Rattle.in_flight.specs.Lookup.{sought, stage_at, enters, place_for, entry_at, entry_in, in_place}
+use Rattle.in_flight.specs.Lookup.{located, stage_at, enters, place_for, entry_at, entry_in, in_place}
 
 abbrev pub boot : Flight
 boot = record { pending = []; busy = replicate 32 false; last = 0 }
@@ -33,17 +33,17 @@ alone_room f g i at p q =
     subst (λ (x : Flight). is_none (place_for x.pending) ≡ false) (sym (reserved f g i at p q)) refl
 
 one_rest : (o : Option Stage) (m : Pending) (rest : Option Rest) → IsRestOf (shape_of m.instr) rest
-    → IfSome (sought (found_here o m [] None)) (λ s. IsRestOf (shape_of s.pending.instr) rest)
-unfolding sought found_here found_further
+    → IfSome (located (found_here o m [] None)) (λ s. IsRestOf (shape_of s.pending.instr) rest)
+unfolding located found_here found_further
 one_rest None m rest h = tt
 one_rest (Some t) m rest h = h
 
 pub alone_rest : (f g : Flight) (i : Instr) (at : ℕ) (u : FunctionalUnit) (rest : Option Rest) → f ≡ boot
     → g ≡ reserved_in f i at → IsRestOf (shape_of i) rest
-    → IfSome (sought (seek (stage_at u) g.pending)) (λ s. IsRestOf (shape_of s.pending.instr) rest)
+    → IfSome (located (seek (stage_at u) g.pending)) (λ s. IsRestOf (shape_of s.pending.instr) rest)
 unfolding seek
 alone_rest f g i at u rest p q h =
-    subst (λ (x : Flight). IfSome (sought (seek (stage_at u) x.pending))
+    subst (λ (x : Flight). IfSome (located (seek (stage_at u) x.pending))
     (λ s. IsRestOf (shape_of s.pending.instr) rest)) (sym (reserved f g i at p q)) (one_rest
     (stage_at u (record { instr = i; at = at; number = 1; unit = _; phase = _ })) _ rest h)
 

@@ -15,7 +15,7 @@ pub fn word(octal: &str) -> Word60 {
     Word60::from_octal(octal.as_bytes()).unwrap_or_default()
 }
 
-fn place(memory: &mut Storage, address: u32, octal: &str) {
+fn put_word(memory: &mut Storage, address: u32, octal: &str) {
     if address < memory.size() {
         memory.store(address, word(octal));
     }
@@ -24,10 +24,10 @@ fn place(memory: &mut Storage, address: u32, octal: &str) {
 /// A memory of 256 words to boot with: the package at 40 has RA 100 and FL 20, and over that these words stand.
 pub fn memory_of(alloc: Global, words: Words<'_>) -> Result<Storage, Refusal> {
     let mut memory = Storage::new(alloc, 256)?;
-    place(&mut memory, 0o41, "00000100000000000000");
-    place(&mut memory, 0o42, "00000020000000000000");
+    put_word(&mut memory, 0o41, "00000100000000000000");
+    put_word(&mut memory, 0o42, "00000020000000000000");
     for (address, octal) in words {
-        place(&mut memory, *address, octal);
+        put_word(&mut memory, *address, octal);
     }
     Ok(memory)
 }

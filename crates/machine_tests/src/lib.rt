@@ -2,8 +2,8 @@
 //! itself.
 //!
 //! The first table is `PAST_ALL` in `event_tests`: events, one a row, with the answer of each.
-//! `scanning` has the machine a second time, as a plain list that is scanned for each conflict, and
-//! `scanning_tests` asks both the same generated events. `reached_tests` has callers that know only
+//! `list_machine` has the machine a second time, as a plain list that is scanned for each conflict, and
+//! `list_machine_tests` asks both the same generated events. `reached_tests` has callers that know only
 //! by contracts what led to their machine. `token_tests` has the calls with tokens.
 #![tactic(auto)]
 
@@ -18,8 +18,8 @@ mod flight_tests;
 #[cfg(test)]
 mod reached_tests;
 #[cfg(test)]
-mod scanning;
+mod list_machine;
 #[cfg(test)]
-mod scanning_tests;
+mod list_machine_tests;
 #[cfg(test)]
 mod token_tests;

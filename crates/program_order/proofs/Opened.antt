@@ -3,7 +3,7 @@ use Rattle.scoreboard.specs.Reservations as board
 use Rattle.scoreboard.specs.Reservations.{is_reserved, returning_to}
 use Rattle.in_flight.specs.Pending.{has_read, has_turn, is_branch, progress_of, returning, reservation_of, to_come}
 use Rattle.in_flight.specs.Lookup.{in_phase}
-use Rattle.in_flight.proofs.asking.Asked.{reads}
+use Rattle.in_flight.proofs.asking.PendingReservations.{reads}
 use Rattle.in_flight.proofs.asking.Phases.{before_and, reads_in, to_come_in}
 use Rattle.program_order.specs.Refusals.{is_accept_refusal, is_access_refusal, is_ask_refusal, is_exchange_refusal}
 use Rattle.program_order.specs.Refusals.{is_issue_refusal}

@@ -35,10 +35,10 @@ run_phase b s instr at (Before t) = do_work b s (work_of (shape_of instr) (value
 run_phase b s instr at (After l) = do_outstanding s l
 
 -- all effects of a pending instruction that are still to come
-unfoldable pub run : Bounds → State → Pending → State
-run b s m = run_phase b s m.instr m.at m.phase
+unfoldable pub finish_effects : Bounds → State → Pending → State
+finish_effects b s m = run_phase b s m.instr m.at m.phase
 
 -- Complete: the state after the effects of all, oldest first
 unfoldable pub complete : Bounds → State → List Pending → State
 complete b s [] = s
-complete b s (m ∷ ms) = complete b (run b s m) ms
+complete b s (m ∷ ms) = complete b (finish_effects b s m) ms

@@ -29,12 +29,12 @@ unfoldable pub exchange_tests : Option ℕ → List Pending → State → List T
 exchange_tests request pending state =
     record { fails = is_none request; refusal = Nothing }
     ∷ record { fails = is_pending pending; refusal = NotDrained }
-    ∷ record { fails = is_none state.halt && (not state.fault && is_some state.place.held); refusal = MidWord }
+    ∷ record { fails = is_none state.halt && (not state.fault && is_some state.position.held); refusal = MidWord }
     ∷ []
 
 -- ---- what it leaves ----
 
--- the state and the package change places, the log gains the exchange, and no request waits
+-- the state and the package are exchanged, the log gains the exchange, and no request waits
 unfoldable pub after_exchange : Processor → Option ℕ → Processor
 after_exchange w None = w
 after_exchange w (Some n) = record w { state = swap n w.state; log = w.log ++ Exchanged n ∷ []; request = None }

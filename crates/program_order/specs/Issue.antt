@@ -11,7 +11,7 @@ use Rattle.instructions.specs.declared.refusal.Refusal.TheVariants.{ExchangeWait
 use Rattle.instructions.specs.Operands.{uses}
 use Rattle.sequential.specs.declared.fetching.Fetched.{Fetched}
 use Rattle.sequential.specs.declared.fetching.Fetched.TheVariants.{Halting, Passing, Taking}
-use Rattle.sequential.specs.declared.place.Place.{Place}
+use Rattle.sequential.specs.declared.position.ProgramPosition.{ProgramPosition}
 use Rattle.sequential.specs.declared.state.State.{State}
 use Rattle.sequential.specs.State.{Bounds, bounds_of, absolute, move_to, halt_by}
 use Rattle.sequential.specs.Step.{fetch}
@@ -31,8 +31,8 @@ waits_at None ms = false
 waits_at (Some a) ms = list_any (delays_fetch a) ms
 
 -- E6, fetch waits: no word is held, P is in range, and a store may still change the word
-unfoldable pub fetch_waits : Bounds → Place → List Pending → Bool
-fetch_waits b place ms = is_none place.held && waits_at (absolute b place.p) ms
+unfoldable pub fetch_waits : Bounds → ProgramPosition → List Pending → Bool
+fetch_waits b position ms = is_none position.held && waits_at (absolute b position.p) ms
 
 -- E1, halted; E2, faulted; E3, budget: it is used up; E4, branch pending; E5, exchange waiting: one is asked for and
 -- no word is held; E6, fetch waits; then E7 and E8 by first order
@@ -42,21 +42,21 @@ issue_tests state pending request budget count =
     ∷ record { fails = state.fault; refusal = Faulted }
     ∷ record { fails = nat_le budget count; refusal = Budget }
     ∷ record { fails = list_any is_branch pending; refusal = BranchPending }
-    ∷ record { fails = is_some request && is_none state.place.held; refusal = ExchangeWaiting }
-    ∷ record { fails = fetch_waits (bounds_of state) state.place pending; refusal = FetchWait }
-    ∷ reservation_tests pending (fetch (bounds_of state) state.memory state.place)
+    ∷ record { fails = is_some request && is_none state.position.held; refusal = ExchangeWaiting }
+    ∷ record { fails = fetch_waits (bounds_of state) state.position pending; refusal = FetchWait }
+    ∷ reservation_tests pending (fetch (bounds_of state) state.memory state.position)
 
 -- ---- what it leaves ----
 
--- the machine halts, or the place moves on; the log gains an instruction, and one with a unit becomes pending
+-- the machine halts, or the position moves on; the log gains an instruction, and one with a unit becomes pending
 unfoldable pub after_issue : Processor → Fetched → Processor
-after_issue w (Halting h place) = record w { state = halt_by (move_to w.state place) h; log = w.log ++ Issued ∷ [] }
-after_issue w (Passing place) = record w { state = move_to w.state place; log = w.log ++ Issued ∷ [] }
-after_issue w (Taking i place) = record w {
-  state = move_to w.state place;
+after_issue w (Halting h position) = record w { state = halt_by (move_to w.state position) h; log = w.log ++ Issued ∷ [] }
+after_issue w (Passing position) = record w { state = move_to w.state position; log = w.log ++ Issued ∷ [] }
+after_issue w (Taking i position) = record w {
+  state = move_to w.state position;
   pending = w.pending ++ record {
     instr = i;
-    at = w.state.place.p;
+    at = w.state.position.p;
     number = suc w.last;
     unit = unwrap_or (unit_for w.pending (uses i).unit) Branch;
     phase = Before Waiting;

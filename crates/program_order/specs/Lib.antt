@@ -8,13 +8,13 @@ pub mod Units
 pub mod Memory
 pub mod Exchange
 pub mod Peripheral
-pub mod Passing
+pub mod EitherOrder
 pub mod Events
-pub mod Sound
+pub mod Invariant
 pub mod Run
 pub mod Headline
-pub mod Working
+pub mod Drain
 pub mod Reached
 pub mod Refusals
 pub mod Telling
-pub mod Snapped
+pub mod SnapshotView

@@ -5,7 +5,7 @@ use Rattle.std.specs.Prelude.{ℕ, suc, not, nat_le, nat_lt, List, [], ◌∷◌
 use Rattle.std.specs.List.{list_any}
 use Rattle.instructions.specs.declared.refusal.Refusal.TheVariants.{Budget, PeripheralWait, PeripheralRange}
 use Rattle.sequential.specs.Replay.{ReadAt, Wrote}
-use Rattle.sequential.specs.State.{poke}
+use Rattle.sequential.specs.State.{store_word}
 use Rattle.in_flight.specs.declared.pending.Pending.{Pending}
 use Rattle.in_flight.specs.Pending.{delays_access}
 use Rattle.in_flight.specs.Tests.{Test}
@@ -31,4 +31,4 @@ after_pp_read w a = record w { log = w.log ++ ReadAt a ∷ []; accessed = suc w.
 -- memory has the word, and the log gains that it was written; a held word stays as it was
 unfoldable pub after_pp_write : Processor → ℕ → ℕ → Processor
 after_pp_write w a v =
-    record w { state = poke w.state a v; log = w.log ++ Wrote a v ∷ []; accessed = suc w.accessed }
+    record w { state = store_word w.state a v; log = w.log ++ Wrote a v ∷ []; accessed = suc w.accessed }

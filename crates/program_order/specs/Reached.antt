@@ -6,7 +6,7 @@ use Rattle.program_order.specs.declared.event.Done.TheVariants.{Made}
 use Rattle.program_order.specs.declared.event.Event.{Event}
 use Rattle.program_order.specs.Run.{IsAnswered, settled_all}
 use Rattle.program_order.specs.Processor.{Processor, boot_processor}
-use Rattle.program_order.specs.Working.{Accepts}
+use Rattle.program_order.specs.Drain.{Accepts}
 
 -- the machine, with its seats not given out
 abbrev pub without_seats : Processor → Processor

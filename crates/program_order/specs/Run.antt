@@ -22,14 +22,14 @@ use Rattle.in_flight.specs.Tests.{unit_for}
 
 -- an instruction with a unit is answered with its reservation
 unfoldable pub note_by : Processor → Fetched → Option Note
-note_by w (Halting halt place) = None
-note_by w (Passing place) = None
-note_by w (Taking i place) =
+note_by w (Halting halt position) = None
+note_by w (Passing position) = None
+note_by w (Taking i position) =
     Some (record { unit = unwrap_or (unit_for w.pending (uses i).unit) Branch; number = suc w.last })
 
 -- what a made event is answered: an issue's reservation, the word that was read, or that the event was made
 unfoldable pub done_by : Processor → Event → Done
-done_by w Issue = DoneIssue (note_by w (fetch (bounds_of w.state) w.state.memory w.state.place))
+done_by w Issue = DoneIssue (note_by w (fetch (bounds_of w.state) w.state.memory w.state.position))
 done_by w (Read u) = Made
 done_by w (Finish u) = Made
 done_by w (Store u) = Made

@@ -9,7 +9,7 @@ use Rattle.instructions.specs.Operands.{uses}
 use Rattle.scoreboard.specs.Units.{may_take}
 use Rattle.sequential.specs.declared.state.State.{State}
 use Rattle.sequential.specs.Replay.{boot}
-use Rattle.sequential.specs.Taken.{taken_in, taken}
+use Rattle.sequential.specs.UnitIssues.{taken_in, taken}
 use Rattle.program_order.specs.declared.event.Note.{Note}
 use Rattle.program_order.specs.Processor.{Processor}
 
@@ -32,4 +32,4 @@ pub record IsNoted (s : State) (number : ℕ) (note : Option Note) : Type 0 wher
 pub record IsWhy (s : State) (refusal : Refusal) : Type 0 where
   pub halted : (halt : Halt) → refusal ≡ Halted halt → s.halt ≡ Some halt
   pub faulted : refusal ≡ Faulted → s.fault ≡ true
-  pub mid_word : refusal ≡ MidWord → (s.halt ≡ None) × (s.fault ≡ false) × (is_some s.place.held ≡ true)
+  pub mid_word : refusal ≡ MidWord → (s.halt ≡ None) × (s.fault ≡ false) × (is_some s.position.held ≡ true)

@@ -11,7 +11,7 @@ use Rattle.relocation.specs.declared.area.Access.TheVariants.{Load, Store as Sto
 use Rattle.unit_ops.specs.Values.{value_of}
 use Rattle.sequential.specs.declared.work.ProgramReference.{ProgramReference}
 use Rattle.sequential.specs.State.{Bounds, bounds_of, absolute}
-use Rattle.sequential.specs.Work.{operands, Work, work_of, do_now}
+use Rattle.sequential.specs.Work.{operands, Work, work_of, write_and_jump}
 use Rattle.in_flight.specs.declared.pending.Stage.{Stage}
 use Rattle.in_flight.specs.declared.pending.Stage.TheVariants.{Waiting, Read as HasRead, Finished}
 use Rattle.in_flight.specs.declared.pending.Outstanding.{Outstanding}
@@ -78,7 +78,7 @@ after_finish w f =
 -- reference out of range may set the fault flag
 unfoldable pub after_work : Processor → Found Pending Stage → Work → Processor
 after_work w f work = record w {
-  state = do_now (bounds_of w.state) w.state work;
+  state = write_and_jump (bounds_of w.state) w.state work;
   pending = put_back f (kept f.item (rest_of (bounds_of w.state) (unwrap_or (place_for w.pending) 0) work.reference));
 }
 

@@ -10,7 +10,7 @@ ghost use Rattle.sequential.specs.State.{access_at};
 ghost use Rattle.sequential.specs.Log.{issued};
 ghost use Rattle.program_order.specs.declared.event.Event.TheVariants.{Issue, Exchange as MakeExchange};
 ghost use Rattle.program_order.specs.Headline.{IsFaithful, GainsAccesses, makes_no_exchange};
-ghost use Rattle.program_order.specs.Passing.{same_register};
+ghost use Rattle.program_order.specs.EitherOrder.{same_register};
 ghost use Rattle.program_order.specs.Reached.{IsReached};
 ghost use Rattle.program_order.specs.Run.{IsAnswered, settled_all};
 ghost use Rattle.program_order.specs.Processor.{Processor as SomeProcessor};
@@ -57,8 +57,8 @@ pub fn references_that_pass_commute()
 pub fn a_drained_machine_goes_on()
     ensures issue { (w : SomeProcessor) → is_pending w.pending ≡ false → w.state.halt ≡ None → w.state.fault ≡ false
         → issued w.log < w.budget
-        → (is_none w.request || is_some w.state.place.held) ≡ true → allowed w Issue ≡ None }
+        → (is_none w.request || is_some w.state.position.held) ≡ true → allowed w Issue ≡ None }
     ensures exchange { (w : SomeProcessor) → (at : ℕ) → is_pending w.pending ≡ false → w.request ≡ Some at
-        → (is_none w.state.halt && (not w.state.fault && is_some w.state.place.held)) ≡ false
+        → (is_none w.state.halt && (not w.state.fault && is_some w.state.position.held)) ≡ false
         → allowed w MakeExchange ≡ None }
 {}

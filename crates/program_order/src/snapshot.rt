@@ -22,7 +22,7 @@ impl Model for Snapshot {
     ghost use Rattle.std.specs.Prelude.{◌≡◌, ◌≤◌, Some};
     ghost use Rattle.sequential.specs.Log.{issued};
     ghost use Rattle.sequential.specs.Replay.{boot, replay};
-    ghost use Rattle.program_order.specs.Snapped.{Snapped};
+    ghost use Rattle.program_order.specs.SnapshotView.{Snapped};
 
     ghost Value = { Snapped };
 

@@ -92,7 +92,7 @@ pub struct Crew<K: Naming> {
 
 /// Where what is held for a unit in use stands.
 fn place_of(unit: Unit) -> Option<usize>
-    ensures { IfSome result (λ place. place < 7) }
+    ensures { IfSome result (λ position. position < 7) }
 {
     match unit {
         Unit::Branch => Some(0),
@@ -143,7 +143,7 @@ impl<K: Naming> Crew<K> {
     /// Lends what is held for a unit to a call.
     fn lend(&mut self, unit: Unit) -> Held {
         match place_of(unit) {
-            Some(place) => mem::replace(&mut self.held[place], Held::Lent),
+            Some(position) => mem::replace(&mut self.held[position], Held::Lent),
             None => Held::Lent,
         }
     }
@@ -152,7 +152,7 @@ impl<K: Naming> Crew<K> {
     fn take_back(&mut self, unit: Unit, step: Step) -> Answer {
         let (held, answer) = step;
         let left = match place_of(unit) {
-            Some(place) => mem::replace(&mut self.held[place], held),
+            Some(position) => mem::replace(&mut self.held[position], held),
             None => held,
         };
         left.leave();
@@ -189,7 +189,7 @@ impl<K: Naming> Crew<K> {
             Event::Read(unit) => self.work(rt, unit, event),
             Event::Finish(unit) => self.work(rt, unit, event),
             Event::Store(unit) => self.work(rt, unit, event),
-            Event::Accept(place) => made(self.shared.accept(rt, place)),
+            Event::Accept(position) => made(self.shared.accept(rt, position)),
             Event::Return(channel) => made(self.shared.return_load(rt, channel)),
             Event::BankFree(bank) => made(self.shared.bank_free(rt, bank)),
             Event::Ask(at) => made(self.shared.ask(rt, &mut self.seen, at)),

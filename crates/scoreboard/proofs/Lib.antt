@@ -1,4 +1,4 @@
 -- The lemmas, lowest first.
 pub mod Opened
-pub mod seating
+pub mod in_slots
 pub mod changing

@@ -10,7 +10,7 @@ use Rattle.instructions.specs.declared.refusal.Refusal.{Refusal}
 use Rattle.instructions.specs.declared.refusal.Refusal.TheVariants.{UnitBusy, ResultReserved, OperandAwaited}
 use Rattle.instructions.specs.declared.refusal.Refusal.TheVariants.{ResultHeld, OutOfTurn}
 use Rattle.instructions.specs.Finding.{Found}
-use Rattle.instructions.specs.Shape.{shape_of, puts_of, results, has_reference}
+use Rattle.instructions.specs.Shape.{shape_of, sets_of, results, has_reference}
 use Rattle.instructions.specs.Operands.{uses, sources_of}
 use Rattle.scoreboard.specs.declared.reservation.Progress.{Progress}
 use Rattle.scoreboard.specs.declared.reservation.Progress.TheVariants.{Reserved, Left}
@@ -61,8 +61,8 @@ read_answer (Some f) =
 unfoldable pub store_answer : Option (Found Issued Instr) → Result (Unit {0}) Refusal
 store_answer None = Ok tt
 store_answer (Some f) =
-    unless (result_held reservation_of f.earlier (puts_of (shape_of f.answer)))
-    (ResultHeld (first_such (to_be_read reservation_of f.earlier) (puts_of (shape_of f.answer))))
+    unless (result_held reservation_of f.earlier (sets_of (shape_of f.answer)))
+    (ResultHeld (first_such (to_be_read reservation_of f.earlier) (sets_of (shape_of f.answer))))
 
 -- E10, result held (third order): an earlier instruction has still to read the X register that the load's return
 -- writes

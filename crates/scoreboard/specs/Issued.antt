@@ -5,7 +5,7 @@ use Rattle.instructions.specs.declared.instr.Reg.{Reg}
 use Rattle.instructions.specs.declared.instr.Reg.TheVariants.{X}
 use Rattle.instructions.specs.declared.instr.Unit.{Unit as FunctionalUnit}
 use Rattle.instructions.specs.RegisterLists.{is_in}
-use Rattle.instructions.specs.Shape.{Shape, Puts, Loads, Stores, Jumps, Links, shape_of, puts_of}
+use Rattle.instructions.specs.Shape.{Shape, Sets, Loads, Stores, Jumps, Links, shape_of, sets_of}
 use Rattle.instructions.specs.Operands.{reg_eq}
 use Rattle.scoreboard.specs.declared.reservation.Progress.{Progress}
 use Rattle.scoreboard.specs.declared.reservation.Progress.TheVariants.{Reserved, Left}
@@ -24,7 +24,7 @@ number_of x = x.number
 
 -- the channel of a load: the number of its X register
 unfoldable pub channel_of : Shape → Option ℕ
-channel_of (Puts rs) = None
+channel_of (Sets rs) = None
 channel_of (Loads n) = Some n
 channel_of (Stores n) = None
 channel_of Jumps = None
@@ -39,7 +39,7 @@ written_by_channel r (Some n) = if reg_eq r (X n) then Some (OfChannel n) else N
 -- register; after it only a channel is left
 unfoldable pub written_in : Reg → FunctionalUnit → Shape → Progress → Option Writer
 written_in r unit shape (Reserved has_read) =
-    if is_in (puts_of shape) r then Some (OfUnit unit) else written_by_channel r (channel_of shape)
+    if is_in (sets_of shape) r then Some (OfUnit unit) else written_by_channel r (channel_of shape)
 written_in r unit shape (Left returning) = written_by_channel r returning
 
 -- who writes the register for it: its unit at the store event, or the channel of its load

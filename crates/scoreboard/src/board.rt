@@ -134,8 +134,8 @@ impl Board {
         ensures { result ≡ read_answer (seek (held_in unit) self.now.issued) }
     {
         let index = index_of(unit);
-        let seat = self.units[index];
-        let Some(issued) = seat else {
+        let slot = self.units[index];
+        let Some(issued) = slot else {
             return Ok(());
         };
         let producers = &self.producers[..];
@@ -160,11 +160,11 @@ impl Board {
         ensures { result ≡ store_answer (seek (held_in unit) self.now.issued) }
     {
         let index = index_of(unit);
-        let seat = self.units[index];
-        let Some(issued) = seat else {
+        let slot = self.units[index];
+        let Some(issued) = slot else {
             return Ok(());
         };
-        let written = issued.reservation.instr.puts();
+        let written = issued.reservation.instr.sets();
         match first_to_be_read(&self.units, issued.number, written.as_slice()) {
             Some(register) => Err(Refusal::ResultHeld(register)),
             None => Ok(()),
@@ -180,8 +180,8 @@ impl Board {
         requires { channel < 8 }
         ensures { result ≡ return_answer channel (seek (returning_by channel) self.now.issued) }
     {
-        let seat = self.channels[usize::from(channel)];
-        let Some(issued) = seat else {
+        let slot = self.channels[usize::from(channel)];
+        let Some(issued) = slot else {
             return Ok(());
         };
         let register = Reg::X(digit(channel));
@@ -201,8 +201,8 @@ impl Board {
         ensures { result ≡ turn_answer (seek (held_in unit) self.now.issued) }
     {
         let index = index_of(unit);
-        let seat = self.units[index];
-        let Some(issued) = seat else {
+        let slot = self.units[index];
+        let Some(issued) = slot else {
             return Ok(());
         };
         if issued.reservation.instr.has_reference() && any_turn(&self.units, issued.number) {
@@ -254,11 +254,11 @@ impl Board {
             (replaced (seek (held_in unit) self.old.issued) self.old.issued left) }
     {
         let index = index_of(unit);
-        let seat = self.units[index];
-        let Some(issued) = seat else {
+        let slot = self.units[index];
+        let Some(issued) = slot else {
             return;
         };
-        let written = issued.reservation.instr.puts();
+        let written = issued.reservation.instr.sets();
         self.units[index] = None;
         put_left(&mut self.channels, &issued);
         // The unit is entered as the writer of these registers alone.
@@ -277,8 +277,8 @@ impl Board {
             (replaced (seek (returning_by channel) self.old.issued) self.old.issued gone) }
     {
         let index = usize::from(channel);
-        let seat = self.channels[index];
-        let Some(issued) = seat else {
+        let slot = self.channels[index];
+        let Some(issued) = slot else {
             return;
         };
         let number = digit(channel);

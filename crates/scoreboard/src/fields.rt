@@ -1,4 +1,4 @@
-//! Questions to the fields of a board, and how an issue and a store event change the fields. A seat is the field of one
+//! Questions to the fields of a board, and how an issue and a store event change the fields. A slot is the field of one
 //! unit.
 
 ghost use Rattle.std.specs.Prelude.{IfSome, ◌≡◌, ◌≤◌, ◌<◌, ◌||◌, ◌∷◌, [], length, find, is_some};
@@ -8,9 +8,9 @@ ghost use Rattle.instructions.specs.Operands.{uses};
 ghost use Rattle.scoreboard.specs.Conflicts.{first_free};
 ghost use Rattle.scoreboard.specs.Units.{units_of, first_unit};
 ghost use Rattle.scoreboard.specs.Reservations.{has_turn, has_store_turn};
-ghost use Rattle.scoreboard.specs.inner.Fields.{seat_at, in_increment, is_taken, seat_is, seat_waits, seat_reads};
-ghost use Rattle.scoreboard.specs.inner.Fields.{seat_has_turn, free_for, channels_with, writers_with, forget_in_taken};
-ghost use Rattle.instructions.specs.Shape.{shape_of, puts_of};
+ghost use Rattle.scoreboard.specs.inner.Fields.{slot_at, in_increment, is_taken, slot_is, slot_waits, slot_reads};
+ghost use Rattle.scoreboard.specs.inner.Fields.{slot_has_turn, free_for, channels_with, writers_with, forget_in_taken};
+ghost use Rattle.instructions.specs.Shape.{shape_of, sets_of};
 ghost use Rattle.instructions.specs.Each.{Each};
 ghost use Rattle.scoreboard.specs.Issued.{channel_of};
 ghost use Rattle.scoreboard.specs.Writers.{IsRegister};
@@ -41,56 +41,56 @@ pub(crate) fn first_produced(registers: &[Reg], producers: &[Option<Writer>]) ->
     None
 }
 
-/// Whether the seat's instruction has a lower number and has still to read its operands.
-#[tactic(auto, unfolding(crate::specs::inner::Fields::seat_waits))]
-fn seat_waits(seat: &Option<Issued>, number: u64) -> bool
-    ensures { result ≡ seat_waits number seat.now }
+/// Whether the slot's instruction has a lower number and has still to read its operands.
+#[tactic(auto, unfolding(crate::specs::inner::Fields::slot_waits))]
+fn slot_waits(slot: &Option<Issued>, number: u64) -> bool
+    ensures { result ≡ slot_waits number slot.now }
 {
-    match seat {
+    match slot {
         None => false,
         Some(issued) => issued.number < number && issued.reservation.is_unread(),
     }
 }
 
 /// Whether an instruction of a lower number has still to read its operands.
-fn is_any_unread(seats: &[Option<Issued>], number: u64) -> bool
-    ensures { result ≡ list_any (seat_waits number) seats.now }
+fn is_any_unread(slots: &[Option<Issued>], number: u64) -> bool
+    ensures { result ≡ list_any (slot_waits number) slots.now }
 {
-    seats.iter().any(|seat| seat_waits(seat, number))
+    slots.iter().any(|slot| slot_waits(slot, number))
 }
 
-/// Whether the seat's instruction has a lower number and has still to read the register.
-#[tactic(auto, unfolding(crate::specs::inner::Fields::seat_reads))]
-fn seat_reads(seat: &Option<Issued>, number: u64, register: &Reg) -> bool
-    ensures { result ≡ seat_reads number register.now seat.now }
+/// Whether the slot's instruction has a lower number and has still to read the register.
+#[tactic(auto, unfolding(crate::specs::inner::Fields::slot_reads))]
+fn slot_reads(slot: &Option<Issued>, number: u64, register: &Reg) -> bool
+    ensures { result ≡ slot_reads number register.now slot.now }
 {
-    match seat {
+    match slot {
         None => false,
         Some(issued) => issued.number < number && issued.reservation.has_to_read(register),
     }
 }
 
 /// Whether an instruction of a lower number has still to read the register.
-pub(crate) fn is_to_be_read(seats: &[Option<Issued>], number: u64, register: &Reg) -> bool
-    ensures { result ≡ list_any (seat_reads number register.now) seats.now }
+pub(crate) fn is_to_be_read(slots: &[Option<Issued>], number: u64, register: &Reg) -> bool
+    ensures { result ≡ list_any (slot_reads number register.now) slots.now }
 {
-    seats.iter().any(|seat| seat_reads(seat, number, register))
+    slots.iter().any(|slot| slot_reads(slot, number, register))
 }
 
 /// The first of the registers that an instruction of a lower number has still to read.
 pub(crate) fn first_to_be_read(
-    seats: &[Option<Issued>],
+    slots: &[Option<Issued>],
     number: u64,
     registers: &[Reg],
 ) -> Option<Reg>
-    ensures { result ≡ find (λ r. list_any (seat_reads number r) seats.now) registers.now }
+    ensures { result ≡ find (λ r. list_any (slot_reads number r) slots.now) registers.now }
 {
     // Mostly none has anything left to read, and then there is no need to look for a register.
-    if registers.is_empty() || !is_any_unread(seats, number) {
+    if registers.is_empty() || !is_any_unread(slots, number) {
         return None;
     }
     for register in registers {
-        if is_to_be_read(seats, number, register) {
+        if is_to_be_read(slots, number, register) {
             return Some(*register);
         }
     }
@@ -98,10 +98,10 @@ pub(crate) fn first_to_be_read(
 }
 
 /// Whether the unit's instruction has a lower number and a reference that hasn't come to its store event.
-#[tactic(auto, unfolding(crate::specs::inner::Fields::seat_has_turn))]
+#[tactic(auto, unfolding(crate::specs::inner::Fields::slot_has_turn))]
 fn unit_has_turn(units: &[Option<Issued>], unit: Unit, number: u64) -> bool
     requires { length units.now ≡ 10 }
-    ensures { result ≡ seat_has_turn number (seat_at units.now unit) }
+    ensures { result ≡ slot_has_turn number (slot_at units.now unit) }
 {
     match &units[usize::from(unit_number(unit))] {
         None => false,
@@ -113,8 +113,8 @@ fn unit_has_turn(units: &[Option<Issued>], unit: Unit, number: u64) -> bool
 /// and the Increment units takes such instructions.
 pub(crate) fn any_turn(units: &[Option<Issued>], number: u64) -> bool
     requires { length units.now ≡ 10 }
-    ensures { result ≡ (seat_has_turn number (seat_at units.now Branch)
-        || in_increment (seat_has_turn number) units.now) }
+    ensures { result ≡ (slot_has_turn number (slot_at units.now Branch)
+        || in_increment (slot_has_turn number) units.now) }
 {
     unit_has_turn(units, Unit::Branch, number)
         || unit_has_turn(units, Unit::Increment1, number)
@@ -122,10 +122,10 @@ pub(crate) fn any_turn(units: &[Option<Issued>], number: u64) -> bool
 }
 
 /// Whether the unit's instruction has a reference that hasn't come to its store event.
-#[tactic(auto, unfolding(crate::specs::inner::Fields::seat_is))]
+#[tactic(auto, unfolding(crate::specs::inner::Fields::slot_is))]
 fn unit_has_reference(units: &[Option<Issued>], unit: Unit) -> bool
     requires { length units.now ≡ 10 }
-    ensures { result ≡ seat_is has_turn (seat_at units.now unit) }
+    ensures { result ≡ slot_is has_turn (slot_at units.now unit) }
 {
     match &units[usize::from(unit_number(unit))] {
         None => false,
@@ -137,7 +137,7 @@ fn unit_has_reference(units: &[Option<Issued>], unit: Unit) -> bool
 /// such instructions.
 pub(crate) fn any_reference(units: &[Option<Issued>]) -> bool
     requires { length units.now ≡ 10 }
-    ensures { result ≡ (seat_is has_turn (seat_at units.now Branch) || in_increment (seat_is has_turn) units.now) }
+    ensures { result ≡ (slot_is has_turn (slot_at units.now Branch) || in_increment (slot_is has_turn) units.now) }
 {
     unit_has_reference(units, Unit::Branch)
         || unit_has_reference(units, Unit::Increment1)
@@ -145,10 +145,10 @@ pub(crate) fn any_reference(units: &[Option<Issued>]) -> bool
 }
 
 /// Whether the unit's instruction is an SA6 or SA7 that hasn't come to its store event.
-#[tactic(auto, unfolding(crate::specs::inner::Fields::seat_is))]
+#[tactic(auto, unfolding(crate::specs::inner::Fields::slot_is))]
 fn unit_has_store(units: &[Option<Issued>], unit: Unit) -> bool
     requires { length units.now ≡ 10 }
-    ensures { result ≡ seat_is has_store_turn (seat_at units.now unit) }
+    ensures { result ≡ slot_is has_store_turn (slot_at units.now unit) }
 {
     match &units[usize::from(unit_number(unit))] {
         None => false,
@@ -159,12 +159,12 @@ fn unit_has_store(units: &[Option<Issued>], unit: Unit) -> bool
 /// Whether an instruction is an SA6 or SA7 that hasn't come to its store event. Only the Increment units take them.
 pub(crate) fn any_store(units: &[Option<Issued>]) -> bool
     requires { length units.now ≡ 10 }
-    ensures { result ≡ in_increment (seat_is has_store_turn) units.now }
+    ensures { result ≡ in_increment (slot_is has_store_turn) units.now }
 {
     unit_has_store(units, Unit::Increment1) || unit_has_store(units, Unit::Increment2)
 }
 
-/// Whether the seat of the unit is taken.
+/// Whether the slot of the unit is taken.
 pub(crate) fn is_taken(units: &[Option<Issued>], unit: Unit) -> bool
     requires { length units.now ≡ 10 }
     ensures { result ≡ is_taken units.now unit }
@@ -172,7 +172,7 @@ pub(crate) fn is_taken(units: &[Option<Issued>], unit: Unit) -> bool
     units[usize::from(unit_number(unit))].is_some()
 }
 
-/// The unit, if its seat is free.
+/// The unit, if its slot is free.
 #[tactic(auto, unfolding(crate::specs::Conflicts::first_free))]
 fn if_free(units: &[Option<Issued>], unit: Unit) -> Option<Unit>
     requires { length units.now ≡ 10 }
@@ -250,15 +250,15 @@ pub(crate) fn put_left(channels: &mut [Option<Issued>], issued: &Issued)
 /// A new instruction is to write its results: its unit at the store event, the channel the X register of a load.
 #[tactic(auto, unfolding(crate::specs::inner::Fields::writers_with))]
 pub(crate) fn expect(writers: &mut Writers, instr: &Instr, unit: Unit)
-    ensures value { writers.new ≡ writers_with writers.old unit (puts_of (shape_of instr.now))
+    ensures value { writers.new ≡ writers_with writers.old unit (sets_of (shape_of instr.now))
         (channel_of (shape_of instr.now)) }
-    ensures registers { Each IsRegister (puts_of (shape_of instr.now)) }
+    ensures registers { Each IsRegister (sets_of (shape_of instr.now)) }
     ensures channel { IfSome (channel_of (shape_of instr.now)) (λ n. n < 8) }
 {
     if let Some(n) = channel(instr) {
         writers.set(Reg::X(n), Some(Writer::OfChannel(n)));
     }
-    let written = instr.puts();
+    let written = instr.sets();
     writers.set_each(written.as_slice(), &Some(Writer::OfUnit(unit)));
 }
 

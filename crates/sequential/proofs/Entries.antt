@@ -235,7 +235,7 @@ read_within [] i e h = cc
 read_within (x ∷ es) zero e h = omega arith
 read_within (x ∷ es) (suc i) e h = let k : i < length es = read_within es i e h in omega arith
 
--- the last place of a list with an element there
+-- the last position of a list with an element there
 pub last_place : (es : List Entry) (e : Entry) → slice_get es (length es - 1) ≡ Some e → length es ≡ suc (length es - 1)
 last_place es e h = let k = read_within es (length es - 1) e h in omega (arith, k)
 

@@ -2,4 +2,4 @@ pub mod Opened
 pub mod Entries
 pub mod Performing
 pub mod Runs
-pub mod Taken
+pub mod UnitIssues

@@ -1,6 +1,6 @@
 -- A name for each list of definitions that a proof opens at once.
 use Rattle.sequential.specs.Log.{entries_of, issued, run_after, steps_of}
-use Rattle.sequential.specs.State.{absolute, access_at, bounds_of, halt_by, move_to, poke, write}
+use Rattle.sequential.specs.State.{absolute, access_at, bounds_of, halt_by, move_to, store_word, write}
 use Rattle.sequential.specs.Step.{do_fetched, fetch, fetched_from, step, step_unless, word_at, word_seen}
 use Rattle.sequential.specs.Work.{refer_at}
 
@@ -11,7 +11,7 @@ word_to_take = tt
 
 -- a load and a store, in range and out of it
 unfoldable pub reference_cases : Unit {0}
-unfolding refer_at access_at write poke
+unfolding refer_at access_at write store_word
 reference_cases = tt
 
 -- what each thing that was fetched does

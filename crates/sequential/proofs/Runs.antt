@@ -1,4 +1,5 @@
 -- Runs of steps, and the entries of a log one after another.
+use Rattle.std.specs.Prelude.{option_and_then}
 use Rattle.std.proofs.Common.{◌≡◌, ◌<◌, ◌≤◌, ◌+◌, ◌-◌, ℕ, zero, suc, true, false, cond, List, [], ◌∷◌, ◌++◌, Option}
 use Rattle.std.proofs.Common.{Some, None, length, take, drop, get_or, is_some, refl, sym, ap, ◌∙◌, append_assoc}
 use Rattle.std.proofs.Common.{Bool, append-nil, add-one, arith, ltb}
@@ -12,8 +13,8 @@ use Rattle.sequential.specs.declared.log.Entry.TheVariants.{Issued as Count}
 use Rattle.sequential.specs.declared.state.State.{State}
 use Rattle.sequential.specs.Log.{steps_of}
 use Rattle.sequential.specs.Replay.{LogStep, Issued, Exchanged, ReadAt, Wrote, IsRefusedAt, do_log_step, replay}
-use Rattle.sequential.specs.Replay.{step_refusal, then_replay}
-use Rattle.sequential.specs.State.{poke}
+use Rattle.sequential.specs.Replay.{step_refusal}
+use Rattle.sequential.specs.State.{store_word}
 use Rattle.sequential.specs.Step.{step, step_unless}
 use Rattle.sequential.specs.Swap.{swap}
 use Rattle.sequential.proofs.Entries.{steps-append}
@@ -25,7 +26,7 @@ unfolding step step_unless
 step_halted s h e = ap (step_unless s) e
 
 halted_by : (s : State) (n : ℕ) (h : Halt) → s.halt ≡ Some h → replay s (replicate n Issued) ≡ Some s
-unfolding replay then_replay do_log_step
+unfolding replay do_log_step
 halted_by s zero h e = refl
 halted_by s (suc n) h e = ap (λ t. replay t (replicate n Issued)) (step_halted s h e) ∙ halted_by s n h e
 
@@ -39,7 +40,7 @@ halted_run s n e = by_halt s.halt refl e
 -- ---- one step of a run ----
 
 one_issued : (s : State) (n : ℕ) → replay s (replicate (suc n) Issued) ≡ replay (step s) (replicate n Issued)
-unfolding replay then_replay do_log_step
+unfolding replay do_log_step
 one_issued s n = refl
 
 pub run_more : (s t : State) (i n : ℕ) (o : Option State) → i < n → t ≡ step s
@@ -70,10 +71,10 @@ pub single_answered : {K : Type 0} (r : Result K Refusal) (s t v : State) (x : L
     (k : Refusal) → steps_of (e ∷ []) ≡ x ∷ [] → do_log_step s x ≡ cond b (Some v) None
     → MatchResult r (λ y. b ≡ true) (λ refusal. (b ≡ false) × (refusal ≡ k))
     → MatchResult r (λ y. t ≡ v) (λ refusal. t ≡ s) → OnOk r (replay s (steps_of (e ∷ [])) ≡ Some t)
-unfolding replay then_replay
+unfolding replay
 single_answered (Ok y) s t v x e b k m d a h =
     ap (replay s) m
-    ∙ ap (λ o. then_replay o (λ u. Some u)) (d ∙ ap (λ c. cond c (Some v) None) a)
+    ∙ ap (λ o. option_and_then (λ u. Some u) o) (d ∙ ap (λ c. cond c (Some v) None) a)
     ∙ ap Some (sym h)
 single_answered (Err y) s t v x e b k m d a h = tt
 
@@ -101,20 +102,19 @@ either_way (Err y) s = refl
 -- ---- entries one after another ----
 
 pub replay-append : (s : State) (xs ys : List LogStep)
-    → replay s (xs ++ ys) ≡ then_replay (replay s xs) (λ t. replay t ys)
-unfolding replay then_replay
+    → replay s (xs ++ ys) ≡ option_and_then (λ t. replay t ys) (replay s xs)
+unfolding replay
 replay-append s [] ys = refl
 replay-append s (x ∷ xs) ys = after (do_log_step s x) (λ t. replay-append t xs ys)
   where
-    after : (o : Option State) → ((t : State) → replay t (xs ++ ys) ≡ then_replay (replay t xs) (λ u. replay u ys))
-        → then_replay o (λ t. replay t (xs ++ ys)) ≡ then_replay (then_replay o (λ t. replay t xs)) (λ u. replay u ys)
+    after : (o : Option State) → ((t : State) → replay t (xs ++ ys) ≡ option_and_then (λ u. replay u ys) (replay t xs))
+        → option_and_then (λ t. replay t (xs ++ ys)) o ≡ option_and_then (λ u. replay u ys) (option_and_then (λ t. replay t xs) o)
     after None h = refl
     after (Some t) h = h t
 
 -- a replay that came to a state goes on from it
 pub replay_on : (s t : State) (xs ys : List LogStep) → replay s xs ≡ Some t → replay s (xs ++ ys) ≡ replay t ys
-unfolding then_replay
-replay_on s t xs ys h = replay-append s xs ys ∙ ap (λ o. then_replay o (λ u. replay u ys)) h
+replay_on s t xs ys h = replay-append s xs ys ∙ ap (λ o. option_and_then (λ u. replay u ys) o) h
 
 -- the steps of a list of entries are those before an entry, its own and those after it
 split_steps : (es : List Entry) (i : ℕ) (d : Entry) → i < length es → steps_of es ≡ steps_of (take i es)
@@ -169,15 +169,15 @@ refused_step s (Exchanged n) k h =
     ap (λ b. cond b (Some (swap n s)) None) (unfit (package_fits n (length s.memory)) PackageRange k h)
 refused_step s (ReadAt a) k h = ap (λ b. cond b (Some s) None) (unfit (ltb a (length s.memory)) PeripheralRange k h)
 refused_step s (Wrote a w) k h =
-    ap (λ b. cond b (Some (poke s a w)) None) (unfit (ltb a (length s.memory)) PeripheralRange k h)
+    ap (λ b. cond b (Some (store_word s a w)) None) (unfit (ltb a (length s.memory)) PeripheralRange k h)
 
 -- steps of which one is refused lead nowhere
 pub refused_replay : (s t : State) (xs : List LogStep) (k : Refusal) → IsRefusedAt s xs t k → replay s xs ≡ None
-unfolding replay then_replay
+unfolding replay
 refused_replay s t xs k r =
     ap (replay s) r.steps_are
     ∙ replay_on s t r.before (r.at ∷ r.after) r.reached
-    ∙ ap (λ o. then_replay o (λ u. replay u r.after)) (refused_step t r.at k r.refused)
+    ∙ ap (λ o. option_and_then (λ u. replay u r.after) o) (refused_step t r.at k r.refused)
 
 -- the entry of a list at which it is refused
 pub refused_at : (s t u : State) (es : List Entry) (xs : List LogStep) (i : ℕ) (d e : Entry) (k : Refusal)

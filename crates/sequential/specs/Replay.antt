@@ -1,5 +1,6 @@
 -- The log, and the machine that goes through it step by step.
 -- Source: ours.
+use Rattle.std.specs.Prelude.{option_and_then}
 use Rattle.std.specs.Prelude.{ℕ, ◌≡◌, false, nat_lt, if◌then◌else◌, List, [], ◌∷◌, ◌++◌, Option, Some, None, length}
 use Rattle.std.specs.Prelude.{replicate}
 use Rattle.instructions.specs.declared.refusal.Halt.TheVariants.{Stop}
@@ -7,8 +8,8 @@ use Rattle.instructions.specs.declared.refusal.Refusal.{Refusal}
 use Rattle.instructions.specs.declared.refusal.Refusal.TheVariants.{PackageRange, PeripheralRange}
 use Rattle.relocation.specs.Relocation.{package_fits}
 use Rattle.sequential.specs.declared.state.State.{State}
-use Rattle.sequential.specs.Place.{beginning}
-use Rattle.sequential.specs.State.{poke}
+use Rattle.sequential.specs.Position.{beginning}
+use Rattle.sequential.specs.State.{store_word}
 use Rattle.sequential.specs.Step.{step}
 use Rattle.sequential.specs.Swap.{swap}
 
@@ -36,17 +37,12 @@ unfoldable pub do_log_step : State → LogStep → Option State
 do_log_step s Issued = Some (step s)
 do_log_step s (Exchanged n) = if package_fits n (length s.memory) then Some (swap n s) else None
 do_log_step s (ReadAt a) = if nat_lt a (length s.memory) then Some s else None
-do_log_step s (Wrote a w) = if nat_lt a (length s.memory) then Some (poke s a w) else None
-
--- the steps that remain are made where a state was reached
-unfoldable pub then_replay : Option State → (State → Option State) → Option State
-then_replay None f = None
-then_replay (Some s) f = f s
+do_log_step s (Wrote a w) = if nat_lt a (length s.memory) then Some (store_word s a w) else None
 
 -- the state after all steps of a log, none where one of them is refused
 unfoldable pub replay : State → List LogStep → Option State
 replay s [] = Some s
-replay s (x ∷ xs) = then_replay (do_log_step s x) (λ t. replay t xs)
+replay s (x ∷ xs) = option_and_then (λ t. replay t xs) (do_log_step s x)
 
 -- the first of the steps that is refused, and for what: those before it lead to the state `end`, in whose memory an
 -- exchange's sixteen words or the word of a peripheral access don't lie
@@ -68,7 +64,7 @@ unfoldable pub boot : List ℕ → State
 boot memory = record {
   registers = record { x = replicate 8 0; a = replicate 8 0; b = replicate 7 0 };
   memory = memory;
-  place = beginning 0;
+  position = beginning 0;
   area = record { ra = 0; fl = 0; mode = 0 };
   halt = Some Stop;
   fault = false;

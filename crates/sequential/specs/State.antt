@@ -10,9 +10,9 @@ use Rattle.relocation.specs.declared.area.Area.{Area}
 use Rattle.relocation.specs.declared.area.Access.{Access}
 use Rattle.relocation.specs.declared.area.Access.TheVariants.{Load, Store}
 use Rattle.relocation.specs.Relocation.{relocate}
-use Rattle.sequential.specs.declared.place.Place.{Place}
+use Rattle.sequential.specs.declared.position.ProgramPosition.{ProgramPosition}
 use Rattle.sequential.specs.declared.state.State.{State}
-use Rattle.sequential.specs.Place.{gone}
+use Rattle.sequential.specs.Position.{after_jump}
 
 -- what the range rule looks at: RA, FL, mode and the memory size
 pub record Bounds : Type 0 where
@@ -43,25 +43,25 @@ write_all s [] = s
 write_all s (e ∷ es) = write_all (write s e.0 e.1) es
 
 -- a jump is made, if there is one
-unfoldable pub go : State → Option ℕ → State
-go s to = record s { place = gone s.place to }
+unfoldable pub jump_to : State → Option ℕ → State
+jump_to s to = record s { position = after_jump s.position to }
 
 -- one word of memory is written, at an absolute address
-unfoldable pub poke : State → ℕ → ℕ → State
-poke s a w = record s { memory = slice_set s.memory a w }
+unfoldable pub store_word : State → ℕ → ℕ → State
+store_word s a w = record s { memory = slice_set s.memory a w }
 
 -- the fault flag, which stays once it is set
-unfoldable pub mark : State → Bool → State
-mark s f = record s { fault = s.fault || f }
+unfoldable pub or_fault : State → Bool → State
+or_fault s f = record s { fault = s.fault || f }
 
 -- a reference to an absolute address: a load writes Xn with the word there, a store writes the word
 unfoldable pub access_at : State → ℕ → Access → State
 access_at s a (Load n) = write s (X n) (slice_index_or s.memory a 0)
-access_at s a (Store w) = poke s a w
+access_at s a (Store w) = store_word s a w
 
--- the next instruction is at this place
-unfoldable pub move_to : State → Place → State
-move_to s place = record s { place = place }
+-- the next instruction is at this position
+unfoldable pub move_to : State → ProgramPosition → State
+move_to s position = record s { position = position }
 
 -- the machine halts, for this reason
 unfoldable pub halt_by : State → Halt → State

@@ -14,27 +14,27 @@ use Rattle.instructions.specs.Shape.{shape_of}
 use Rattle.unit_ops.specs.Values.{value_of}
 use Rattle.sequential.specs.declared.fetching.Fetched.{Fetched}
 use Rattle.sequential.specs.declared.fetching.Fetched.TheVariants.{Halting, Passing, Taking}
-use Rattle.sequential.specs.declared.place.Place.{Place}
+use Rattle.sequential.specs.declared.position.ProgramPosition.{ProgramPosition}
 use Rattle.sequential.specs.declared.state.State.{State}
-use Rattle.sequential.specs.Place.{beginning, moved_on}
+use Rattle.sequential.specs.Position.{beginning, after_parcel}
 use Rattle.sequential.specs.State.{Bounds, bounds_of, absolute, move_to, halt_by}
 use Rattle.sequential.specs.Work.{operands, work_of, do_work}
 
--- the place of an instruction itself, with its word held
-abbrev pub here : ℕ → ℕ → ℕ → Place
-here p parcel word = record { p = p; parcel = parcel; held = Some word }
+-- the position of an instruction itself, with its word held
+abbrev pub at_instruction : ℕ → ℕ → ℕ → ProgramPosition
+at_instruction p parcel word = record { p = p; parcel = parcel; held = Some word }
 
 -- a stop halts, a pass does nothing, and every other instruction goes to a unit
-unfoldable pub met : Place → Place → Instr → Fetched
-met place after Stop = Halting StopHalt place
-met place after Pass = Passing after
-met place after instr = Taking instr after
+unfoldable pub classify : ProgramPosition → ProgramPosition → Instr → Fetched
+classify position after Stop = Halting StopHalt position
+classify position after Pass = Passing after
+classify position after instr = Taking instr after
 
 -- what is read halts the machine where it stands, or moves it on
 unfoldable pub fetched_by : ℕ → ℕ → ℕ → Decoded → Fetched
-fetched_by p parcel word (Legal instr next) = met (here p parcel word) (moved_on p word next) instr
-fetched_by p parcel word (Refused op) = Halting (Illegal op) (here p parcel word)
-fetched_by p parcel word Straddle = Halting StraddleHalt (here p parcel word)
+fetched_by p parcel word (Legal instr next) = classify (at_instruction p parcel word) (after_parcel p word next) instr
+fetched_by p parcel word (Refused op) = Halting (Illegal op) (at_instruction p parcel word)
+fetched_by p parcel word Straddle = Halting StraddleHalt (at_instruction p parcel word)
 
 -- a fetch out of range halts, whatever the mode
 unfoldable pub fetched_from : ℕ → ℕ → Option ℕ → Fetched
@@ -52,8 +52,8 @@ word_seen b memory p (Some word) = Some word
 word_seen b memory p None = word_at memory (absolute b p)
 
 -- what the next instruction does to the machine before any unit works: it halts, passes or goes to a unit
-unfoldable pub fetch : Bounds → List ℕ → Place → Fetched
-fetch b memory place = fetched_from place.p place.parcel (word_seen b memory place.p place.held)
+unfoldable pub fetch : Bounds → List ℕ → ProgramPosition → Fetched
+fetch b memory position = fetched_from position.p position.parcel (word_seen b memory position.p position.held)
 
 -- an instruction's whole change at once, references too
 unfoldable pub do_instruction : Bounds → State → Instr → ℕ → State
@@ -61,14 +61,14 @@ do_instruction b s instr at = do_work b s (work_of (shape_of instr) (value_of in
 
 -- the state after what was fetched: a halt, a pass, or an instruction of the word at an address
 unfoldable pub do_fetched : Bounds → State → ℕ → Fetched → State
-do_fetched b s at (Halting halt place) = halt_by (move_to s place) halt
-do_fetched b s at (Passing place) = move_to s place
-do_fetched b s at (Taking instr place) = do_instruction b (move_to s place) instr at
+do_fetched b s at (Halting halt position) = halt_by (move_to s position) halt
+do_fetched b s at (Passing position) = move_to s position
+do_fetched b s at (Taking instr position) = do_instruction b (move_to s position) instr at
 
 -- the state after one step, unless it is halted: a halted state is unchanged
 unfoldable pub step_unless : State → Option Halt → State
 step_unless s (Some halt) = s
-step_unless s None = do_fetched (bounds_of s) s s.place.p (fetch (bounds_of s) s.memory s.place)
+step_unless s None = do_fetched (bounds_of s) s s.position.p (fetch (bounds_of s) s.memory s.position)
 
 -- one step of the machine; a state with the fault set steps on
 unfoldable pub step : State → State

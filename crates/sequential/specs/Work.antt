@@ -5,7 +5,7 @@ use Rattle.std.specs.Prelude.{None}
 use Rattle.instructions.specs.declared.instr.Instr.{Instr}
 use Rattle.instructions.specs.declared.instr.Reg.{Reg}
 use Rattle.instructions.specs.declared.instr.Reg.TheVariants.{X}
-use Rattle.instructions.specs.Shape.{Shape, Puts, Loads, Stores, Jumps, Links, puts_of, is_branch_shape}
+use Rattle.instructions.specs.Shape.{Shape, Sets, Loads, Stores, Jumps, Links, sets_of, is_branch_shape}
 use Rattle.instructions.specs.Operands.{uses}
 use Rattle.registers.specs.declared.file.RegisterFile.{RegisterFile}
 use Rattle.registers.specs.Registers.{get, put}
@@ -17,7 +17,7 @@ use Rattle.unit_ops.specs.declared.UnitValue.{UnitValue}
 use Rattle.unit_ops.specs.declared.UnitValue.TheVariants.{Word, Index, Load, Store, Jump, Link}
 use Rattle.sequential.specs.declared.state.State.{State}
 use Rattle.sequential.specs.declared.work.ProgramReference.{ProgramReference}
-use Rattle.sequential.specs.State.{Bounds, absolute, stops_at_fault, write, write_all, go, mark, access_at}
+use Rattle.sequential.specs.State.{Bounds, absolute, stops_at_fault, write, write_all, jump_to, or_fault, access_at}
 
 -- what an operand register holds; an absent operand is +0
 unfoldable pub operand_at : RegisterFile → Option Reg → ℕ
@@ -26,11 +26,11 @@ operand_at g (Some r) = get g r
 
 -- what an instruction of the word at an address computes with
 unfoldable pub operands : Instr → ℕ → RegisterFile → Operands
-operands instr place g = record {
+operands instr position g = record {
   first = operand_at g (uses instr).first;
   second = operand_at g (uses instr).second;
   outgoing = operand_at g (uses instr).outgoing;
-  place = place;
+  place = position;
 }
 
 -- the number that a value writes into registers; for a reference it is the address
@@ -67,16 +67,16 @@ word_in (Link at back) = link_word back
 -- what an instruction does with its value
 pub record Work : Type 0 where
   -- the registers that are written, each with its number
-  pub puts : List (Reg × ℕ)
+  pub sets : List (Reg × ℕ)
   -- the address that it jumps to, if it jumps
   pub jump : Option ℕ
   -- the reference that it makes, by the program's own address
   pub reference : Option ProgramReference
 
 -- one number for each of the registers
-unfoldable pub same_for : ℕ → List Reg → List (Reg × ℕ)
-same_for v [] = []
-same_for v (r ∷ rs) = (r, v) ∷ same_for v rs
+unfoldable pub each_set_to : ℕ → List Reg → List (Reg × ℕ)
+each_set_to v [] = []
+each_set_to v (r ∷ rs) = (r, v) ∷ each_set_to v rs
 
 -- where an instruction jumps, if it does; RJ goes on after its link word
 unfoldable pub jump_for : Shape → UnitValue → Option ℕ
@@ -84,7 +84,7 @@ jump_for shape v = if is_branch_shape shape then destination v else None
 
 -- the reference of an instruction: SA1 to SA5 load, SA6, SA7 and RJ store, all others make none
 unfoldable pub reference_for : Shape → UnitValue → Option ProgramReference
-reference_for (Puts rs) v = None
+reference_for (Sets rs) v = None
 reference_for (Loads n) v = Some (record { address = address_in v; access = LoadInto n })
 reference_for (Stores n) v = Some (record { address = address_in v; access = StoreWord (word_in v) })
 reference_for Jumps v = None
@@ -93,7 +93,7 @@ reference_for Links v = Some (record { address = address_in v; access = StoreWor
 -- what an instruction does with this value
 unfoldable pub work_of : Shape → UnitValue → Work
 work_of shape v = record {
-  puts = same_for (number_in v) (puts_of shape);
+  sets = each_set_to (number_in v) (sets_of shape);
   jump = jump_for shape v;
   reference = reference_for shape v;
 }
@@ -114,8 +114,8 @@ put_any g None v = g
 put_any g (Some r) v = put g r v
 
 -- the state after everything except the reference itself: registers, jump and fault flag
-unfoldable pub do_now : Bounds → State → Work → State
-do_now b s work = mark (go (write_all s work.puts) work.jump) (fault_of b work.reference)
+unfoldable pub write_and_jump : Bounds → State → Work → State
+write_and_jump b s work = or_fault (jump_to (write_all s work.sets) work.jump) (fault_of b work.reference)
 
 -- a reference that was relocated: out of range a load gives +0, and a store writes nothing
 unfoldable pub refer_at : State → Option ℕ → Access → State
@@ -130,4 +130,4 @@ refer b s (Some r) = refer_at s (absolute b r.address) r.access
 
 -- the state after all of an instruction's work, its reference last
 unfoldable pub do_work : Bounds → State → Work → State
-do_work b s work = refer b (do_now b s work) work.reference
+do_work b s work = refer b (write_and_jump b s work) work.reference

@@ -1,8 +1,8 @@
 ghost use Rattle.std.specs.Prelude.{◌≡◌, ◌<◌};
 ghost use Rattle.sequential.specs.State.{bounds_of};
-ghost use Rattle.sequential.specs.Step.{met, here, fetched_by, word_seen, fetch};
+ghost use Rattle.sequential.specs.Step.{classify, at_instruction, fetched_by, word_seen, fetch};
 
-use crate::{Place, State};
+use crate::{ProgramPosition, State};
 use instruction_table::{Decoded, Halt, Instr, decode};
 use relocation::relocate;
 use word60::Word60;
@@ -10,41 +10,41 @@ use word60::Word60;
 /// What the next instruction does to the machine before any unit works.
 #[derive(Clone, Copy, Debug, Drop, PartialEq, Eq)]
 pub enum Fetched {
-    /// It halts the machine, which stays at this place.
-    Halting(Halt, Place),
-    /// It does nothing, and the next one is at this place.
-    Passing(Place),
-    /// It goes to a unit, and the next one is at this place.
-    Taking(Instr, Place),
+    /// It halts the machine, which stays at this position.
+    Halting(Halt, ProgramPosition),
+    /// It does nothing, and the next one is at this position.
+    Passing(ProgramPosition),
+    /// It goes to a unit, and the next one is at this position.
+    Taking(Instr, ProgramPosition),
 }
 
-/// What an instruction does that stands at one place and ends at another.
-#[tactic(auto, unfolding(crate::specs::Step::met))]
+/// What an instruction does that stands at one position and ends at another.
+#[tactic(auto, unfolding(crate::specs::Step::classify))]
 #[inline(always)]
-fn met(place: Place, after: Place, instr: &Instr) -> Fetched
-    ensures { result ≡ met place after instr.now }
+fn classify(position: ProgramPosition, after: ProgramPosition, instr: &Instr) -> Fetched
+    ensures { result ≡ classify position after instr.now }
 {
     match *instr {
-        Instr::Stop => Fetched::Halting(Halt::Stop, place),
+        Instr::Stop => Fetched::Halting(Halt::Stop, position),
         Instr::Pass => Fetched::Passing(after),
         _ => Fetched::Taking(*instr, after),
     }
 }
 
-/// What the reading of a word does at a place that holds it.
+/// What the reading of a word does at a position that holds it.
 #[tactic(auto, unfolding(crate::specs::Step::fetched_by))]
 #[inline(always)]
-pub fn fetched_by(place: Place, word: Word60, reading: Decoded) -> Fetched
-    ensures { result ≡ fetched_by place.p place.parcel word reading }
+pub fn fetched_by(position: ProgramPosition, word: Word60, reading: Decoded) -> Fetched
+    ensures { result ≡ fetched_by position.p position.parcel word reading }
 {
-    let here = Place {
+    let at_instruction = ProgramPosition {
         held: Some(word),
-        ..place
+        ..position
     };
     match reading {
-        Decoded::Legal(instr, next) => met(here, Place::after(place.p, word, next), &instr),
-        Decoded::Refused(op) => Fetched::Halting(Halt::Illegal(op), here),
-        Decoded::Straddle => Fetched::Halting(Halt::Straddle, here),
+        Decoded::Legal(instr, next) => classify(at_instruction, ProgramPosition::after_parcel(position.p, word, next), &instr),
+        Decoded::Refused(op) => Fetched::Halting(Halt::Illegal(op), at_instruction),
+        Decoded::Straddle => Fetched::Halting(Halt::Straddle, at_instruction),
     }
 }
 
@@ -53,11 +53,11 @@ impl State {
     #[tactic(auto, unfolding(crate::proofs::Opened::word_to_take))]
     #[inline(always)]
     pub(crate) fn word_here(&self) -> Option<Word60>
-        ensures { result ≡ word_seen (bounds_of self.now) self.now.memory self.now.place.p self.now.place.held }
+        ensures { result ≡ word_seen (bounds_of self.now) self.now.memory self.now.position.p self.now.position.held }
     {
-        match self.place.held {
+        match self.position.held {
             Some(word) => Some(word),
-            None => match relocate(self.place.p, self.area.ra, self.area.fl, self.memory.size()) {
+            None => match relocate(self.position.p, self.area.ra, self.area.fl, self.memory.size()) {
                 Some(address) => Some(self.memory.load(address)),
                 None => None,
             },
@@ -68,11 +68,11 @@ impl State {
     #[tactic(auto, unfolding(crate::specs::Step::fetch, crate::specs::Step::fetched_from))]
     #[inline(always)]
     pub fn fetch(&self) -> Fetched
-        ensures { result ≡ fetch (bounds_of self.now) self.now.memory self.now.place }
+        ensures { result ≡ fetch (bounds_of self.now) self.now.memory self.now.position }
     {
         match self.word_here() {
-            Some(word) => fetched_by(self.place, word, decode(word, self.place.parcel.get())),
-            None => Fetched::Halting(Halt::FetchRange, Place::at(self.place.p)),
+            Some(word) => fetched_by(self.position, word, decode(word, self.position.parcel.get())),
+            None => Fetched::Halting(Halt::FetchRange, ProgramPosition::at(self.position.p)),
         }
     }
 }

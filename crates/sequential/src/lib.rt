@@ -10,7 +10,7 @@
 
 mod fetching;
 mod log;
-mod place;
+mod position;
 mod replaying;
 mod state;
 mod stepping;
@@ -19,7 +19,7 @@ mod work;
 pub use fetching::Fetched;
 pub use instructions::ParcelNumber;
 pub use log::{Entry, Log};
-pub use place::Place;
+pub use position::ProgramPosition;
 pub use replaying::replay;
 pub use state::State;
 pub use stepping::step;

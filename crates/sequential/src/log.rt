@@ -48,8 +48,8 @@ fn raise_last(entries: &mut [Entry], count: u64, more: u64)
     ensures len { length entries.new ≡ length entries.old }
     ensures entries { entries.new ≡ more_after more entries.old }
 {
-    let place = entries.len() - 1;
-    entries[place] = Entry::Issued(count + more);
+    let position = entries.len() - 1;
+    entries[position] = Entry::Issued(count + more);
 }
 
 /// Adds instructions: so many more to the last count, or else an entry of their own.

@@ -2,7 +2,7 @@ ghost use Rattle.std.specs.Prelude.{◌≡◌, Some, None, true, false, nat_lt, 
 ghost use Rattle.std.specs.Prelude.{[], ◌∷◌};
 ghost use Rattle.instructions.specs.declared.refusal.Refusal.TheVariants.{PeripheralRange};
 ghost use Rattle.sequential.specs.Log.{steps_of};
-ghost use Rattle.sequential.specs.State.{poke};
+ghost use Rattle.sequential.specs.State.{store_word};
 ghost use Rattle.sequential.specs.Replay.{Issued, replay, IsRefusedAt};
 
 use crate::{Entry, Log, State, step};
@@ -35,11 +35,11 @@ fn peripheral_range(state: &State, at: u32) -> Result<(), Refusal>
 }
 
 /// A peripheral processor writes a word to the absolute address.
-#[tactic(auto, unfolding(crate::specs::State::poke))]
+#[tactic(auto, unfolding(crate::specs::State::store_word))]
 fn peripheral_write(state: &mut State, at: u32, word: Word60) -> Result<(), Refusal>
     ensures answer { MatchResult result (λ _. nat_lt at (length state.old.memory) ≡ true)
         (λ refusal. (nat_lt at (length state.old.memory) ≡ false) × (refusal ≡ PeripheralRange)) }
-    ensures after { MatchResult result (λ _. state.new ≡ poke state.old at word) (λ _. state.new ≡ state.old) }
+    ensures after { MatchResult result (λ _. state.new ≡ store_word state.old at word) (λ _. state.new ≡ state.old) }
 {
     if at < state.memory.size() {
         state.memory.store(at, word);

@@ -4,7 +4,7 @@ ghost use Rattle.instructions.specs.declared.refusal.Refusal.TheVariants.{OutOfM
 ghost use Rattle.sequential.specs.Replay.{boot};
 ghost use Rattle.sequential.specs.Swap.{swap, package_of};
 
-use crate::Place;
+use crate::ProgramPosition;
 use exchange_package::Package;
 use instruction_table::{Halt, Refusal};
 use registers::RegisterFile;
@@ -18,7 +18,7 @@ pub struct State {
     /// Central memory.
     pub memory: Storage,
     /// P, the next parcel and the held word.
-    pub place: Place,
+    pub position: ProgramPosition,
     /// RA, FL and the exit mode.
     pub area: Area,
     /// Why the machine is halted, None while it runs.
@@ -37,7 +37,7 @@ impl State {
         State {
             registers: RegisterFile::default(),
             memory,
-            place: Place::default(),
+            position: ProgramPosition::default(),
             area: Area::default(),
             halt: Some(Halt::Stop),
             fault: false,
@@ -54,7 +54,7 @@ impl State {
         Ok(State {
             registers: self.registers,
             memory: self.memory.copy()?,
-            place: self.place,
+            position: self.position,
             area: self.area,
             halt: self.halt,
             fault: self.fault,
@@ -67,7 +67,7 @@ impl State {
         ensures { result ≡ package_of self.now }
     {
         Package {
-            p: self.place.p,
+            p: self.position.p,
             registers: self.registers,
             area: self.area,
             halted: self.halt.is_some(),
@@ -75,12 +75,12 @@ impl State {
         }
     }
 
-    /// The exchange jump: the registers and the sixteen words at an absolute address change places. The
+    /// The exchange jump: the registers and the sixteen words at an absolute address are exchanged. The
     /// new program starts at parcel 0, running, without fault.
     ///
     /// # Errors
     /// `PackageRange` where the sixteen words don't lie in memory; the state is then as it was.
-    #[tactic(auto, unfolding(crate::specs::Swap::swap, crate::specs::Swap::begun))]
+    #[tactic(auto, unfolding(crate::specs::Swap::swap, crate::specs::Swap::program_entered))]
     pub fn exchange(&mut self, at: u32) -> Result<(), Refusal>
         ensures answer { MatchResult result
             (λ _. package_fits at (length self.old.memory) ≡ true)
@@ -93,7 +93,7 @@ impl State {
             Err(refusal) => return Err(refusal),
         };
         self.registers = incoming.registers;
-        self.place = Place::at(incoming.p);
+        self.position = ProgramPosition::at(incoming.p);
         self.area = incoming.area;
         self.halt = None;
         self.fault = false;

@@ -1,5 +1,5 @@
 ghost use Rattle.std.specs.Prelude.{◌≡◌, ◌<◌, IfSome, length};
-ghost use Rattle.instructions.specs.Shape.{shape_of, puts_of};
+ghost use Rattle.instructions.specs.Shape.{shape_of, sets_of};
 ghost use Rattle.unit_ops.specs.Values.{value_of};
 ghost use Rattle.sequential.specs.State.{bounds_of};
 ghost use Rattle.instruction_table.specs.Decoding.{digits_at, reading_at};
@@ -8,7 +8,7 @@ ghost use Rattle.sequential.specs.Work.{listed, put_any, refer_at, refer};
 
 use crate::fetching::fetched_by;
 use crate::{
-    Fetched, Place, ProgramReference, State, fault_after, jump, number, operands, reference,
+    Fetched, ProgramPosition, ProgramReference, State, fault_after, jump, number, operands, reference,
 };
 use instruction_table::{Halt, Instr, Reg, Target, decode_as, first_digits};
 use registers::RegisterFile;
@@ -28,10 +28,10 @@ fn computed(instr: &Instr, operands: &Operands) -> UnitValue
 }
 
 /// The register that an instruction writes besides the X register of a load, if there is one.
-#[tactic(auto, unfolding(instructions::specs::Shape::shape_of, instructions::specs::Shape::puts_of))]
+#[tactic(auto, unfolding(instructions::specs::Shape::shape_of, instructions::specs::Shape::sets_of))]
 #[inline(always)]
 fn written(instr: &Instr) -> Option<Reg>
-    ensures { puts_of (shape_of instr.now) ≡ listed result }
+    ensures { sets_of (shape_of instr.now) ≡ listed result }
 {
     match *instr {
         Instr::Copy { i, .. }
@@ -113,7 +113,7 @@ impl State {
         let reference = reference(instr, &value);
         let fault = fault_after(self.fault, &self.area, self.memory.size(), &reference);
         write_any(&mut self.registers, written(instr), number(&value));
-        self.place = self.place.after_jump(jump(instr, &value));
+        self.position = self.position.after_jump(jump(instr, &value));
         self.fault = fault;
         self.refer(&reference);
     }
@@ -122,17 +122,17 @@ impl State {
     #[tactic(auto, unfolding(crate::proofs::Opened::fetched_cases))]
     #[inline(always)]
     fn make(&mut self, fetched: Fetched)
-        ensures { self.new ≡ do_fetched (bounds_of self.old) self.old self.old.place.p fetched }
+        ensures { self.new ≡ do_fetched (bounds_of self.old) self.old self.old.position.p fetched }
     {
-        let at = self.place.p;
+        let at = self.position.p;
         match fetched {
-            Fetched::Halting(halt, place) => {
-                self.place = place;
+            Fetched::Halting(halt, position) => {
+                self.position = position;
                 self.halt = Some(halt);
             }
-            Fetched::Passing(place) => self.place = place,
-            Fetched::Taking(instr, place) => {
-                self.place = place;
+            Fetched::Passing(position) => self.position = position,
+            Fetched::Taking(instr, position) => {
+                self.position = position;
                 self.perform(&instr, at);
             }
         }
@@ -142,22 +142,22 @@ impl State {
     /// function for each `DIGITS`, in which the compiler knows the kind of instruction and leaves out what others do.
     #[inline(always)]
     fn take_as<const DIGITS: u16>(&mut self, word: Word60)
-        requires { DIGITS ≡ digits_at word self.old.place.parcel }
-        ensures { self.new ≡ do_fetched (bounds_of self.old) self.old self.old.place.p
-            (fetched_by self.old.place.p self.old.place.parcel word (reading_at word self.old.place.parcel)) }
+        requires { DIGITS ≡ digits_at word self.old.position.parcel }
+        ensures { self.new ≡ do_fetched (bounds_of self.old) self.old self.old.position.p
+            (fetched_by self.old.position.p self.old.position.parcel word (reading_at word self.old.position.parcel)) }
     {
-        let reading = decode_as(word, self.place.parcel.get(), DIGITS);
-        self.make(fetched_by(self.place, word, reading));
+        let reading = decode_as(word, self.position.parcel.get(), DIGITS);
+        self.make(fetched_by(self.position, word, reading));
     }
 
     /// Does what is read in this word.
     #[inline(always)]
     fn take(&mut self, word: Word60)
-        ensures { self.new ≡ do_fetched (bounds_of self.old) self.old self.old.place.p
-            (fetched_by self.old.place.p self.old.place.parcel word (reading_at word self.old.place.parcel)) }
+        ensures { self.new ≡ do_fetched (bounds_of self.old) self.old self.old.position.p
+            (fetched_by self.old.position.p self.old.position.parcel word (reading_at word self.old.position.parcel)) }
     {
         take_by_digits! {
-            self, word, first_digits(word, self.place.parcel.get()) =>
+            self, word, first_digits(word, self.position.parcel.get()) =>
             0o00 0o01 0o02 0o03 0o04 0o05 0o06 0o07
             0o10 0o11 0o12 0o13 0o14 0o15 0o16 0o17
             0o20 0o21 0o22 0o23 0o24 0o25 0o26 0o27
@@ -183,7 +183,7 @@ pub fn step(state: &mut State)
     match state.word_here() {
         Some(word) => state.take(word),
         None => {
-            state.place = Place::at(state.place.p);
+            state.position = ProgramPosition::at(state.position.p);
             state.halt = Some(Halt::FetchRange);
         }
     }

@@ -31,18 +31,18 @@ fn operand_at(registers: &RegisterFile, register: Option<Reg>) -> Word60
     }
 }
 
-/// What an instruction of the word at the address `place` computes with.
+/// What an instruction of the word at the address `position` computes with.
 #[tactic(auto, unfolding(crate::specs::Work::operands))]
 #[inline(always)]
-pub fn operands(instr: &Instr, place: Word18, registers: &RegisterFile) -> Operands
-    ensures { result ≡ operands instr.now place registers.now }
+pub fn operands(instr: &Instr, position: Word18, registers: &RegisterFile) -> Operands
+    ensures { result ≡ operands instr.now position registers.now }
 {
     let from = operand_registers(instr);
     Operands {
         first: operand_at(registers, from.first),
         second: operand_at(registers, from.second),
         outgoing: operand_at(registers, from.outgoing),
-        place,
+        place: position,
     }
 }
 

@@ -4,7 +4,7 @@ use instruction_table::{DeckFault, Digit, Halt, Op};
 use operator_terms::{Budget, LARGEST_BUDGET, ProgramFault, end_status};
 use registers::RegisterFile;
 use relocation::{Area, Storage};
-use sequential::{Place, State};
+use sequential::{ProgramPosition, State};
 use std::alloc::{AllocError, Global};
 use std::process::Abort;
 use std::test::Fail;
@@ -17,7 +17,7 @@ fn ended_code(alloc: Global, halt: Option<Halt>, fault: bool) -> Result<u8, Allo
     let state = State {
         registers: RegisterFile::default(),
         memory,
-        place: Place::default(),
+        position: ProgramPosition::default(),
         area: Area::default(),
         halt,
         fault,

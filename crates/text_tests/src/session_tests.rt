@@ -104,8 +104,8 @@ fn replays_two_sums(rt: HostRuntime) -> Result<(), Fail> {
     let mut output = Vec::new(rt.alloc());
     let replayed = replay(rt.alloc(), &mut input, &mut output, "E40 I3");
     let is_replayed = matches!(replayed, Ok(Some(_)));
-    let place = "P 000001 PARCEL 1 HELD 36312374214600000000\nHALT running FAULT none\n";
-    let wanted = joined(rt.alloc(), [place, EXCHANGED, "LOG E40 I3\n"].as_slice())?;
+    let position = "P 000001 PARCEL 1 HELD 36312374214600000000\nHALT running FAULT none\n";
+    let wanted = joined(rt.alloc(), [position, EXCHANGED, "LOG E40 I3\n"].as_slice())?;
     assert_eq!(rt; (is_replayed, output), (true, wanted));
     Ok(())
 }

@@ -158,7 +158,7 @@ pub struct Taking<'a> {
 
 impl Taking<'_> {
     /// Takes until the lane is closed. It answers how many notes came, and how many of them were those that
-    /// `send_all` sends, at their places.
+    /// `send_all` sends, at their positions.
     fn take_all<R: Wait>(&mut self, rt: &R) -> (u64, u64) {
         let mut taken = 0u64;
         let mut met = 0u64;

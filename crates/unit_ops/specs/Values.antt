@@ -57,7 +57,7 @@ x_holds OutOfRange x = is_out_of_range x
 x_holds Definite x = not (is_indefinite x)
 x_holds Indefinite x = is_indefinite x
 
--- the place of a pattern of 18 bits in the order of two's complement
+-- the position of a pattern of 18 bits in the order of two's complement
 abbrev pub rank : ℕ → ℕ
 rank b = (b + 2 ^ 17) % 2 ^ 18
 
@@ -95,14 +95,14 @@ abbrev pub shifted_out : ℕ → ℕ → ℕ
 shifted_out x count = if nat_lt 63 count then 0 else shift_right x count
 
 -- 22 rotates left and 23 shifts right, and the other way round for a negative count
-abbrev pub turns : Direction → ℕ → Bool
-turns Left b = not (is_negative b)
-turns Right b = is_negative b
+abbrev pub rotates_left : Direction → ℕ → Bool
+rotates_left Left b = not (is_negative b)
+rotates_left Right b = is_negative b
 
 -- what 22 and 23 give; a rotation goes by the low six bits of the magnitude
 abbrev pub shifted_nominally : Direction → ℕ → ℕ → ℕ
 shifted_nominally direction b x =
-    if turns direction b then rotate_left x (magnitude b % 64) else shifted_out x (magnitude b)
+    if rotates_left direction b then rotate_left x (magnitude b % 64) else shifted_out x (magnitude b)
 
 -- what 36 and 37 give: the sum or the difference of two words
 abbrev pub added : Addition → ℕ → ℕ → ℕ

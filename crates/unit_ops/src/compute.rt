@@ -63,7 +63,7 @@ fn x_holds(test: XTest, x: Word60) -> bool
     }
 }
 
-/// The place of a pattern of 18 bits in the order of two's complement, the least first.
+/// The position of a pattern of 18 bits in the order of two's complement, the least first.
 #[inline(always)]
 fn rank(b: Word18) -> u32
     ensures { result ≡ rank b }
@@ -119,7 +119,7 @@ fn magnitude(b: Word18) -> u32
     }
 }
 
-/// Shifted right by a nominal count. More than 63 places leave +0.
+/// Shifted right by a nominal count. More than 63 bits leave +0.
 #[inline(always)]
 fn shifted_out(x: Word60, count: u32) -> Word60
     ensures { result ≡ shifted_out x count }

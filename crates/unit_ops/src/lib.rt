@@ -3,7 +3,7 @@
 //!
 //! The operations are the machine's (Control Data 6400/6600 Reference Manual, publication
 //! 60100000). This project chose the order of `GE` and `LT` and the equality of `EQ` and `NE`
-//! (`BTest` of `instructions`), that a nominal shift to the right by more than 63 places leaves +0,
+//! (`BTest` of `instructions`), that a nominal shift to the right by more than 63 bits leaves +0,
 //! and the zeros of sums and the long shifts and masks (`word60`).
 //!
 //! Callers rely on `value`: for each instruction that has a unit it answers exactly `value_of` of

@@ -2,10 +2,10 @@
 use Rattle.std.proofs.Common.{◌≡◌, ◌≤◌, List, ◌∷◌, [], ◌++◌, refl, sym, ap, ◌∙◌, append_assoc, subst}
 use Rattle.std.specs.Prelude.{Result, Ok, Err, IfOk}
 use Rattle.std.proofs.lemmas.List.{append-nil}
-use Rattle.program_order.specs.Snapped.{Snapped}
+use Rattle.program_order.specs.SnapshotView.{Snapped}
 use Rattle.sequential.specs.Log.{issued}
 use Rattle.sequential.specs.Replay.{LogStep}
-use Rattle.machine_lock.specs.Known.{Booted, Known, StartsWith, IsMade, Learnt}
+use Rattle.machine_lock.specs.CallerKnowledge.{Booted, Known, StartsWith, IsMade, Learnt}
 use Rattle.unit_workers.specs.Onward.{GoesOnFrom, EndsFrom}
 
 longer : (xs ys zs : List LogStep) → StartsWith ys xs → StartsWith zs ys → StartsWith zs xs

@@ -1,8 +1,8 @@
 -- How the log that a caller has seen grows. Source: ours.
 use Rattle.std.specs.Prelude.{◌≡◌, ◌≤◌}
 use Rattle.sequential.specs.Log.{issued}
-use Rattle.program_order.specs.Snapped.{Snapped}
-use Rattle.machine_lock.specs.Known.{Known, StartsWith}
+use Rattle.program_order.specs.SnapshotView.{Snapped}
+use Rattle.machine_lock.specs.CallerKnowledge.{Known, StartsWith}
 
 -- it is of the same machine, and the log begins with what was seen before
 pub record GoesOnFrom (old new : Known) : Type 0 where

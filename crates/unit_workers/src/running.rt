@@ -1,7 +1,7 @@
 //! A whole run by threads.
 ghost use Rattle.std.specs.Prelude.{◌≡◌, ◌≤◌, [], IfOk, Ok};
 ghost use Rattle.sequential.specs.Log.{issued};
-ghost use Rattle.machine_lock.specs.Known.{booted_by, known, StartsWith};
+ghost use Rattle.machine_lock.specs.CallerKnowledge.{booted_by, known, StartsWith};
 ghost use Rattle.unit_workers.specs.Onward.{EndsFrom};
 
 use crate::asking::{FreeRequests, ask_all};

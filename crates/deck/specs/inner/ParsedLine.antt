@@ -5,7 +5,7 @@ use Rattle.std.specs.Borrow.{Bor}
 use Rattle.deck.specs.declared.parsing.Line.{Line}
 use Rattle.deck.specs.declared.parsing.Line.TheVariants as says
 
--- the line with the bytes of its fields in place of what refers to them
+-- the line with the bytes of its fields instead of what refers to them
 abbrev pub line_with_bytes : Line (Bor (List ℕ)) → Line (List ℕ)
 line_with_bytes (says.Core w) = says.Core w.now
 line_with_bytes (says.At a) = says.At a.now

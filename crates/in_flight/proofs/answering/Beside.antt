@@ -36,20 +36,20 @@ use Rattle.scoreboard.specs.Conflicts.{first_free, free_unit, is_held}
 use Rattle.scoreboard.specs.Issued.{reservation_of as reservation_of_issued}
 use Rattle.scoreboard.specs.Answers.{Standing, held_in, returning_by, unless, read_answer, store_answer, return_answer}
 use Rattle.scoreboard.specs.Answers.{turn_answer, read, gone, with_issued, reserve_answer, reserved, new_issued}
-use Rattle.scoreboard.proofs.seating.Standing.{find_same}
+use Rattle.scoreboard.proofs.in_slots.Standing.{find_same}
 use Rattle.unit_ops.specs.declared.Operands.{Operands}
 use Rattle.unit_ops.specs.declared.UnitValue.{UnitValue}
 use Rattle.sequential.specs.declared.fetching.Fetched.TheVariants.{Taking}
-use Rattle.sequential.specs.declared.place.Place.{Place as SomePlace}
+use Rattle.sequential.specs.declared.position.ProgramPosition.{ProgramPosition as SomePosition}
 use Rattle.in_flight.specs.declared.pending.Arrival.{Arrival}
-use Rattle.in_flight.specs.declared.pending.HopperEntry.{HopperEntry}
+use Rattle.hopper.specs.declared.reference.Reference.{Reference}
 use Rattle.in_flight.specs.declared.pending.Outstanding.TheVariants.{Entered as HasEntered, Accepted}
 use Rattle.in_flight.specs.declared.pending.Pending.{Pending}
 use Rattle.in_flight.specs.declared.pending.Phase.{Phase}
 use Rattle.in_flight.specs.declared.pending.Phase.TheVariants.{Before, After}
 use Rattle.in_flight.specs.declared.pending.Stage.{Stage}
 use Rattle.in_flight.specs.declared.pending.Stage.TheVariants.{Waiting, Read, Finished}
-use Rattle.in_flight.specs.declared.slots.Sought.{Sought}
+use Rattle.in_flight.specs.declared.slots.Located.{Located}
 use Rattle.in_flight.specs.inner.Board.{on_board}
 use Rattle.in_flight.specs.Tests.{refusal_in, store_conflicts, Test, refusal_of, nothing, tests_found, read_tests}
 use Rattle.in_flight.specs.Tests.{return_tests, free_tests, reservation_tests, unit_for}
@@ -58,12 +58,12 @@ use Rattle.in_flight.specs.inner.Board.{IsTied}
 use Rattle.in_flight.specs.Pending.{has_read, reservation_of, progress_of, to_come, awaited, is_branch}
 use Rattle.in_flight.specs.Pending.{has_turn}
 use Rattle.in_flight.specs.Pending.{stores_in, waits_in, delays_fetch, delays_access}
-use Rattle.in_flight.proofs.asking.Asked.{comes}
+use Rattle.in_flight.proofs.asking.PendingReservations.{comes}
 use Rattle.in_flight.proofs.Opened.{coming}
-use Rattle.in_flight.specs.Lookup.{sought, stage_at, stage_in, arrival_at, arrival_in, entry_at, entry_in, in_place}
+use Rattle.in_flight.specs.Lookup.{located, stage_at, stage_in, arrival_at, arrival_in, entry_at, entry_in, in_place}
 use Rattle.in_flight.specs.Lookup.{is_taken, place_for, is_pending, in_phase}
 use Rattle.instructions.specs.Finding.{replaced, Found, seek, put_back}
-use Rattle.in_flight.specs.inner.Seats.{has_none}
+use Rattle.in_flight.specs.inner.Slots.{has_none}
 use Rattle.in_flight.specs.Apart.{IsApart}
 use Rattle.instructions.proofs.Finding.{seek_splits, seek_nobody}
 use Rattle.in_flight.proofs.asking.Finding.{stage_found}
@@ -74,15 +74,15 @@ use Rattle.in_flight.proofs.answering.Boarding.{issue_follows, same_free, same_a
 
 -- ---- the one that was found ----
 
-pub there : {K : Type 0} (o : Option (Found Pending K)) (s : Sought K) → sought o ≡ Some s → (f : Found Pending K)
+pub there : {K : Type 0} (o : Option (Found Pending K)) (s : Located K) → located o ≡ Some s → (f : Found Pending K)
     × (o ≡ Some f) × (f.item ≡ s.pending) × (f.answer ≡ s.answer)
-unfolding sought
+unfolding located
 there None s h = cc
 there (Some f) s h = (f, refl, ap (λ x. x.pending) (same_Some _ s h), ap (λ x. x.answer) (same_Some _ s h))
 
-pub nothing_there : {K : Type 0} (o : Option (Found Pending K)) (g : Found Pending K → List Test) → sought o ≡ None
+pub nothing_there : {K : Type 0} (o : Option (Found Pending K)) (g : Found Pending K → List Test) → located o ≡ None
     → refusal_of (tests_found o g) ≡ Some Nothing
-unfolding sought refusal_of tests_found nothing
+unfolding located refusal_of tests_found nothing
 nothing_there None g h = refl
 nothing_there (Some f) g h = cc
 
@@ -90,15 +90,15 @@ pub none_from : {K : Type 0} (o : Option K) (b : Bool) → is_some o ≡ not b �
 none_from None b e h = refl
 none_from (Some x) b e h = let q : true ≡ false = e ∙ ap not h in cc
 
-pub some_from : {K : Type 0} (o : Option (Found Pending K)) (s : Option (Sought K)) (b : Bool) → s ≡ sought o
+pub some_from : {K : Type 0} (o : Option (Found Pending K)) (s : Option (Located K)) (b : Bool) → s ≡ located o
     → is_some s ≡ not b → b ≡ false → (f : Found Pending K) × (o ≡ Some f)
-unfolding sought
+unfolding located
 some_from None s b k e h = let q : false ≡ true = sym (ap is_some k) ∙ e ∙ ap not h in cc
 some_from (Some f) s b k e h = (f, refl)
 
-pub nobody_from : {K : Type 0} (o : Option (Found Pending K)) (s : Option (Sought K)) (b : Bool) → s ≡ sought o
+pub nobody_from : {K : Type 0} (o : Option (Found Pending K)) (s : Option (Located K)) (b : Bool) → s ≡ located o
     → is_some s ≡ not b → b ≡ true → o ≡ None
-unfolding sought
+unfolding located
 nobody_from None s b k e h = refl
 nobody_from (Some f) s b k e h = let q : true ≡ false = sym (ap is_some k) ∙ e ∙ ap not h in cc
 
@@ -255,13 +255,13 @@ place_taken p (m ∷ ms) = any-append (stands_at p) (waiting_in m.phase) (waitin
     ∙ ap (λ b. b || list_any (stands_at p) (waiting ms)) (in_phase_of m)
     ∙ ap (λ b. in_place p m || b) (place_taken p ms)
   where
-    by_test : (b : Bool) (x : HopperEntry) → (b || false) ≡ is_some (cond b (Some x) None)
+    by_test : (b : Bool) (x : Reference) → (b || false) ≡ is_some (cond b (Some x) None)
     by_test true x = refl
     by_test false x = refl
 
     in_it : (q : Phase) → list_any (stands_at p) (waiting_in q) ≡ is_some (entry_in p q)
     in_it (Before t) = refl
-    in_it (After (HasEntered place k access)) = by_test (eqb place p) (record { a = k; access = access })
+    in_it (After (HasEntered place k access)) = by_test (eqb place p) (record { address = k; access = access })
     in_it (After (Accepted n w)) = refl
 
     in_phase_of : (y : Pending) → list_any (stands_at p) (waiting_in y.phase) ≡ in_place p y
@@ -332,7 +332,7 @@ store_turned u ms xs f enters x r e h k room t =
 abbrev pub read_refused : Option (Found Pending Stage) → Option Refusal
 read_refused o = refusal_of (tests_found o (λ f. read_tests f.answer f.earlier f.item.instr))
 
-pub not_waiting : (o : Option (Found Pending Stage)) (s : Sought Stage) → sought o ≡ Some s → (s.answer ≡ Waiting → ⊥)
+pub not_waiting : (o : Option (Found Pending Stage)) (s : Located Stage) → located o ≡ Some s → (s.answer ≡ Waiting → ⊥)
     → read_refused o ≡ Some Nothing
 unfolding refusal_of tests_found read_tests nothing
 not_waiting o s h k =
@@ -345,8 +345,8 @@ not_waiting o s h k =
     by_stage f (Read os) e n = ap (λ t. refusal_of (read_tests t f.earlier f.item.instr)) e
     by_stage f (Finished v) e n = ap (λ t. refusal_of (read_tests t f.earlier f.item.instr)) e
 
-pub read_answered : (u : FunctionalUnit) (ms : List Pending) (xs : List Issued) (s : Sought Stage)
-    (r : Result (Unit {0}) Refusal) → xs ≡ on_board ms → sought (seek (stage_at u) ms) ≡ Some s → s.answer ≡ Waiting
+pub read_answered : (u : FunctionalUnit) (ms : List Pending) (xs : List Issued) (s : Located Stage)
+    (r : Result (Unit {0}) Refusal) → xs ≡ on_board ms → located (seek (stage_at u) ms) ≡ Some s → s.answer ≡ Waiting
     → r ≡ read_answer (seek (held_in u) xs) → read_refused (seek (stage_at u) ms) ≡ refusal_in r
 unfolding tests_found read_tests
 read_answered u ms xs s r e h w k =
@@ -356,8 +356,8 @@ read_answered u ms xs s r e h w k =
     ∙ test_is _ _
     ∙ ap refusal_in (sym (k ∙ ap (λ l. read_answer (seek (held_in u) l)) e ∙ read_of_all u ms p.0 p.1))
 
-pub read_tied : (u : FunctionalUnit) (ms ns : List Pending) (queue : Queue) (b c : Standing) (s : Sought Stage)
-    (os : Operands) → sought (seek (stage_at u) ms) ≡ Some s → IsTied ms queue b
+pub read_tied : (u : FunctionalUnit) (ms ns : List Pending) (queue : Queue) (b c : Standing) (s : Located Stage)
+    (os : Operands) → located (seek (stage_at u) ms) ≡ Some s → IsTied ms queue b
     → ns ≡ replaced (seek (stage_at u) ms) ms (λ m. in_phase m (Before (Read os)) ∷ [])
     → c ≡ with_issued b (replaced (seek (held_in u) b.issued) b.issued read) → IsTied ns queue c
 unfolding replaced with_issued in_phase
@@ -378,9 +378,9 @@ read_tied u ms ns queue b c s os h tied en ec =
 -- ---- a unit that finishes ----
 
 pub finish_tied : (u : FunctionalUnit) (ms ns : List Pending) (queue : Queue) (b : Standing) (v : UnitValue)
-    (o : Option (Found Pending Stage)) → seek (stage_at u) ms ≡ o → IfSome (sought o) (λ s. has_read s.answer ≡ true)
+    (o : Option (Found Pending Stage)) → seek (stage_at u) ms ≡ o → IfSome (located o) (λ s. has_read s.answer ≡ true)
     → IsTied ms queue b → ns ≡ replaced o ms (λ m. in_phase m (Before (Finished v)) ∷ []) → IsTied ns queue b
-unfolding replaced sought in_phase
+unfolding replaced located in_phase
 finish_tied u ms ns queue b v None h k tied en = subst (λ l. IsTied l queue b) (sym en) tied
 finish_tied u ms ns queue b v (Some f) h k tied en =
     let made : ns ≡ put_back f (in_phase f.item (Before (Finished v)) ∷ []) = en in
@@ -465,8 +465,8 @@ full_is ms queue b tied = ap (λ es. is_none (free_in es)) tied.entered ∙ ap i
 
 -- ---- a load that returns, as the board answers ----
 
-pub return_answered : (n : ℕ) (ms : List Pending) (xs : List Issued) (s : Sought Arrival)
-    (r : Result (Unit {0}) Refusal) → xs ≡ on_board ms → Pairs IsApart ms → sought (seek (arrival_at n) ms) ≡ Some s
+pub return_answered : (n : ℕ) (ms : List Pending) (xs : List Issued) (s : Located Arrival)
+    (r : Result (Unit {0}) Refusal) → xs ≡ on_board ms → Pairs IsApart ms → located (seek (arrival_at n) ms) ≡ Some s
     → r ≡ return_answer n (seek (returning_by n) xs)
     → refusal_of (tests_found (seek (arrival_at n) ms) (λ f. return_tests f.earlier f.answer)) ≡ refusal_in r
 unfolding tests_found return_tests
@@ -484,8 +484,8 @@ return_answered n ms xs s r e apart h k =
     ∙ ap refusal_in (sym (k ∙ ap (λ l. return_answer n (seek (returning_by n) l)) e
     ∙ return_of_all n ms p.0 p.1 (free_load n ms p.0 p.1 apart)))
 
-pub return_tied : (n : ℕ) (ms ns : List Pending) (queue : Queue) (b c : Standing) (s : Sought Arrival)
-    → Pairs IsApart ms → sought (seek (arrival_at n) ms) ≡ Some s → IsTied ms queue b
+pub return_tied : (n : ℕ) (ms ns : List Pending) (queue : Queue) (b c : Standing) (s : Located Arrival)
+    → Pairs IsApart ms → located (seek (arrival_at n) ms) ≡ Some s → IsTied ms queue b
     → ns ≡ replaced (seek (arrival_at n) ms) ms (λ m. [])
     → c ≡ with_issued b (replaced (seek (returning_by n) b.issued) b.issued gone) → IsTied ns queue c
 unfolding replaced with_issued waiting waiting_in
@@ -503,9 +503,9 @@ return_tied n ms ns queue b c s apart h tied en ec =
           (each_put (λ m. m.number ≤ b.last) (arrival_at n) ms p.0 [] p.1 (λ k. tt) tied.counted));
     }
 
-pub what_there : {K : Type 0} (o : Option (Found Pending K)) (s : Sought K) → sought o ≡ Some s
+pub what_there : {K : Type 0} (o : Option (Found Pending K)) (s : Located K) → located o ≡ Some s
     → IfSome o (λ f. f.answer ≡ s.answer)
-unfolding sought
+unfolding located
 what_there None s h = cc
 what_there (Some f) s h = ap (λ x. x.answer) (same_Some _ s h)
 
@@ -521,7 +521,7 @@ changed_flight g ms ns queue b c xs f ef en ec =
 
 -- ---- a reservation ----
 
-pub no_unit_there : (ms : List Pending) (i : Instr) (place : SomePlace) (o : Option UnitKind) → o ≡ (uses i).unit
+pub no_unit_there : (ms : List Pending) (i : Instr) (place : SomePosition) (o : Option UnitKind) → o ≡ (uses i).unit
     → o ≡ None → refusal_of (reservation_tests ms (Taking i place)) ≡ Some (UnitBusy Branch)
 unfolding reservation_tests refusal_of conflict.unit_for first_unit
 no_unit_there ms i place (Some kind) e h = cc
@@ -567,7 +567,7 @@ reserve_refused ms i b (Some u) e =
     by_test true k p = refl
     by_test false k p = refl
 
-pub reserve_answered : (ms : List Pending) (i : Instr) (place : SomePlace) (b : Standing)
+pub reserve_answered : (ms : List Pending) (i : Instr) (place : SomePosition) (b : Standing)
     (r : Result (FunctionalUnit × ℕ) Refusal) → b.issued ≡ on_board ms
     → r ≡ reserve_answer b i (conflict.unit_for reservation_of_issued b.issued (uses i).unit)
     → refusal_of (reservation_tests ms (Taking i place)) ≡ refusal_in r

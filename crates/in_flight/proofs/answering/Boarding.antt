@@ -13,7 +13,7 @@ use Rattle.instructions.specs.declared.instr.UnitKind.{UnitKind}
 use Rattle.instructions.specs.declared.refusal.Refusal.{Refusal}
 use Rattle.instructions.specs.declared.refusal.Refusal.TheVariants.{OperandAwaited, ResultHeld, OutOfTurn}
 use Rattle.instructions.specs.RegisterLists.{is_in}
-use Rattle.instructions.specs.Shape.{shape_of, puts_of, has_reference}
+use Rattle.instructions.specs.Shape.{shape_of, sets_of, has_reference}
 use Rattle.instructions.specs.Operands.{sources_of}
 use Rattle.relocation.specs.declared.area.Access.TheVariants.{Load, Store}
 use Rattle.scoreboard.specs.declared.reservation.Progress.{Progress}
@@ -30,11 +30,11 @@ use Rattle.scoreboard.specs.declared.issued.Issued.{Issued}
 use Rattle.scoreboard.specs.Answers.{held_in, returns_in, returning_by, new_issued, unless, read_answer, store_answer}
 use Rattle.scoreboard.specs.Answers.{return_answer, turn_answer, in_progress, read, left, left_with, gone}
 use Rattle.scoreboard.specs.Issued.{reservation_of as reservation_of_issued, channel_of}
-use Rattle.scoreboard.proofs.seating.Standing.{find_same}
+use Rattle.scoreboard.proofs.in_slots.Standing.{find_same}
 use Rattle.scoreboard.proofs.changing.Reserving.{first_free_same}
 use Rattle.instructions.specs.Each.{Each}
 use Rattle.in_flight.specs.declared.pending.Arrival.{Arrival}
-use Rattle.in_flight.specs.declared.pending.HopperEntry.{HopperEntry}
+use Rattle.hopper.specs.declared.reference.Reference.{Reference}
 use Rattle.in_flight.specs.declared.pending.Outstanding.{Outstanding}
 use Rattle.in_flight.specs.declared.pending.Outstanding.TheVariants.{Entered, Accepted}
 use Rattle.in_flight.specs.declared.pending.Pending.{Pending}
@@ -256,13 +256,13 @@ read_of_all u ms f h =
 
 pub store_of_all : (u : FunctionalUnit) (ms : List Pending) (f : Found Pending Stage) → seek (stage_at u) ms ≡ Some f
     → store_answer (seek (held_in u) (on_board ms))
-    ≡ unless (list_any (to_be_read reservation_of f.earlier) (puts_of (shape_of f.item.instr)))
-    (ResultHeld (first_such (to_be_read reservation_of f.earlier) (puts_of (shape_of f.item.instr))))
+    ≡ unless (list_any (to_be_read reservation_of f.earlier) (sets_of (shape_of f.item.instr)))
+    (ResultHeld (first_such (to_be_read reservation_of f.earlier) (sets_of (shape_of f.item.instr))))
 unfolding store_answer found_on_board issued_of reservation_of
 store_of_all u ms f h =
     ap store_answer (unit_found u ms ∙ ap found_on_board h)
     ∙ unless_same (to_be_read reservation_of_issued (on_board f.earlier)) (to_be_read reservation_of f.earlier)
-    (puts_of (shape_of f.item.instr)) ResultHeld (same_to_be_read f.earlier)
+    (sets_of (shape_of f.item.instr)) ResultHeld (same_to_be_read f.earlier)
 
 pub turn_of_all : (u : FunctionalUnit) (ms : List Pending) (f : Found Pending Stage) → seek (stage_at u) ms ≡ Some f
     → turn_answer (seek (held_in u) (on_board ms))
@@ -435,7 +435,7 @@ store_follows u ms f l h e =
     (kept_put f.item l ∙ ap (left_with (issued_of f.item)) e)
     ∙ sym (unit_changed u ms f left h)
 
-pub load_follows : (p : ℕ) (ms : List Pending) (f : Found Pending HopperEntry) (n w : ℕ)
+pub load_follows : (p : ℕ) (ms : List Pending) (f : Found Pending Reference) (n w : ℕ)
     → seek (entry_at p) ms ≡ Some f → f.answer.access ≡ Load n
     → on_board (put_back f (in_phase f.item (After (Accepted n w)) ∷ [])) ≡ on_board ms
 unfolding entry_at issued_of reservation_of in_phase progress_of returning
@@ -450,19 +450,19 @@ load_follows p ms f n w h e =
         unit = f.item.unit;
         progress = progress_of z;
       };
-    }) (q.1 ∙ ap (λ x. After (Entered q.0 f.answer.a x)) e))))
+    }) (q.1 ∙ ap (λ x. After (Entered q.0 f.answer.address x)) e))))
 
 unseen : (m : Pending) → (reservation_of m).progress ≡ Left None → [] ≡ on_board (m ∷ [])
 unfolding on_board kept_on
 unseen m e = sym (ap (λ p. kept_on p [] (issued_of m)) e)
 
-pub stored_follows : (p : ℕ) (ms : List Pending) (f : Found Pending HopperEntry) (w : ℕ)
+pub stored_follows : (p : ℕ) (ms : List Pending) (f : Found Pending Reference) (w : ℕ)
     → seek (entry_at p) ms ≡ Some f → f.answer.access ≡ Store w → on_board (put_back f []) ≡ on_board ms
 unfolding entry_at reservation_of progress_of returning on_board
 stored_follows p ms f w h e =
     let q = entry_in_found p f.item.phase f.answer (seek_splits (entry_at p) ms f h).1 in
     same_put (entry_at p) ms f [] h
-    (unseen f.item (ap progress_of (q.1 ∙ ap (λ x. After (Entered q.0 f.answer.a x)) e)))
+    (unseen f.item (ap progress_of (q.1 ∙ ap (λ x. After (Entered q.0 f.answer.address x)) e)))
 
 pub return_follows : (n : ℕ) (ms : List Pending) (f : Found Pending Arrival) → seek (arrival_at n) ms ≡ Some f
     → awaited reservation_of f.earlier (X n) ≡ false

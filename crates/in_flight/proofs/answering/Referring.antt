@@ -14,7 +14,7 @@ use Rattle.instructions.specs.Each.{Each, Pairs}
 use Rattle.instructions.specs.Finding.{Found as FoundIn, seek as seek_in, put_back as put_back_of, replaced, Found}
 use Rattle.instructions.specs.Finding.{seek, found_here, found_further, put_back}
 use Rattle.instructions.specs.RegisterLists.{is_in, overlap}
-use Rattle.instructions.specs.Shape.{Shape, Puts, Loads, Stores, Jumps, Links, shape_of, results, puts_of, loads_of}
+use Rattle.instructions.specs.Shape.{Shape, Sets, Loads, Stores, Jumps, Links, shape_of, results, sets_of, loads_of}
 use Rattle.instructions.specs.Shape.{has_reference}
 use Rattle.instructions.specs.Operands.{reg_eq}
 use Rattle.instructions.proofs.Lists.{any_right, each_append, each_map, each_of_any, pairs_before, pairs_right}
@@ -31,10 +31,9 @@ use Rattle.scoreboard.specs.Reservations.{is_reserved, returning_to}
 use Rattle.scoreboard.specs.Issued.{channel_of}
 use Rattle.scoreboard.specs.Answers.{Standing, held_in, left, with_issued}
 use Rattle.scoreboard.specs.Units.{unit_number}
-use Rattle.scoreboard.proofs.seating.Seating.{unit_below}
+use Rattle.scoreboard.proofs.in_slots.InSlots.{unit_below}
 use Rattle.in_flight.specs.declared.flight.Rest.{Rest}
 use Rattle.in_flight.specs.declared.flight.Rest.TheVariants.{Enters, Arrives}
-use Rattle.in_flight.specs.declared.pending.HopperEntry.{HopperEntry}
 use Rattle.in_flight.specs.declared.pending.Outstanding.{Outstanding}
 use Rattle.in_flight.specs.declared.pending.Outstanding.TheVariants.{Entered as HasEntered, Accepted}
 use Rattle.in_flight.specs.declared.pending.Pending.{Pending}
@@ -50,37 +49,34 @@ use Rattle.in_flight.specs.Flight.{entered_at, rest_at, queue_with, queue_after,
 use Rattle.in_flight.specs.Pending.{reservation_of, progress_of, returning, to_come, has_turn, is_entered, entered_in}
 use Rattle.in_flight.specs.Pending.{holds_back}
 use Rattle.in_flight.specs.Pending.{holds_back_in}
-use Rattle.in_flight.specs.inner.Slots.{IsSlotted, IsChannel, IsPlaced}
-use Rattle.in_flight.specs.inner.Seats.{seat_in, seat_of, AreElsewhere, HasRoom}
-use Rattle.in_flight.specs.Lookup.{sought, stage_at, entry_at, entry_in, in_place, place_for, enters, in_phase, kept}
+use Rattle.in_flight.specs.inner.OwnSlots.{HasOwnSlots, IsChannel, IsPlaced}
+use Rattle.in_flight.specs.inner.Slots.{slot_in, slot_of, AreElsewhere, HasRoom}
+use Rattle.in_flight.specs.Lookup.{located, stage_at, entry_at, entry_in, in_place, place_for, enters, in_phase, kept}
 use Rattle.in_flight.specs.Apart.{IsApart}
 use Rattle.in_flight.proofs.answering.Beside.{any-append, waiting_put, waiting_around, waiting_one}
 use Rattle.in_flight.proofs.answering.Beside.{each_put, same_place, arrival_phase}
 use Rattle.instructions.proofs.Finding.{seek_splits, seek_around, seek_nobody}
 use Rattle.in_flight.proofs.asking.Finding.{stage_found}
 use Rattle.in_flight.proofs.answering.Boarding.{store_follows, load_follows, stored_follows}
-use Rattle.in_flight.proofs.seating.Moving.{arrival_is, entry_is}
+use Rattle.in_flight.proofs.in_slots.Moving.{arrival_is, entry_is}
 use Rattle.in_flight.proofs.asking.Slotting.{place_found, loads_channel, proper_there, placed_in}
 
 -- ---- a reference in its place ----
 
-abbrev pub reference_of : HopperEntry → Reference
-reference_of e = record { address = e.a; access = e.access }
-
-entry_in_is : (p : ℕ) (q : Phase) (e : HopperEntry) → entry_in p q ≡ Some e → q ≡ After (HasEntered p e.a e.access)
+entry_in_is : (p : ℕ) (q : Phase) (e : Reference) → entry_in p q ≡ Some e → q ≡ After (HasEntered p e.address e.access)
 unfolding entry_in
 entry_in_is p (Before t) e h = cc
 entry_in_is p (After (Accepted n w)) e h = cc
 entry_in_is p (After (HasEntered place a access)) e h = by_test (eqb place p) refl h
   where
-    by_test : (b : Bool) → eqb place p ≡ b → cond b (Some (record { a = a; access = access })) None ≡ Some e
-        → After (HasEntered place a access) ≡ After (HasEntered p e.a e.access)
+    by_test : (b : Bool) → eqb place p ≡ b → cond b (Some (record { address = a; access = access })) None ≡ Some e
+        → After (HasEntered place a access) ≡ After (HasEntered p e.address e.access)
     by_test true i k = ap (λ s. After (HasEntered s a access)) (eqb-true place p i)
-        ∙ ap (λ (y : HopperEntry). After (HasEntered p y.a y.access)) (same_Some _ e k)
+        ∙ ap (λ (y : Reference). After (HasEntered p y.address y.access)) (same_Some _ e k)
     by_test false i k = cc
 
-entry_phase : (p : ℕ) (m : Pending) (e : HopperEntry) → entry_at p m ≡ Some e
-    → m.phase ≡ After (HasEntered p e.a e.access)
+entry_phase : (p : ℕ) (m : Pending) (e : Reference) → entry_at p m ≡ Some e
+    → m.phase ≡ After (HasEntered p e.address e.access)
 unfolding entry_at
 entry_phase p m e h = entry_in_is p m.phase e h
 
@@ -90,8 +86,8 @@ not_in_place p (Before t) h = tt
 not_in_place p (After (Accepted n w)) h = tt
 not_in_place p (After (HasEntered place a access)) h = by_test (eqb place p) h
   where
-    entry : HopperEntry
-    entry = record { a = a; access = access }
+    entry : Reference
+    entry = record { address = a; access = access }
 
     reference : Reference
     reference = record { address = a; access = access }
@@ -119,11 +115,11 @@ seek_silent {K} g (m ∷ ms) h = by_head (g m) refl (seek g ms) refl h (seek_sil
     by_head None e None er k ih = (e, ih er)
     by_head None e (Some f) er k ih = cc
 
-abbrev pub in_queue : ℕ → Found Pending HopperEntry → FoundIn Entered Reference
+abbrev pub in_queue : ℕ → Found Pending Reference → FoundIn Entered Reference
 in_queue p f = record {
   earlier = waiting f.earlier;
-  item = record { place = p; reference = reference_of f.answer };
-  answer = reference_of f.answer;
+  item = record { place = p; reference = f.answer };
+  answer = f.answer;
   later = waiting f.later;
 }
 
@@ -134,7 +130,7 @@ stands_there p r = ap (λ b. cond b (Some r) None) (same_number p)
     same_number : (n : ℕ) → eqb n n ≡ true
     same_number n = eq-eqb n n refl
 
-pub queue_found : (p : ℕ) (ms : List Pending) (f : Found Pending HopperEntry) → seek (entry_at p) ms ≡ Some f
+pub queue_found : (p : ℕ) (ms : List Pending) (f : Found Pending Reference) → seek (entry_at p) ms ≡ Some f
     → seek_in (reference_at p) (waiting ms) ≡ Some (in_queue p f)
 unfolding waiting_in
 queue_found p ms f h =
@@ -142,9 +138,9 @@ queue_found p ms f h =
     ap (seek_in (reference_at p))
     (waiting_around (entry_at p) ms f h
     ∙ ap (λ x. waiting f.earlier ++ (waiting_in x ++ waiting f.later)) (entry_phase p f.item f.answer q.1))
-    ∙ seek_around (reference_at p) (waiting f.earlier) (record { place = p; reference = reference_of f.answer })
-    (reference_of f.answer) (waiting f.later) (none_waiting p f.earlier q.2)
-    (stands_there p (reference_of f.answer))
+    ∙ seek_around (reference_at p) (waiting f.earlier) (record { place = p; reference = f.answer })
+    f.answer (waiting f.later) (none_waiting p f.earlier q.2)
+    (stands_there p f.answer)
 
 pub queue_nobody : (p : ℕ) (ms : List Pending) → seek (entry_at p) ms ≡ None
     → seek_in (reference_at p) (waiting ms) ≡ None
@@ -177,14 +173,14 @@ none_answer : (busy : List Bool) → refusal_of nothing ≡ refusal_in (accept_a
 unfolding refusal_of nothing accept_answer
 none_answer busy = refl
 
-some_answer : (busy : List Bool) (p : ℕ) (f : Found Pending HopperEntry)
+some_answer : (busy : List Bool) (p : ℕ) (f : Found Pending Reference)
     → refusal_of (accept_tests busy f.earlier f.answer) ≡ refusal_in (accept_answer busy (Some (in_queue p f)))
 unfolding accept_tests accept_answer
 some_answer busy p f =
-    tests_answer (get_or busy (bank_of f.answer.a) false) (list_any (holds_back f.answer.a f.answer.access) f.earlier)
-    (BankBusy (bank_of f.answer.a)) OlderAtAddress (reference_of f.answer)
-    ∙ ap (λ y. refusal_in (cond (get_or busy (bank_of f.answer.a) false) (Err (BankBusy (bank_of f.answer.a)))
-    (cond y (Err OlderAtAddress) (Ok (reference_of f.answer))))) (sym (back_waits (reference_of f.answer) f.earlier))
+    tests_answer (get_or busy (bank_of f.answer.address) false) (list_any (holds_back f.answer.address f.answer.access) f.earlier)
+    (BankBusy (bank_of f.answer.address)) OlderAtAddress f.answer
+    ∙ ap (λ y. refusal_in (cond (get_or busy (bank_of f.answer.address) false) (Err (BankBusy (bank_of f.answer.address)))
+    (cond y (Err OlderAtAddress) (Ok f.answer)))) (sym (back_waits f.answer f.earlier))
 
 nothing_taken : (busy : List Bool) (r : Reference) → accept_answer busy None ≡ Ok r → ⊥
 unfolding accept_answer
@@ -212,7 +208,7 @@ unfolding tests_found
 accept_answered p ms queue r e k = by_found (seek (entry_at p) ms) refl
     ∙ ap refusal_in (sym (k ∙ ap (λ es. accept_answer queue.busy (seek_in (reference_at p) es)) e))
   where
-    by_found : (o : Option (Found Pending HopperEntry)) → seek (entry_at p) ms ≡ o
+    by_found : (o : Option (Found Pending Reference)) → seek (entry_at p) ms ≡ o
         → refusal_of (tests_found o (λ f. accept_tests queue.busy f.earlier f.answer))
         ≡ refusal_in (accept_answer queue.busy (seek_in (reference_at p) (waiting ms)))
     by_found None h =
@@ -223,14 +219,14 @@ accept_answered p ms queue r e k = by_found (seek (entry_at p) ms) refl
 -- what was taken stood in the place
 pub accept_found : (p : ℕ) (ms : List Pending) (queue : Queue) (a : Result Reference Refusal) (r : Reference)
     → queue.entered ≡ waiting ms → a ≡ accept_answer queue.busy (seek_in (reference_at p) queue.entered) → a ≡ Ok r
-    → (f : Found Pending HopperEntry) × (seek (entry_at p) ms ≡ Some f) × (reference_of f.answer ≡ r)
+    → (f : Found Pending Reference) × (seek (entry_at p) ms ≡ Some f) × (f.answer ≡ r)
 accept_found p ms queue a r e k h = by_found (seek (entry_at p) ms) refl
   where
     here : accept_answer queue.busy (seek_in (reference_at p) (waiting ms)) ≡ Ok r
     here = sym (k ∙ ap (λ es. accept_answer queue.busy (seek_in (reference_at p) es)) e) ∙ h
 
-    by_found : (o : Option (Found Pending HopperEntry)) → seek (entry_at p) ms ≡ o → (f : Found Pending HopperEntry)
-        × (o ≡ Some f) × (reference_of f.answer ≡ r)
+    by_found : (o : Option (Found Pending Reference)) → seek (entry_at p) ms ≡ o → (f : Found Pending Reference)
+        × (o ≡ Some f) × (f.answer ≡ r)
     by_found None i =
         absurd (nothing_taken queue.busy r (sym (ap (accept_answer queue.busy) (queue_nobody p ms i)) ∙ here))
     by_found (Some f) i = (
@@ -239,20 +235,20 @@ accept_found p ms queue a r e k h = by_found (seek (entry_at p) ms) refl
       taken_is queue.busy (in_queue p f) r (sym (ap (accept_answer queue.busy) (queue_found p ms f i)) ∙ here),
     )
 
-pub entry_answered : (p : ℕ) (ms : List Pending) (f : Found Pending HopperEntry) (r : Reference)
-    → seek (entry_at p) ms ≡ Some f → reference_of f.answer ≡ r
-    → IfSome (seek (entry_at p) ms) (λ x. x.answer ≡ record { a = r.address; access = r.access })
+pub entry_answered : (p : ℕ) (ms : List Pending) (f : Found Pending Reference) (r : Reference)
+    → seek (entry_at p) ms ≡ Some f → f.answer ≡ r
+    → IfSome (seek (entry_at p) ms) (λ x. x.answer ≡ record { address = r.address; access = r.access })
 entry_answered p ms f r h e =
-    subst (λ o. IfSome o (λ x. x.answer ≡ record { a = r.address; access = r.access })) (sym h)
-    (ap (λ (z : Reference). record { a = z.address; access = z.access }) e)
+    subst (λ o. IfSome o (λ x. x.answer ≡ record { address = r.address; access = r.access })) (sym h)
+    (ap (λ (z : Reference). record { address = z.address; access = z.access }) e)
 
 -- its place, its address and its channel
-pub entry_placed : (size p : ℕ) (ms : List Pending) (f : Found Pending HopperEntry) → IsSlotted size ms
-    → seek (entry_at p) ms ≡ Some f → IsPlaced size f.item.unit (After (HasEntered p f.answer.a f.answer.access))
-entry_placed size p ms f slotted h =
+pub entry_placed : (size p : ℕ) (ms : List Pending) (f : Found Pending Reference) → HasOwnSlots size ms
+    → seek (entry_at p) ms ≡ Some f → IsPlaced size f.item.unit (After (HasEntered p f.answer.address f.answer.access))
+entry_placed size p ms f own_slots h =
     let q = seek_splits (entry_at p) ms f h in
-    placed_in size f.item (After (HasEntered p f.answer.a f.answer.access)) (entry_phase p f.item f.answer q.1)
-    (proper_there size f.earlier f.item f.later (subst (IsSlotted size) q.0 slotted))
+    placed_in size f.item (After (HasEntered p f.answer.address f.answer.access)) (entry_phase p f.item f.answer q.1)
+    (proper_there size f.earlier f.item f.later (subst (HasOwnSlots size) q.0 own_slots))
 
 -- ---- the channel of a load ----
 
@@ -271,21 +267,21 @@ coming_in : (n w : ℕ) (y : Pending) → y.phase ≡ After (Accepted n w) → t
 unfolding to_come board.to_come reservation_of board.to_come_in progress_of returning returning_to
 coming_in n w y h = ap (λ p. board.to_come_in (shape_of y.instr) (progress_of p)) h
 
-coming_to : (n : ℕ) (y : Pending) → n < 8 → seat_of y ≡ 14 + n → to_come y ≡ X n ∷ []
+coming_to : (n : ℕ) (y : Pending) → n < 8 → slot_of y ≡ 14 + n → to_come y ≡ X n ∷ []
 coming_to n y b h =
     let p = arrival_is n y b h in
     coming_in n p.0.word y (arrival_phase n y p.0 p.1)
 
 -- nobody else waits in the channel of a load that is still to return
 pub channel_free : (n : ℕ) (rs : List Reg) (es : List Pending) (m : Pending) (ls : List Pending)
-    → Pairs IsApart (es ++ m ∷ ls) → to_come m ≡ rs ++ X n ∷ [] → n < 8 → seat_of m ≢ 14 + n
+    → Pairs IsApart (es ++ m ∷ ls) → to_come m ≡ rs ++ X n ∷ [] → n < 8 → slot_of m ≢ 14 + n
     → AreElsewhere (14 + n) (es ++ m ∷ ls)
 channel_free n rs es m ls apart h b away =
-    each_append (λ y. seat_of y ≢ 14 + n) es (m ∷ ls)
-    (each_map (λ e. IsApart e m) (λ y. seat_of y ≢ 14 + n) (λ y a k. one_load n rs [] y m (coming_to n y b k) h a) es
+    each_append (λ y. slot_of y ≢ 14 + n) es (m ∷ ls)
+    (each_map (λ e. IsApart e m) (λ y. slot_of y ≢ 14 + n) (λ y a k. one_load n rs [] y m (coming_to n y b k) h a) es
     (pairs_before IsApart es m ls apart)) (
       away,
-      each_map (IsApart m) (λ y. seat_of y ≢ 14 + n) (λ y a k. one_load n [] rs m y h (coming_to n y b k) a) ls
+      each_map (IsApart m) (λ y. slot_of y ≢ 14 + n) (λ y a k. one_load n [] rs m y h (coming_to n y b k) a) ls
           (pairs_right IsApart es (m ∷ ls) apart).0,
     )
 
@@ -294,48 +290,48 @@ unfolding to_come board.to_come reservation_of board.to_come_in progress_of retu
 referring_comes n p a y h = ap (λ q. board.to_come_in (shape_of y.instr) (progress_of q)) h
 
 referring_away : (n p a : ℕ) (x : Access) (y : Pending) → p < 4 → y.phase ≡ After (HasEntered p a x)
-    → seat_of y ≢ 14 + n
-unfolding seat_of seat_in
-referring_away n p a x y b h k = let q : cond (ltb p 4) (10 + p) 22 ≡ 14 + n = sym (ap (seat_in y.unit) h)
+    → slot_of y ≢ 14 + n
+unfolding slot_of slot_in
+referring_away n p a x y b h k = let q : cond (ltb p 4) (10 + p) 22 ≡ 14 + n = sym (ap (slot_in y.unit) h)
     ∙ k in let r : cond (ltb p 4) (10 + p) 22 ≡ 10 + p =
     ap (λ t. cond t (10 + p) 22) (lt-ltb p 4 b) in omega (arith, b, q, r)
 
-room_by : (memory : List ℕ) (p : ℕ) (ms : List Pending) (f : Found Pending HopperEntry) (x : Access) → Pairs IsApart ms
-    → IsSlotted (length memory) ms → seek (entry_at p) ms ≡ Some f → f.answer.access ≡ x
-    → HasRoom (left_by memory f.answer.a x) ms
-room_by memory p ms f (Store w) apart slotted h e = tt
-room_by memory p ms f (Load n) apart slotted h e =
+room_by : (memory : List ℕ) (p : ℕ) (ms : List Pending) (f : Found Pending Reference) (x : Access) → Pairs IsApart ms
+    → HasOwnSlots (length memory) ms → seek (entry_at p) ms ≡ Some f → f.answer.access ≡ x
+    → HasRoom (left_by memory f.answer.address x) ms
+room_by memory p ms f (Store w) apart own_slots h e = tt
+room_by memory p ms f (Load n) apart own_slots h e =
     let q = seek_splits (entry_at p) ms f h in
-    let placed : IsPlaced (length memory) f.item.unit (After (HasEntered p f.answer.a (Load n))) =
-    subst (λ (x : Access). IsPlaced (length memory) f.item.unit (After (HasEntered p f.answer.a x))) e
-    (entry_placed (length memory) p ms f slotted h) in
-    let here : f.item.phase ≡ After (HasEntered p f.answer.a (Load n)) =
-    entry_phase p f.item f.answer q.1 ∙ ap (λ x. After (HasEntered p f.answer.a x)) e in
+    let placed : IsPlaced (length memory) f.item.unit (After (HasEntered p f.answer.address (Load n))) =
+    subst (λ (x : Access). IsPlaced (length memory) f.item.unit (After (HasEntered p f.answer.address x))) e
+    (entry_placed (length memory) p ms f own_slots h) in
+    let here : f.item.phase ≡ After (HasEntered p f.answer.address (Load n)) =
+    entry_phase p f.item f.answer q.1 ∙ ap (λ x. After (HasEntered p f.answer.address x)) e in
     let b : n < 8 = (let l : n < 6 = placed.2.1 in omega (arith, l)) in (
       b,
       subst (AreElsewhere (14 + n)) (sym q.0)
           (channel_free n [] f.earlier f.item f.later (subst (Pairs IsApart) q.0 apart)
-          (referring_comes n p f.answer.a f.item here) b
-          (referring_away n p f.answer.a (Load n) f.item placed.0 here)),
+          (referring_comes n p f.answer.address f.item here) b
+          (referring_away n p f.answer.address (Load n) f.item placed.0 here)),
     )
 
-pub room_for_word : (memory : List ℕ) (p : ℕ) (ms : List Pending) (f : Found Pending HopperEntry) (r : Reference)
-    (l : Option Outstanding) → Pairs IsApart ms → IsSlotted (length memory) ms → seek (entry_at p) ms ≡ Some f
-    → reference_of f.answer ≡ r → l ≡ left_by memory r.address r.access → HasRoom l ms
-room_for_word memory p ms f r l apart slotted h e el =
+pub room_for_word : (memory : List ℕ) (p : ℕ) (ms : List Pending) (f : Found Pending Reference) (r : Reference)
+    (l : Option Outstanding) → Pairs IsApart ms → HasOwnSlots (length memory) ms → seek (entry_at p) ms ≡ Some f
+    → f.answer ≡ r → l ≡ left_by memory r.address r.access → HasRoom l ms
+room_for_word memory p ms f r l apart own_slots h e el =
     subst (λ z. HasRoom z ms) (sym (el ∙ sym (ap (λ (z : Reference). left_by memory z.address z.access) e)))
-    (room_by memory p ms f f.answer.access apart slotted h refl)
+    (room_by memory p ms f f.answer.access apart own_slots h refl)
 
 taken_waits : (memory : List ℕ) (a : ℕ) (x : Access) (m : Pending) → waiting (kept m (left_by memory a x)) ≡ []
 unfolding kept waiting waiting_in in_phase
 taken_waits memory a (Load n) m = refl
 taken_waits memory a (Store w) m = refl
 
-taken_boarded : (memory : List ℕ) (p : ℕ) (ms : List Pending) (f : Found Pending HopperEntry) (x : Access)
+taken_boarded : (memory : List ℕ) (p : ℕ) (ms : List Pending) (f : Found Pending Reference) (x : Access)
     → seek (entry_at p) ms ≡ Some f → f.answer.access ≡ x
-    → on_board (put_back f (kept f.item (left_by memory f.answer.a x))) ≡ on_board ms
+    → on_board (put_back f (kept f.item (left_by memory f.answer.address x))) ≡ on_board ms
 unfolding kept
-taken_boarded memory p ms f (Load n) h e = load_follows p ms f n (get_or memory f.answer.a 0) h e
+taken_boarded memory p ms f (Load n) h e = load_follows p ms f n (get_or memory f.answer.address 0) h e
 taken_boarded memory p ms f (Store w) h e = stored_follows p ms f w h e
 
 each_kept : (n : ℕ) (m : Pending) (l : Option Outstanding) → m.number ≤ n → Each (λ y. y.number ≤ n) (kept m l)
@@ -343,10 +339,10 @@ unfolding kept in_phase
 each_kept n m None h = tt
 each_kept n m (Some l) h = (h, tt)
 
-queue_taken : (queue : Queue) (ms : List Pending) (p : ℕ) (f : Found Pending HopperEntry) → queue.entered ≡ waiting ms
+queue_taken : (queue : Queue) (ms : List Pending) (p : ℕ) (f : Found Pending Reference) → queue.entered ≡ waiting ms
     → seek (entry_at p) ms ≡ Some f
     → accepted queue (seek_in (reference_at p) queue.entered)
-    ≡ record { entered = waiting f.earlier ++ waiting f.later; busy = set queue.busy (bank_of f.answer.a) true }
+    ≡ record { entered = waiting f.earlier ++ waiting f.later; busy = set queue.busy (bank_of f.answer.address) true }
 unfolding accepted put_back_of
 queue_taken queue ms p f e h =
     ap (λ es. accepted queue (seek_in (reference_at p) es)) e ∙ ap (accepted queue) (queue_found p ms f h)
@@ -354,18 +350,18 @@ queue_taken queue ms p f e h =
 abbrev pub taken_from : ℕ → List ℕ → Reference → List Pending → List Pending
 taken_from p memory r ms = replaced (seek (entry_at p) ms) ms (λ m. kept m (left_by memory r.address r.access))
 
-accept_made : (memory : List ℕ) (p : ℕ) (ms ns : List Pending) (f : Found Pending HopperEntry) (r : Reference)
-    (l : Option Outstanding) → seek (entry_at p) ms ≡ Some f → reference_of f.answer ≡ r
+accept_made : (memory : List ℕ) (p : ℕ) (ms ns : List Pending) (f : Found Pending Reference) (r : Reference)
+    (l : Option Outstanding) → seek (entry_at p) ms ≡ Some f → f.answer ≡ r
     → l ≡ left_by memory r.address r.access → ns ≡ replaced (seek (entry_at p) ms) ms (λ m. kept m l)
-    → ns ≡ put_back f (kept f.item (left_by memory f.answer.a f.answer.access))
+    → ns ≡ put_back f (kept f.item (left_by memory f.answer.address f.answer.access))
 unfolding replaced
 accept_made memory p ms ns f r l h e el en =
     en ∙ ap (λ o. replaced o ms (λ m. kept m l)) h
     ∙ ap (λ z. put_back f (kept f.item z)) (el ∙ sym (ap (λ (z : Reference). left_by memory z.address z.access) e))
 
 pub accept_tied : (memory : List ℕ) (p : ℕ) (ms ns : List Pending) (queue after : Queue) (b : Standing)
-    (f : Found Pending HopperEntry) (r : Reference) (l : Option Outstanding) → IsTied ms queue b
-    → seek (entry_at p) ms ≡ Some f → reference_of f.answer ≡ r → l ≡ left_by memory r.address r.access
+    (f : Found Pending Reference) (r : Reference) (l : Option Outstanding) → IsTied ms queue b
+    → seek (entry_at p) ms ≡ Some f → f.answer ≡ r → l ≡ left_by memory r.address r.access
     → ns ≡ replaced (seek (entry_at p) ms) ms (λ m. kept m l)
     → after ≡ accepted queue (seek_in (reference_at p) queue.entered) → IsTied ns after b
 accept_tied memory p ms ns queue after b f r l tied h e el en eq =
@@ -373,18 +369,18 @@ accept_tied memory p ms ns queue after b f r l tied h e el en eq =
     record {
       boarded = tied.boarded ∙ sym (taken_boarded memory p ms f f.answer.access h refl) ∙ ap on_board (sym made);
       entered = ap (λ (q : Queue). q.entered) (eq ∙ queue_taken queue ms p f tied.entered h)
-          ∙ sym (waiting_put f (kept f.item (left_by memory f.answer.a f.answer.access))
+          ∙ sym (waiting_put f (kept f.item (left_by memory f.answer.address f.answer.access))
           ∙ ap (λ w. waiting f.earlier ++ (w ++ waiting f.later))
-          (taken_waits memory f.answer.a f.answer.access f.item)) ∙ ap waiting (sym made);
+          (taken_waits memory f.answer.address f.answer.access f.item)) ∙ ap waiting (sym made);
       counted = subst (Each (λ m. m.number ≤ b.last)) (sym made)
           (each_put (λ m. m.number ≤ b.last) (entry_at p) ms f
-          (kept f.item (left_by memory f.answer.a f.answer.access)) h
-          (λ k. each_kept b.last f.item (left_by memory f.answer.a f.answer.access) k) tied.counted);
+          (kept f.item (left_by memory f.answer.address f.answer.access)) h
+          (λ k. each_kept b.last f.item (left_by memory f.answer.address f.answer.access) k) tied.counted);
     }
 
 pub accept_flight : (memory : List ℕ) (p : ℕ) (ms ns : List Pending) (queue after : Queue) (b : Standing)
-    (f : Found Pending HopperEntry) (r : Reference) (l : Option Outstanding) (now : Flight)
-    → flight_of ms queue b ≡ now → IsTied ms queue b → seek (entry_at p) ms ≡ Some f → reference_of f.answer ≡ r
+    (f : Found Pending Reference) (r : Reference) (l : Option Outstanding) (now : Flight)
+    → flight_of ms queue b ≡ now → IsTied ms queue b → seek (entry_at p) ms ≡ Some f → f.answer ≡ r
     → l ≡ left_by memory r.address r.access → ns ≡ replaced (seek (entry_at p) ms) ms (λ m. kept m l)
     → after ≡ accepted queue (seek_in (reference_at p) queue.entered)
     → flight_of ns after b ≡ record now {
@@ -393,7 +389,7 @@ pub accept_flight : (memory : List ℕ) (p : ℕ) (ms ns : List Pending) (queue 
     }
 accept_flight memory p ms ns queue after b f r l now ev tied h e el en eq =
     ap (λ (q : Queue). flight_of ns q b) (eq ∙ queue_taken queue ms p f tied.entered h)
-    ∙ ap (λ k. record { pending = k; busy = set queue.busy (bank_of f.answer.a) true; last = b.last })
+    ∙ ap (λ k. record { pending = k; busy = set queue.busy (bank_of f.answer.address) true; last = b.last })
     (en ∙ ap (λ z. replaced (seek (entry_at p) ms) ms (λ m. kept m z)) el)
     ∙ ap (λ (z : Reference). record {
       pending = taken_from p memory r ms;
@@ -434,7 +430,7 @@ returns_alike place (Some (Enters r)) = by_access r.access
 
 loads_through : (h : Shape) (n : ℕ) → Some n ≡ channel_of h → h ≡ Loads n
 unfolding channel_of
-loads_through (Puts rs) n e = cc
+loads_through (Sets rs) n e = cc
 loads_through (Loads m) n e = ap Loads (same_Some m n (sym e))
 loads_through (Stores m) n e = cc
 loads_through Jumps n e = cc
@@ -442,15 +438,15 @@ loads_through Links n e = cc
 
 load_comes : (m : Pending) (t : Stage) (n : ℕ) → m.phase ≡ Before t → shape_of m.instr ≡ Loads n
     → to_come m ≡ (A n ∷ []) ++ X n ∷ []
-unfolding to_come board.to_come reservation_of board.to_come_in progress_of results puts_of loads_of
+unfolding to_come board.to_come reservation_of board.to_come_in progress_of results sets_of loads_of
 load_comes m t n h e = ap (λ p. board.to_come_in (shape_of m.instr) (progress_of p)) h ∙ ap results e
 
-unit_away : (m : Pending) (t : Stage) (n : ℕ) → m.phase ≡ Before t → seat_of m ≢ 14 + n
-unfolding seat_of seat_in
+unit_away : (m : Pending) (t : Stage) (n : ℕ) → m.phase ≡ Before t → slot_of m ≢ 14 + n
+unfolding slot_of slot_in
 unit_away m t n h k = let q : unit_number m.unit ≡ 14 + n =
-    sym (ap (seat_in m.unit) h) ∙ k in let b = unit_below m.unit in omega (arith, b, q)
+    sym (ap (slot_in m.unit) h) ∙ k in let b = unit_below m.unit in omega (arith, b, q)
 
-place_away : (p : ℕ) (y : Pending) → p < 4 → in_place p y ≡ false → seat_of y ≢ 10 + p
+place_away : (p : ℕ) (y : Pending) → p < 4 → in_place p y ≡ false → slot_of y ≢ 10 + p
 unfolding in_place
 place_away p y b h k = let q = entry_is p y b k in let r : true ≡ false = sym (ap is_some q.1) ∙ h in cc
 
@@ -462,7 +458,7 @@ room_left u ms f None o apart h is e = tt
 room_left u ms f (Some (Enters r)) None apart h is e = tt
 room_left u ms f (Some (Enters r)) (Some p) apart h is e =
     let q = place_found ms p e in
-    (q.1, each_of_any (in_place p) (λ y. seat_of y ≢ 10 + p) (λ y k. place_away p y q.1 k) ms q.0)
+    (q.1, each_of_any (in_place p) (λ y. slot_of y ≢ 10 + p) (λ y k. place_away p y q.1 k) ms q.0)
 room_left u ms f (Some (Arrives n)) o apart h is e =
     let q = seek_splits (stage_at u) ms f h in
     let t = stage_found u f.item f.answer q.1 in
@@ -477,10 +473,10 @@ room_left u ms f (Some (Arrives n)) o apart h is e =
 
 rest_of_found : (u : FunctionalUnit) (ms : List Pending) (f : Found Pending Stage) (rest : Option Rest)
     → seek (stage_at u) ms ≡ Some f
-    → IfSome (sought (seek (stage_at u) ms)) (λ s. IsRestOf (shape_of s.pending.instr) rest)
+    → IfSome (located (seek (stage_at u) ms)) (λ s. IsRestOf (shape_of s.pending.instr) rest)
     → IsRestOf (shape_of f.item.instr) rest
-unfolding sought
-rest_of_found u ms f rest h is = subst (λ o. IfSome (sought o) (λ s. IsRestOf (shape_of s.pending.instr) rest)) h is
+unfolding located
+rest_of_found u ms f rest h is = subst (λ o. IfSome (located o) (λ s. IsRestOf (shape_of s.pending.instr) rest)) h is
 
 around : (u : FunctionalUnit) (ms : List Pending) (f : Found Pending Stage) → seek (stage_at u) ms ≡ Some f
     → waiting ms ≡ waiting f.earlier ++ waiting f.later
@@ -492,7 +488,7 @@ around u ms f h = waiting_around (stage_at u) ms f h
 pub room_for_rest : (u : FunctionalUnit) (ms : List Pending) (queue : Queue) (f : Found Pending Stage)
     (rest : Option Rest) (l : Option Outstanding) → queue.entered ≡ waiting ms → Pairs IsApart ms
     → seek (stage_at u) ms ≡ Some f
-    → IfSome (sought (seek (stage_at u) ms)) (λ s. IsRestOf (shape_of s.pending.instr) rest)
+    → IfSome (located (seek (stage_at u) ms)) (λ s. IsRestOf (shape_of s.pending.instr) rest)
     → l ≡ rest_at (free_in queue.entered) rest → HasRoom l ms
 room_for_rest u ms queue f rest l e apart h is el =
     subst (λ z. HasRoom z ms) (sym (el ∙ ap (λ o. rest_at o rest) (ap free_in e ∙ same_place ms)))
@@ -559,7 +555,7 @@ queue_busy queue (Some p) (Some (Enters r)) = refl
 pub leave_tied : (u : FunctionalUnit) (ms ns : List Pending) (queue after : Queue) (b c : Standing)
     (f : Found Pending Stage) (rest : Option Rest) (l : Option Outstanding) → IsTied ms queue b → Pairs IsApart ms
     → seek (stage_at u) ms ≡ Some f
-    → IfSome (sought (seek (stage_at u) ms)) (λ s. IsRestOf (shape_of s.pending.instr) rest)
+    → IfSome (located (seek (stage_at u) ms)) (λ s. IsRestOf (shape_of s.pending.instr) rest)
     → (enters (outstanding_of 0 rest) ≡ true → is_none (place_for ms) ≡ false)
     → l ≡ rest_at (free_in queue.entered) rest → ns ≡ replaced (seek (stage_at u) ms) ms (λ m. kept m l)
     → after ≡ queue_after queue (free_in queue.entered) rest

@@ -4,17 +4,17 @@ use Rattle.std.proofs.lemmas.Option.{same_Some}
 use Rattle.instructions.specs.Each.{Each}
 use Rattle.instructions.specs.Finding.{Found}
 use Rattle.in_flight.specs.Tests.{Test, nothing, refusal_of}
-use Rattle.in_flight.specs.Lookup.{arrival_at, arrival_in, entry_at, entry_in, stage_at, stage_in, sought}
+use Rattle.in_flight.specs.Lookup.{arrival_at, arrival_in, entry_at, entry_in, stage_at, stage_in, located}
 use Rattle.instructions.specs.declared.instr.Unit.{Unit as FunctionalUnit}
 use Rattle.scoreboard.specs.Units.{same_unit}
 use Rattle.in_flight.specs.declared.pending.Arrival.{Arrival}
-use Rattle.in_flight.specs.declared.pending.HopperEntry.{HopperEntry}
+use Rattle.hopper.specs.declared.reference.Reference.{Reference}
 use Rattle.in_flight.specs.declared.pending.Outstanding.TheVariants.{Accepted, Entered}
 use Rattle.in_flight.specs.declared.pending.Pending.{Pending}
 use Rattle.in_flight.specs.declared.pending.Phase.{Phase}
 use Rattle.in_flight.specs.declared.pending.Phase.TheVariants.{After, Before}
 use Rattle.in_flight.specs.declared.pending.Stage.{Stage}
-use Rattle.in_flight.specs.declared.slots.Sought.{Sought}
+use Rattle.in_flight.specs.declared.slots.Located.{Located}
 
 -- no refusal: no test failed
 pub refusal_none : (ts : List Test) → refusal_of ts ≡ None → Each (λ t. t.fails ≡ false) ts
@@ -32,16 +32,16 @@ unfolding refusal_of nothing
 not_nothing h = cc
 
 -- the instruction that was sought is the one that was found
-pub sought_pending : {K : Type 0} (f : Found Pending K) (s : Sought K) → sought (Some f) ≡ Some s → f.item ≡ s.pending
-unfolding sought
-sought_pending {K} f s h = ap (λ (x : Sought K). x.pending) (same_Some _ s h)
+pub sought_pending : {K : Type 0} (f : Found Pending K) (s : Located K) → located (Some f) ≡ Some s → f.item ≡ s.pending
+unfolding located
+sought_pending {K} f s h = ap (λ (x : Located K). x.pending) (same_Some _ s h)
 
-pub sought_what : {K : Type 0} (f : Found Pending K) (s : Sought K) → sought (Some f) ≡ Some s → f.answer ≡ s.answer
-unfolding sought
-sought_what {K} f s h = ap (λ (x : Sought K). x.answer) (same_Some _ s h)
+pub sought_what : {K : Type 0} (f : Found Pending K) (s : Located K) → located (Some f) ≡ Some s → f.answer ≡ s.answer
+unfolding located
+sought_what {K} f s h = ap (λ (x : Located K). x.answer) (same_Some _ s h)
 
-pub no_sought : {K : Type 0} (s : Sought K) → sought None ≡ Some s → ⊥
-unfolding sought
+pub no_sought : {K : Type 0} (s : Located K) → located None ≡ Some s → ⊥
+unfolding located
 no_sought s h = cc
 
 stage_in_found : (p : Phase) (t : Stage) → stage_in p ≡ Some t → p ≡ Before t
@@ -57,20 +57,20 @@ stage_found u m t h = by_test (same_unit m.unit u) h
     by_test true k = stage_in_found m.phase t k
     by_test false k = cc
 
-pub entry_in_found : (p : ℕ) (q : Phase) (e : HopperEntry) → entry_in p q ≡ Some e → (slot : ℕ)
-    × (q ≡ After (Entered slot e.a e.access))
+pub entry_in_found : (p : ℕ) (q : Phase) (e : Reference) → entry_in p q ≡ Some e → (slot : ℕ)
+    × (q ≡ After (Entered slot e.address e.access))
 unfolding entry_in
 entry_in_found p (Before t) e h = cc
 entry_in_found p (After (Accepted n w)) e h = cc
 entry_in_found p (After (Entered slot a access)) e h = by_test (eqb slot p) h
   where
-    by_test : (f : Bool) → cond f (Some (record { a = a; access = access })) None ≡ Some e → (k : ℕ)
-        × (After (Entered slot a access) ≡ After (Entered k e.a e.access))
-    by_test true k = (slot, ap (λ (y : HopperEntry). After (Entered slot y.a y.access)) (same_Some _ e k))
+    by_test : (f : Bool) → cond f (Some (record { address = a; access = access })) None ≡ Some e → (k : ℕ)
+        × (After (Entered slot a access) ≡ After (Entered k e.address e.access))
+    by_test true k = (slot, ap (λ (y : Reference). After (Entered slot y.address y.access)) (same_Some _ e k))
     by_test false k = cc
 
-pub entry_found : (p : ℕ) (m : Pending) (e : HopperEntry) → entry_at p m ≡ Some e → (slot : ℕ)
-    × (m.phase ≡ After (Entered slot e.a e.access))
+pub entry_found : (p : ℕ) (m : Pending) (e : Reference) → entry_at p m ≡ Some e → (slot : ℕ)
+    × (m.phase ≡ After (Entered slot e.address e.access))
 unfolding entry_at
 entry_found p m e h = entry_in_found p m.phase e h
 

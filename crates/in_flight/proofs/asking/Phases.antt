@@ -13,7 +13,7 @@ use Rattle.in_flight.specs.declared.pending.Phase.{Phase}
 use Rattle.in_flight.specs.declared.pending.Phase.TheVariants.{Before, After}
 use Rattle.in_flight.specs.declared.pending.Pending.{Pending}
 use Rattle.in_flight.specs.Pending.{returning, progress_of, reservation_of, is_branch, stores_in, delays_fetch}
-use Rattle.in_flight.specs.inner.Slots.{unit_slot}
+use Rattle.in_flight.specs.inner.OwnSlots.{unit_slot}
 use Rattle.instructions.specs.declared.instr.Unit.{Unit as FunctionalUnit}
 
 unfoldable pub to_come_in : Shape → Phase → List Reg

@@ -8,7 +8,7 @@ use Rattle.instructions.specs.declared.instr.Unit.{Unit as FunctionalUnit}
 use Rattle.instructions.specs.declared.instr.Unit.TheVariants.{Branch, Boolean, Shift, Add, LongAdd, Multiply1}
 use Rattle.instructions.specs.declared.instr.Unit.TheVariants.{Multiply2, Divide, Increment1, Increment2}
 use Rattle.instructions.specs.RegisterLists.{is_in, overlap}
-use Rattle.instructions.specs.Shape.{Shape, shape_of, Puts, Loads, Stores}
+use Rattle.instructions.specs.Shape.{Shape, shape_of, Sets, Loads, Stores}
 use Rattle.instructions.specs.Operands.{reg_eq}
 use Rattle.scoreboard.specs.Reservations as board
 use Rattle.scoreboard.specs.Reservations.{returning_to}
@@ -19,7 +19,7 @@ use Rattle.in_flight.specs.declared.pending.Phase.TheVariants.{Before, After}
 use Rattle.in_flight.specs.declared.pending.Pending.{Pending}
 use Rattle.instructions.specs.Each.{Each, Pairs}
 use Rattle.in_flight.specs.Pending.{progress_of, returning, reservation_of, to_come}
-use Rattle.in_flight.specs.inner.Slots.{unit_slot, clash_in, clash, IsPlaced, IsProper, IsSlotted, IsChannel}
+use Rattle.in_flight.specs.inner.OwnSlots.{unit_slot, clash_in, clash, IsPlaced, IsProper, HasOwnSlots, IsChannel}
 use Rattle.in_flight.specs.Apart.{IsApart}
 use Rattle.instructions.proofs.Lists.{each_left, each_right, each_append, each_map, each_both, pairs_without}
 use Rattle.instructions.proofs.Lists.{each_of_any, pairs_before, pairs_right, pairs_insert}
@@ -34,7 +34,7 @@ use Rattle.instructions.specs.declared.instr.Target.TheVariants.{A as TargetA, B
 use Rattle.relocation.specs.declared.area.Access.{Access}
 use Rattle.hopper.specs.Hopper.{first_place, free_place}
 use Rattle.scoreboard.specs.Reservations as board
-use Rattle.in_flight.specs.declared.pending.HopperEntry.{HopperEntry}
+use Rattle.hopper.specs.declared.reference.Reference.{Reference}
 use Rattle.in_flight.specs.declared.pending.Outstanding.{Outstanding}
 use Rattle.in_flight.specs.declared.pending.Stage.{Stage}
 use Rattle.in_flight.specs.Lookup.{entry_at, entry_in, in_place, is_taken, place_for, in_phase}
@@ -117,17 +117,17 @@ all_slots size (m ∷ ms) a b c = (
 
 -- ---- an instruction taken out, or another put for it ----
 
-pub slotted_without : (size : ℕ) (es : List Pending) (m : Pending) (ls : List Pending) → IsSlotted size (es ++ m ∷ ls)
-    → IsSlotted size (es ++ ls)
+pub slotted_without : (size : ℕ) (es : List Pending) (m : Pending) (ls : List Pending) → HasOwnSlots size (es ++ m ∷ ls)
+    → HasOwnSlots size (es ++ ls)
 slotted_without size es m ls s = record {
   apart = pairs_without (λ m n. clash m n ≡ false) es m ls s.apart;
   proper = each_append (IsProper size) es ls (each_left (IsProper size) es (m ∷ ls) s.proper)
       (each_right (IsProper size) es (m ∷ ls) s.proper).1;
 }
 
-pub slotted_with : (size : ℕ) (es : List Pending) (m n : Pending) (ls : List Pending) → IsSlotted size (es ++ m ∷ ls)
+pub slotted_with : (size : ℕ) (es : List Pending) (m n : Pending) (ls : List Pending) → HasOwnSlots size (es ++ m ∷ ls)
     → IsProper size n → Each (λ x. clash x n ≡ false) es → Each (λ x. clash n x ≡ false) ls
-    → IsSlotted size (es ++ n ∷ ls)
+    → HasOwnSlots size (es ++ n ∷ ls)
 slotted_with size es m n ls s p before after =
     let rest = slotted_without size es m ls s in
     record {
@@ -136,7 +136,7 @@ slotted_with size es m n ls s p before after =
           (p, each_right (IsProper size) es ls rest.proper);
     }
 
-pub proper_there : (size : ℕ) (es : List Pending) (m : Pending) (ls : List Pending) → IsSlotted size (es ++ m ∷ ls)
+pub proper_there : (size : ℕ) (es : List Pending) (m : Pending) (ls : List Pending) → HasOwnSlots size (es ++ m ∷ ls)
     → IsProper size m
 proper_there size es m ls s = (each_right (IsProper size) es (m ∷ ls) s.proper).0
 
@@ -167,7 +167,7 @@ unfolding in_phase
 proper_stage size m t s e p = record { of_kind = p.of_kind; placed = placed_in size m (Before t) e p }
 
 pub slotted_stage : (size : ℕ) (es : List Pending) (m : Pending) (ls : List Pending) (t s : Stage) → m.phase ≡ Before t
-    → IsSlotted size (es ++ m ∷ ls) → IsSlotted size (es ++ in_phase m (Before s) ∷ ls)
+    → HasOwnSlots size (es ++ m ∷ ls) → HasOwnSlots size (es ++ in_phase m (Before s) ∷ ls)
 slotted_stage size es m ls t s e h =
     slotted_with size es m (in_phase m (Before s)) ls h (proper_stage size m t s e (proper_there size es m ls h))
     (each_map (λ x. clash x m ≡ false) (λ x. clash x (in_phase m (Before s)) ≡ false)
@@ -181,11 +181,11 @@ taken_by (Entered p a access) m = in_place p m
 taken_by (Accepted n w) m = false
 
 other_place : (p q a : ℕ) (access : Access)
-    → is_some {T = HopperEntry} (cond (eqb q p) (Some (record { a = a; access = access })) None) ≡ false
+    → is_some {T = Reference} (cond (eqb q p) (Some (record { address = a; access = access })) None) ≡ false
     → eqb q p ≡ false
 other_place p q a access h = by_test (eqb q p) h
   where
-    by_test : (b : Bool) → is_some {T = HopperEntry} (cond b (Some (record { a = a; access = access })) None) ≡ false
+    by_test : (b : Bool) → is_some {T = Reference} (cond b (Some (record { address = a; access = access })) None) ≡ false
         → b ≡ false
     by_test true k = cc
     by_test false k = refl
@@ -227,8 +227,8 @@ unfolding clash in_phase
 clash_after_left x m l h = after_left x.unit m.unit x.phase l x refl h
 
 pub slotted_after : (size : ℕ) (es : List Pending) (m : Pending) (ls : List Pending) (l : Outstanding)
-    → IsPlaced size m.unit (After l) → Each (λ x. taken_by l x ≡ false) (es ++ m ∷ ls) → IsSlotted size (es ++ m ∷ ls)
-    → IsSlotted size (es ++ in_phase m (After l) ∷ ls)
+    → IsPlaced size m.unit (After l) → Each (λ x. taken_by l x ≡ false) (es ++ m ∷ ls) → HasOwnSlots size (es ++ m ∷ ls)
+    → HasOwnSlots size (es ++ in_phase m (After l) ∷ ls)
 slotted_after size es m ls l p free h =
     slotted_with size es m (in_phase m (After l)) ls h (proper_after size m l (proper_there size es m ls h) p)
     (each_map (λ x. taken_by l x ≡ false) (λ x. clash x (in_phase m (After l)) ≡ false)
@@ -277,7 +277,7 @@ loads_channel (Increment TargetA i a) n e = by_zero (eqb i 0) refl e
         let l : i ≤ 5 = grind (arith, nat_tests) in
         (omega (arith, at, d), omega (arith, at, l))
 
-    by_zero : (b : Bool) → eqb i 0 ≡ b → cond b (Puts (A 0 ∷ [])) (cond (nat_le i 5) (Loads i) (Stores i)) ≡ Loads n
+    by_zero : (b : Bool) → eqb i 0 ≡ b → cond b (Sets (A 0 ∷ [])) (cond (nat_le i 5) (Loads i) (Stores i)) ≡ Loads n
         → IsChannel n
     by_zero true j k = cc
     by_zero false j k = by_five (nat_le i 5) refl j k

@@ -1,69 +1,84 @@
--- Sixteen slots, of which each pending instruction has one of its own: seven units, four places of the hopper and
--- five channels. That no two are in one channel comes from Apart.antt: they would have a result still to come in
--- common.
--- Source: ours.
-use Rattle.std.specs.Prelude.{◌≡◌, ◌<◌, ◌==◌, ℕ, Bool, true, false, List}
+-- Pending instructions in slots, and the list that they stand for. Source: ours.
+use Rattle.std.specs.Prelude.{◌≡◌, ◌≢◌, ◌<◌, ◌+◌, ℕ, Bool, true, false, nat_lt, if◌then◌else◌, List, [], ◌∷◌, ◌++◌}
+use Rattle.std.specs.Prelude.{Option, Some, None, length, slice_set}
 use Rattle.instructions.specs.declared.instr.Unit.{Unit as FunctionalUnit}
-use Rattle.instructions.specs.declared.instr.Unit.TheVariants.{Branch, Boolean, Shift, Add, LongAdd, Multiply1}
-use Rattle.instructions.specs.declared.instr.Unit.TheVariants.{Multiply2, Divide, Increment1, Increment2}
-use Rattle.instructions.specs.Operands.{uses}
-use Rattle.scoreboard.specs.Units.{may_take}
-use Rattle.relocation.specs.declared.area.Access.{Access}
-use Rattle.relocation.specs.declared.area.Access.TheVariants.{Load, Store}
+use Rattle.scoreboard.specs.Units.{unit_number}
+use Rattle.instructions.specs.Each.{Each, Pairs}
+use Rattle.instructions.specs.Order.{sort_by, somes, IsInSlots}
+use Rattle.in_flight.specs.declared.pending.Outstanding.{Outstanding}
 use Rattle.in_flight.specs.declared.pending.Outstanding.TheVariants.{Entered, Accepted}
 use Rattle.in_flight.specs.declared.pending.Phase.{Phase}
 use Rattle.in_flight.specs.declared.pending.Phase.TheVariants.{Before, After}
 use Rattle.in_flight.specs.declared.pending.Pending.{Pending}
-use Rattle.instructions.specs.Each.{Each, Pairs}
+use Rattle.in_flight.specs.Lookup.{in_phase}
 
--- the units in use have the slots 0 to 6; the others have none
-unfoldable pub unit_slot : FunctionalUnit → ℕ
-unit_slot Branch = 0
-unit_slot Boolean = 1
-unit_slot Shift = 2
-unit_slot LongAdd = 3
-unit_slot Divide = 4
-unit_slot Increment1 = 5
-unit_slot Increment2 = 6
-unit_slot Add = 16
-unit_slot Multiply1 = 16
-unit_slot Multiply2 = 16
+-- the number of its reservation
+unfoldable pub number_of : Pending → ℕ
+number_of m = m.number
 
--- two hold one unit in these phases, or stand in one place of the hopper
-unfoldable pub clash_in : FunctionalUnit → Phase → FunctionalUnit → Phase → Bool
-clash_in u (Before t) v (Before s) = unit_slot u == unit_slot v
-clash_in u (Before t) v (After l) = false
-clash_in u (After l) v (Before t) = false
-clash_in u (After (Entered p a x)) v (After (Entered q b y)) = p == q
-clash_in u (After (Entered p a x)) v (After (Accepted n w)) = false
-clash_in u (After (Accepted m w)) v (After (Entered q b y)) = false
-clash_in u (After (Accepted m w)) v (After (Accepted n x)) = false
+-- units have the slots 0 to 9, places of the hopper 10 to 13, channels 14 to 21; there is no slot 22
+unfoldable pub slot_in : FunctionalUnit → Phase → ℕ
+slot_in unit (Before t) = unit_number unit
+slot_in unit (After (Entered place a access)) = if nat_lt place 4 then 10 + place else 22
+slot_in unit (After (Accepted n word)) = if nat_lt n 8 then 14 + n else 22
 
--- two hold one unit, or stand in one place of the hopper
-unfoldable pub clash : Pending → Pending → Bool
-clash m n = clash_in m.unit m.phase n.unit n.phase
+-- the slot of a pending instruction
+unfoldable pub slot_of : Pending → ℕ
+slot_of m = slot_in m.unit m.phase
 
--- it is the number of a channel, 1 to 5
-abbrev pub IsChannel : ℕ → Type 0
-IsChannel n = (0 < n) × (n < 6)
+-- the slots in the order of their numbers: units, places of the hopper, channels
+unfoldable pub slots : List (Option Pending) → List (Option Pending) → List (Option Pending) → List (Option Pending)
+slots units places channels = units ++ (places ++ channels)
 
--- a load has a channel to return to
-abbrev pub IsLoadable : Access → Type 0
-IsLoadable (Load n) = IsChannel n
-IsLoadable (Store word) = Unit {0}
+-- those that stand there, in issue order
+abbrev pub in_order : List (Option Pending) → List Pending
+in_order os = sort_by number_of (somes os)
 
--- its unit is in use, its place one of the four and its address in memory, or its channel one of the five
-abbrev pub IsPlaced : ℕ → FunctionalUnit → Phase → Type 0
-IsPlaced size unit (Before t) = unit_slot unit < 7
-IsPlaced size unit (After (Entered place a access)) = (place < 4) × (a < size) × IsLoadable access
-IsPlaced size unit (After (Accepted n word)) = IsChannel n
+-- each pending instruction stands in the slot of its unit, place or channel
+pub record IsRight (units places channels : List (Option Pending)) : Type 0 where
+  -- ten units, four places of the hopper and eight channels
+  pub all_units : length units ≡ 10
+  pub all_places : length places ≡ 4
+  pub all_channels : length channels ≡ 8
+  pub stands : IsInSlots slot_of 0 (slots units places channels)
+  -- no two have one number
+  pub own : Pairs (λ x y. number_of x ≢ number_of y) (somes (slots units places channels))
 
--- its unit is of the kind that its instruction uses, and what is left of it has its place in a memory of that size
-pub record IsProper (size : ℕ) (m : Pending) : Type 0 where
-  pub of_kind : may_take (uses m.instr).unit m.unit ≡ true
-  pub placed : IsPlaced size m.unit m.phase
+-- none of them stands there
+abbrev pub AreElsewhere : ℕ → List Pending → Type 0
+AreElsewhere slot ms = Each (λ m. slot_of m ≢ slot) ms
 
--- no two hold one unit or stand in one place of the hopper, and each is where it may be
-pub record IsSlotted (size : ℕ) (ms : List Pending) : Type 0 where
-  pub apart : Pairs (λ m n. clash m n ≡ false) ms
-  pub proper : Each (IsProper size) ms
+-- the slot of what is left is there, and free
+abbrev pub HasRoom : Option Outstanding → List Pending → Type 0
+HasRoom None ms = Unit {0}
+HasRoom (Some (Entered place a access)) ms = (place < 4) × AreElsewhere (10 + place) ms
+HasRoom (Some (Accepted n word)) ms = (n < 8) × AreElsewhere (14 + n) ms
+
+-- the places of the hopper when what is left of an instruction has come to its own
+unfoldable pub places_with : List (Option Pending) → Pending → Option Outstanding → List (Option Pending)
+places_with places m None = places
+places_with places m (Some (Entered place a access)) =
+    slice_set places place (Some (in_phase m (After (Entered place a access))))
+places_with places m (Some (Accepted n word)) = places
+
+-- the channels when what is left of an instruction has come to its own
+unfoldable pub channels_with : List (Option Pending) → Pending → Option Outstanding → List (Option Pending)
+channels_with channels m None = channels
+channels_with channels m (Some (Entered place a access)) = channels
+channels_with channels m (Some (Accepted n word)) = slice_set channels n (Some (in_phase m (After (Accepted n word))))
+
+-- nothing is pending
+unfoldable pub has_none : List Pending → Bool
+has_none [] = true
+has_none (m ∷ ms) = false
+
+-- the one with the lower number
+unfoldable pub lower_of : Option Pending → Option Pending → Option Pending
+lower_of None o = o
+lower_of (Some a) None = Some a
+lower_of (Some a) (Some b) = if nat_lt a.number b.number then Some a else Some b
+
+-- the one with the lowest number in the slots
+unfoldable pub lowest_of : List (Option Pending) → Option Pending
+lowest_of [] = None
+lowest_of (o ∷ os) = lower_of o (lowest_of os)

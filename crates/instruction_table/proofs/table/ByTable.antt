@@ -1,4 +1,4 @@
--- What is read at a place is what the table says of it, an opcode at a time.
+-- What is read at a position is what the table says of it, an opcode at a time.
 use Rattle.std.proofs.Common.{ℕ, zero, suc, ◌≡◌, ◌≢◌, ◌+◌, ◌-◌, ◌*◌, ◌/◌, ◌%◌, ◌^◌, ◌<◌, Bool, true, false, cond, List}
 use Rattle.std.proofs.Common.{[], ◌∷◌, get_or, length, refl, ap, ◌∙◌, subst, arith}
 use Rattle.std.specs.Prelude.{nat_lt, ⊤}
@@ -251,34 +251,34 @@ entry_agrees p q hp hq =
 
 -- ---- in a word ----
 
-parcel_small : (word place : ℕ) → parcel_at word place < 2 ^ 15
+parcel_small : (word position : ℕ) → parcel_at word position < 2 ^ 15
 unfolding parcel_at
-parcel_small word place = omega arith
+parcel_small word position = omega arith
 
-following_small : (word place : ℕ) → following_at word place < 2 ^ 15
-following_small word place = by_test (nat_lt place 3)
+following_small : (word position : ℕ) → following_at word position < 2 ^ 15
+following_small word position = by_test (nat_lt position 3)
   where
-    by_test : (b : Bool) → cond b (parcel_at word (place + 1)) 0 < 2 ^ 15
-    by_test true = parcel_small word (place + 1)
+    by_test : (b : Bool) → cond b (parcel_at word (position + 1)) 0 < 2 ^ 15
+    by_test true = parcel_small word (position + 1)
     by_test false = omega arith
 
-pub by_table : (word place : ℕ) → place < 4 → IsByTable word place (reading_at word place)
+pub by_table : (word position : ℕ) → position < 4 → IsByTable word position (reading_at word position)
 unfolding reading_at
-by_table word place l =
-    by_entry (entry_of (parcel_at word place) (following_at word place)) refl
-    (entry_agrees (parcel_at word place) (following_at word place) (parcel_small word place)
-    (following_small word place))
+by_table word position l =
+    by_entry (entry_of (parcel_at word position) (following_at word position)) refl
+    (entry_agrees (parcel_at word position) (following_at word position) (parcel_small word position)
+    (following_small word position))
   where
-    by_length : (instr : Instr) (b : Bool) → nat_lt place 3 ≡ b
-        → IsReadAs instr (parcel_at word place ∷ cond b (parcel_at word (place + 1)) 0 ∷ [])
-        → IsByTable word place (cond b (Legal instr (place + 2)) Straddle)
+    by_length : (instr : Instr) (b : Bool) → nat_lt position 3 ≡ b
+        → IsReadAs instr (parcel_at word position ∷ cond b (parcel_at word (position + 1)) 0 ∷ [])
+        → IsByTable word position (cond b (Legal instr (position + 2)) Straddle)
     by_length instr true t a =
-        subst (λ n. IsReadAs instr (parcels_from word place n)) (let d : 2 ≡ place + 2 - place = omega arith in d) a
-    by_length instr false t a = let f = ltb-false place 3 t in (omega (arith, l, f), (instr, a))
+        subst (λ n. IsReadAs instr (parcels_from word position n)) (let d : 2 ≡ position + 2 - position = omega arith in d) a
+    by_length instr false t a = let f = ltb-false position 3 t in (omega (arith, l, f), (instr, a))
 
-    by_entry : (e : TableEntry) → entry_of (parcel_at word place) (following_at word place) ≡ e
-        → Agrees (parcel_at word place) (following_at word place) e → IsByTable word place (settled e place)
+    by_entry : (e : TableEntry) → entry_of (parcel_at word position) (following_at word position) ≡ e
+        → Agrees (parcel_at word position) (following_at word position) e → IsByTable word position (settled e position)
     by_entry (Short instr) h a =
-        subst (λ n. IsReadAs instr (parcels_from word place n)) (let d : 1 ≡ place + 1 - place = omega arith in d) a
-    by_entry (Long instr) h a = by_length instr (nat_lt place 3) refl a
-    by_entry (Refused op) h a = (a, no_code (parcel_at word place) (following_at word place) op h a)
+        subst (λ n. IsReadAs instr (parcels_from word position n)) (let d : 1 ≡ position + 1 - position = omega arith in d) a
+    by_entry (Long instr) h a = by_length instr (nat_lt position 3) refl a
+    by_entry (Refused op) h a = (a, no_code (parcel_at word position) (following_at word position) op h a)

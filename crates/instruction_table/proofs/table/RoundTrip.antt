@@ -213,56 +213,56 @@ row_again (Increment target i addends) r = refl
 
 -- ---- in a word ----
 
--- an entry of two parcels before the last place
-long_here : (instr : Instr) (word place : ℕ) → place < 3
-    → entry_of (parcel_at word place) (parcel_at word (place + 1)) ≡ Long instr
-    → reading_at word place ≡ Legal instr (place + 2)
+-- an entry of two parcels before the last position
+long_here : (instr : Instr) (word position : ℕ) → position < 3
+    → entry_of (parcel_at word position) (parcel_at word (position + 1)) ≡ Long instr
+    → reading_at word position ≡ Legal instr (position + 2)
 unfolding reading_at
-long_here instr word place below h =
-    let test : nat_lt place 3 ≡ true = grind (arith, nat_tests) in
+long_here instr word position below h =
+    let test : nat_lt position 3 ≡ true = grind (arith, nat_tests) in
     rw (test, h, test) refl
 
-short_here : (instr : Instr) (word place : ℕ) → entry_of (parcel_at word place) (following_at word place) ≡ Short instr
-    → reading_at word place ≡ Legal instr (place + 1)
+short_here : (instr : Instr) (word position : ℕ) → entry_of (parcel_at word position) (following_at word position) ≡ Short instr
+    → reading_at word position ≡ Legal instr (position + 1)
 unfolding reading_at
-short_here instr word place h = rw h refl
+short_here instr word position h = rw h refl
 
 -- where its pattern stands
-pub reading_of_pattern : (instr : Instr) (word place n : ℕ) → place + n ≤ 4
-    → IsReadAs instr (parcels_from word place n) → reading_at word place ≡ Legal instr (place + n)
-reading_of_pattern instr word place n within h = by_row (parcels_of instr) (entry_of_row instr h.0) n within h.1
+pub reading_of_pattern : (instr : Instr) (word position n : ℕ) → position + n ≤ 4
+    → IsReadAs instr (parcels_from word position n) → reading_at word position ≡ Legal instr (position + n)
+reading_of_pattern instr word position n within h = by_row (parcels_of instr) (entry_of_row instr h.0) n within h.1
   where
-    by_row : (ps : List ℕ) → IsEntryOf instr ps → (n : ℕ) → place + n ≤ 4
-        → used_in instr (parcels_from word place n) ≡ ps → reading_at word place ≡ Legal instr (place + n)
+    by_row : (ps : List ℕ) → IsEntryOf instr ps → (n : ℕ) → position + n ≤ 4
+        → used_in instr (parcels_from word position n) ≡ ps → reading_at word position ≡ Legal instr (position + n)
     by_row [] k n l e = absurd k
     by_row (p ∷ []) k zero l e = cc
     by_row (p ∷ []) k (suc zero) l e =
-        short_here instr word place (k (parcel_at word place) (following_at word place)
-        (let d : used_fields instr (parcel_at word place) ≡ p = cc in d))
+        short_here instr word position (k (parcel_at word position) (following_at word position)
+        (let d : used_fields instr (parcel_at word position) ≡ p = cc in d))
     by_row (p ∷ []) k (suc (suc n)) l e = cc
     by_row (p ∷ q ∷ []) k zero l e = cc
     by_row (p ∷ q ∷ []) k (suc zero) l e = cc
     by_row (p ∷ q ∷ []) k (suc (suc zero)) l e =
-        let d : used_fields instr (parcel_at word place) ≡ p = cc in
-        let g : parcel_at word (place + 1) ≡ q = cc in
-        long_here instr word place (omega (arith, l))
-        (ap (entry_of (parcel_at word place)) g ∙ k (parcel_at word place) d)
+        let d : used_fields instr (parcel_at word position) ≡ p = cc in
+        let g : parcel_at word (position + 1) ≡ q = cc in
+        long_here instr word position (omega (arith, l))
+        (ap (entry_of (parcel_at word position)) g ∙ k (parcel_at word position) d)
     by_row (p ∷ q ∷ []) k (suc (suc (suc n))) l e = cc
     by_row (p ∷ q ∷ r ∷ ps) k n l e = absurd k
 
 -- where its parcels stand
-pub reading_of_parcels : (instr : Instr) (word place : ℕ) → IsInstr instr → StandsAt word place (parcels_of instr)
-    → reading_at word place ≡ Legal instr (place + length (parcels_of instr))
-reading_of_parcels instr word place r s = by_row (parcels_of instr) (entry_of_row instr r) (row_again instr r) s
+pub reading_of_parcels : (instr : Instr) (word position : ℕ) → IsInstr instr → StandsAt word position (parcels_of instr)
+    → reading_at word position ≡ Legal instr (position + length (parcels_of instr))
+reading_of_parcels instr word position r s = by_row (parcels_of instr) (entry_of_row instr r) (row_again instr r) s
   where
     by_row : (ps : List ℕ) → IsEntryOf instr ps → used_fields instr (first_parcel ps) ≡ first_parcel ps
-        → StandsAt word place ps → reading_at word place ≡ Legal instr (place + length ps)
+        → StandsAt word position ps → reading_at word position ≡ Legal instr (position + length ps)
     by_row [] k z s = absurd k
-    by_row (p ∷ []) k z s = short_here instr word place
-        (k (parcel_at word place) (following_at word place) (ap (used_fields instr) s.1 ∙ z))
+    by_row (p ∷ []) k z s = short_here instr word position
+        (k (parcel_at word position) (following_at word position) (ap (used_fields instr) s.1 ∙ z))
     by_row (p ∷ q ∷ []) k z s =
-        long_here instr word place (let next : place + 1 < 4 = s.2.0 in omega (arith, next))
-        (ap (entry_of (parcel_at word place)) s.2.1 ∙ k (parcel_at word place) (ap (used_fields instr) s.1 ∙ z))
+        long_here instr word position (let next : position + 1 < 4 = s.2.0 in omega (arith, next))
+        (ap (entry_of (parcel_at word position)) s.2.1 ∙ k (parcel_at word position) (ap (used_fields instr) s.1 ∙ z))
     by_row (p ∷ q ∷ r ∷ ps) k z s = absurd k
 
 -- ---- codes ----

@@ -7,7 +7,7 @@ use Rattle.sequential.specs.Replay.{LogStep, replay, boot}
 use Rattle.sequential.specs.declared.state.State.{State}
 use Rattle.in_flight.specs.Lookup.{is_pending}
 use Rattle.program_order.specs.Reached.{GoesOn, GoesOnByWork, IsReached}
-use Rattle.program_order.specs.Working.{Works}
+use Rattle.program_order.specs.Drain.{Works}
 use Rattle.program_order.specs.Processor.{Processor, boot_processor, replayed}
 use Rattle.instructions.specs.declared.refusal.Refusal.{Refusal}
 use Rattle.deck.specs.Deck.{Good, deck}
@@ -121,7 +121,7 @@ session_stopped a b e w v n shows old new told =
 
 -- ---- the deck with its schedule
 
--- the answer with a refusal in place of the error
+-- the answer with a refusal instead of the error
 abbrev pub refused : Result (Unit {0}) SessionError → Result (Unit {0}) Refusal
 refused (Ok x) = Ok x
 refused (Err e) = Err (refusal_of e)

@@ -3,7 +3,7 @@ use Rattle.std.proofs.Common.{◌≡◌, ℕ, Bool, true, false, ◌&&◌, Optio
 use Rattle.std.specs.Prelude.{IfSome, is_none}
 use Rattle.instructions.specs.declared.instr.Unit.{Unit as FunctionalUnit}
 use Rattle.instructions.specs.Each.{Each}
-use Rattle.instructions.specs.Shape.{Shape, Puts, Loads, Stores, Jumps, Links, shape_of, has_reference}
+use Rattle.instructions.specs.Shape.{Shape, Sets, Loads, Stores, Jumps, Links, shape_of, has_reference}
 use Rattle.relocation.specs.declared.area.Access.TheVariants.{Load as LoadInto, Store as StoreWord}
 use Rattle.scoreboard.specs.Issued.{channel_of}
 use Rattle.sequential.specs.State.{Bounds, bounds_of, absolute}
@@ -18,7 +18,7 @@ use Rattle.in_flight.specs.declared.pending.Stage.TheVariants.{Finished}
 use Rattle.in_flight.specs.Pending.{left_to_return}
 use Rattle.in_flight.specs.Flight.{outstanding_of, IsRestOf}
 use Rattle.in_flight.specs.Pending.{returning}
-use Rattle.in_flight.specs.Lookup.{sought, enters, place_for, stage_at}
+use Rattle.in_flight.specs.Lookup.{located, enters, place_for, stage_at}
 use Rattle.instructions.specs.Finding.{Found, seek}
 use Rattle.program_order.specs.Processor.{Processor}
 use Rattle.program_order.specs.Events.{allowed, tests_of}
@@ -41,7 +41,7 @@ store_returns (Some a) word = refl
 rest_returns : (b : Bounds) (h : Shape) (v : UnitValue)
     → left_to_return (rest_of b 0 (reference_for h v)) ≡ channel_of h
 unfolding reference_for rest_of left_to_return channel_of
-rest_returns b (Puts rs) v = refl
+rest_returns b (Sets rs) v = refl
 rest_returns b (Loads n) v = load_returns (absolute b (address_in v)) n
 rest_returns b (Stores n) v = store_returns (absolute b (address_in v)) (word_in v)
 rest_returns b Jumps v = refl
@@ -51,7 +51,7 @@ rest_returns b Links v = store_returns (absolute b (address_in v)) (word_in v)
 rest_refers : (b : Bounds) (h : Shape) (v : UnitValue) → enters (rest_of b 0 (reference_for h v)) ≡ true
     → has_reference h ≡ true
 unfolding reference_for rest_of enters has_reference
-rest_refers b (Puts rs) v e = cc
+rest_refers b (Sets rs) v e = cc
 rest_refers b (Loads n) v e = refl
 rest_refers b (Stores n) v e = refl
 rest_refers b Jumps v e = cc
@@ -67,9 +67,9 @@ is_rest b h v rest e = record {
 -- what is left is what an instruction of that shape may leave
 pub store_rest : (w : Processor) (u : FunctionalUnit) (m : Pending) (v : UnitValue) (b : Bounds)
     (q : Option ProgramReference) (rest : Option Rest)
-    → sought (seek (stage_at u) w.pending) ≡ Some (record { pending = m; answer = Finished v })
+    → located (seek (stage_at u) w.pending) ≡ Some (record { pending = m; answer = Finished v })
     → q ≡ reference_for (shape_of m.instr) v → ((p : ℕ) → outstanding_of p rest ≡ rest_of b p q)
-    → IfSome (sought (seek (stage_at u) w.pending)) (λ s. IsRestOf (shape_of s.pending.instr) rest)
+    → IfSome (located (seek (stage_at u) w.pending)) (λ s. IsRestOf (shape_of s.pending.instr) rest)
 store_rest w u m v b q rest h eq el =
     subst (λ o. IfSome o (λ s. IsRestOf (shape_of s.pending.instr) rest)) (sym h)
     (is_rest b (shape_of m.instr) v rest (el 0 ∙ ap (rest_of b 0) eq))
@@ -77,7 +77,7 @@ store_rest w u m v b q rest h eq el =
 -- where what is left enters the hopper, there is a place
 pub store_room : (w : Processor) (u : FunctionalUnit) (size : ℕ) (m : Pending) (v : UnitValue)
     (q : Option ProgramReference) (rest : Option Rest) → allowed w (StoreResult u) ≡ None
-    → sought (seek (stage_at u) w.pending) ≡ Some (record { pending = m; answer = Finished v })
+    → located (seek (stage_at u) w.pending) ≡ Some (record { pending = m; answer = Finished v })
     → size ≡ length w.state.memory → q ≡ reference_for (shape_of m.instr) v
     → ((p : ℕ) → outstanding_of p rest ≡ rest_of (record { area = w.state.area; size = size }) p q)
     → enters (outstanding_of 0 rest) ≡ true → is_none (place_for w.pending) ≡ false
@@ -110,7 +110,7 @@ store_room w u size m v q rest a h ez eq el e = found (seek (stage_at u) w.pendi
 
     found : (o : Option (Found Pending Stage))
         → refusal_of (tests_found o (λ f. store_tests (bounds_of w.state) w.pending f.answer f.earlier f.item.instr))
-        ≡ None → sought o ≡ Some (record { pending = m; answer = Finished v }) → is_none (place_for w.pending) ≡ false
+        ≡ None → located o ≡ Some (record { pending = m; answer = Finished v }) → is_none (place_for w.pending) ≡ false
     found None k i = absurd (no_sought (record { pending = m; answer = Finished v }) i)
     found (Some f) k i = stored f f.answer (sought_what f (record { pending = m; answer = Finished v }) i)
         (sought_pending f (record { pending = m; answer = Finished v }) i) k

@@ -9,7 +9,7 @@ use Rattle.instructions.specs.declared.instr.Reg.TheVariants.{X}
 use Rattle.instructions.specs.declared.instr.Unit.{Unit as FunctionalUnit}
 use Rattle.instructions.specs.declared.refusal.Halt.{Halt}
 use Rattle.instructions.specs.declared.refusal.Refusal.{Refusal}
-use Rattle.instructions.specs.Shape.{Shape, shape_of, puts_of}
+use Rattle.instructions.specs.Shape.{Shape, shape_of, sets_of}
 use Rattle.registers.specs.declared.file.RegisterFile.{RegisterFile}
 use Rattle.registers.specs.Registers.{put}
 use Rattle.relocation.specs.declared.area.Access.{Access}
@@ -20,12 +20,12 @@ use Rattle.unit_ops.specs.declared.UnitValue.{UnitValue}
 use Rattle.unit_ops.specs.Values.{value_of}
 use Rattle.sequential.specs.declared.fetching.Fetched.{Fetched}
 use Rattle.sequential.specs.declared.fetching.Fetched.TheVariants.{Halting, Passing, Taking}
-use Rattle.sequential.specs.declared.place.Place.{Place}
+use Rattle.sequential.specs.declared.position.ProgramPosition.{ProgramPosition}
 use Rattle.sequential.specs.declared.state.State.{State}
 use Rattle.sequential.specs.declared.work.ProgramReference.{ProgramReference}
-use Rattle.sequential.specs.Place.{gone}
-use Rattle.sequential.specs.State.{Bounds, bounds_of, write, write_all, go, mark, poke, access_at, move_to, halt_by}
-use Rattle.sequential.specs.Work.{operands, same_for, fault_of, jump_for, reference_for, number_in, work_of, do_now}
+use Rattle.sequential.specs.Position.{after_jump}
+use Rattle.sequential.specs.State.{Bounds, bounds_of, write, write_all, jump_to, or_fault, store_word, access_at, move_to, halt_by}
+use Rattle.sequential.specs.Work.{operands, each_set_to, fault_of, jump_for, reference_for, number_in, work_of, write_and_jump}
 use Rattle.sequential.specs.Step.{fetch}
 use Rattle.sequential.specs.Swap.{swap}
 use Rattle.sequential.specs.Replay.{LogStep, Issued, Exchanged, ReadAt, Wrote, boot, replay}
@@ -40,7 +40,6 @@ use Rattle.program_order.specs.declared.event.Event.{Event}
 use Rattle.program_order.specs.declared.event.Event.TheVariants.{Issue, Read, Finish, Store as StoreResult, Accept}
 use Rattle.program_order.specs.declared.event.Event.TheVariants.{Return, BankFree, Ask, Exchange, PpRead, PpWrite}
 use Rattle.in_flight.specs.declared.pending.Arrival.{Arrival}
-use Rattle.in_flight.specs.declared.pending.HopperEntry.{HopperEntry}
 use Rattle.in_flight.specs.declared.pending.Outstanding.{Outstanding}
 use Rattle.in_flight.specs.declared.pending.Pending.{Pending}
 use Rattle.in_flight.specs.declared.pending.Phase.TheVariants.{Before}
@@ -50,7 +49,7 @@ use Rattle.in_flight.specs.Tests.{refusal_in, refusal_of, tests_found, read_test
 use Rattle.in_flight.specs.Tests.{free_tests, reservation_tests}
 use Rattle.in_flight.specs.Flight.{left_by, Flight, outstanding_of, reserved_in, unit_taken, with_pending}
 use Rattle.program_order.specs.Run.{note_by, done_by, answer_by, answer_of, settled}
-use Rattle.in_flight.specs.Lookup.{sought, stage_at, entry_at, arrival_at, place_for, in_phase, kept, is_pending}
+use Rattle.in_flight.specs.Lookup.{located, stage_at, entry_at, arrival_at, place_for, in_phase, kept, is_pending}
 use Rattle.instructions.specs.Finding.{replaced, Found, seek, put_back}
 use Rattle.machine.specs.inner.View.{owed, IsKept, processor_of}
 use Rattle.program_order.specs.Processor.{Processor, boot_processor, completed, replayed}
@@ -61,7 +60,7 @@ use Rattle.program_order.specs.Peripheral.{access_tests, after_pp_read, after_pp
 use Rattle.program_order.specs.Issue.{issue_tests, after_issue}
 use Rattle.program_order.specs.Events.{tests_of, allowed, after_found, after}
 use Rattle.program_order.specs.Memory.{after_accept, after_return}
-use Rattle.program_order.specs.Sound.{IsAtBeginning, IsWithinBudget}
+use Rattle.program_order.specs.Invariant.{IsAtBeginning, IsWithinBudget}
 use Rattle.program_order.proofs.keeping.Budget.{boot_within, event_within}
 use Rattle.program_order.proofs.keeping.Limits.{event_banks, event_starts, boot_banks, boot_starts}
 use Rattle.program_order.proofs.keeping.Slotted.{IsSlottedWhole, event_slotted}
@@ -85,7 +84,7 @@ still_kept w v e old new a h k room numbered limit =
       limit = limit;
       numbers = subst IsNumbered (sym h) (numbers_kept w e a k.replay k.numbers);
       banks = ap (λ (x : Processor). length x.busy) h ∙ event_banks w e ∙ k.banks;
-      starts = subst (λ (x : Processor). IsAtBeginning x.state.place) (sym h) (event_starts w e k.starts);
+      starts = subst (λ (x : Processor). IsAtBeginning x.state.position) (sym h) (event_starts w e k.starts);
       within = subst IsWithinBudget (sym h) (event_within w e a k.within);
     }
 
@@ -213,7 +212,7 @@ exchange_judged w r o h k = h ∙ k
 -- ---- the machines that are made ----
 
 pub read_made : (w : Processor) (u : FunctionalUnit) (m : Pending) (os : Operands) (g : Flight)
-    → sought (seek (stage_at u) w.pending) ≡ Some (record { pending = m; answer = Waiting })
+    → located (seek (stage_at u) w.pending) ≡ Some (record { pending = m; answer = Waiting })
     → os ≡ operands m.instr m.at w.state.registers
     → g ≡ with_pending (flight w)
     (replaced (seek (stage_at u) w.pending) w.pending (λ x. in_phase x (Before (HasRead os)) ∷ []))
@@ -221,7 +220,7 @@ pub read_made : (w : Processor) (u : FunctionalUnit) (m : Pending) (os : Operand
 unfolding after replaced after_found after_read stage_after_read
 read_made w u m os g h o e = ap (with_flight w) e ∙ found (seek (stage_at u) w.pending) h
   where
-    found : (q : Option (Found Pending Stage)) → sought q ≡ Some (record { pending = m; answer = Waiting })
+    found : (q : Option (Found Pending Stage)) → located q ≡ Some (record { pending = m; answer = Waiting })
         → record w { pending = replaced q w.pending (λ x. in_phase x (Before (HasRead os)) ∷ []) }
         ≡ after_found w q (after_read w)
     found None k = absurd (no_sought (record { pending = m; answer = Waiting }) k)
@@ -236,14 +235,14 @@ read_made w u m os g h o e = ap (with_flight w) e ∙ found (seek (stage_at u) w
         }) (sym (sought_what f (record { pending = m; answer = Waiting }) k))
 
 pub finish_made : (w : Processor) (u : FunctionalUnit) (m : Pending) (os : Operands) (v : UnitValue) (g : Flight)
-    → sought (seek (stage_at u) w.pending) ≡ Some (record { pending = m; answer = HasRead os })
+    → located (seek (stage_at u) w.pending) ≡ Some (record { pending = m; answer = HasRead os })
     → v ≡ value_of m.instr os → g
     ≡ with_pending (flight w) (replaced (seek (stage_at u) w.pending) w.pending
     (λ x. in_phase x (Before (Finished v)) ∷ [])) → with_flight w g ≡ after w (Finish u)
 unfolding after replaced after_found after_finish stage_after_finish
 finish_made w u m os v g h o e = ap (with_flight w) e ∙ found (seek (stage_at u) w.pending) h
   where
-    found : (q : Option (Found Pending Stage)) → sought q ≡ Some (record { pending = m; answer = HasRead os })
+    found : (q : Option (Found Pending Stage)) → located q ≡ Some (record { pending = m; answer = HasRead os })
         → record w { pending = replaced q w.pending (λ x. in_phase x (Before (Finished v)) ∷ []) }
         ≡ after_found w q (after_finish w)
     found None k = absurd (no_sought (record { pending = m; answer = HasRead os }) k)
@@ -273,19 +272,19 @@ return_made w n x r g a h o e = ap (with_flight (record w { state = record w.sta
     found (Some f) k i = ap (λ y. record w { state = record w.state { registers = y }; pending = put_back f [] })
         (o ∙ ap (λ (y : Arrival). put w.state.registers (X y.channel) y.word) (sym i))
 
-by_access : (w : Processor) (f : Found Pending HopperEntry) (a : ℕ) (x : Access)
+by_access : (w : Processor) (f : Found Pending Reference) (a : ℕ) (x : Access)
     → record w {
       state = record w.state { memory = (access_at w.state a x).memory };
       pending = put_back f (kept f.item (left_by w.state.memory a x));
       busy =
           set w.busy (bank_of a) true;
     } ≡ after_accept w f a x
-unfolding after_accept put_back kept in_phase access_at write poke
+unfolding after_accept put_back kept in_phase access_at write store_word
 by_access w f a (LoadInto n) = refl
 by_access w f a (StoreWord v) = refl
 
 pub accept_made : (w : Processor) (p : ℕ) (r : Reference) (s : State) (g : Flight) → allowed w (Accept p) ≡ None
-    → IfSome (seek (entry_at p) w.pending) (λ f. f.answer ≡ record { a = r.address; access = r.access })
+    → IfSome (seek (entry_at p) w.pending) (λ f. f.answer ≡ record { address = r.address; access = r.access })
     → s ≡ record w.state { memory = (access_at w.state r.address r.access).memory }
     → g ≡ record (flight w) {
       pending = replaced (seek (entry_at p) w.pending) w.pending
@@ -303,35 +302,35 @@ accept_made w p r s g a h es e = ap (with_flight (record w { state = s })) e
           set w.busy (bank_of r.address) true;
     }) es ∙ found (seek (entry_at p) w.pending) a h
   where
-    found : (q : Option (Found Pending HopperEntry))
+    found : (q : Option (Found Pending Reference))
         → refusal_of (tests_found q (λ f. accept_tests w.busy f.earlier f.answer)) ≡ None
-        → IfSome q (λ f. f.answer ≡ record { a = r.address; access = r.access })
+        → IfSome q (λ f. f.answer ≡ record { address = r.address; access = r.access })
         → record w {
           state = record w.state { memory = (access_at w.state r.address r.access).memory };
           pending = replaced q w.pending (λ x. kept x (left_by w.state.memory r.address r.access));
           busy =
               set w.busy (bank_of r.address) true;
-        } ≡ after_found w q (λ f. after_accept w f f.answer.a f.answer.access)
+        } ≡ after_found w q (λ f. after_accept w f f.answer.address f.answer.access)
     found None k i = absurd (not_nothing k)
     found (Some f) k i =
-        by_access w f r.address r.access ∙ ap (λ (y : HopperEntry). after_accept w f y.a y.access) (sym i)
+        by_access w f r.address r.access ∙ ap (λ (y : Reference). after_accept w f y.address y.access) (sym i)
 
-pub store_made : (w : Processor) (u : FunctionalUnit) (m : Pending) (v : UnitValue) (s : State) (place : Place)
+pub store_made : (w : Processor) (u : FunctionalUnit) (m : Pending) (v : UnitValue) (s : State) (position : ProgramPosition)
     (fault : Bool) (left : Option Outstanding) (g : Flight)
-    → sought (seek (stage_at u) w.pending) ≡ Some (record { pending = m; answer = Finished v })
-    → s ≡ write_all w.state (same_for (number_in v) (puts_of (shape_of m.instr)))
-    → place ≡ gone s.place (jump_for (shape_of m.instr) v)
+    → located (seek (stage_at u) w.pending) ≡ Some (record { pending = m; answer = Finished v })
+    → s ≡ write_all w.state (each_set_to (number_in v) (sets_of (shape_of m.instr)))
+    → position ≡ after_jump s.position (jump_for (shape_of m.instr) v)
     → fault ≡ (s.fault || fault_of (bounds_of w.state) (reference_for (shape_of m.instr) v))
     → left ≡ rest_of (bounds_of w.state) (unwrap_or (place_for w.pending) 0) (reference_for (shape_of m.instr) v)
     → g ≡ with_pending (flight w) (replaced (seek (stage_at u) w.pending) w.pending (λ x. kept x left))
-    → with_flight (record w { state = record s { place = place; fault = fault } }) g ≡ after w (StoreResult u)
-unfolding after replaced after_found after_store after_work work_of do_now mark go
-store_made w u m v s place fault left g h es ep ef el e =
+    → with_flight (record w { state = record s { position = position; fault = fault } }) g ≡ after w (StoreResult u)
+unfolding after replaced after_found after_store after_work work_of write_and_jump or_fault jump_to
+store_made w u m v s position fault left g h es ep ef el e =
     let b : Bounds = bounds_of w.state in
     let shape : Shape = shape_of m.instr in
-    ap (with_flight (record w { state = record s { place = place; fault = fault } })) e
+    ap (with_flight (record w { state = record s { position = position; fault = fault } })) e
     ∙ ap (λ l. record w {
-      state = record s { place = place; fault = fault };
+      state = record s { position = position; fault = fault };
       pending = replaced (seek (stage_at u) w.pending) w.pending (λ x. kept x l);
     }) el
     ∙ ap (λ t. record w {
@@ -339,19 +338,19 @@ store_made w u m v s place fault left g h es ep ef el e =
       pending = replaced (seek (stage_at u) w.pending) w.pending
           (λ x. kept x (rest_of b (unwrap_or (place_for w.pending) 0) (reference_for shape v)));
     }) (
-    ap (λ x. record s { place = x; fault = fault }) ep
-    ∙ ap (λ x. record s { place = gone s.place (jump_for shape v); fault = x }) ef
+    ap (λ x. record s { position = x; fault = fault }) ep
+    ∙ ap (λ x. record s { position = after_jump s.position (jump_for shape v); fault = x }) ef
     ∙ ap (λ (t : State). record t {
-      place = gone t.place (jump_for shape v);
+      position = after_jump t.position (jump_for shape v);
       fault = t.fault
           || fault_of b (reference_for shape v);
     }) es
     )
     ∙ found (seek (stage_at u) w.pending) h
   where
-    found : (q : Option (Found Pending Stage)) → sought q ≡ Some (record { pending = m; answer = Finished v })
+    found : (q : Option (Found Pending Stage)) → located q ≡ Some (record { pending = m; answer = Finished v })
         → record w {
-          state = do_now (bounds_of w.state) w.state (work_of (shape_of m.instr) v);
+          state = write_and_jump (bounds_of w.state) w.state (work_of (shape_of m.instr) v);
           pending = replaced q w.pending
               (λ x. kept x (rest_of (bounds_of w.state) (unwrap_or (place_for w.pending) 0)
               (reference_for (shape_of m.instr) v)));
@@ -359,7 +358,7 @@ store_made w u m v s place fault left g h es ep ef el e =
     found None k = absurd (no_sought (record { pending = m; answer = Finished v }) k)
     found (Some f) k =
         ap (λ (y : Pending). record w {
-          state = do_now (bounds_of w.state) w.state (work_of (shape_of y.instr) v);
+          state = write_and_jump (bounds_of w.state) w.state (work_of (shape_of y.instr) v);
           pending = put_back f (kept f.item
               (rest_of (bounds_of w.state) (unwrap_or (place_for w.pending) 0)
               (reference_for (shape_of y.instr) v)));
@@ -398,11 +397,11 @@ read_word_made w a log e = ap (λ l. record w { log = l; accessed = w.accessed +
 pub write_word_made : (w : Processor) (a v : ℕ) (s : State) (log : List LogStep)
     → s ≡ record w.state { memory = (access_at w.state a (StoreWord v)).memory } → log ≡ w.log ++ Wrote a v ∷ []
     → record w { state = s; log = log; accessed = w.accessed + 1 } ≡ after w (PpWrite a v)
-unfolding after after_pp_write access_at poke
+unfolding after after_pp_write access_at store_word
 write_word_made w a v s log es el =
     ap (λ t. record w { state = t; log = log; accessed = w.accessed + 1 }) es
-    ∙ ap (λ l. record w { state = poke w.state a v; log = l; accessed = w.accessed + 1 }) el
-    ∙ ap (λ k. record w { state = poke w.state a v; log = w.log ++ Wrote a v ∷ []; accessed = k })
+    ∙ ap (λ l. record w { state = store_word w.state a v; log = l; accessed = w.accessed + 1 }) el
+    ∙ ap (λ k. record w { state = store_word w.state a v; log = w.log ++ Wrote a v ∷ []; accessed = k })
     (add-one w.accessed)
 
 -- what an issue leaves, but for its entry in the log, and the reservation that it answers
@@ -416,11 +415,11 @@ pub record IsIssued (w : Processor) (before : Logged) (g : Fetched) (v : Process
   pub same_budget : v.budget ≡ w.budget
   pub numbered : v.last ≤ suc w.last
 
-pub issued_halting : (w : Processor) (log : Logged) (halt : Halt) (place : Place)
-    → IsIssued w log (Halting halt place) (record w { state = record w.state { place = place; halt = Some halt } }) log
+pub issued_halting : (w : Processor) (log : Logged) (halt : Halt) (position : ProgramPosition)
+    → IsIssued w log (Halting halt position) (record w { state = record w.state { position = position; halt = Some halt } }) log
     None
 unfolding refusal_of reservation_tests after_issue move_to halt_by note_by
-issued_halting w log halt place =
+issued_halting w log halt position =
     record {
       judged = refl;
       left = refl;
@@ -431,10 +430,10 @@ issued_halting w log halt place =
       numbered = omega arith;
     }
 
-pub issued_passing : (w : Processor) (log : Logged) (place : Place)
-    → IsIssued w log (Passing place) (record w { state = record w.state { place = place } }) log None
+pub issued_passing : (w : Processor) (log : Logged) (position : ProgramPosition)
+    → IsIssued w log (Passing position) (record w { state = record w.state { position = position } }) log None
 unfolding refusal_of reservation_tests after_issue move_to note_by
-issued_passing w log place = record {
+issued_passing w log position = record {
   judged = refl;
   left = refl;
   noted = refl;
@@ -444,15 +443,15 @@ issued_passing w log place = record {
   numbered = omega arith;
 }
 
-pub issued_taking : (w : Processor) (log : Logged) (i : Instr) (place : Place) (unit : FunctionalUnit) (number : ℕ)
-    (f : Flight) → refusal_of (reservation_tests w.pending (Taking i place)) ≡ None → unit ≡ unit_taken (flight w) i
-    → number ≡ suc w.last → f ≡ reserved_in (flight w) i w.state.place.p
-    → IsIssued w log (Taking i place) (with_flight (record w { state = record w.state { place = place } }) f) log
+pub issued_taking : (w : Processor) (log : Logged) (i : Instr) (position : ProgramPosition) (unit : FunctionalUnit) (number : ℕ)
+    (f : Flight) → refusal_of (reservation_tests w.pending (Taking i position)) ≡ None → unit ≡ unit_taken (flight w) i
+    → number ≡ suc w.last → f ≡ reserved_in (flight w) i w.state.position.p
+    → IsIssued w log (Taking i position) (with_flight (record w { state = record w.state { position = position } }) f) log
     (Some (record { unit = unit; number = number }))
 unfolding after_issue move_to note_by
-issued_taking w log i place unit number f a eu en ef = record {
+issued_taking w log i position unit number f a eu en ef = record {
   judged = a;
-  left = ap (with_flight (record w { state = record w.state { place = place }; log = w.log ++ Issued ∷ [] })) ef;
+  left = ap (with_flight (record w { state = record w.state { position = position }; log = w.log ++ Issued ∷ [] })) ef;
   noted = ap (λ x. Some (record { unit = x; number = number })) eu
       ∙ ap (λ x. Some (record { unit = unit_taken (flight w) i; number = x })) en;
   same_log = refl;
@@ -462,7 +461,7 @@ issued_taking w log i place unit number f a eu en ef = record {
 }
 
 pub issue_made : (w : Processor) (before log : Logged) (g : Fetched) (v : Processor) (given : Option Note)
-    (steps : List LogStep) → before.steps ≡ w.log → g ≡ fetch (bounds_of w.state) w.state.memory w.state.place
+    (steps : List LogStep) → before.steps ≡ w.log → g ≡ fetch (bounds_of w.state) w.state.memory w.state.position
     → IsIssued w before g v log given → steps ≡ log.steps ++ Issued ∷ [] → record v { log = steps } ≡ after w Issue
 unfolding after
 issue_made w before log g v given steps eb eg s el =
@@ -472,7 +471,7 @@ issue_made w before log g v given steps eb eg s el =
     ∙ ap (after_issue w) eg
 
 pub issue_done : (w : Processor) (before log : Logged) (g : Fetched) (v : Processor) (given : Option Note)
-    → g ≡ fetch (bounds_of w.state) w.state.memory w.state.place → IsIssued w before g v log given
+    → g ≡ fetch (bounds_of w.state) w.state.memory w.state.position → IsIssued w before g v log given
     → DoneIssue given ≡ done_by w Issue
 unfolding done_by
 issue_done w before log g v given eg s = ap DoneIssue (s.noted ∙ ap (note_by w) eg)
@@ -532,25 +531,25 @@ unfolding bounds_of
 bounds_at w size e = ap (λ n. record { area = w.state.area; size = n }) e
 
 pub store_parts : (w : Processor) (u : FunctionalUnit) (size : ℕ) (m : Pending) (v : UnitValue)
-    (q : Option ProgramReference) (written rs : List Reg) (number : ℕ) (jump : Option ℕ) (s : State) (place : Place)
+    (q : Option ProgramReference) (written rs : List Reg) (number : ℕ) (jump : Option ℕ) (s : State) (position : ProgramPosition)
     (fault : Bool) (rest : Option Rest) (g : Flight)
-    → sought (seek (stage_at u) w.pending) ≡ Some (record { pending = m; answer = Finished v })
+    → located (seek (stage_at u) w.pending) ≡ Some (record { pending = m; answer = Finished v })
     → size ≡ length w.state.memory
     → q ≡ reference_for (shape_of m.instr) v
     → ((p : ℕ) → outstanding_of p rest ≡ rest_of (record { area = w.state.area; size = size }) p q)
-    → written ≡ puts_of (shape_of m.instr) → rs ≡ written → number ≡ number_in v
-    → s ≡ write_all w.state (same_for number rs)
-    → jump ≡ jump_for (shape_of m.instr) v → place ≡ gone s.place jump
+    → written ≡ sets_of (shape_of m.instr) → rs ≡ written → number ≡ number_in v
+    → s ≡ write_all w.state (each_set_to number rs)
+    → jump ≡ jump_for (shape_of m.instr) v → position ≡ after_jump s.position jump
     → fault ≡ (s.fault || fault_of (record { area = w.state.area; size = size }) q)
     → g ≡ with_pending (flight w)
     (replaced (seek (stage_at u) w.pending) w.pending
     (λ x. kept x (outstanding_of (unwrap_or (place_for w.pending) 0) rest)))
-    → with_flight (record w { state = record s { place = place; fault = fault } }) g ≡ after w (StoreResult u)
-store_parts w u size m v q written rs number jump s place fault rest g p ez eq el ew er en es ej ep ef em =
-    store_made w u m v s place fault (outstanding_of (unwrap_or (place_for w.pending) 0) rest) g p
-    (es ∙ ap (λ l. write_all w.state (same_for number l)) (er ∙ ew)
-    ∙ ap (λ n. write_all w.state (same_for n (puts_of (shape_of m.instr)))) en)
-    (ep ∙ ap (gone s.place) ej)
+    → with_flight (record w { state = record s { position = position; fault = fault } }) g ≡ after w (StoreResult u)
+store_parts w u size m v q written rs number jump s position fault rest g p ez eq el ew er en es ej ep ef em =
+    store_made w u m v s position fault (outstanding_of (unwrap_or (place_for w.pending) 0) rest) g p
+    (es ∙ ap (λ l. write_all w.state (each_set_to number l)) (er ∙ ew)
+    ∙ ap (λ n. write_all w.state (each_set_to n (sets_of (shape_of m.instr)))) en)
+    (ep ∙ ap (after_jump s.position) ej)
     (ef ∙ ap (λ b. s.fault || fault_of b q) (bounds_at w size ez)
     ∙ ap (λ x. s.fault || fault_of (bounds_of w.state) x) eq)
     (el (unwrap_or (place_for w.pending) 0)
@@ -637,7 +636,7 @@ boot_kept w memory budget log e r h n l =
       limit = l;
       numbers = subst IsNumbered (sym e) (boot_numbered memory budget);
       banks = ap (λ (x : Processor). length x.busy) e ∙ boot_banks memory budget;
-      starts = subst (λ (x : Processor). IsAtBeginning x.state.place) (sym e) (boot_starts memory budget);
+      starts = subst (λ (x : Processor). IsAtBeginning x.state.position) (sym e) (boot_starts memory budget);
       within = subst IsWithinBudget (sym e) (boot_within memory budget);
     }
 

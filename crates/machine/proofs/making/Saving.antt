@@ -12,8 +12,8 @@ use Rattle.relocation.proofs.Restoring.{original_unsaved, original-overwritten}
 use Rattle.relocation.proofs.Saving.{length-original}
 use Rattle.sequential.specs.declared.state.State.{State}
 use Rattle.sequential.specs.Replay.{boot}
-use Rattle.sequential.specs.Swap.{begun, package_of, swap}
-use Rattle.program_order.specs.Sound.{IsReplay}
+use Rattle.sequential.specs.Swap.{program_entered, package_of, swap}
+use Rattle.program_order.specs.Invariant.{IsReplay}
 use Rattle.program_order.specs.Processor.{Processor}
 use Rattle.program_order.proofs.keeping.Sizes.{boot_size, package_within}
 
@@ -37,7 +37,7 @@ unsaved memory saved size s es n e =
 -- an exchange whose words were saved leaves the memory as it was before
 pub original-swap : (saved : List (Option ℕ)) (s : State) (at : ℕ) → package_fits at (length s.memory) ≡ true
     → ((a : ℕ) → at ≤ a → a < at + 16 → IsSaved saved a) → original saved (swap at s).memory ≡ original saved s.memory
-unfolding swap begun words_of
+unfolding swap program_entered words_of
 original-swap saved s at f h =
     original-overwritten saved s.memory at (words_of (package_of s)) (package_within at (length s.memory) f) h
 

@@ -22,11 +22,11 @@ use Rattle.in_flight.specs.declared.pending.Phase.TheVariants.{Before}
 use Rattle.in_flight.specs.declared.pending.Stage.{Stage}
 use Rattle.in_flight.specs.declared.pending.Stage.TheVariants.{Waiting, Read as HasRead, Finished}
 use Rattle.instructions.specs.Each.{Each}
-use Rattle.in_flight.specs.declared.slots.Sought.{Sought}
+use Rattle.in_flight.specs.declared.slots.Located.{Located}
 use Rattle.in_flight.specs.Flight.{Flight, with_pending}
-use Rattle.in_flight.specs.Lookup.{sought, in_phase, stage_at, stage_in}
+use Rattle.in_flight.specs.Lookup.{located, in_phase, stage_at, stage_in}
 use Rattle.instructions.specs.Finding.{replaced, Found, put_back, seek}
-use Rattle.machine.specs.Tokens.{Computation, Reading, Reservation, Seating, IsValueAt, IsValueIn, finished_in, read_of}
+use Rattle.machine.specs.Tokens.{Computation, Reading, ServedReservation, Seating, IsValueAt, IsValueIn, finished_in, read_of}
 use Rattle.machine.specs.Tokens.{reading_at, reading_in, refusal_to, slot, waits_in}
 use Rattle.program_order.specs.Processor.{Processor}
 use Rattle.program_order.specs.Events.{after, allowed, tests_of}
@@ -61,7 +61,7 @@ still_at u m t s h = by_test (same_unit m.unit u) h
 
 -- a slot whose unit has read holds what was read
 pub slot_read : (u : FunctionalUnit) (pending ms : List Pending) (m : Pending) (os : Operands)
-    → sought (seek (stage_at u) pending) ≡ Some (record { pending = m; answer = Waiting })
+    → located (seek (stage_at u) pending) ≡ Some (record { pending = m; answer = Waiting })
     → ms ≡ replaced (seek (stage_at u) pending) pending (λ x. in_phase x (Before (HasRead os)) ∷ [])
     → (seat : Seating) → reading_in seat (seek (stage_at u) ms)
     ≡ Some (record { seat = seat; number = m.number; instr = m.instr; operands = os })
@@ -70,7 +70,7 @@ slot_read u pending ms m os h e seat =
     ap (λ l. reading_in seat (seek (stage_at u) l)) e ∙ found (seek (stage_at u) pending) refl h
   where
     found : (q : Option (Found Pending Stage)) → seek (stage_at u) pending ≡ q
-        → sought q ≡ Some (record { pending = m; answer = Waiting })
+        → located q ≡ Some (record { pending = m; answer = Waiting })
         → reading_in seat (seek (stage_at u) (replaced q pending (λ x. in_phase x (Before (HasRead os)) ∷ [])))
         ≡ Some (record { seat = seat; number = m.number; instr = m.instr; operands = os })
     found None i k = absurd (no_sought (record { pending = m; answer = Waiting }) k)
@@ -82,12 +82,12 @@ slot_read u pending ms m os h e seat =
 
 -- the slot of a waiting instruction waits with its number
 pub slot_waits : (u : FunctionalUnit) (pending : List Pending) (m : Pending)
-    → sought (seek (stage_at u) pending) ≡ Some (record { pending = m; answer = Waiting })
+    → located (seek (stage_at u) pending) ≡ Some (record { pending = m; answer = Waiting })
     → waits_in m.number (seek (stage_at u) pending) ≡ true
 unfolding waits_in is_waiting
 slot_waits u pending m h = found (seek (stage_at u) pending) h
   where
-    found : (q : Option (Found Pending Stage)) → sought q ≡ Some (record { pending = m; answer = Waiting })
+    found : (q : Option (Found Pending Stage)) → located q ≡ Some (record { pending = m; answer = Waiting })
         → waits_in m.number q ≡ true
     found None k = absurd (no_sought (record { pending = m; answer = Waiting }) k)
     found (Some f) k =
@@ -107,7 +107,7 @@ one_number m n (Some f) h k = by_test (is_waiting f.answer) h k
     by_test false i j = cc
 
 -- a token whose number waits is loaded with its own number
-pub loaded_as : (w v : Processor) (t : Reservation) (k : Note) (m : Pending) (os : Operands) (pending : List Pending)
+pub loaded_as : (w v : Processor) (t : ServedReservation) (k : Note) (m : Pending) (os : Operands) (pending : List Pending)
     (b : Bool) → k ≡ record { unit = t.seat.unit; number = t.number } → pending ≡ w.pending
     → b ≡ waits_in k.number (seek (stage_at k.unit) pending) → b ≡ true
     → waits_in m.number (slot w k.unit) ≡ true
@@ -137,13 +137,13 @@ value_in (Some f) seat r v h e = at_stage f.answer h
 
 -- a slot that is to have the value of what was read has read
 pub has_read_in : (v : UnitValue) (o : Option (Found Pending Stage)) → IsValueIn v o
-    → IfSome (sought o) (λ s. has_read s.answer ≡ true)
-unfolding sought has_read
+    → IfSome (located o) (λ s. has_read s.answer ≡ true)
+unfolding located has_read
 has_read_in v None h = absurd h
 has_read_in v (Some f) h = at_stage f.answer refl h
   where
     at_stage : (t : Stage) → f.answer ≡ t → IsValueAt v f.item.instr t
-        → IfSome (sought (Some f)) (λ s. has_read s.answer ≡ true)
+        → IfSome (located (Some f)) (λ s. has_read s.answer ≡ true)
     at_stage Waiting e k = absurd k
     at_stage (HasRead os) e k = ap has_read e ∙ read_is os
       where
@@ -156,7 +156,7 @@ pub value_put : (w : Processor) (u : FunctionalUnit) (v : UnitValue) (g : Flight
     → g ≡ with_pending (flight w)
     (replaced (seek (stage_at u) w.pending) w.pending (λ m. in_phase m (Before (Finished v)) ∷ []))
     → (with_flight w g ≡ after w (Finish u)) × (allowed w (Finish u) ≡ None)
-unfolding allowed tests_of tests_found finish_tests refusal_of sought
+unfolding allowed tests_of tests_found finish_tests refusal_of located
 value_put w u v g i e = found (slot w u) refl i
   where
     found : (q : Option (Found Pending Stage)) → slot w u ≡ q → IsValueIn v q → (with_flight w g ≡ after w (Finish u))
@@ -169,8 +169,8 @@ value_put w u v g i e = found (slot w u) refl i
             ∙ ap (λ t. refusal_of (finish_tests t)) et
 
         sought_as : (os : Operands) → f.answer ≡ HasRead os
-            → sought (seek (stage_at u) w.pending) ≡ Some (record { pending = f.item; answer = HasRead os })
-        sought_as os et = ap sought k ∙ ap (λ t. Some (record { pending = f.item; answer = t })) et
+            → located (seek (stage_at u) w.pending) ≡ Some (record { pending = f.item; answer = HasRead os })
+        sought_as os et = ap located k ∙ ap (λ t. Some (record { pending = f.item; answer = t })) et
 
         at_stage : (t : Stage) → f.answer ≡ t → IsValueAt v f.item.instr t → (with_flight w g ≡ after w (Finish u))
             × (allowed w (Finish u) ≡ None)
@@ -186,7 +186,7 @@ answered_ok d given None e = refl
 answered_ok d given (Some x) e = cc
 
 -- the token's own slot is asked, and it has a value
-store_asks : (w : Processor) (t : Reservation) (n : Note) (pending : List Pending) (b : Bool) (o : Option Refusal)
+store_asks : (w : Processor) (t : ServedReservation) (n : Note) (pending : List Pending) (b : Bool) (o : Option Refusal)
     → n ≡ record { unit = t.seat.unit; number = t.number } → pending ≡ w.pending
     → b ≡ finished_in n.number (seek (stage_at n.unit) pending) → b ≡ true → allowed w (StoreResult n.unit) ≡ o
     → refusal_to (finished_in t.number (slot w t.seat.unit)) (allowed w (StoreResult t.seat.unit)) ≡ o
@@ -196,14 +196,14 @@ store_asks w t n pending b o en em eb et h =
     ∙ ap (λ x. refusal_to x (allowed w (StoreResult n.unit))) (sym eb ∙ et)
     ∙ h
 
-pub store_refused : (w : Processor) (t : Reservation) (n : Note) (pending : List Pending) (b : Bool) (k : Refusal)
+pub store_refused : (w : Processor) (t : ServedReservation) (n : Note) (pending : List Pending) (b : Bool) (k : Refusal)
     → n ≡ record { unit = t.seat.unit; number = t.number } → pending ≡ w.pending
     → b ≡ finished_in n.number (seek (stage_at n.unit) pending) → b ≡ true → Err k ≡ answer_of w (StoreResult n.unit)
     → refusal_to (finished_in t.number (slot w t.seat.unit)) (allowed w (StoreResult t.seat.unit)) ≡ Some k
 unfolding answer_of
 store_refused w t n pending b k en em eb et h = store_asks w t n pending b (Some k) en em eb et (answered_err _ _ k h)
 
-pub store_allowed : (w : Processor) (t : Reservation) (n : Note) (pending : List Pending) (b : Bool) (given : Done)
+pub store_allowed : (w : Processor) (t : ServedReservation) (n : Note) (pending : List Pending) (b : Bool) (given : Done)
     → n ≡ record { unit = t.seat.unit; number = t.number } → pending ≡ w.pending
     → b ≡ finished_in n.number (seek (stage_at n.unit) pending) → b ≡ true → Ok given ≡ answer_of w (StoreResult n.unit)
     → refusal_to (finished_in t.number (slot w t.seat.unit)) (allowed w (StoreResult t.seat.unit)) ≡ None
@@ -225,32 +225,32 @@ is_same c number instr operands false en eo h k = λ e. search (rules, k (ap (λ
 
 -- ---- what the instruction that was sought says of its slot ----
 
-pub waits_then : (n : ℕ) (o : Option (Found Pending Stage)) (r : Option (Sought Stage)) (s : Sought Stage) (b : Bool)
-    → r ≡ sought o → r ≡ Some s → b ≡ is_waiting s.answer → b ≡ true → eqb s.pending.number n ≡ waits_in n o
+pub waits_then : (n : ℕ) (o : Option (Found Pending Stage)) (r : Option (Located Stage)) (s : Located Stage) (b : Bool)
+    → r ≡ located o → r ≡ Some s → b ≡ is_waiting s.answer → b ≡ true → eqb s.pending.number n ≡ waits_in n o
 unfolding waits_in
 waits_then n None r s b e i w t = absurd (no_sought s (sym e ∙ i))
 waits_then n (Some f) r s b e i w t =
     ap (λ x. x && eqb s.pending.number n) (sym t ∙ w ∙ ap is_waiting (sym (sought_what f s (sym e ∙ i))))
     ∙ ap (λ (m : Pending). is_waiting f.answer && eqb m.number n) (sym (sought_pending f s (sym e ∙ i)))
 
-pub waits_else : (n : ℕ) (o : Option (Found Pending Stage)) (r : Option (Sought Stage)) (s : Sought Stage) (b : Bool)
-    → r ≡ sought o → r ≡ Some s → b ≡ is_waiting s.answer → b ≡ false → b ≡ waits_in n o
+pub waits_else : (n : ℕ) (o : Option (Found Pending Stage)) (r : Option (Located Stage)) (s : Located Stage) (b : Bool)
+    → r ≡ located o → r ≡ Some s → b ≡ is_waiting s.answer → b ≡ false → b ≡ waits_in n o
 unfolding waits_in
 waits_else n None r s b e i w t = absurd (no_sought s (sym e ∙ i))
 waits_else n (Some f) r s b e i w t =
     t ∙ ap (λ x. x && eqb f.item.number n) (sym t ∙ w ∙ ap is_waiting (sym (sought_what f s (sym e ∙ i))))
 
-pub waits_none : (n : ℕ) (o : Option (Found Pending Stage)) (r : Option (Sought Stage)) → r ≡ sought o → r ≡ None
+pub waits_none : (n : ℕ) (o : Option (Found Pending Stage)) (r : Option (Located Stage)) → r ≡ located o → r ≡ None
     → false ≡ waits_in n o
-unfolding waits_in sought
+unfolding waits_in located
 waits_none n None r e i = refl
 waits_none n (Some f) r e i = absurd (some_none _ (sym e ∙ i))
   where
-    some_none : (s : Sought Stage) → Some s ≡ None → ⊥
+    some_none : (s : Located Stage) → Some s ≡ None → ⊥
     some_none s k = cc
 
-pub finished_then : (n : ℕ) (o : Option (Found Pending Stage)) (r : Option (Sought Stage)) (s : Sought Stage)
-    (b : Bool) → r ≡ sought o → r ≡ Some s → b ≡ is_finished s.answer → b ≡ true
+pub finished_then : (n : ℕ) (o : Option (Found Pending Stage)) (r : Option (Located Stage)) (s : Located Stage)
+    (b : Bool) → r ≡ located o → r ≡ Some s → b ≡ is_finished s.answer → b ≡ true
     → eqb s.pending.number n ≡ finished_in n o
 unfolding finished_in
 finished_then n None r s b e i w t = absurd (no_sought s (sym e ∙ i))
@@ -258,23 +258,23 @@ finished_then n (Some f) r s b e i w t =
     ap (λ x. x && eqb s.pending.number n) (sym t ∙ w ∙ ap is_finished (sym (sought_what f s (sym e ∙ i))))
     ∙ ap (λ (m : Pending). is_finished f.answer && eqb m.number n) (sym (sought_pending f s (sym e ∙ i)))
 
-pub finished_else : (n : ℕ) (o : Option (Found Pending Stage)) (r : Option (Sought Stage)) (s : Sought Stage)
-    (b : Bool) → r ≡ sought o → r ≡ Some s → b ≡ is_finished s.answer → b ≡ false → b ≡ finished_in n o
+pub finished_else : (n : ℕ) (o : Option (Found Pending Stage)) (r : Option (Located Stage)) (s : Located Stage)
+    (b : Bool) → r ≡ located o → r ≡ Some s → b ≡ is_finished s.answer → b ≡ false → b ≡ finished_in n o
 unfolding finished_in
 finished_else n None r s b e i w t = absurd (no_sought s (sym e ∙ i))
 finished_else n (Some f) r s b e i w t =
     t ∙ ap (λ x. x && eqb f.item.number n) (sym t ∙ w ∙ ap is_finished (sym (sought_what f s (sym e ∙ i))))
 
-pub finished_none : (n : ℕ) (o : Option (Found Pending Stage)) (r : Option (Sought Stage)) → r ≡ sought o → r ≡ None
+pub finished_none : (n : ℕ) (o : Option (Found Pending Stage)) (r : Option (Located Stage)) → r ≡ located o → r ≡ None
     → false ≡ finished_in n o
-unfolding finished_in sought
+unfolding finished_in located
 finished_none n None r e i = refl
 finished_none n (Some f) r e i = absurd (some_none _ (sym e ∙ i))
   where
-    some_none : (s : Sought Stage) → Some s ≡ None → ⊥
+    some_none : (s : Located Stage) → Some s ≡ None → ⊥
     some_none s k = cc
 
-reads_as : (seat : Seating) (o : Option (Found Pending Stage)) (s : Sought Stage) → sought o ≡ Some s
+reads_as : (seat : Seating) (o : Option (Found Pending Stage)) (s : Located Stage) → located o ≡ Some s
     → reading_in seat o ≡ reading_at seat s.pending.number s.pending.instr s.answer
 unfolding reading_in
 reads_as seat None s h = absurd (no_sought s h)
@@ -283,26 +283,26 @@ reads_as seat (Some f) s h =
     ∙ ap (reading_at seat s.pending.number s.pending.instr) (sought_what f s h)
 
 pub reads_nothing : (seat : Seating) (o : Option (Found Pending Stage)) (x : Reading)
-    → ((s : Sought Stage) → sought o ≡ Some s → ⊥) → reading_in seat o ≡ Some x → ⊥
-unfolding reading_in sought
+    → ((s : Located Stage) → located o ≡ Some s → ⊥) → reading_in seat o ≡ Some x → ⊥
+unfolding reading_in located
 reads_nothing seat None x h k = cc
 reads_nothing seat (Some f) x h k = h (record { pending = f.item; answer = f.answer }) refl
 
 pub reads_waiting : (seat : Seating) (o : Option (Found Pending Stage)) (m : Pending) (x : Reading)
-    → sought o ≡ Some (record { pending = m; answer = Waiting }) → reading_in seat o ≡ Some x → ⊥
+    → located o ≡ Some (record { pending = m; answer = Waiting }) → reading_in seat o ≡ Some x → ⊥
 unfolding reading_at
 reads_waiting seat o m x h k =
     let e : None ≡ Some x = sym (reads_as seat o (record { pending = m; answer = Waiting }) h) ∙ k in cc
 
 pub reads_finished : (seat : Seating) (o : Option (Found Pending Stage)) (m : Pending) (v : UnitValue) (x : Reading)
-    → sought o ≡ Some (record { pending = m; answer = Finished v }) → reading_in seat o ≡ Some x → ⊥
+    → located o ≡ Some (record { pending = m; answer = Finished v }) → reading_in seat o ≡ Some x → ⊥
 unfolding reading_at
 reads_finished seat o m v x h k =
     let e : None ≡ Some x = sym (reads_as seat o (record { pending = m; answer = Finished v }) h) ∙ k in cc
 
 -- a token is of the slot where it says what the slot has read
 pub reads_same : (b : Bool) (t : Computation) (o : Option (Found Pending Stage)) (m : Pending) (os : Operands)
-    → sought o ≡ Some (record { pending = m; answer = HasRead os })
+    → located o ≡ Some (record { pending = m; answer = HasRead os })
     → MatchBool b (read_of t ≡ record { seat = t.seat; number = m.number; instr = m.instr; operands = os })
     (read_of t ≢ record { seat = t.seat; number = m.number; instr = m.instr; operands = os })
     → MatchBool b (reading_in t.seat o ≡ Some (read_of t)) (reading_in t.seat o ≢ Some (read_of t))
@@ -313,7 +313,7 @@ reads_same false t o m os h e =
 
 -- the value of what was read is the value that the slot is to have
 pub value_of_sought : (o : Option (Found Pending Stage)) (m : Pending) (os : Operands) (v : UnitValue)
-    → sought o ≡ Some (record { pending = m; answer = HasRead os }) → v ≡ value_of m.instr os → IsValueIn v o
+    → located o ≡ Some (record { pending = m; answer = HasRead os }) → v ≡ value_of m.instr os → IsValueIn v o
 value_of_sought None m os v h e = absurd (no_sought (record { pending = m; answer = HasRead os }) h)
 value_of_sought (Some f) m os v h e =
     subst (λ t. IsValueAt v f.item.instr t) (sym (sought_what f (record { pending = m; answer = HasRead os }) h))

@@ -24,22 +24,22 @@ impl Machine {
             Err(refusal) => return Err(refusal),
         };
         let note = match fetched {
-            Fetched::Halting(halt, place) => {
-                self.state.place = place;
+            Fetched::Halting(halt, position) => {
+                self.state.position = position;
                 self.state.halt = Some(halt);
                 None
             }
-            Fetched::Passing(place) => {
-                self.state.place = place;
+            Fetched::Passing(position) => {
+                self.state.position = position;
                 None
             }
-            Fetched::Taking(instr, place) => {
-                let reserved = self.in_flight.reserve(&instr, self.state.place.p);
+            Fetched::Taking(instr, position) => {
+                let reserved = self.in_flight.reserve(&instr, self.state.position.p);
                 let (unit, number) = match reserved {
                     Ok(reserved) => reserved,
                     Err(refusal) => return Err(refusal),
                 };
-                self.state.place = place;
+                self.state.position = position;
                 Some(Note { unit, number })
             }
         };

@@ -81,9 +81,9 @@ impl Machine {
         };
         let instr = pending.instr;
         let reference = reference(&instr, &value);
-        let written = instr.puts();
+        let written = instr.sets();
         write_registers(&mut self.state, written.as_slice(), number(&value));
-        self.state.place = self.state.place.after_jump(jump(&instr, &value));
+        self.state.position = self.state.position.after_jump(jump(&instr, &value));
         self.state.fault = fault_after(self.state.fault, &area, size, &reference);
         self.in_flight
             .leave(unit, &rest_of(&area, size, &reference));

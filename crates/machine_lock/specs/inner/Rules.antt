@@ -8,7 +8,7 @@ use Rattle.atomic_table.specs.Table.{State}
 use Rattle.atomic_table.specs.declared.shared.Seat.{Seat}
 use Rattle.sequential.specs.Replay.{LogStep}
 use Rattle.program_order.specs.Processor.{Processor}
-use Rattle.machine_lock.specs.Known.{Booted, booted_with, booted_by, StartsWith, is_in, AreApart}
+use Rattle.machine_lock.specs.CallerKnowledge.{Booted, booted_with, booted_by, StartsWith, is_in, AreApart}
 
 -- the name of no table
 abbrev pub no_table : TableId
@@ -40,7 +40,7 @@ pub record Knowing : Type 0 where
   pub keeps : Bool
   -- whether it knows a history yet
   pub knows : Bool
-  -- that history, and the places in it of its own steps
+  -- that history, and the positions in it of its own steps
   pub seen : History
   pub mine : List ℕ
   -- the same two of a pass that it took in
@@ -67,11 +67,11 @@ keeper h = knowing true true h [] h []
 abbrev pub caller : History → List ℕ → Knowing
 caller h mine = knowing false true h mine h []
 
--- what is known once the places of another pass are taken in, with what it has seen
+-- what is known once the positions of another pass are taken in, with what it has seen
 abbrev pub with_told : Knowing → Knowing → Knowing
 with_told v w = knowing v.keeps v.knows v.seen v.mine w.seen w.mine
 
--- what stays and what goes where another's places are handed back: both have seen the same
+-- what stays and what goes where another's positions are handed back: both have seen the same
 abbrev pub kept_back : Knowing → Knowing
 kept_back v = knowing v.keeps v.knows v.seen v.mine v.seen []
 
@@ -82,20 +82,20 @@ handed_back v = knowing false v.knows v.seen v.theirs v.seen []
 abbrev pub shared_out : Knowing → Knowing
 shared_out v = knowing false v.knows v.seen [] v.seen []
 
--- these are places in the log, and belong to one pass
-abbrev pub AreOf : (ℕ → ℕ) → ℕ → List LogStep → List ℕ → Type 0
-AreOf owner by log places = (p : ℕ) → is_in p places ≡ true → (p < length log) × (owner p ≡ by)
+-- these are positions in the log, and belong to one pass
+abbrev pub BelongTo : (ℕ → ℕ) → ℕ → List LogStep → List ℕ → Type 0
+BelongTo owner by log positions = (p : ℕ) → is_in p positions ≡ true → (p < length log) × (owner p ≡ by)
 
 -- what the rule says of one pass, by its number
 pub record Fits (seat : ℕ) (begun : Bool) (h : History) (owner : ℕ → ℕ) (by : ℕ) (v : Knowing) : Type 0 where
   pub keeps : v.keeps ≡ true → (by ≡ seat) × (v.knows ≡ begun) × (begun ≡ true → v.seen ≡ h)
   pub knows : v.knows ≡ true → (begun ≡ true) × Continues h v.seen × Continues h v.told
-  pub mine : AreOf owner by h.log v.mine
-  pub theirs : AreOf owner by h.log v.theirs
+  pub mine : BelongTo owner by h.log v.mine
+  pub theirs : BelongTo owner by h.log v.theirs
   pub apart : AreApart v.mine v.theirs
 
 -- the rule: there is one history, and once a machine stands beside the word, the word is its length. The machine's
--- pass knows it whole, every other a beginning of it or nothing, and each place in it has one owner
+-- pass knows it whole, every other a beginning of it or nothing, and each position in it has one owner
 pub record IsCounted (s : State ℕ Knowing) : Type 0 where
   pub seat : ℕ
   pub begun : Bool

@@ -4,7 +4,7 @@ use Rattle.instructions.specs.Finding.{Found}
 use Rattle.relocation.specs.declared.area.Access.{Access}
 use Rattle.relocation.specs.declared.area.Access.TheVariants.{Load as LoadInto, Store as StoreWord}
 use Rattle.sequential.specs.declared.state.State.{State}
-use Rattle.in_flight.specs.declared.pending.HopperEntry.{HopperEntry}
+use Rattle.hopper.specs.declared.reference.Reference.{Reference}
 use Rattle.in_flight.specs.declared.pending.Pending.{Pending}
 use Rattle.in_flight.specs.declared.pending.Stage.{Stage}
 use Rattle.in_flight.specs.declared.pending.Stage.TheVariants.{Waiting, Read as HasRead, Finished}
@@ -15,7 +15,7 @@ use Rattle.program_order.specs.Events.{after, after_found}
 use Rattle.program_order.specs.Memory.{after_accept, after_return}
 use Rattle.program_order.specs.Processor.{Processor}
 use Rattle.program_order.specs.Units.{after_finish, after_read, after_store, after_work}
-use Rattle.program_order.specs.Working.{Accepts, KeepsAccounts, Works, leads_to}
+use Rattle.program_order.specs.Drain.{Accepts, KeepsAccounts, Works, leads_to}
 use Rattle.program_order.proofs.draining.OnPending.{is_work, on_pending}
 
 -- the state, the pending instructions and the busy banks are no part of the accounts
@@ -59,7 +59,7 @@ store_accounts w f Waiting = same_accounts w
 store_accounts w f (HasRead os) = same_accounts w
 store_accounts w f (Finished v) = kept_accounts w _ _ w.busy
 
-accept_accounts : (w : Processor) (f : Found Pending HopperEntry) (a : ℕ) (access : Access)
+accept_accounts : (w : Processor) (f : Found Pending Reference) (a : ℕ) (access : Access)
     → KeepsAccounts w (after_accept w f a access)
 unfolding after_accept
 accept_accounts w f a (LoadInto n) = kept_accounts w w.state _ _
@@ -71,7 +71,7 @@ work_accounts w Issue h = cc
 work_accounts w (Read u) h = found_accounts w _ _ (λ f. kept_accounts w w.state _ w.busy)
 work_accounts w (Finish u) h = found_accounts w _ _ (λ f. kept_accounts w w.state _ w.busy)
 work_accounts w (StoreResult u) h = found_accounts w _ _ (λ f. store_accounts w f f.answer)
-work_accounts w (Accept p) h = found_accounts w _ _ (λ f. accept_accounts w f f.answer.a f.answer.access)
+work_accounts w (Accept p) h = found_accounts w _ _ (λ f. accept_accounts w f f.answer.address f.answer.access)
 work_accounts w (Return c) h = found_accounts w _ _ (λ f. kept_accounts w _ _ w.busy)
 work_accounts w (BankFree k) h = kept_accounts w w.state w.pending _
 work_accounts w (Ask n) h = cc

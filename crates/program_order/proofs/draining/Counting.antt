@@ -21,7 +21,7 @@ use Rattle.instructions.specs.declared.instr.Unit.TheVariants.{Branch, Boolean, 
 use Rattle.instructions.specs.declared.instr.Unit.TheVariants.{Multiply2, Divide, Increment1, Increment2}
 use Rattle.instructions.specs.declared.instr.UnitKind.TheVariants.{Branch as BranchKind, Increment as IncrementKind}
 use Rattle.instructions.specs.RegisterLists.{is_in, overlap}
-use Rattle.instructions.specs.Shape.{Shape, Puts, Loads, Stores, Jumps, Links, shape_of, puts_of, loads_of, results}
+use Rattle.instructions.specs.Shape.{Shape, Sets, Loads, Stores, Jumps, Links, shape_of, sets_of, loads_of, results}
 use Rattle.instructions.specs.Shape.{has_reference}
 use Rattle.instructions.specs.Operands.{uses}
 use Rattle.relocation.specs.declared.area.Access.TheVariants.{Load as LoadInto, Store as StoreWord}
@@ -36,9 +36,9 @@ use Rattle.in_flight.specs.declared.pending.Stage.{Stage}
 use Rattle.in_flight.specs.declared.pending.Stage.TheVariants.{Waiting, Read as HasRead, Finished}
 use Rattle.instructions.specs.Each.{Each, Pairs}
 use Rattle.in_flight.specs.Pending.{progress_of, reservation_of, entered_in, is_entered, has_turn}
-use Rattle.in_flight.specs.inner.Slots.{unit_slot, IsChannel, IsPlaced, IsProper, IsSlotted}
+use Rattle.in_flight.specs.inner.OwnSlots.{unit_slot, IsChannel, IsPlaced, IsProper, HasOwnSlots}
 use Rattle.in_flight.specs.Apart.{IsApart}
-use Rattle.program_order.specs.Working.{reference_cost, stage_cost, outstanding_cost, phase_cost, cost, work_left}
+use Rattle.program_order.specs.Drain.{reference_cost, stage_cost, outstanding_cost, phase_cost, cost, work_left}
 use Rattle.in_flight.proofs.asking.Phases.{to_come_in, before_and, slot_in, slot_of}
 use Rattle.program_order.proofs.Opened.{results_to_come}
 use Rattle.program_order.proofs.draining.Pigeons.{listed_bound}
@@ -111,7 +111,7 @@ in_unit m = before_in m.phase
 
 unfoldable load_in : Shape → Phase → Bool
 load_in (Loads n) (Before t) = true
-load_in (Puts rs) (Before t) = false
+load_in (Sets rs) (Before t) = false
 load_in (Stores n) (Before t) = false
 load_in Jumps (Before t) = false
 load_in Links (Before t) = false
@@ -125,7 +125,7 @@ has_load m = load_in (shape_of m.instr) m.phase
 
 unfoldable channel_in : Shape → Phase → ℕ
 channel_in (Loads n) (Before t) = n
-channel_in (Puts rs) (Before t) = 0
+channel_in (Sets rs) (Before t) = 0
 channel_in (Stores n) (Before t) = 0
 channel_in Jumps (Before t) = 0
 channel_in Links (Before t) = 0
@@ -152,7 +152,7 @@ phase_bound : (h : Shape) (p : Phase)
     → phase_cost h p ≤ 3 * one_if (before_in p) + 2 * (one_if (before_and (has_reference h) p) + one_if (entered_in p))
     + one_if (load_in h p)
 unfolding costs before_in before_and progress_of is_reserved has_reference entered_in load_in
-phase_bound (Puts rs) (Before t) = let k = stage_bound t in omega (arith, k)
+phase_bound (Sets rs) (Before t) = let k = stage_bound t in omega (arith, k)
 phase_bound (Loads n) (Before t) = let k = stage_bound t in omega (arith, k)
 phase_bound (Stores n) (Before t) = let k = stage_bound t in omega (arith, k)
 phase_bound Jumps (Before t) = let k = stage_bound t in omega (arith, k)
@@ -312,7 +312,7 @@ load_channel : (size : ℕ) (u : FunctionalUnit) (h : Shape) (p : Phase) → ((n
     → load_in h p ≡ true → IsPlaced size u p → IsChannel (channel_in h p)
 unfolding load_in channel_in
 load_channel size u (Loads n) (Before t) f e k = f n refl
-load_channel size u (Puts rs) (Before t) f e k = cc
+load_channel size u (Sets rs) (Before t) f e k = cc
 load_channel size u (Stores n) (Before t) f e k = cc
 load_channel size u Jumps (Before t) f e k = cc
 load_channel size u Links (Before t) f e k = cc
@@ -322,9 +322,9 @@ load_channel size u h (After (Accepted n word)) f e k = k
 
 -- the register of a load is a result still to come
 load_comes : (h : Shape) (p : Phase) → load_in h p ≡ true → is_in (to_come_in h p) (X (channel_in h p)) ≡ true
-unfolding load_in channel_in results_to_come is_in results puts_of loads_of
+unfolding load_in channel_in results_to_come is_in results sets_of loads_of
 load_comes (Loads n) (Before t) e = ap (λ b. b || false) (eq-eqb n n refl)
-load_comes (Puts rs) (Before t) e = cc
+load_comes (Sets rs) (Before t) e = cc
 load_comes (Stores n) (Before t) e = cc
 load_comes Jumps (Before t) e = cc
 load_comes Links (Before t) e = cc
@@ -366,7 +366,7 @@ loads_bound size ms h k =
 
 -- ---- all of it ----
 
-pub forty : (size : ℕ) (ms : List Pending) → IsSlotted size ms → Pairs IsApart ms → work_left ms ≤ 40
+pub forty : (size : ℕ) (ms : List Pending) → HasOwnSlots size ms → Pairs IsApart ms → work_left ms ≤ 40
 forty size ms s apart =
     let slots = all_slots size ms s.proper s.apart apart in
     let a = units_bound size ms slots s.proper in

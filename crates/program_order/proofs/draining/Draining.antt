@@ -5,7 +5,7 @@ use Rattle.std.specs.Prelude.{◌&&◌, not, is_some, is_none, IfSome}
 use Rattle.std.proofs.lemmas.Bool.{or_from, and_left, and_right, eq-eqb}
 use Rattle.std.proofs.lemmas.Option.{same_Some}
 use Rattle.std.specs.List.{list_any}
-use Rattle.instructions.specs.Shape.{Shape, Puts, Loads, Stores, Jumps, Links, shape_of, puts_of, has_reference}
+use Rattle.instructions.specs.Shape.{Shape, Sets, Loads, Stores, Jumps, Links, shape_of, sets_of, has_reference}
 use Rattle.instructions.specs.Operands.{sources_of}
 use Rattle.instructions.specs.declared.instr.Unit.{Unit as FunctionalUnit}
 use Rattle.relocation.specs.declared.area.Access.{Access}
@@ -30,7 +30,7 @@ use Rattle.in_flight.specs.declared.pending.Stage.TheVariants.{Waiting, Read as 
 use Rattle.instructions.specs.Each.{Each, Pairs}
 use Rattle.in_flight.specs.Pending.{is_entered, entered_in, has_turn}
 use Rattle.in_flight.specs.Apart.{IsApart}
-use Rattle.program_order.specs.Sound.{IsSound}
+use Rattle.program_order.specs.Invariant.{IsSound}
 use Rattle.instructions.specs.Finding.{Found, seek, put_back}
 use Rattle.program_order.specs.Processor.{Processor}
 use Rattle.program_order.specs.Units.{finish_tests, entering, rest_of, store_tests, stage_after_read}
@@ -41,8 +41,8 @@ use Rattle.in_flight.specs.Tests.{Test, refusal_of, tests_found, read_tests, acc
 use Rattle.in_flight.specs.Lookup.{stage_in, stage_at, entry_in, entry_at, arrival_in, arrival_at, enters, in_place}
 use Rattle.in_flight.specs.Lookup.{is_taken, place_for, is_pending, in_phase, kept}
 use Rattle.in_flight.proofs.answering.Referring.{turn_there}
-use Rattle.program_order.specs.Working.{next_in, next_of, reference_cost, stage_cost, outstanding_cost}
-use Rattle.program_order.specs.Working.{phase_cost, cost, work_left}
+use Rattle.program_order.specs.Drain.{next_in, next_of, reference_cost, stage_cost, outstanding_cost}
+use Rattle.program_order.specs.Drain.{phase_cost, cost, work_left}
 use Rattle.program_order.proofs.effects.Effects.{no_reference}
 use Rattle.instructions.proofs.Finding.{seek_around}
 
@@ -70,10 +70,10 @@ unfolding stage_at stage_in
 stage_first m t e = ap (λ b. cond b (stage_in m.phase) None) (same_self m.unit) ∙ ap stage_in e
 
 pub entry_first : (m : Pending) (place a : ℕ) (access : Access) → m.phase ≡ After (Entered place a access)
-    → entry_at place m ≡ Some (record { a = a; access = access })
+    → entry_at place m ≡ Some (record { address = a; access = access })
 unfolding entry_at entry_in
 entry_first m place a access e =
-    ap (entry_in place) e ∙ ap (λ b. cond b (Some (record { a = a; access = access })) None) (eq-eqb place place refl)
+    ap (entry_in place) e ∙ ap (λ b. cond b (Some (record { address = a; access = access })) None) (eq-eqb place place refl)
 
 pub arrival_first : (m : Pending) (n word : ℕ) → m.phase ≡ After (Accepted n word)
     → arrival_at n m ≡ Some (record { channel = n; word = word })
@@ -145,7 +145,7 @@ oldest_allowed w m ls (Before (HasRead os)) e p h =
     first_allowed (stage_at m.unit) _ w.pending ls m (HasRead os) e (stage_first m (HasRead os) p) tt
 oldest_allowed w m ls (Before (Finished v)) e p h =
     first_allowed (stage_at m.unit) _ w.pending ls m (Finished v) e (stage_first m (Finished v) p) (
-      any_none _ (λ r. refl) (puts_of (shape_of m.instr)),
+      any_none _ (λ r. refl) (sets_of (shape_of m.instr)),
       (hopper_has_room (bounds_of w.state) m w.pending ls v _ refl e p h, (and_right _ false refl, tt)),
     )
 oldest_allowed w m ls (After (Entered place a access)) e p h = by_bank (get_or w.busy (bank_of a) false) refl
@@ -153,7 +153,7 @@ oldest_allowed w m ls (After (Entered place a access)) e p h = by_bank (get_or w
     by_bank : (b : Bool) → get_or w.busy (bank_of a) false ≡ b
         → allowed w (cond b (BankFree (bank_of a)) (Accept place)) ≡ None
     by_bank true k = refusal_from _ (ap not k, tt)
-    by_bank false k = first_allowed (entry_at place) _ w.pending ls m (record { a = a; access = access }) e
+    by_bank false k = first_allowed (entry_at place) _ w.pending ls m (record { address = a; access = access }) e
         (entry_first m place a access p) (k, (refl, tt))
 oldest_allowed w m ls (After (Accepted n word)) e p h =
     first_allowed (arrival_at n) _ w.pending ls m (record { channel = n; word = word }) e (arrival_first m n word p)
@@ -218,7 +218,7 @@ entering_store place word (Some a) = omega arith
 rest_cost : (b : Bounds) (place : ℕ) (h : Shape) (v : UnitValue)
     → left_cost (rest_of b place (reference_for h v)) ≤ reference_cost h
 unfolding left_cost rest_of reference_for reference_cost
-rest_cost b place (Puts rs) v = omega arith
+rest_cost b place (Sets rs) v = omega arith
 rest_cost b place (Loads n) v = entering_load place n (absolute b _)
 rest_cost b place (Stores n) v = entering_store place _ (absolute b _)
 rest_cost b place Jumps v = omega arith
@@ -281,7 +281,7 @@ less_accept : (w : Processor) (m : Pending) (ls : List Pending) (place a : ℕ) 
     → work_left (after_accept w (record {
       earlier = [];
       item = m;
-      answer = record { a = a; access = access };
+      answer = record { address = a; access = access };
       later = ls;
     }) a access).pending + 2 ≤ outstanding_cost (Entered place a access) + work_left ls
 unfolding after_accept put_back in_phase work_left cost phase_cost outstanding_cost
@@ -306,11 +306,11 @@ entered_eases w m ls place a access true k e p =
     omega (arith, i, j)
 entered_eases w m ls place a access false k e p =
     eases w (after w (Accept place))
-    (after_accept w (record { earlier = []; item = m; answer = record { a = a; access = access }; later = ls }) a
+    (after_accept w (record { earlier = []; item = m; answer = record { address = a; access = access }; later = ls }) a
     access).pending 1
     (ap (λ (x : Processor). x.pending)
-    (after_first w (entry_at place) (λ f. after_accept w f f.answer.a f.answer.access) ls m
-    (record { a = a; access = access }) e (entry_first m place a access p)))
+    (after_first w (entry_at place) (λ f. after_accept w f f.answer.address f.answer.access) ls m
+    (record { address = a; access = access }) e (entry_first m place a access p)))
     (saved_first w m ls (After (Entered place a access)) e p ∙ ap (λ b. cond b 0 1) k)
     (let j = less_accept w m ls place a access in let n = work_first w m ls (After (Entered place a access)) e p
     in omega (arith, j, n))

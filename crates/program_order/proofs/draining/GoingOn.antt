@@ -31,11 +31,11 @@ use Rattle.scoreboard.specs.Conflicts as conflict
 use Rattle.scoreboard.specs.Units.{units_of}
 use Rattle.sequential.specs.declared.fetching.Fetched.{Fetched}
 use Rattle.sequential.specs.declared.fetching.Fetched.TheVariants.{Halting, Passing, Taking}
-use Rattle.sequential.specs.declared.place.Place.{Place}
+use Rattle.sequential.specs.declared.position.ProgramPosition.{ProgramPosition}
 use Rattle.sequential.specs.Log.{issued}
 use Rattle.sequential.specs.State.{Bounds, bounds_of, absolute}
-use Rattle.sequential.specs.Place.{moved_on}
-use Rattle.sequential.specs.Step.{fetch, fetched_by, fetched_from, here, met, word_seen}
+use Rattle.sequential.specs.Position.{after_parcel}
+use Rattle.sequential.specs.Step.{fetch, fetched_by, fetched_from, at_instruction, classify, word_seen}
 use Rattle.instruction_table.specs.Decoding.{reading_at}
 use Rattle.program_order.specs.declared.event.Event.TheVariants.{Issue, Exchange as MakeExchange}
 use Rattle.in_flight.specs.declared.pending.Pending.{Pending}
@@ -60,68 +60,68 @@ HasUnit (Halting halt place) = Unit {0}
 HasUnit (Passing place) = Unit {0}
 HasUnit (Taking i place) = IsSome (uses i).unit
 
-met_unit : (place after : Place) (i : Instr) → HasUnit (met place after i)
-unfolding met
-met_unit place after Stop = tt
-met_unit place after (ReturnJump K) = refl
-met_unit place after (Jump i K) = refl
-met_unit place after (BranchX Zero j K) = refl
-met_unit place after (BranchX NonZero j K) = refl
-met_unit place after (BranchX Positive j K) = refl
-met_unit place after (BranchX Negative j K) = refl
-met_unit place after (BranchX InRange j K) = refl
-met_unit place after (BranchX OutOfRange j K) = refl
-met_unit place after (BranchX Definite j K) = refl
-met_unit place after (BranchX Indefinite j K) = refl
-met_unit place after (BranchB Equal i j K) = refl
-met_unit place after (BranchB NotEqual i j K) = refl
-met_unit place after (BranchB GreaterOrEqual i j K) = refl
-met_unit place after (BranchB Less i j K) = refl
-met_unit place after (Copy i j) = refl
-met_unit place after (Logical And i j k) = refl
-met_unit place after (Logical Or i j k) = refl
-met_unit place after (Logical Xor i j k) = refl
-met_unit place after (Invert i k) = refl
-met_unit place after (Logical AndNot i j k) = refl
-met_unit place after (Logical OrNot i j k) = refl
-met_unit place after (Logical XorNot i j k) = refl
-met_unit place after (ShiftBy Left i jk) = refl
-met_unit place after (ShiftBy Right i jk) = refl
-met_unit place after (ShiftNominal Left i j k) = refl
-met_unit place after (ShiftNominal Right i j k) = refl
-met_unit place after (LongAdd Sum i j k) = refl
-met_unit place after (LongAdd Difference i j k) = refl
-met_unit place after (Mask i jk) = refl
-met_unit place after Pass = tt
-met_unit place after (CountOnes i k) = refl
-met_unit place after (Increment TargetA i (Address BaseA j K)) = refl
-met_unit place after (Increment TargetA i (Address BaseB j K)) = refl
-met_unit place after (Increment TargetA i (Address BaseX j K)) = refl
-met_unit place after (Increment TargetA i (Registers XPlusB j k)) = refl
-met_unit place after (Increment TargetA i (Registers APlusB j k)) = refl
-met_unit place after (Increment TargetA i (Registers AMinusB j k)) = refl
-met_unit place after (Increment TargetA i (Registers BPlusB j k)) = refl
-met_unit place after (Increment TargetA i (Registers BMinusB j k)) = refl
-met_unit place after (Increment TargetB i (Address BaseA j K)) = refl
-met_unit place after (Increment TargetB i (Address BaseB j K)) = refl
-met_unit place after (Increment TargetB i (Address BaseX j K)) = refl
-met_unit place after (Increment TargetB i (Registers XPlusB j k)) = refl
-met_unit place after (Increment TargetB i (Registers APlusB j k)) = refl
-met_unit place after (Increment TargetB i (Registers AMinusB j k)) = refl
-met_unit place after (Increment TargetB i (Registers BPlusB j k)) = refl
-met_unit place after (Increment TargetB i (Registers BMinusB j k)) = refl
-met_unit place after (Increment TargetX i (Address BaseA j K)) = refl
-met_unit place after (Increment TargetX i (Address BaseB j K)) = refl
-met_unit place after (Increment TargetX i (Address BaseX j K)) = refl
-met_unit place after (Increment TargetX i (Registers XPlusB j k)) = refl
-met_unit place after (Increment TargetX i (Registers APlusB j k)) = refl
-met_unit place after (Increment TargetX i (Registers AMinusB j k)) = refl
-met_unit place after (Increment TargetX i (Registers BPlusB j k)) = refl
-met_unit place after (Increment TargetX i (Registers BMinusB j k)) = refl
+met_unit : (position after : ProgramPosition) (i : Instr) → HasUnit (classify position after i)
+unfolding classify
+met_unit position after Stop = tt
+met_unit position after (ReturnJump K) = refl
+met_unit position after (Jump i K) = refl
+met_unit position after (BranchX Zero j K) = refl
+met_unit position after (BranchX NonZero j K) = refl
+met_unit position after (BranchX Positive j K) = refl
+met_unit position after (BranchX Negative j K) = refl
+met_unit position after (BranchX InRange j K) = refl
+met_unit position after (BranchX OutOfRange j K) = refl
+met_unit position after (BranchX Definite j K) = refl
+met_unit position after (BranchX Indefinite j K) = refl
+met_unit position after (BranchB Equal i j K) = refl
+met_unit position after (BranchB NotEqual i j K) = refl
+met_unit position after (BranchB GreaterOrEqual i j K) = refl
+met_unit position after (BranchB Less i j K) = refl
+met_unit position after (Copy i j) = refl
+met_unit position after (Logical And i j k) = refl
+met_unit position after (Logical Or i j k) = refl
+met_unit position after (Logical Xor i j k) = refl
+met_unit position after (Invert i k) = refl
+met_unit position after (Logical AndNot i j k) = refl
+met_unit position after (Logical OrNot i j k) = refl
+met_unit position after (Logical XorNot i j k) = refl
+met_unit position after (ShiftBy Left i jk) = refl
+met_unit position after (ShiftBy Right i jk) = refl
+met_unit position after (ShiftNominal Left i j k) = refl
+met_unit position after (ShiftNominal Right i j k) = refl
+met_unit position after (LongAdd Sum i j k) = refl
+met_unit position after (LongAdd Difference i j k) = refl
+met_unit position after (Mask i jk) = refl
+met_unit position after Pass = tt
+met_unit position after (CountOnes i k) = refl
+met_unit position after (Increment TargetA i (Address BaseA j K)) = refl
+met_unit position after (Increment TargetA i (Address BaseB j K)) = refl
+met_unit position after (Increment TargetA i (Address BaseX j K)) = refl
+met_unit position after (Increment TargetA i (Registers XPlusB j k)) = refl
+met_unit position after (Increment TargetA i (Registers APlusB j k)) = refl
+met_unit position after (Increment TargetA i (Registers AMinusB j k)) = refl
+met_unit position after (Increment TargetA i (Registers BPlusB j k)) = refl
+met_unit position after (Increment TargetA i (Registers BMinusB j k)) = refl
+met_unit position after (Increment TargetB i (Address BaseA j K)) = refl
+met_unit position after (Increment TargetB i (Address BaseB j K)) = refl
+met_unit position after (Increment TargetB i (Address BaseX j K)) = refl
+met_unit position after (Increment TargetB i (Registers XPlusB j k)) = refl
+met_unit position after (Increment TargetB i (Registers APlusB j k)) = refl
+met_unit position after (Increment TargetB i (Registers AMinusB j k)) = refl
+met_unit position after (Increment TargetB i (Registers BPlusB j k)) = refl
+met_unit position after (Increment TargetB i (Registers BMinusB j k)) = refl
+met_unit position after (Increment TargetX i (Address BaseA j K)) = refl
+met_unit position after (Increment TargetX i (Address BaseB j K)) = refl
+met_unit position after (Increment TargetX i (Address BaseX j K)) = refl
+met_unit position after (Increment TargetX i (Registers XPlusB j k)) = refl
+met_unit position after (Increment TargetX i (Registers APlusB j k)) = refl
+met_unit position after (Increment TargetX i (Registers AMinusB j k)) = refl
+met_unit position after (Increment TargetX i (Registers BPlusB j k)) = refl
+met_unit position after (Increment TargetX i (Registers BMinusB j k)) = refl
 
 read_unit : (p parcel word : ℕ) (d : Decoded) → HasUnit (fetched_by p parcel word d)
 unfolding fetched_by
-read_unit p parcel word (Legal i next) = met_unit (here p parcel word) (moved_on p word next) i
+read_unit p parcel word (Legal i next) = met_unit (at_instruction p parcel word) (after_parcel p word next) i
 read_unit p parcel word (Refused op) = tt
 read_unit p parcel word Straddle = tt
 
@@ -130,9 +130,9 @@ unfolding fetched_from
 from_unit p parcel None = tt
 from_unit p parcel (Some word) = read_unit p parcel word (reading_at word parcel)
 
-fetched_unit : (b : Bounds) (memory : List ℕ) (place : Place) → HasUnit (fetch b memory place)
+fetched_unit : (b : Bounds) (memory : List ℕ) (position : ProgramPosition) → HasUnit (fetch b memory position)
 unfolding fetch
-fetched_unit b memory place = from_unit place.p place.parcel (word_seen b memory place.p place.held)
+fetched_unit b memory position = from_unit position.p position.parcel (word_seen b memory position.p position.held)
 
 -- ---- nothing is pending ----
 
@@ -165,10 +165,10 @@ unfolding waits_at
 nothing_delays None = refl
 nothing_delays (Some a) = refl
 
-fetch_goes : (b : Bounds) (place : Place) → fetch_waits b place [] ≡ false
+fetch_goes : (b : Bounds) (position : ProgramPosition) → fetch_waits b position [] ≡ false
 unfolding fetch_waits
-fetch_goes b place =
-    ap (λ x. is_none place.held && x) (nothing_delays (absolute b place.p)) ∙ and_right (is_none place.held) false refl
+fetch_goes b position =
+    ap (λ x. is_none position.held && x) (nothing_delays (absolute b position.p)) ∙ and_right (is_none position.held) false refl
 
 held_or_unasked : (r h : Option ℕ) → (is_none r || is_some h) ≡ true → (is_some r && is_none h) ≡ false
 held_or_unasked None h e = refl
@@ -186,7 +186,7 @@ budget_left budget count h = by_test (nat_le budget count) refl
     by_test true e = let k : budget ≤ count = leb-true budget count e in absurd (omega (arith, h, k))
 
 pub issue_accepted : (w : Processor) → is_pending w.pending ≡ false → w.state.halt ≡ None → w.state.fault ≡ false
-    → issued w.log < w.budget → (is_none w.request || is_some w.state.place.held) ≡ true → allowed w Issue ≡ None
+    → issued w.log < w.budget → (is_none w.request || is_some w.state.position.held) ≡ true → allowed w Issue ≡ None
 unfolding allowed tests_of issue_tests
 issue_accepted w p h f b r =
     ap (λ (ms : List Pending). refusal_of (issue_tests w.state ms w.request w.budget (issued w.log)))
@@ -200,11 +200,11 @@ issue_accepted w p h f b r =
           (
             refl,
             (
-              held_or_unasked w.request w.state.place.held r,
+              held_or_unasked w.request w.state.position.held r,
               (
-                fetch_goes (bounds_of w.state) w.state.place,
-                reservation_passes (fetch (bounds_of w.state) w.state.memory w.state.place)
-                    (fetched_unit (bounds_of w.state) w.state.memory w.state.place),
+                fetch_goes (bounds_of w.state) w.state.position,
+                reservation_passes (fetch (bounds_of w.state) w.state.memory w.state.position)
+                    (fetched_unit (bounds_of w.state) w.state.memory w.state.position),
               ),
             ),
           ),
@@ -213,7 +213,7 @@ issue_accepted w p h f b r =
     )
 
 pub exchange_accepted : (w : Processor) (at : ℕ) → is_pending w.pending ≡ false → w.request ≡ Some at
-    → (is_none w.state.halt && (not w.state.fault && is_some w.state.place.held)) ≡ false
+    → (is_none w.state.halt && (not w.state.fault && is_some w.state.position.held)) ≡ false
     → allowed w MakeExchange ≡ None
 unfolding allowed tests_of exchange_tests
 exchange_accepted w at p r m = none_fails (exchange_tests w.request w.pending w.state) (ap is_none r, (p, (m, tt)))

@@ -17,7 +17,7 @@ use Rattle.in_flight.specs.Lookup.{in_place, is_pending}
 use Rattle.program_order.specs.declared.event.Event.{Event}
 use Rattle.program_order.specs.declared.event.Event.TheVariants.{Issue, Read, Finish, Store as StoreResult, Accept}
 use Rattle.program_order.specs.declared.event.Event.TheVariants.{Return, BankFree, Ask, Exchange, PpRead, PpWrite}
-use Rattle.program_order.specs.Working.{holds_unit, in_channel, next_in, next_of, waits_for, waits_for_in, works_on}
+use Rattle.program_order.specs.Drain.{holds_unit, in_channel, next_in, next_of, waits_for, waits_for_in, works_on}
 use Rattle.program_order.proofs.draining.Draining.{arrival_first, entry_first, stage_first}
 
 -- neither an issue, nor about an exchange, nor a peripheral access

@@ -1,52 +1,52 @@
 -- A change that no pending instruction touches is made before them all as well as after them all.
 use Rattle.scoreboard.specs.Reservations as board
 use Rattle.in_flight.specs.Pending.{is_branch, to_come}
-use Rattle.in_flight.proofs.asking.Asked.{comes, reads}
+use Rattle.in_flight.proofs.asking.PendingReservations.{comes, reads}
 use Rattle.program_order.proofs.Opened.{results_to_come}
-use Rattle.sequential.specs.Place.{gone}
+use Rattle.sequential.specs.Position.{after_jump}
 use Rattle.in_flight.proofs.asking.Phases.{may_store}
 use Rattle.std.proofs.Common.{◌≡◌, ℕ, false, List, [], ◌∷◌, ◌++◌, Option, Some, None, refl, ap, ◌∙◌, get_or}
 use Rattle.std.proofs.lemmas.Bool.{or_parts}
 use Rattle.std.specs.List.{list_any}
-use Rattle.program_order.proofs.effects.OnePending.{run-write, run-move, run-halt, run-mark, touches, run-poke, run-get}
-use Rattle.program_order.proofs.effects.OnePending.{run-word, run-halted, run-bounds, run-place}
+use Rattle.program_order.proofs.effects.OnePending.{finish_effects-write, finish_effects-move, finish_effects-halt, finish_effects-or_fault, touches, finish_effects-store_word, finish_effects-get}
+use Rattle.program_order.proofs.effects.OnePending.{finish_effects-word, finish_effects-halted, finish_effects-bounds, finish_effects-position}
 use Rattle.instructions.specs.RegisterLists.{is_in}
-use Rattle.instructions.specs.Shape.{Shape, puts_of}
+use Rattle.instructions.specs.Shape.{Shape, sets_of}
 use Rattle.instructions.specs.declared.instr.Reg.{Reg}
 use Rattle.instructions.specs.declared.refusal.Halt.{Halt}
 use Rattle.instructions.specs.Each.{Each}
 use Rattle.instructions.proofs.Lists.{each_map}
-use Rattle.program_order.specs.Complete.{complete, run}
+use Rattle.program_order.specs.Complete.{complete, finish_effects}
 use Rattle.in_flight.specs.declared.pending.Pending.{Pending}
 use Rattle.registers.specs.Registers.{get}
-use Rattle.sequential.specs.State.{Bounds, bounds_of, go, halt_by, mark, move_to, poke, write, write_all}
-use Rattle.sequential.specs.Work.{do_now, fault_of, jump_for, reference_for, same_for, work_of}
-use Rattle.sequential.specs.declared.place.Place.{Place}
+use Rattle.sequential.specs.State.{Bounds, bounds_of, jump_to, halt_by, or_fault, move_to, store_word, write, write_all}
+use Rattle.sequential.specs.Work.{write_and_jump, fault_of, jump_for, reference_for, each_set_to, work_of}
+use Rattle.sequential.specs.declared.position.ProgramPosition.{ProgramPosition}
 use Rattle.sequential.specs.declared.state.State.{State}
 use Rattle.unit_ops.specs.declared.UnitValue.{UnitValue}
 
 -- the change is made before the instruction as well as after it
 abbrev pub Commutes : Bounds → (State → State) → Pending → Type 0
-Commutes b c m = (s : State) → run b (c s) m ≡ c (run b s m)
+Commutes b c m = (s : State) → finish_effects b (c s) m ≡ c (finish_effects b s m)
 
 pub complete-append : (b : Bounds) (s : State) (ms ns : List Pending)
     → complete b s (ms ++ ns) ≡ complete b (complete b s ms) ns
 unfolding complete
 complete-append b s [] ns = refl
-complete-append b s (m ∷ ms) ns = complete-append b (run b s m) ms ns
+complete-append b s (m ∷ ms) ns = complete-append b (finish_effects b s m) ms ns
 
 pub complete-change : (b : Bounds) (c : State → State) (ms : List Pending) → Each (Commutes b c) ms → (s : State)
     → complete b (c s) ms ≡ c (complete b s ms)
 unfolding complete
 complete-change b c [] h s = refl
-complete-change b c (m ∷ ms) h s = ap (λ x. complete b x ms) (h.0 s) ∙ complete-change b c ms h.1 (run b s m)
+complete-change b c (m ∷ ms) h s = ap (λ x. complete b x ms) (h.0 s) ∙ complete-change b c ms h.1 (finish_effects b s m)
 
 -- what each instruction leaves, all leave
 pub complete-keeps : {K : Type 0} (b : Bounds) (f : State → K) (ms : List Pending)
-    → Each (λ m. (s : State) → f (run b s m) ≡ f s) ms → (s : State) → f (complete b s ms) ≡ f s
+    → Each (λ m. (s : State) → f (finish_effects b s m) ≡ f s) ms → (s : State) → f (complete b s ms) ≡ f s
 unfolding complete
 complete-keeps b f [] h s = refl
-complete-keeps b f (m ∷ ms) h s = complete-keeps b f ms h.1 (run b s m) ∙ h.0 s
+complete-keeps b f (m ∷ ms) h s = complete-keeps b f ms h.1 (finish_effects b s m) ∙ h.0 s
 
 -- ---- the facts on pending instructions, as tests ----
 
@@ -55,10 +55,10 @@ each_all P f [] = tt
 each_all P f (x ∷ xs) = (f x, each_all P f xs)
 
 pub complete-bounds : (b : Bounds) (s : State) (ms : List Pending) → bounds_of (complete b s ms) ≡ bounds_of s
-complete-bounds b s ms = complete-keeps b bounds_of ms (each_all _ (λ m x. run-bounds b x m) ms) s
+complete-bounds b s ms = complete-keeps b bounds_of ms (each_all _ (λ m x. finish_effects-bounds b x m) ms) s
 
 pub complete-halted : (b : Bounds) (s : State) (ms : List Pending) → (complete b s ms).halt ≡ s.halt
-complete-halted b s ms = complete-keeps b (λ x. x.halt) ms (each_all _ (λ m x. run-halted b x m) ms) s
+complete-halted b s ms = complete-keeps b (λ x. x.halt) ms (each_all _ (λ m x. finish_effects-halted b x m) ms) s
 
 -- it is no branch
 abbrev pub IsNoBranch : Pending → Type 0
@@ -68,37 +68,37 @@ pub each_no_branch : (ms : List Pending) → list_any is_branch ms ≡ false →
 each_no_branch [] h = tt
 each_no_branch (m ∷ ms) h = let p = or_parts (is_branch m) (list_any is_branch ms) h in (p.0, each_no_branch ms p.1)
 
-pub complete-place : (b : Bounds) (s : State) (ms : List Pending) → Each IsNoBranch ms
-    → (complete b s ms).place ≡ s.place
-complete-place b s ms h =
-    complete-keeps b (λ x. x.place) ms (each_map IsNoBranch _ (λ m e x. run-place b x m e) ms h) s
+pub complete-position : (b : Bounds) (s : State) (ms : List Pending) → Each IsNoBranch ms
+    → (complete b s ms).position ≡ s.position
+complete-position b s ms h =
+    complete-keeps b (λ x. x.position) ms (each_map IsNoBranch _ (λ m e x. finish_effects-position b x m e) ms h) s
 
-pub complete-move : (b : Bounds) (s : State) (ms : List Pending) (k : Place) → Each IsNoBranch ms
+pub complete-move : (b : Bounds) (s : State) (ms : List Pending) (k : ProgramPosition) → Each IsNoBranch ms
     → complete b (move_to s k) ms ≡ move_to (complete b s ms) k
 complete-move b s ms k h =
-    complete-change b (λ x. move_to x k) ms (each_map IsNoBranch _ (λ m e x. run-move b x m k e) ms h) s
+    complete-change b (λ x. move_to x k) ms (each_map IsNoBranch _ (λ m e x. finish_effects-move b x m k e) ms h) s
 
 pub complete-halt : (b : Bounds) (s : State) (ms : List Pending) (k : Halt)
     → complete b (halt_by s k) ms ≡ halt_by (complete b s ms) k
-complete-halt b s ms k = complete-change b (λ x. halt_by x k) ms (each_all _ (λ m x. run-halt b x m k) ms) s
+complete-halt b s ms k = complete-change b (λ x. halt_by x k) ms (each_all _ (λ m x. finish_effects-halt b x m k) ms) s
 
 -- a word to which none stores
 pub complete-word : (b : Bounds) (s : State) (ms : List Pending) (a : ℕ) → Each (λ m. may_store a m ≡ false) ms
     → get_or (complete b s ms).memory a 0 ≡ get_or s.memory a 0
 complete-word b s ms a h = complete-keeps b (λ x. get_or x.memory a 0) ms
-    (each_map (λ m. may_store a m ≡ false) _ (λ m e x. run-word b x m a e) ms h) s
+    (each_map (λ m. may_store a m ≡ false) _ (λ m e x. finish_effects-word b x m a e) ms h) s
 
 -- a register that is no result still to come
 pub complete-get : (b : Bounds) (s : State) (ms : List Pending) (r : Reg) → Each (λ m. comes r m ≡ false) ms
     → get (complete b s ms).registers r ≡ get s.registers r
 unfolding comes board.comes results_to_come
 complete-get b s ms r h = complete-keeps b (λ x. get x.registers r) ms
-    (each_map (λ m. is_in (to_come m) r ≡ false) _ (λ m e x. run-get b x m r e) ms h) s
+    (each_map (λ m. is_in (to_come m) r ≡ false) _ (λ m e x. finish_effects-get b x m r e) ms h) s
 
-pub complete-poke : (b : Bounds) (s : State) (ms : List Pending) (a w : ℕ) → Each (λ m. touches a m ≡ false) ms
-    → complete b (poke s a w) ms ≡ poke (complete b s ms) a w
-complete-poke b s ms a w h = complete-change b (λ x. poke x a w) ms
-    (each_map (λ m. touches a m ≡ false) _ (λ m e x. run-poke b x m a w e) ms h) s
+pub complete-store_word : (b : Bounds) (s : State) (ms : List Pending) (a w : ℕ) → Each (λ m. touches a m ≡ false) ms
+    → complete b (store_word s a w) ms ≡ store_word (complete b s ms) a w
+complete-store_word b s ms a w h = complete-change b (λ x. store_word x a w) ms
+    (each_map (λ m. touches a m ≡ false) _ (λ m e x. finish_effects-store_word b x m a w e) ms h) s
 
 -- the register is neither a result still to come nor a source still to be read
 pub record IsFree (r : Reg) (m : Pending) : Type 0 where
@@ -109,31 +109,31 @@ pub complete-write : (b : Bounds) (s : State) (ms : List Pending) (r : Reg) (v :
     → complete b (write s r v) ms ≡ write (complete b s ms) r v
 complete-write b s ms r v h =
     complete-change b (λ x. write x r v) ms
-    (each_map (IsFree r) _ (λ m e x. run-write b x m r v e.not_to_come e.not_read) ms h) s
+    (each_map (IsFree r) _ (λ m e x. finish_effects-write b x m r v e.not_to_come e.not_read) ms h) s
 
 -- ---- what the store event does at once ----
 
 complete-write_all : (b : Bounds) (s : State) (ms : List Pending) (n : ℕ) (rs : List Reg)
     → Each (λ r. Each (IsFree r) ms) rs
-    → complete b (write_all s (same_for n rs)) ms ≡ write_all (complete b s ms) (same_for n rs)
-unfolding write_all same_for
+    → complete b (write_all s (each_set_to n rs)) ms ≡ write_all (complete b s ms) (each_set_to n rs)
+unfolding write_all each_set_to
 complete-write_all b s ms n [] h = refl
 complete-write_all b s ms n (r ∷ rs) h =
     complete-write_all b (write s r n) ms n rs h.1
-    ∙ ap (λ x. write_all x (same_for n rs)) (complete-write b s ms r n h.0)
+    ∙ ap (λ x. write_all x (each_set_to n rs)) (complete-write b s ms r n h.0)
 
-complete-go : (b : Bounds) (s : State) (ms : List Pending) (j : Option ℕ) → Each IsNoBranch ms
-    → complete b (go s j) ms ≡ go (complete b s ms) j
-unfolding go move_to gone
-complete-go b s ms None h = refl
-complete-go b s ms (Some to) h = complete-move b s ms (record { p = to; parcel = 0; held = None }) h
+complete-jump_to : (b : Bounds) (s : State) (ms : List Pending) (j : Option ℕ) → Each IsNoBranch ms
+    → complete b (jump_to s j) ms ≡ jump_to (complete b s ms) j
+unfolding jump_to move_to after_jump
+complete-jump_to b s ms None h = refl
+complete-jump_to b s ms (Some to) h = complete-move b s ms (record { p = to; parcel = 0; held = None }) h
 
 pub complete-now : (b d : Bounds) (s : State) (ms : List Pending) (h : Shape) (x : UnitValue) → Each IsNoBranch ms
-    → Each (λ r. Each (IsFree r) ms) (puts_of h)
-    → complete b (do_now d s (work_of h x)) ms ≡ do_now d (complete b s ms) (work_of h x)
-unfolding do_now work_of
+    → Each (λ r. Each (IsFree r) ms) (sets_of h)
+    → complete b (write_and_jump d s (work_of h x)) ms ≡ write_and_jump d (complete b s ms) (work_of h x)
+unfolding write_and_jump work_of
 complete-now b d s ms h x nb free =
-    complete-change b (λ y. mark y (fault_of d (reference_for h x))) ms (each_all _ (λ m y. run-mark b y m _) ms) _
-    ∙ ap (λ y. mark y (fault_of d (reference_for h x)))
-    (complete-go b _ ms (jump_for h x) nb
-    ∙ ap (λ y. go y (jump_for h x)) (complete-write_all b s ms _ (puts_of h) free))
+    complete-change b (λ y. or_fault y (fault_of d (reference_for h x))) ms (each_all _ (λ m y. finish_effects-or_fault b y m _) ms) _
+    ∙ ap (λ y. or_fault y (fault_of d (reference_for h x)))
+    (complete-jump_to b _ ms (jump_for h x) nb
+    ∙ ap (λ y. jump_to y (jump_for h x)) (complete-write_all b s ms _ (sets_of h) free))

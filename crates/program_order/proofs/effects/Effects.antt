@@ -1,6 +1,6 @@
 -- Changes of the state that don't touch one another, made in either order.
 use Rattle.in_flight.specs.Pending.{returning}
-use Rattle.sequential.specs.Place.{gone}
+use Rattle.sequential.specs.Position.{after_jump}
 use Rattle.scoreboard.specs.Reservations.{returning_to}
 use Rattle.std.proofs.Common.{◌≡◌, ℕ, Bool, true, false, List, [], ◌∷◌, Option, Some, None, refl, sym, ap, ◌∙◌, get_or}
 use Rattle.std.proofs.Common.{eqb}
@@ -10,8 +10,8 @@ use Rattle.std.proofs.lemmas.List.{get_or-set_other, set_comm, length-set}
 use Rattle.std.specs.List.{list_any}
 use Rattle.registers.proofs.RegisterLaws.{put_comm, get-put_other}
 use Rattle.instructions.specs.RegisterLists.{is_in}
-use Rattle.instructions.specs.Shape.{Jumps, Links, Loads, Puts, Shape, Stores, has_reference, has_store}
-use Rattle.instructions.specs.Shape.{is_branch_shape, loads_of, puts_of}
+use Rattle.instructions.specs.Shape.{Jumps, Links, Loads, Sets, Shape, Stores, has_reference, has_store}
+use Rattle.instructions.specs.Shape.{is_branch_shape, loads_of, sets_of}
 use Rattle.instructions.specs.Operands.{reg_eq}
 use Rattle.instructions.specs.declared.instr.Reg.{Reg}
 use Rattle.instructions.specs.declared.instr.Reg.TheVariants.{X}
@@ -24,11 +24,11 @@ use Rattle.in_flight.specs.declared.pending.Outstanding.TheVariants.{Accepted, E
 use Rattle.registers.specs.Registers.{get}
 use Rattle.relocation.specs.declared.area.Access.{Access}
 use Rattle.relocation.specs.declared.area.Access.TheVariants.{Load as LoadInto, Store as StoreWord}
-use Rattle.sequential.specs.State.{Bounds, absolute, access_at, bounds_of, go, halt_by, mark, move_to, poke, write}
+use Rattle.sequential.specs.State.{Bounds, absolute, access_at, bounds_of, jump_to, halt_by, or_fault, move_to, store_word, write}
 use Rattle.sequential.specs.State.{write_all}
-use Rattle.sequential.specs.Work.{Work, do_now, fault_of, jump_for, reference_for, same_for, work_of, do_work, refer}
+use Rattle.sequential.specs.Work.{Work, write_and_jump, fault_of, jump_for, reference_for, each_set_to, work_of, do_work, refer}
 use Rattle.sequential.specs.Work.{refer_at}
-use Rattle.sequential.specs.declared.place.Place.{Place}
+use Rattle.sequential.specs.declared.position.ProgramPosition.{ProgramPosition}
 use Rattle.sequential.specs.declared.state.State.{State}
 use Rattle.sequential.specs.declared.work.ProgramReference.{ProgramReference}
 use Rattle.unit_ops.specs.declared.UnitValue.{UnitValue}
@@ -39,7 +39,7 @@ do_option s (Some l) = do_outstanding s l
 
 -- the whole of a reservation's work, in two parts: what it does now, and what is left
 unfoldable pub do_parts : Bounds → State → Work → State
-do_parts b s w = do_option (do_now b s w) (rest_of b 0 w.reference)
+do_parts b s w = do_option (write_and_jump b s w) (rest_of b 0 w.reference)
 
 -- ---- a register write ----
 
@@ -49,26 +49,26 @@ unfolding write
 write_comm s r t v w h = ap (λ g. record s { registers = g }) (put_comm s.registers r t v w h)
 
 pub write_all-write : (s : State) (n : ℕ) (rs : List Reg) (r : Reg) (v : ℕ) → is_in rs r ≡ false
-    → write_all (write s r v) (same_for n rs) ≡ write (write_all s (same_for n rs)) r v
-unfolding write_all same_for is_in
+    → write_all (write s r v) (each_set_to n rs) ≡ write (write_all s (each_set_to n rs)) r v
+unfolding write_all each_set_to is_in
 write_all-write s n [] r v h = refl
 write_all-write s n (t ∷ rs) r v h =
     let p = or_parts (reg_eq r t) (list_any (reg_eq r) rs) h in
-    ap (λ x. write_all x (same_for n rs)) (sym (write_comm s t r n v p.0))
+    ap (λ x. write_all x (each_set_to n rs)) (sym (write_comm s t r n v p.0))
     ∙ write_all-write (write s t n) n rs r v p.1
 
-go-write : (s : State) (j : Option ℕ) (r : Reg) (v : ℕ) → go (write s r v) j ≡ write (go s j) r v
-unfolding go write gone
-go-write s None r v = refl
-go-write s (Some to) r v = refl
+jump_to-write : (s : State) (j : Option ℕ) (r : Reg) (v : ℕ) → jump_to (write s r v) j ≡ write (jump_to s j) r v
+unfolding jump_to write after_jump
+jump_to-write s None r v = refl
+jump_to-write s (Some to) r v = refl
 
-mark-write : (s : State) (f : Bool) (r : Reg) (v : ℕ) → mark (write s r v) f ≡ write (mark s f) r v
-unfolding mark write
-mark-write s f r v = refl
+or_fault-write : (s : State) (f : Bool) (r : Reg) (v : ℕ) → or_fault (write s r v) f ≡ write (or_fault s f) r v
+unfolding or_fault write
+or_fault-write s f r v = refl
 
 pub do_outstanding-write : (s : State) (l : Outstanding) (r : Reg) (v : ℕ) → is_in (target_of l) r ≡ false
     → do_outstanding (write s r v) l ≡ write (do_outstanding s l) r v
-unfolding do_outstanding access_at poke write target_of is_in returning_to returning
+unfolding do_outstanding access_at store_word write target_of is_in returning_to returning
 do_outstanding-write s (Entered slot a (LoadInto n)) r v h =
     sym (write_comm s (X n) r (get_or s.memory a 0) v (or_parts (reg_eq r (X n)) false h).0)
 do_outstanding-write s (Entered slot a (StoreWord w)) r v h = refl
@@ -93,47 +93,47 @@ entering_nothing slot w (Some a) = refl
 pub rest_targets : (b : Bounds) (slot : ℕ) (h : Shape) (v : UnitValue)
     → targets_left (rest_of b slot (reference_for h v)) ≡ loads_of h
 unfolding rest_of reference_for loads_of targets_left
-rest_targets b slot (Puts rs) v = refl
+rest_targets b slot (Sets rs) v = refl
 rest_targets b slot (Loads n) v = entering_targets slot n (absolute b _)
 rest_targets b slot (Stores n) v = entering_nothing slot _ (absolute b _)
 rest_targets b slot Jumps v = refl
 rest_targets b slot Links v = entering_nothing slot _ (absolute b _)
 
-pub do_now-write : (b : Bounds) (s : State) (h : Shape) (x : UnitValue) (r : Reg) (v : ℕ) → is_in (puts_of h) r ≡ false
-    → do_now b (write s r v) (work_of h x) ≡ write (do_now b s (work_of h x)) r v
-unfolding do_now work_of
-do_now-write b s h x r v p =
-    ap (λ y. mark (go y (jump_for h x)) (fault_of b (reference_for h x))) (write_all-write s _ (puts_of h) r v p)
-    ∙ ap (λ y. mark y (fault_of b (reference_for h x))) (go-write _ (jump_for h x) r v)
-    ∙ mark-write _ _ r v
+pub write_and_jump-write : (b : Bounds) (s : State) (h : Shape) (x : UnitValue) (r : Reg) (v : ℕ) → is_in (sets_of h) r ≡ false
+    → write_and_jump b (write s r v) (work_of h x) ≡ write (write_and_jump b s (work_of h x)) r v
+unfolding write_and_jump work_of
+write_and_jump-write b s h x r v p =
+    ap (λ y. or_fault (jump_to y (jump_for h x)) (fault_of b (reference_for h x))) (write_all-write s _ (sets_of h) r v p)
+    ∙ ap (λ y. or_fault y (fault_of b (reference_for h x))) (jump_to-write _ (jump_for h x) r v)
+    ∙ or_fault-write _ _ r v
 
 pub do_parts-write : (b : Bounds) (s : State) (h : Shape) (x : UnitValue) (r : Reg) (v : ℕ)
-    → is_in (puts_of h) r ≡ false → is_in (loads_of h) r ≡ false
+    → is_in (sets_of h) r ≡ false → is_in (loads_of h) r ≡ false
     → do_parts b (write s r v) (work_of h x) ≡ write (do_parts b s (work_of h x)) r v
 unfolding do_parts work_of
 do_parts-write b s h x r v p q =
-    ap (λ y. do_option y (rest_of b 0 (reference_for h x))) (do_now-write b s h x r v p)
+    ap (λ y. do_option y (rest_of b 0 (reference_for h x))) (write_and_jump-write b s h x r v p)
     ∙ do_option-write _ (rest_of b 0 (reference_for h x)) r v (ap (λ rs. is_in rs r) (rest_targets b 0 h x) ∙ q)
 
 -- ---- a move of the place ----
 
-write_all-move : (s : State) (es : List (Reg × ℕ)) (p : Place) → write_all (move_to s p) es ≡ move_to (write_all s es) p
+write_all-move : (s : State) (es : List (Reg × ℕ)) (p : ProgramPosition) → write_all (move_to s p) es ≡ move_to (write_all s es) p
 unfolding write_all write move_to
 write_all-move s [] p = refl
 write_all-move s (e ∷ es) p = write_all-move (write s e.0 e.1) es p
 
-mark-move : (s : State) (f : Bool) (p : Place) → mark (move_to s p) f ≡ move_to (mark s f) p
-unfolding mark move_to
-mark-move s f p = refl
+or_fault-move : (s : State) (f : Bool) (p : ProgramPosition) → or_fault (move_to s p) f ≡ move_to (or_fault s f) p
+unfolding or_fault move_to
+or_fault-move s f p = refl
 
-pub do_outstanding-move : (s : State) (l : Outstanding) (p : Place)
+pub do_outstanding-move : (s : State) (l : Outstanding) (p : ProgramPosition)
     → do_outstanding (move_to s p) l ≡ move_to (do_outstanding s l) p
-unfolding do_outstanding access_at poke write move_to
+unfolding do_outstanding access_at store_word write move_to
 do_outstanding-move s (Entered slot a (LoadInto n)) p = refl
 do_outstanding-move s (Entered slot a (StoreWord w)) p = refl
 do_outstanding-move s (Accepted n w) p = refl
 
-do_option-move : (s : State) (o : Option Outstanding) (p : Place)
+do_option-move : (s : State) (o : Option Outstanding) (p : ProgramPosition)
     → do_option (move_to s p) o ≡ move_to (do_option s o) p
 unfolding do_option
 do_option-move s None p = refl
@@ -144,24 +144,24 @@ pub no_jump : (h : Shape) (x : UnitValue) → is_branch_shape h ≡ false → ju
 unfolding jump_for
 no_jump h x e = rw e refl
 
-go-none : (s : State) (j : Option ℕ) → j ≡ None → go s j ≡ s
-unfolding go gone
-go-none s j e = rw e refl
+jump_to-none : (s : State) (j : Option ℕ) → j ≡ None → jump_to s j ≡ s
+unfolding jump_to after_jump
+jump_to-none s j e = rw e refl
 
-pub do_now-move : (b : Bounds) (s : State) (h : Shape) (x : UnitValue) (p : Place) → is_branch_shape h ≡ false
-    → do_now b (move_to s p) (work_of h x) ≡ move_to (do_now b s (work_of h x)) p
-unfolding do_now work_of
-do_now-move b s h x p e =
-    ap (λ y. mark y (fault_of b (reference_for h x)))
-    (go-none _ (jump_for h x) (no_jump h x e) ∙ write_all-move s _ p
-    ∙ sym (ap (λ y. move_to y p) (go-none _ (jump_for h x) (no_jump h x e))))
-    ∙ mark-move _ _ p
+pub write_and_jump-move : (b : Bounds) (s : State) (h : Shape) (x : UnitValue) (p : ProgramPosition) → is_branch_shape h ≡ false
+    → write_and_jump b (move_to s p) (work_of h x) ≡ move_to (write_and_jump b s (work_of h x)) p
+unfolding write_and_jump work_of
+write_and_jump-move b s h x p e =
+    ap (λ y. or_fault y (fault_of b (reference_for h x)))
+    (jump_to-none _ (jump_for h x) (no_jump h x e) ∙ write_all-move s _ p
+    ∙ sym (ap (λ y. move_to y p) (jump_to-none _ (jump_for h x) (no_jump h x e))))
+    ∙ or_fault-move _ _ p
 
-pub do_parts-move : (b : Bounds) (s : State) (h : Shape) (x : UnitValue) (p : Place) → is_branch_shape h ≡ false
+pub do_parts-move : (b : Bounds) (s : State) (h : Shape) (x : UnitValue) (p : ProgramPosition) → is_branch_shape h ≡ false
     → do_parts b (move_to s p) (work_of h x) ≡ move_to (do_parts b s (work_of h x)) p
 unfolding do_parts work_of
 do_parts-move b s h x p e =
-    ap (λ y. do_option y (rest_of b 0 (reference_for h x))) (do_now-move b s h x p e)
+    ap (λ y. do_option y (rest_of b 0 (reference_for h x))) (write_and_jump-move b s h x p e)
     ∙ do_option-move _ _ p
 
 -- ---- a halt ----
@@ -171,18 +171,18 @@ unfolding write_all write halt_by
 write_all-halt s [] k = refl
 write_all-halt s (e ∷ es) k = write_all-halt (write s e.0 e.1) es k
 
-go-halt : (s : State) (j : Option ℕ) (k : Halt) → go (halt_by s k) j ≡ halt_by (go s j) k
-unfolding go halt_by gone
-go-halt s None k = refl
-go-halt s (Some to) k = refl
+jump_to-halt : (s : State) (j : Option ℕ) (k : Halt) → jump_to (halt_by s k) j ≡ halt_by (jump_to s j) k
+unfolding jump_to halt_by after_jump
+jump_to-halt s None k = refl
+jump_to-halt s (Some to) k = refl
 
-mark-halt : (s : State) (f : Bool) (k : Halt) → mark (halt_by s k) f ≡ halt_by (mark s f) k
-unfolding mark halt_by
-mark-halt s f k = refl
+or_fault-halt : (s : State) (f : Bool) (k : Halt) → or_fault (halt_by s k) f ≡ halt_by (or_fault s f) k
+unfolding or_fault halt_by
+or_fault-halt s f k = refl
 
 pub do_outstanding-halt : (s : State) (l : Outstanding) (k : Halt)
     → do_outstanding (halt_by s k) l ≡ halt_by (do_outstanding s l) k
-unfolding do_outstanding access_at poke write halt_by
+unfolding do_outstanding access_at store_word write halt_by
 do_outstanding-halt s (Entered slot a (LoadInto n)) k = refl
 do_outstanding-halt s (Entered slot a (StoreWord w)) k = refl
 do_outstanding-halt s (Accepted n w) k = refl
@@ -194,25 +194,25 @@ do_option-halt s (Some l) k = do_outstanding-halt s l k
 
 pub do_parts-halt : (b : Bounds) (s : State) (w : Work) (k : Halt)
     → do_parts b (halt_by s k) w ≡ halt_by (do_parts b s w) k
-unfolding do_parts do_now
+unfolding do_parts write_and_jump
 do_parts-halt b s w k =
-    ap (λ y. do_option (mark (go y w.jump) (fault_of b w.reference)) (rest_of b 0 w.reference))
-    (write_all-halt s w.puts k)
-    ∙ ap (λ y. do_option (mark y (fault_of b w.reference)) (rest_of b 0 w.reference)) (go-halt _ w.jump k)
-    ∙ ap (λ y. do_option y (rest_of b 0 w.reference)) (mark-halt _ _ k)
+    ap (λ y. do_option (or_fault (jump_to y w.jump) (fault_of b w.reference)) (rest_of b 0 w.reference))
+    (write_all-halt s w.sets k)
+    ∙ ap (λ y. do_option (or_fault y (fault_of b w.reference)) (rest_of b 0 w.reference)) (jump_to-halt _ w.jump k)
+    ∙ ap (λ y. do_option y (rest_of b 0 w.reference)) (or_fault-halt _ _ k)
     ∙ do_option-halt _ _ k
 
 -- ---- a fault ----
 
-write_all-mark : (s : State) (es : List (Reg × ℕ)) (f : Bool) → write_all (mark s f) es ≡ mark (write_all s es) f
-unfolding write_all write mark
-write_all-mark s [] f = refl
-write_all-mark s (e ∷ es) f = write_all-mark (write s e.0 e.1) es f
+write_all-or_fault : (s : State) (es : List (Reg × ℕ)) (f : Bool) → write_all (or_fault s f) es ≡ or_fault (write_all s es) f
+unfolding write_all write or_fault
+write_all-or_fault s [] f = refl
+write_all-or_fault s (e ∷ es) f = write_all-or_fault (write s e.0 e.1) es f
 
-go-mark : (s : State) (j : Option ℕ) (f : Bool) → go (mark s f) j ≡ mark (go s j) f
-unfolding go mark gone
-go-mark s None f = refl
-go-mark s (Some to) f = refl
+jump_to-or_fault : (s : State) (j : Option ℕ) (f : Bool) → jump_to (or_fault s f) j ≡ or_fault (jump_to s j) f
+unfolding jump_to or_fault after_jump
+jump_to-or_fault s None f = refl
+jump_to-or_fault s (Some to) f = refl
 
 or_swap : (x y z : Bool) → ((x || y) || z) ≡ ((x || z) || y)
 or_swap true y z = refl
@@ -221,76 +221,76 @@ or_swap false true false = refl
 or_swap false false true = refl
 or_swap false false false = refl
 
-mark-mark : (s : State) (f g : Bool) → mark (mark s f) g ≡ mark (mark s g) f
-unfolding mark
-mark-mark s f g = ap (λ x. record s { fault = x }) (or_swap s.fault f g)
+or_fault-or_fault : (s : State) (f g : Bool) → or_fault (or_fault s f) g ≡ or_fault (or_fault s g) f
+unfolding or_fault
+or_fault-or_fault s f g = ap (λ x. record s { fault = x }) (or_swap s.fault f g)
 
-pub do_outstanding-mark : (s : State) (l : Outstanding) (f : Bool)
-    → do_outstanding (mark s f) l ≡ mark (do_outstanding s l) f
-unfolding do_outstanding access_at poke write mark
-do_outstanding-mark s (Entered slot a (LoadInto n)) f = refl
-do_outstanding-mark s (Entered slot a (StoreWord w)) f = refl
-do_outstanding-mark s (Accepted n w) f = refl
+pub do_outstanding-or_fault : (s : State) (l : Outstanding) (f : Bool)
+    → do_outstanding (or_fault s f) l ≡ or_fault (do_outstanding s l) f
+unfolding do_outstanding access_at store_word write or_fault
+do_outstanding-or_fault s (Entered slot a (LoadInto n)) f = refl
+do_outstanding-or_fault s (Entered slot a (StoreWord w)) f = refl
+do_outstanding-or_fault s (Accepted n w) f = refl
 
-do_option-mark : (s : State) (o : Option Outstanding) (f : Bool) → do_option (mark s f) o ≡ mark (do_option s o) f
+do_option-or_fault : (s : State) (o : Option Outstanding) (f : Bool) → do_option (or_fault s f) o ≡ or_fault (do_option s o) f
 unfolding do_option
-do_option-mark s None f = refl
-do_option-mark s (Some l) f = do_outstanding-mark s l f
+do_option-or_fault s None f = refl
+do_option-or_fault s (Some l) f = do_outstanding-or_fault s l f
 
-pub do_parts-mark : (b : Bounds) (s : State) (w : Work) (f : Bool) → do_parts b (mark s f) w ≡ mark (do_parts b s w) f
-unfolding do_parts do_now
-do_parts-mark b s w f =
-    ap (λ y. do_option (mark (go y w.jump) (fault_of b w.reference)) (rest_of b 0 w.reference))
-    (write_all-mark s w.puts f)
-    ∙ ap (λ y. do_option (mark y (fault_of b w.reference)) (rest_of b 0 w.reference)) (go-mark _ w.jump f)
-    ∙ ap (λ y. do_option y (rest_of b 0 w.reference)) (mark-mark _ f _)
-    ∙ do_option-mark _ _ f
+pub do_parts-or_fault : (b : Bounds) (s : State) (w : Work) (f : Bool) → do_parts b (or_fault s f) w ≡ or_fault (do_parts b s w) f
+unfolding do_parts write_and_jump
+do_parts-or_fault b s w f =
+    ap (λ y. do_option (or_fault (jump_to y w.jump) (fault_of b w.reference)) (rest_of b 0 w.reference))
+    (write_all-or_fault s w.sets f)
+    ∙ ap (λ y. do_option (or_fault y (fault_of b w.reference)) (rest_of b 0 w.reference)) (jump_to-or_fault _ w.jump f)
+    ∙ ap (λ y. do_option y (rest_of b 0 w.reference)) (or_fault-or_fault _ f _)
+    ∙ do_option-or_fault _ _ f
 
 -- ---- a memory write ----
 
-write_all-poke : (s : State) (es : List (Reg × ℕ)) (a w : ℕ) → write_all (poke s a w) es ≡ poke (write_all s es) a w
-unfolding write_all write poke
-write_all-poke s [] a w = refl
-write_all-poke s (e ∷ es) a w = write_all-poke (write s e.0 e.1) es a w
+write_all-store_word : (s : State) (es : List (Reg × ℕ)) (a w : ℕ) → write_all (store_word s a w) es ≡ store_word (write_all s es) a w
+unfolding write_all write store_word
+write_all-store_word s [] a w = refl
+write_all-store_word s (e ∷ es) a w = write_all-store_word (write s e.0 e.1) es a w
 
-go-poke : (s : State) (j : Option ℕ) (a w : ℕ) → go (poke s a w) j ≡ poke (go s j) a w
-unfolding go poke gone
-go-poke s None a w = refl
-go-poke s (Some to) a w = refl
+jump_to-store_word : (s : State) (j : Option ℕ) (a w : ℕ) → jump_to (store_word s a w) j ≡ store_word (jump_to s j) a w
+unfolding jump_to store_word after_jump
+jump_to-store_word s None a w = refl
+jump_to-store_word s (Some to) a w = refl
 
-mark-poke : (s : State) (f : Bool) (a w : ℕ) → mark (poke s a w) f ≡ poke (mark s f) a w
-unfolding mark poke
-mark-poke s f a w = refl
+or_fault-store_word : (s : State) (f : Bool) (a w : ℕ) → or_fault (store_word s a w) f ≡ store_word (or_fault s f) a w
+unfolding or_fault store_word
+or_fault-store_word s f a w = refl
 
 -- what is left of a reference is about another address
 unfoldable pub later_touches : ℕ → Outstanding → Bool
 later_touches a (Entered slot k access) = eqb k a
 later_touches a (Accepted n w) = false
 
-pub do_outstanding-poke : (s : State) (l : Outstanding) (a w : ℕ) → later_touches a l ≡ false
-    → do_outstanding (poke s a w) l ≡ poke (do_outstanding s l) a w
-unfolding do_outstanding access_at poke write later_touches
-do_outstanding-poke s (Entered slot k (LoadInto n)) a w h =
-    ap (λ v. write (poke s a w) (X n) v) (get_or-set_other s.memory a k w 0 (eqb-false k a h))
-do_outstanding-poke s (Entered slot k (StoreWord v)) a w h =
+pub do_outstanding-store_word : (s : State) (l : Outstanding) (a w : ℕ) → later_touches a l ≡ false
+    → do_outstanding (store_word s a w) l ≡ store_word (do_outstanding s l) a w
+unfolding do_outstanding access_at store_word write later_touches
+do_outstanding-store_word s (Entered slot k (LoadInto n)) a w h =
+    ap (λ v. write (store_word s a w) (X n) v) (get_or-set_other s.memory a k w 0 (eqb-false k a h))
+do_outstanding-store_word s (Entered slot k (StoreWord v)) a w h =
     ap (λ m. record s { memory = m }) (set_comm s.memory a k w v (λ e. eqb-false k a h (sym e)))
-do_outstanding-poke s (Accepted n v) a w h = refl
+do_outstanding-store_word s (Accepted n v) a w h = refl
 
 pub no_reference : (h : Shape) (x : UnitValue) → has_reference h ≡ false → reference_for h x ≡ None
 unfolding reference_for has_reference
-no_reference (Puts rs) x e = refl
+no_reference (Sets rs) x e = refl
 no_reference (Loads n) x e = cc
 no_reference (Stores n) x e = cc
 no_reference Jumps x e = refl
 no_reference Links x e = cc
 
-pub do_now-poke : (b : Bounds) (s : State) (h : Shape) (x : UnitValue) (a w : ℕ)
-    → do_now b (poke s a w) (work_of h x) ≡ poke (do_now b s (work_of h x)) a w
-unfolding do_now work_of
-do_now-poke b s h x a w =
-    ap (λ y. mark (go y (jump_for h x)) (fault_of b (reference_for h x))) (write_all-poke s _ a w)
-    ∙ ap (λ y. mark y (fault_of b (reference_for h x))) (go-poke _ (jump_for h x) a w)
-    ∙ mark-poke _ _ a w
+pub write_and_jump-store_word : (b : Bounds) (s : State) (h : Shape) (x : UnitValue) (a w : ℕ)
+    → write_and_jump b (store_word s a w) (work_of h x) ≡ store_word (write_and_jump b s (work_of h x)) a w
+unfolding write_and_jump work_of
+write_and_jump-store_word b s h x a w =
+    ap (λ y. or_fault (jump_to y (jump_for h x)) (fault_of b (reference_for h x))) (write_all-store_word s _ a w)
+    ∙ ap (λ y. or_fault y (fault_of b (reference_for h x))) (jump_to-store_word _ (jump_for h x) a w)
+    ∙ or_fault-store_word _ _ a w
 
 no_rest : (b : Bounds) (s : State) (r : Option ProgramReference) → r ≡ None → do_option s (rest_of b 0 r) ≡ s
 unfolding do_option rest_of
@@ -298,14 +298,14 @@ no_rest b s r e = rw e refl
 
 -- a reservation without a reference is done at the store event
 pub do_parts-now : (b : Bounds) (s : State) (h : Shape) (x : UnitValue) → has_reference h ≡ false
-    → do_parts b s (work_of h x) ≡ do_now b s (work_of h x)
+    → do_parts b s (work_of h x) ≡ write_and_jump b s (work_of h x)
 unfolding do_parts work_of
 do_parts-now b s h x e = no_rest b _ (reference_for h x) (no_reference h x e)
 
-pub do_parts-poke : (b : Bounds) (s : State) (h : Shape) (x : UnitValue) (a w : ℕ) → has_reference h ≡ false
-    → do_parts b (poke s a w) (work_of h x) ≡ poke (do_parts b s (work_of h x)) a w
-do_parts-poke b s h x a w e =
-    do_parts-now b (poke s a w) h x e ∙ do_now-poke b s h x a w ∙ ap (λ y. poke y a w) (sym (do_parts-now b s h x e))
+pub do_parts-store_word : (b : Bounds) (s : State) (h : Shape) (x : UnitValue) (a w : ℕ) → has_reference h ≡ false
+    → do_parts b (store_word s a w) (work_of h x) ≡ store_word (do_parts b s (work_of h x)) a w
+do_parts-store_word b s h x a w e =
+    do_parts-now b (store_word s a w) h x e ∙ write_and_jump-store_word b s h x a w ∙ ap (λ y. store_word y a w) (sym (do_parts-now b s h x e))
 
 -- ---- what stays ----
 
@@ -316,31 +316,31 @@ write_all_rest s [] = refl
 write_all_rest s (e ∷ es) = write_all_rest (write s e.0 e.1) es
 
 write_all-get : (s : State) (n : ℕ) (rs : List Reg) (r : Reg) → is_in rs r ≡ false
-    → get (write_all s (same_for n rs)).registers r ≡ get s.registers r
-unfolding write_all same_for is_in write
+    → get (write_all s (each_set_to n rs)).registers r ≡ get s.registers r
+unfolding write_all each_set_to is_in write
 write_all-get s n [] r h = refl
 write_all-get s n (t ∷ rs) r h =
     let p = or_parts (reg_eq r t) (list_any (reg_eq r) rs) h in
     write_all-get (write s t n) n rs r p.1 ∙ get-put_other s.registers t r n p.0
 
-go-registers : (s : State) (j : Option ℕ) → (go s j).registers ≡ s.registers
-unfolding go gone
-go-registers s None = refl
-go-registers s (Some to) = refl
+jump_to-registers : (s : State) (j : Option ℕ) → (jump_to s j).registers ≡ s.registers
+unfolding jump_to after_jump
+jump_to-registers s None = refl
+jump_to-registers s (Some to) = refl
 
-go-memory : (s : State) (j : Option ℕ) → (go s j).memory ≡ s.memory
-unfolding go gone
-go-memory s None = refl
-go-memory s (Some to) = refl
+jump_to-memory : (s : State) (j : Option ℕ) → (jump_to s j).memory ≡ s.memory
+unfolding jump_to after_jump
+jump_to-memory s None = refl
+jump_to-memory s (Some to) = refl
 
-go-halted : (s : State) (j : Option ℕ) → (go s j).halt ≡ s.halt
-unfolding go gone
-go-halted s None = refl
-go-halted s (Some to) = refl
+jump_to-halted : (s : State) (j : Option ℕ) → (jump_to s j).halt ≡ s.halt
+unfolding jump_to after_jump
+jump_to-halted s None = refl
+jump_to-halted s (Some to) = refl
 
 pub do_outstanding-get : (s : State) (l : Outstanding) (r : Reg) → is_in (target_of l) r ≡ false
     → get (do_outstanding s l).registers r ≡ get s.registers r
-unfolding do_outstanding access_at poke write target_of is_in returning_to returning
+unfolding do_outstanding access_at store_word write target_of is_in returning_to returning
 do_outstanding-get s (Entered slot a (LoadInto n)) r h =
     get-put_other s.registers (X n) r _ (or_parts (reg_eq r (X n)) false h).0
 do_outstanding-get s (Entered slot a (StoreWord w)) r h = refl
@@ -352,13 +352,13 @@ unfolding do_option targets_left
 do_option-get s None r h = refl
 do_option-get s (Some l) r h = do_outstanding-get s l r h
 
-pub do_parts-get : (b : Bounds) (s : State) (h : Shape) (x : UnitValue) (r : Reg) → is_in (puts_of h) r ≡ false
+pub do_parts-get : (b : Bounds) (s : State) (h : Shape) (x : UnitValue) (r : Reg) → is_in (sets_of h) r ≡ false
     → is_in (loads_of h) r ≡ false → get (do_parts b s (work_of h x)).registers r ≡ get s.registers r
-unfolding do_parts do_now work_of mark
+unfolding do_parts write_and_jump work_of or_fault
 do_parts-get b s h x r p q =
     do_option-get _ (rest_of b 0 (reference_for h x)) r (ap (λ rs. is_in rs r) (rest_targets b 0 h x) ∙ q)
-    ∙ ap (λ g. get g r) (go-registers _ (jump_for h x))
-    ∙ write_all-get s _ (puts_of h) r p
+    ∙ ap (λ g. get g r) (jump_to-registers _ (jump_for h x))
+    ∙ write_all-get s _ (sets_of h) r p
 
 -- what is left of a reference may store to the address
 unfoldable pub later_stores : ℕ → Outstanding → Bool
@@ -368,15 +368,15 @@ later_stores a (Accepted n w) = false
 
 pub do_outstanding-word : (s : State) (l : Outstanding) (a : ℕ) → later_stores a l ≡ false
     → get_or (do_outstanding s l).memory a 0 ≡ get_or s.memory a 0
-unfolding do_outstanding access_at poke write later_stores
+unfolding do_outstanding access_at store_word write later_stores
 do_outstanding-word s (Entered slot k (LoadInto n)) a h = refl
 do_outstanding-word s (Entered slot k (StoreWord w)) a h =
     get_or-set_other s.memory k a w 0 (λ e. eqb-false k a h (sym e))
 do_outstanding-word s (Accepted n w) a h = refl
 
-pub do_now-memory : (b : Bounds) (s : State) (w : Work) → (do_now b s w).memory ≡ s.memory
-unfolding do_now mark
-do_now-memory b s w = go-memory _ w.jump ∙ ap (λ y. y.memory) (write_all_rest s w.puts)
+pub write_and_jump-memory : (b : Bounds) (s : State) (w : Work) → (write_and_jump b s w).memory ≡ s.memory
+unfolding write_and_jump or_fault
+write_and_jump-memory b s w = jump_to-memory _ w.jump ∙ ap (λ y. y.memory) (write_all_rest s w.sets)
 
 entering_stores_not : (s : State) (slot n a : ℕ) (o : Option ℕ)
     → get_or (do_option s (entering slot o (LoadInto n))).memory a 0 ≡ get_or s.memory a 0
@@ -387,7 +387,7 @@ entering_stores_not s slot n a (Some k) = refl
 rest_stores_not : (b : Bounds) (s : State) (slot a : ℕ) (h : Shape) (x : UnitValue) → has_store h ≡ false
     → get_or (do_option s (rest_of b slot (reference_for h x))).memory a 0 ≡ get_or s.memory a 0
 unfolding rest_of reference_for has_store do_option
-rest_stores_not b s slot a (Puts rs) x e = refl
+rest_stores_not b s slot a (Sets rs) x e = refl
 rest_stores_not b s slot a (Loads n) x e = entering_stores_not s slot n a _
 rest_stores_not b s slot a (Stores n) x e = cc
 rest_stores_not b s slot a Jumps x e = refl
@@ -396,10 +396,10 @@ rest_stores_not b s slot a Links x e = cc
 pub do_parts-word : (b : Bounds) (s : State) (h : Shape) (x : UnitValue) (a : ℕ) → has_store h ≡ false
     → get_or (do_parts b s (work_of h x)).memory a 0 ≡ get_or s.memory a 0
 unfolding do_parts work_of
-do_parts-word b s h x a e = rest_stores_not b _ 0 a h x e ∙ ap (λ m. get_or m a 0) (do_now-memory b s _)
+do_parts-word b s h x a e = rest_stores_not b _ 0 a h x e ∙ ap (λ m. get_or m a 0) (write_and_jump-memory b s _)
 
 pub do_outstanding-halted : (s : State) (l : Outstanding) → (do_outstanding s l).halt ≡ s.halt
-unfolding do_outstanding access_at poke write
+unfolding do_outstanding access_at store_word write
 do_outstanding-halted s (Entered slot a (LoadInto n)) = refl
 do_outstanding-halted s (Entered slot a (StoreWord w)) = refl
 do_outstanding-halted s (Accepted n w) = refl
@@ -410,12 +410,12 @@ do_option-halted s None = refl
 do_option-halted s (Some l) = do_outstanding-halted s l
 
 pub do_parts-halted : (b : Bounds) (s : State) (w : Work) → (do_parts b s w).halt ≡ s.halt
-unfolding do_parts do_now mark
+unfolding do_parts write_and_jump or_fault
 do_parts-halted b s w =
-    do_option-halted _ (rest_of b 0 w.reference) ∙ go-halted _ w.jump ∙ ap (λ y. y.halt) (write_all_rest s w.puts)
+    do_option-halted _ (rest_of b 0 w.reference) ∙ jump_to-halted _ w.jump ∙ ap (λ y. y.halt) (write_all_rest s w.sets)
 
 pub do_outstanding-bounds : (s : State) (l : Outstanding) → bounds_of (do_outstanding s l) ≡ bounds_of s
-unfolding do_outstanding access_at poke write bounds_of
+unfolding do_outstanding access_at store_word write bounds_of
 do_outstanding-bounds s (Entered slot a (LoadInto n)) = refl
 do_outstanding-bounds s (Entered slot a (StoreWord w)) =
     ap (λ n. record { area = s.area; size = n }) (length-set s.memory a w)
@@ -426,29 +426,29 @@ unfolding do_option
 do_option-bounds s None = refl
 do_option-bounds s (Some l) = do_outstanding-bounds s l
 
-go-bounds : (s : State) (j : Option ℕ) → bounds_of (go s j) ≡ bounds_of s
-unfolding go bounds_of gone
-go-bounds s None = refl
-go-bounds s (Some to) = refl
+jump_to-bounds : (s : State) (j : Option ℕ) → bounds_of (jump_to s j) ≡ bounds_of s
+unfolding jump_to bounds_of after_jump
+jump_to-bounds s None = refl
+jump_to-bounds s (Some to) = refl
 
-pub do_now-bounds : (b : Bounds) (s : State) (w : Work) → bounds_of (do_now b s w) ≡ bounds_of s
-unfolding do_now mark bounds_of
-do_now-bounds b s w = go-bounds _ w.jump ∙ ap bounds_of (write_all_rest s w.puts)
+pub write_and_jump-bounds : (b : Bounds) (s : State) (w : Work) → bounds_of (write_and_jump b s w) ≡ bounds_of s
+unfolding write_and_jump or_fault bounds_of
+write_and_jump-bounds b s w = jump_to-bounds _ w.jump ∙ ap bounds_of (write_all_rest s w.sets)
 
 pub do_parts-bounds : (b : Bounds) (s : State) (w : Work) → bounds_of (do_parts b s w) ≡ bounds_of s
 unfolding do_parts
-do_parts-bounds b s w = do_option-bounds _ (rest_of b 0 w.reference) ∙ do_now-bounds b s w
+do_parts-bounds b s w = do_option-bounds _ (rest_of b 0 w.reference) ∙ write_and_jump-bounds b s w
 
-pub do_outstanding-place : (s : State) (l : Outstanding) → (do_outstanding s l).place ≡ s.place
-unfolding do_outstanding access_at poke write
-do_outstanding-place s (Entered slot a (LoadInto n)) = refl
-do_outstanding-place s (Entered slot a (StoreWord w)) = refl
-do_outstanding-place s (Accepted n w) = refl
+pub do_outstanding-position : (s : State) (l : Outstanding) → (do_outstanding s l).position ≡ s.position
+unfolding do_outstanding access_at store_word write
+do_outstanding-position s (Entered slot a (LoadInto n)) = refl
+do_outstanding-position s (Entered slot a (StoreWord w)) = refl
+do_outstanding-position s (Accepted n w) = refl
 
-pub do_parts-place : (b : Bounds) (s : State) (h : Shape) (x : UnitValue) → is_branch_shape h ≡ false
-    → (do_parts b s (work_of h x)).place ≡ s.place
+pub do_parts-position : (b : Bounds) (s : State) (h : Shape) (x : UnitValue) → is_branch_shape h ≡ false
+    → (do_parts b s (work_of h x)).position ≡ s.position
 unfolding move_to
-do_parts-place b s h x e = ap (λ y. y.place) (do_parts-move b s h x s.place e)
+do_parts-position b s h x e = ap (λ y. y.position) (do_parts-move b s h x s.position e)
 
 -- ---- the work of a reservation is its two parts ----
 
@@ -466,18 +466,18 @@ refer-is b s (Some r) = refer_at-is s (absolute b r.address) r.access
 
 pub do_work-is : (b : Bounds) (s : State) (w : Work) → do_work b s w ≡ do_parts b s w
 unfolding do_work do_parts
-do_work-is b s w = refer-is b (do_now b s w) w.reference
+do_work-is b s w = refer-is b (write_and_jump b s w) w.reference
 
 by_parts : (b : Bounds) (s : State) (w : Work) (c : State → State) → do_parts b (c s) w ≡ c (do_parts b s w)
     → do_work b (c s) w ≡ c (do_work b s w)
 by_parts b s w c h = do_work-is b (c s) w ∙ h ∙ ap c (sym (do_work-is b s w))
 
 pub do_work-write : (b : Bounds) (s : State) (h : Shape) (x : UnitValue) (r : Reg) (v : ℕ)
-    → is_in (puts_of h) r ≡ false → is_in (loads_of h) r ≡ false
+    → is_in (sets_of h) r ≡ false → is_in (loads_of h) r ≡ false
     → do_work b (write s r v) (work_of h x) ≡ write (do_work b s (work_of h x)) r v
 do_work-write b s h x r v p q = by_parts b s (work_of h x) (λ y. write y r v) (do_parts-write b s h x r v p q)
 
-pub do_work-move : (b : Bounds) (s : State) (h : Shape) (x : UnitValue) (p : Place) → is_branch_shape h ≡ false
+pub do_work-move : (b : Bounds) (s : State) (h : Shape) (x : UnitValue) (p : ProgramPosition) → is_branch_shape h ≡ false
     → do_work b (move_to s p) (work_of h x) ≡ move_to (do_work b s (work_of h x)) p
 do_work-move b s h x p e = by_parts b s (work_of h x) (λ y. move_to y p) (do_parts-move b s h x p e)
 
@@ -485,14 +485,14 @@ pub do_work-halt : (b : Bounds) (s : State) (w : Work) (k : Halt)
     → do_work b (halt_by s k) w ≡ halt_by (do_work b s w) k
 do_work-halt b s w k = by_parts b s w (λ y. halt_by y k) (do_parts-halt b s w k)
 
-pub do_work-mark : (b : Bounds) (s : State) (w : Work) (f : Bool) → do_work b (mark s f) w ≡ mark (do_work b s w) f
-do_work-mark b s w f = by_parts b s w (λ y. mark y f) (do_parts-mark b s w f)
+pub do_work-or_fault : (b : Bounds) (s : State) (w : Work) (f : Bool) → do_work b (or_fault s f) w ≡ or_fault (do_work b s w) f
+do_work-or_fault b s w f = by_parts b s w (λ y. or_fault y f) (do_parts-or_fault b s w f)
 
-pub do_work-poke : (b : Bounds) (s : State) (h : Shape) (x : UnitValue) (a w : ℕ) → has_reference h ≡ false
-    → do_work b (poke s a w) (work_of h x) ≡ poke (do_work b s (work_of h x)) a w
-do_work-poke b s h x a w e = by_parts b s (work_of h x) (λ y. poke y a w) (do_parts-poke b s h x a w e)
+pub do_work-store_word : (b : Bounds) (s : State) (h : Shape) (x : UnitValue) (a w : ℕ) → has_reference h ≡ false
+    → do_work b (store_word s a w) (work_of h x) ≡ store_word (do_work b s (work_of h x)) a w
+do_work-store_word b s h x a w e = by_parts b s (work_of h x) (λ y. store_word y a w) (do_parts-store_word b s h x a w e)
 
-pub do_work-get : (b : Bounds) (s : State) (h : Shape) (x : UnitValue) (r : Reg) → is_in (puts_of h) r ≡ false
+pub do_work-get : (b : Bounds) (s : State) (h : Shape) (x : UnitValue) (r : Reg) → is_in (sets_of h) r ≡ false
     → is_in (loads_of h) r ≡ false → get (do_work b s (work_of h x)).registers r ≡ get s.registers r
 do_work-get b s h x r p q = ap (λ y. get y.registers r) (do_work-is b s (work_of h x)) ∙ do_parts-get b s h x r p q
 
@@ -506,6 +506,6 @@ do_work-halted b s w = ap (λ y. y.halt) (do_work-is b s w) ∙ do_parts-halted 
 pub do_work-bounds : (b : Bounds) (s : State) (w : Work) → bounds_of (do_work b s w) ≡ bounds_of s
 do_work-bounds b s w = ap bounds_of (do_work-is b s w) ∙ do_parts-bounds b s w
 
-pub do_work-place : (b : Bounds) (s : State) (h : Shape) (x : UnitValue) → is_branch_shape h ≡ false
-    → (do_work b s (work_of h x)).place ≡ s.place
-do_work-place b s h x e = ap (λ y. y.place) (do_work-is b s (work_of h x)) ∙ do_parts-place b s h x e
+pub do_work-position : (b : Bounds) (s : State) (h : Shape) (x : UnitValue) → is_branch_shape h ≡ false
+    → (do_work b s (work_of h x)).position ≡ s.position
+do_work-position b s h x e = ap (λ y. y.position) (do_work-is b s (work_of h x)) ∙ do_parts-position b s h x e

@@ -1,9 +1,9 @@
 -- What one pending instruction doesn't touch.
 use Rattle.scoreboard.specs.Reservations as board
 use Rattle.in_flight.specs.Pending.{has_read, progress_of, returning, reservation_of, is_branch, to_come}
-use Rattle.in_flight.proofs.asking.Asked.{reads}
+use Rattle.in_flight.proofs.asking.PendingReservations.{reads}
 use Rattle.scoreboard.specs.Reservations.{is_reserved, returning_to}
-use Rattle.scoreboard.proofs.seating.Registers.{reg_eq_same}
+use Rattle.scoreboard.proofs.in_slots.Registers.{reg_eq_same}
 use Rattle.std.specs.Prelude.{◌||◌}
 use Rattle.std.proofs.lemmas.Bool.{or_parts}
 use Rattle.std.proofs.Common.{◌≡◌, ℕ, Bool, true, false, cond, sym, subst, List, [], ◌∷◌, ◌++◌, Option, Some, None}
@@ -14,12 +14,12 @@ use Rattle.registers.proofs.RegisterLaws.{get-put_other, same_reg_flip}
 use Rattle.program_order.proofs.Opened.{operands_to_read, results_to_come}
 use Rattle.program_order.proofs.effects.Effects.{later_touches, later_stores, do_outstanding-write, do_work-write}
 use Rattle.program_order.proofs.effects.Effects.{do_outstanding-move, do_work-move, do_outstanding-halt, do_work-halt}
-use Rattle.program_order.proofs.effects.Effects.{do_outstanding-mark, do_work-mark, do_outstanding-poke, do_work-poke}
+use Rattle.program_order.proofs.effects.Effects.{do_outstanding-or_fault, do_work-or_fault, do_outstanding-store_word, do_work-store_word}
 use Rattle.program_order.proofs.effects.Effects.{do_outstanding-get, do_work-get, do_outstanding-word, do_work-word}
 use Rattle.program_order.proofs.effects.Effects.{do_outstanding-halted, do_work-halted, do_outstanding-bounds}
-use Rattle.program_order.proofs.effects.Effects.{do_work-bounds, do_outstanding-place, do_work-place}
+use Rattle.program_order.proofs.effects.Effects.{do_work-bounds, do_outstanding-position, do_work-position}
 use Rattle.instructions.specs.RegisterLists.{is_in}
-use Rattle.instructions.specs.Shape.{Shape, has_reference, has_store, is_branch_shape, loads_of, puts_of, results}
+use Rattle.instructions.specs.Shape.{Shape, has_reference, has_store, is_branch_shape, loads_of, sets_of, results}
 use Rattle.instructions.specs.Shape.{shape_of}
 use Rattle.instructions.specs.Operands.{reg_eq, sources_of, uses, with_source}
 use Rattle.instructions.specs.declared.instr.Instr.{Instr}
@@ -28,7 +28,7 @@ use Rattle.instructions.specs.declared.instr.Reg.TheVariants.{B}
 use Rattle.instructions.specs.declared.refusal.Halt.{Halt}
 use Rattle.in_flight.proofs.asking.Phases.{target_of, before_and, may_store, may_store_in, reads_in, to_come_in}
 use Rattle.instructions.specs.Each.{Each}
-use Rattle.program_order.specs.Complete.{run, run_phase, value_at}
+use Rattle.program_order.specs.Complete.{finish_effects, run_phase, value_at}
 use Rattle.in_flight.specs.declared.pending.Outstanding.TheVariants.{Accepted, Entered}
 use Rattle.in_flight.specs.declared.pending.Pending.{Pending}
 use Rattle.in_flight.specs.declared.pending.Phase.{Phase}
@@ -38,9 +38,9 @@ use Rattle.in_flight.specs.declared.pending.Stage.TheVariants.{Finished, Read as
 use Rattle.registers.specs.Registers.{get, put}
 use Rattle.registers.specs.declared.file.RegisterFile.{RegisterFile}
 use Rattle.relocation.specs.declared.area.Access.TheVariants.{Load as LoadInto, Store as StoreWord}
-use Rattle.sequential.specs.State.{Bounds, bounds_of, halt_by, mark, move_to, poke, write}
+use Rattle.sequential.specs.State.{Bounds, bounds_of, halt_by, or_fault, move_to, store_word, write}
 use Rattle.sequential.specs.Work.{do_work, operand_at, operands, work_of}
-use Rattle.sequential.specs.declared.place.Place.{Place}
+use Rattle.sequential.specs.declared.position.ProgramPosition.{ProgramPosition}
 use Rattle.sequential.specs.declared.state.State.{State}
 use Rattle.unit_ops.specs.Values.{value_of}
 
@@ -102,13 +102,13 @@ value_at-put i at Waiting g r v h =
 value_at-put i at (HasRead os) g r v h = refl
 value_at-put i at (Finished x) g r v h = refl
 
-in_puts : (h : Shape) (r : Reg) → is_in (results h) r ≡ false → is_in (puts_of h) r ≡ false
+in_puts : (h : Shape) (r : Reg) → is_in (results h) r ≡ false → is_in (sets_of h) r ≡ false
 unfolding is_in results
-in_puts h r e = any_left (reg_eq r) (puts_of h) (loads_of h) e
+in_puts h r e = any_left (reg_eq r) (sets_of h) (loads_of h) e
 
 in_loads : (h : Shape) (r : Reg) → is_in (results h) r ≡ false → is_in (loads_of h) r ≡ false
 unfolding is_in results
-in_loads h r e = any_right (reg_eq r) (puts_of h) (loads_of h) e
+in_loads h r e = any_right (reg_eq r) (sets_of h) (loads_of h) e
 
 -- ---- in a phase ----
 
@@ -121,7 +121,7 @@ phase-write b s i at (Before t) r v c d =
     ∙ do_work-write b s (shape_of i) _ r v (in_puts (shape_of i) r c) (in_loads (shape_of i) r c)
 phase-write b s i at (After l) r v c d = do_outstanding-write s l r v c
 
-phase-move : (b : Bounds) (s : State) (i : Instr) (at : ℕ) (p : Phase) (k : Place)
+phase-move : (b : Bounds) (s : State) (i : Instr) (at : ℕ) (p : Phase) (k : ProgramPosition)
     → before_and (is_branch_shape (shape_of i)) p ≡ false
     → run_phase b (move_to s k) i at p ≡ move_to (run_phase b s i at p) k
 unfolding run_phase before_and move_to is_reserved progress_of
@@ -134,22 +134,22 @@ unfolding run_phase halt_by
 phase-halt b s i at (Before t) k = do_work-halt b s _ k
 phase-halt b s i at (After l) k = do_outstanding-halt s l k
 
-phase-mark : (b : Bounds) (s : State) (i : Instr) (at : ℕ) (p : Phase) (f : Bool)
-    → run_phase b (mark s f) i at p ≡ mark (run_phase b s i at p) f
-unfolding run_phase mark
-phase-mark b s i at (Before t) f = do_work-mark b s _ f
-phase-mark b s i at (After l) f = do_outstanding-mark s l f
+phase-or_fault : (b : Bounds) (s : State) (i : Instr) (at : ℕ) (p : Phase) (f : Bool)
+    → run_phase b (or_fault s f) i at p ≡ or_fault (run_phase b s i at p) f
+unfolding run_phase or_fault
+phase-or_fault b s i at (Before t) f = do_work-or_fault b s _ f
+phase-or_fault b s i at (After l) f = do_outstanding-or_fault s l f
 
 unfoldable pub touches_in : Bool → ℕ → Phase → Bool
 touches_in f a (Before t) = f
 touches_in f a (After l) = later_touches a l
 
-phase-poke : (b : Bounds) (s : State) (i : Instr) (at : ℕ) (p : Phase) (a w : ℕ)
+phase-store_word : (b : Bounds) (s : State) (i : Instr) (at : ℕ) (p : Phase) (a w : ℕ)
     → touches_in (has_reference (shape_of i)) a p ≡ false
-    → run_phase b (poke s a w) i at p ≡ poke (run_phase b s i at p) a w
-unfolding run_phase touches_in poke later_touches
-phase-poke b s i at (Before t) a w e = do_work-poke b s (shape_of i) _ a w e
-phase-poke b s i at (After l) a w e = do_outstanding-poke s l a w e
+    → run_phase b (store_word s a w) i at p ≡ store_word (run_phase b s i at p) a w
+unfolding run_phase touches_in store_word later_touches
+phase-store_word b s i at (Before t) a w e = do_work-store_word b s (shape_of i) _ a w e
+phase-store_word b s i at (After l) a w e = do_outstanding-store_word s l a w e
 
 phase-get : (b : Bounds) (s : State) (i : Instr) (at : ℕ) (p : Phase) (r : Reg)
     → is_in (to_come_in (shape_of i) p) r ≡ false → get (run_phase b s i at p).registers r ≡ get s.registers r
@@ -179,59 +179,59 @@ unfolding run_phase
 phase-bounds b s i at (Before t) = do_work-bounds b s _
 phase-bounds b s i at (After l) = do_outstanding-bounds s l
 
-phase-place : (b : Bounds) (s : State) (i : Instr) (at : ℕ) (p : Phase)
-    → before_and (is_branch_shape (shape_of i)) p ≡ false → (run_phase b s i at p).place ≡ s.place
+phase-position : (b : Bounds) (s : State) (i : Instr) (at : ℕ) (p : Phase)
+    → before_and (is_branch_shape (shape_of i)) p ≡ false → (run_phase b s i at p).position ≡ s.position
 unfolding run_phase before_and is_reserved progress_of
-phase-place b s i at (Before t) e = do_work-place b s (shape_of i) _ e
-phase-place b s i at (After l) e = do_outstanding-place s l
+phase-position b s i at (Before t) e = do_work-position b s (shape_of i) _ e
+phase-position b s i at (After l) e = do_outstanding-position s l
 
 -- ---- a pending instruction ----
 
-pub run-write : (b : Bounds) (s : State) (m : Pending) (r : Reg) (v : ℕ) → is_in (to_come m) r ≡ false
-    → is_in (reads m) r ≡ false → run b (write s r v) m ≡ write (run b s m) r v
-unfolding run results_to_come operands_to_read
-run-write b s m r v c d = phase-write b s m.instr m.at m.phase r v c d
+pub finish_effects-write : (b : Bounds) (s : State) (m : Pending) (r : Reg) (v : ℕ) → is_in (to_come m) r ≡ false
+    → is_in (reads m) r ≡ false → finish_effects b (write s r v) m ≡ write (finish_effects b s m) r v
+unfolding finish_effects results_to_come operands_to_read
+finish_effects-write b s m r v c d = phase-write b s m.instr m.at m.phase r v c d
 
-pub run-move : (b : Bounds) (s : State) (m : Pending) (k : Place) → is_branch m ≡ false
-    → run b (move_to s k) m ≡ move_to (run b s m) k
-unfolding run is_branch board.is_branch reservation_of before_and is_reserved progress_of
-run-move b s m k e = phase-move b s m.instr m.at m.phase k e
+pub finish_effects-move : (b : Bounds) (s : State) (m : Pending) (k : ProgramPosition) → is_branch m ≡ false
+    → finish_effects b (move_to s k) m ≡ move_to (finish_effects b s m) k
+unfolding finish_effects is_branch board.is_branch reservation_of before_and is_reserved progress_of
+finish_effects-move b s m k e = phase-move b s m.instr m.at m.phase k e
 
-pub run-halt : (b : Bounds) (s : State) (m : Pending) (k : Halt) → run b (halt_by s k) m ≡ halt_by (run b s m) k
-unfolding run
-run-halt b s m k = phase-halt b s m.instr m.at m.phase k
+pub finish_effects-halt : (b : Bounds) (s : State) (m : Pending) (k : Halt) → finish_effects b (halt_by s k) m ≡ halt_by (finish_effects b s m) k
+unfolding finish_effects
+finish_effects-halt b s m k = phase-halt b s m.instr m.at m.phase k
 
-pub run-mark : (b : Bounds) (s : State) (m : Pending) (f : Bool) → run b (mark s f) m ≡ mark (run b s m) f
-unfolding run
-run-mark b s m f = phase-mark b s m.instr m.at m.phase f
+pub finish_effects-or_fault : (b : Bounds) (s : State) (m : Pending) (f : Bool) → finish_effects b (or_fault s f) m ≡ or_fault (finish_effects b s m) f
+unfolding finish_effects
+finish_effects-or_fault b s m f = phase-or_fault b s m.instr m.at m.phase f
 
 -- the instruction may read or write the absolute address
 unfoldable pub touches : ℕ → Pending → Bool
 touches a m = touches_in (has_reference (shape_of m.instr)) a m.phase
 
-pub run-poke : (b : Bounds) (s : State) (m : Pending) (a w : ℕ) → touches a m ≡ false
-    → run b (poke s a w) m ≡ poke (run b s m) a w
-unfolding run touches
-run-poke b s m a w e = phase-poke b s m.instr m.at m.phase a w e
+pub finish_effects-store_word : (b : Bounds) (s : State) (m : Pending) (a w : ℕ) → touches a m ≡ false
+    → finish_effects b (store_word s a w) m ≡ store_word (finish_effects b s m) a w
+unfolding finish_effects touches
+finish_effects-store_word b s m a w e = phase-store_word b s m.instr m.at m.phase a w e
 
-pub run-get : (b : Bounds) (s : State) (m : Pending) (r : Reg) → is_in (to_come m) r ≡ false
-    → get (run b s m).registers r ≡ get s.registers r
-unfolding run results_to_come
-run-get b s m r c = phase-get b s m.instr m.at m.phase r c
+pub finish_effects-get : (b : Bounds) (s : State) (m : Pending) (r : Reg) → is_in (to_come m) r ≡ false
+    → get (finish_effects b s m).registers r ≡ get s.registers r
+unfolding finish_effects results_to_come
+finish_effects-get b s m r c = phase-get b s m.instr m.at m.phase r c
 
-pub run-word : (b : Bounds) (s : State) (m : Pending) (a : ℕ) → may_store a m ≡ false
-    → get_or (run b s m).memory a 0 ≡ get_or s.memory a 0
-unfolding run may_store
-run-word b s m a e = phase-word b s m.instr m.at m.phase a e
+pub finish_effects-word : (b : Bounds) (s : State) (m : Pending) (a : ℕ) → may_store a m ≡ false
+    → get_or (finish_effects b s m).memory a 0 ≡ get_or s.memory a 0
+unfolding finish_effects may_store
+finish_effects-word b s m a e = phase-word b s m.instr m.at m.phase a e
 
-pub run-halted : (b : Bounds) (s : State) (m : Pending) → (run b s m).halt ≡ s.halt
-unfolding run
-run-halted b s m = phase-halted b s m.instr m.at m.phase
+pub finish_effects-halted : (b : Bounds) (s : State) (m : Pending) → (finish_effects b s m).halt ≡ s.halt
+unfolding finish_effects
+finish_effects-halted b s m = phase-halted b s m.instr m.at m.phase
 
-pub run-bounds : (b : Bounds) (s : State) (m : Pending) → bounds_of (run b s m) ≡ bounds_of s
-unfolding run
-run-bounds b s m = phase-bounds b s m.instr m.at m.phase
+pub finish_effects-bounds : (b : Bounds) (s : State) (m : Pending) → bounds_of (finish_effects b s m) ≡ bounds_of s
+unfolding finish_effects
+finish_effects-bounds b s m = phase-bounds b s m.instr m.at m.phase
 
-pub run-place : (b : Bounds) (s : State) (m : Pending) → is_branch m ≡ false → (run b s m).place ≡ s.place
-unfolding run is_branch board.is_branch reservation_of before_and is_reserved progress_of
-run-place b s m e = phase-place b s m.instr m.at m.phase e
+pub finish_effects-position : (b : Bounds) (s : State) (m : Pending) → is_branch m ≡ false → (finish_effects b s m).position ≡ s.position
+unfolding finish_effects is_branch board.is_branch reservation_of before_and is_reserved progress_of
+finish_effects-position b s m e = phase-position b s m.instr m.at m.phase e

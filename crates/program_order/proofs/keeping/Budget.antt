@@ -12,7 +12,7 @@ use Rattle.program_order.specs.Events.{after, allowed, tests_of}
 use Rattle.program_order.specs.Headline.{exchange_step, made_steps}
 use Rattle.program_order.specs.Issue.{issue_tests}
 use Rattle.program_order.specs.Processor.{Processor, boot_processor}
-use Rattle.program_order.specs.Sound.{IsWithinBudget}
+use Rattle.program_order.specs.Invariant.{IsWithinBudget}
 use Rattle.program_order.proofs.theorem.Headline.{Books, books_after}
 
 -- an issue that is allowed finds the budget not used up

@@ -21,15 +21,15 @@ use Rattle.relocation.specs.declared.area.Access.{Access}
 use Rattle.relocation.specs.declared.area.Access.TheVariants.{Load as LoadInto, Store as StoreWord}
 use Rattle.sequential.specs.declared.fetching.Fetched.{Fetched}
 use Rattle.sequential.specs.declared.fetching.Fetched.TheVariants.{Halting, Passing, Taking}
-use Rattle.sequential.specs.declared.place.Place.{Place}
+use Rattle.sequential.specs.declared.position.ProgramPosition.{ProgramPosition}
 use Rattle.sequential.specs.declared.state.State.{State}
-use Rattle.sequential.specs.Place.{beginning, gone, moved_on}
+use Rattle.sequential.specs.Position.{beginning, after_jump, after_parcel}
 use Rattle.sequential.specs.Replay.{boot}
-use Rattle.sequential.specs.State.{Bounds, bounds_of, go, halt_by, mark, move_to, poke, write, write_all}
-use Rattle.sequential.specs.Step.{fetch, fetched_by, fetched_from, here, met, word_seen}
-use Rattle.sequential.specs.Swap.{begun, swap}
-use Rattle.sequential.specs.Work.{Work, do_now}
-use Rattle.in_flight.specs.declared.pending.HopperEntry.{HopperEntry}
+use Rattle.sequential.specs.State.{Bounds, bounds_of, jump_to, halt_by, or_fault, move_to, store_word, write, write_all}
+use Rattle.sequential.specs.Step.{fetch, fetched_by, fetched_from, at_instruction, classify, word_seen}
+use Rattle.sequential.specs.Swap.{program_entered, swap}
+use Rattle.sequential.specs.Work.{Work, write_and_jump}
+use Rattle.hopper.specs.declared.reference.Reference.{Reference}
 use Rattle.in_flight.specs.declared.pending.Outstanding.TheVariants.{Entered, Accepted}
 use Rattle.in_flight.specs.declared.pending.Pending.{Pending}
 use Rattle.in_flight.specs.declared.pending.Phase.{Phase}
@@ -38,7 +38,7 @@ use Rattle.in_flight.specs.declared.pending.Stage.{Stage}
 use Rattle.in_flight.specs.declared.pending.Stage.TheVariants.{Waiting, Read as HasRead, Finished}
 use Rattle.in_flight.specs.Lookup.{arrival_at, arrival_in, entry_at, entry_in}
 use Rattle.in_flight.specs.Tests.{accept_tests, free_tests, nothing, refusal_of, return_tests, tests_found}
-use Rattle.in_flight.specs.inner.Slots.{IsPlaced, IsProper, IsSlotted}
+use Rattle.in_flight.specs.inner.OwnSlots.{IsPlaced, IsProper, HasOwnSlots}
 use Rattle.program_order.specs.declared.event.Event.{Event}
 use Rattle.program_order.specs.declared.event.Event.TheVariants.{Issue, Read, Finish, Store as StoreResult, Accept}
 use Rattle.program_order.specs.declared.event.Event.TheVariants.{Return, BankFree, Ask, Exchange, PpRead, PpWrite}
@@ -48,7 +48,7 @@ use Rattle.program_order.specs.Issue.{after_issue}
 use Rattle.program_order.specs.Memory.{after_accept, after_return}
 use Rattle.program_order.specs.Peripheral.{after_pp_read, after_pp_write}
 use Rattle.program_order.specs.Processor.{Processor, boot_processor}
-use Rattle.program_order.specs.Sound.{IsAtBeginning}
+use Rattle.program_order.specs.Invariant.{IsAtBeginning}
 use Rattle.program_order.specs.Units.{after_finish, after_read, after_store, after_work}
 
 -- ---- places and channels ----
@@ -64,7 +64,7 @@ entered_below : (size p : ℕ) (u : FunctionalUnit) (q : Phase) → 3 < p → Is
 unfolding entry_in
 entered_below size p u (Before t) l h = refl
 entered_below size p u (After (Entered place a access)) l h =
-    ap (λ b. cond b (Some (record { a = a; access = access })) None)
+    ap (λ b. cond b (Some (record { address = a; access = access })) None)
     (differs place p (λ e. let k = h.0 in omega (arith, e, k, l)))
 entered_below size p u (After (Accepted n word)) l h = refl
 
@@ -76,34 +76,34 @@ arrived_between size c u (After (Entered place a access)) l h = refl
 arrived_between size c u (After (Accepted n word)) l h =
     ap (λ b. cond b (Some (record { channel = n; word = word })) None) (differs n c (l n h.0 h.1))
 
-none_entered_at : (size p : ℕ) (ms : List Pending) → 3 < p → IsSlotted size ms → seek (entry_at p) ms ≡ None
+none_entered_at : (size p : ℕ) (ms : List Pending) → 3 < p → HasOwnSlots size ms → seek (entry_at p) ms ≡ None
 unfolding entry_at
 none_entered_at size p ms l s = seek_nobody (entry_at p) ms
     (each_map (IsProper size) (λ m. entry_at p m ≡ None) (λ m h. entered_below size p m.unit m.phase l h.placed) ms
     s.proper)
 
-none_arrived_at : (size c : ℕ) (ms : List Pending) → ((n : ℕ) → 0 < n → n < 6 → n ≡ c → ⊥) → IsSlotted size ms
+none_arrived_at : (size c : ℕ) (ms : List Pending) → ((n : ℕ) → 0 < n → n < 6 → n ≡ c → ⊥) → HasOwnSlots size ms
     → seek (arrival_at c) ms ≡ None
 unfolding arrival_at
 none_arrived_at size c ms l s = seek_nobody (arrival_at c) ms
     (each_map (IsProper size) (λ m. arrival_at c m ≡ None) (λ m h. arrived_between size c m.unit m.phase l h.placed) ms
     s.proper)
 
-pub no_place : (w : Processor) (size p : ℕ) → IsSlotted size w.pending → 3 < p → allowed w (Accept p) ≡ Some Nothing
+pub no_place : (w : Processor) (size p : ℕ) → HasOwnSlots size w.pending → 3 < p → allowed w (Accept p) ≡ Some Nothing
 unfolding allowed tests_of tests_found nothing refusal_of
 no_place w size p s l = ap (λ o. refusal_of (tests_found o (λ f. accept_tests w.busy f.earlier f.answer)))
     (none_entered_at size p w.pending l s)
 
-no_channel : (w : Processor) (size c : ℕ) → IsSlotted size w.pending → ((n : ℕ) → 0 < n → n < 6 → n ≡ c → ⊥)
+no_channel : (w : Processor) (size c : ℕ) → HasOwnSlots size w.pending → ((n : ℕ) → 0 < n → n < 6 → n ≡ c → ⊥)
     → allowed w (Return c) ≡ Some Nothing
 unfolding allowed tests_of tests_found nothing refusal_of
 no_channel w size c s l = ap (λ o. refusal_of (tests_found o (λ f. return_tests f.earlier f.answer)))
     (none_arrived_at size c w.pending l s)
 
-pub no_channel_zero : (w : Processor) (size : ℕ) → IsSlotted size w.pending → allowed w (Return 0) ≡ Some Nothing
+pub no_channel_zero : (w : Processor) (size : ℕ) → HasOwnSlots size w.pending → allowed w (Return 0) ≡ Some Nothing
 no_channel_zero w size s = no_channel w size 0 s (λ n g l e. omega (arith, g, e))
 
-pub no_channel_above : (w : Processor) (size c : ℕ) → IsSlotted size w.pending → 5 < c
+pub no_channel_above : (w : Processor) (size c : ℕ) → HasOwnSlots size w.pending → 5 < c
     → allowed w (Return c) ≡ Some Nothing
 no_channel_above w size c s h = no_channel w size c s (λ n g l e. omega (arith, h, l, e))
 
@@ -130,7 +130,7 @@ banks_store w f Waiting = refl
 banks_store w f (HasRead os) = refl
 banks_store w f (Finished v) = refl
 
-banks_accept : (w : Processor) (f : Found Pending HopperEntry) (a : ℕ) (access : Access)
+banks_accept : (w : Processor) (f : Found Pending Reference) (a : ℕ) (access : Access)
     → length (after_accept w f a access).busy ≡ length w.busy
 unfolding after_accept
 banks_accept w f a (LoadInto n) = length-set w.busy _ true
@@ -154,7 +154,7 @@ event_banks w Issue = banks_issue w _
 event_banks w (Read u) = banks_found w _ _ (λ f. refl)
 event_banks w (Finish u) = banks_found w _ _ (λ f. refl)
 event_banks w (StoreResult u) = banks_found w _ _ (λ f. banks_store w f f.answer)
-event_banks w (Accept p) = banks_found w _ _ (λ f. banks_accept w f f.answer.a f.answer.access)
+event_banks w (Accept p) = banks_found w _ _ (λ f. banks_accept w f f.answer.address f.answer.access)
 event_banks w (Return c) = banks_found w _ _ (λ f. refl)
 event_banks w (BankFree k) = length-set w.busy k false
 event_banks w (Ask n) = refl
@@ -168,8 +168,8 @@ boot_banks memory budget = refl
 
 -- ---- the place of the next instruction ----
 
-moves_to_beginning : (p word next : ℕ) → IsAtBeginning (moved_on p word next)
-unfolding moved_on
+moves_to_beginning : (p word next : ℕ) → IsAtBeginning (after_parcel p word next)
+unfolding after_parcel
 moves_to_beginning p word next = by_test (ltb next 4)
   where
     by_test : (b : Bool)
@@ -182,28 +182,28 @@ Begins (Halting halt place) = IsAtBeginning place
 Begins (Passing place) = IsAtBeginning place
 Begins (Taking i place) = IsAtBeginning place
 
-begins_met : (place next : Place) (i : Instr) → IsAtBeginning place → IsAtBeginning next → Begins (met place next i)
-unfolding met
-begins_met place next Stop h k = h
-begins_met place next Pass h k = k
-begins_met place next (ReturnJump K) h k = k
-begins_met place next (Jump i K) h k = k
-begins_met place next (BranchX t j K) h k = k
-begins_met place next (BranchB t i j K) h k = k
-begins_met place next (Copy i j) h k = k
-begins_met place next (Invert i j) h k = k
-begins_met place next (Logical o i j l) h k = k
-begins_met place next (ShiftBy d i n) h k = k
-begins_met place next (ShiftNominal d i j l) h k = k
-begins_met place next (LongAdd o i j l) h k = k
-begins_met place next (Mask i n) h k = k
-begins_met place next (CountOnes i j) h k = k
-begins_met place next (Increment t i a) h k = k
+begins_met : (position next : ProgramPosition) (i : Instr) → IsAtBeginning position → IsAtBeginning next → Begins (classify position next i)
+unfolding classify
+begins_met position next Stop h k = h
+begins_met position next Pass h k = k
+begins_met position next (ReturnJump K) h k = k
+begins_met position next (Jump i K) h k = k
+begins_met position next (BranchX t j K) h k = k
+begins_met position next (BranchB t i j K) h k = k
+begins_met position next (Copy i j) h k = k
+begins_met position next (Invert i j) h k = k
+begins_met position next (Logical o i j l) h k = k
+begins_met position next (ShiftBy d i n) h k = k
+begins_met position next (ShiftNominal d i j l) h k = k
+begins_met position next (LongAdd o i j l) h k = k
+begins_met position next (Mask i n) h k = k
+begins_met position next (CountOnes i j) h k = k
+begins_met position next (Increment t i a) h k = k
 
 begins_read : (p parcel word : ℕ) (d : Decoded) → Begins (fetched_by p parcel word d)
 unfolding fetched_by
 begins_read p parcel word (Legal i next) =
-    begins_met (here p parcel word) (moved_on p word next) i (λ e. cc) (moves_to_beginning p word next)
+    begins_met (at_instruction p parcel word) (after_parcel p word next) i (λ e. cc) (moves_to_beginning p word next)
 begins_read p parcel word (Refused op) = λ e. cc
 begins_read p parcel word Straddle = λ e. cc
 
@@ -212,13 +212,13 @@ unfolding fetched_from
 begins_from p parcel None = λ e. refl
 begins_from p parcel (Some word) = begins_read p parcel word (reading_at word parcel)
 
-begins_fetched : (b : Bounds) (memory : List ℕ) (place : Place) → Begins (fetch b memory place)
+begins_fetched : (b : Bounds) (memory : List ℕ) (position : ProgramPosition) → Begins (fetch b memory position)
 unfolding fetch
-begins_fetched b memory place = begins_from place.p place.parcel (word_seen b memory place.p place.held)
+begins_fetched b memory position = begins_from position.p position.parcel (word_seen b memory position.p position.held)
 
 -- a machine that is at the beginning of a word where none is held
 abbrev Starts : Processor → Type 0
-Starts w = IsAtBeginning w.state.place
+Starts w = IsAtBeginning w.state.position
 
 starts_issue : (w : Processor) (g : Fetched) → Begins g → Starts (after_issue w g)
 unfolding after_issue halt_by move_to
@@ -232,21 +232,21 @@ unfolding after_found
 starts_found w None f h k = k
 starts_found w (Some x) f h k = h x
 
-written_place : (s : State) (es : List (Reg × ℕ)) → (write_all s es).place ≡ s.place
+written_position : (s : State) (es : List (Reg × ℕ)) → (write_all s es).position ≡ s.position
 unfolding write_all write
-written_place s [] = refl
-written_place s (e ∷ es) = written_place (write s e.0 e.1) es
+written_position s [] = refl
+written_position s (e ∷ es) = written_position (write s e.0 e.1) es
 
-starts_gone : (place : Place) (to : Option ℕ) → IsAtBeginning place → IsAtBeginning (gone place to)
-unfolding gone
-starts_gone place None h = h
-starts_gone place (Some to) h = λ e. refl
+starts_gone : (position : ProgramPosition) (to : Option ℕ) → IsAtBeginning position → IsAtBeginning (after_jump position to)
+unfolding after_jump
+starts_gone position None h = h
+starts_gone position (Some to) h = λ e. refl
 
-starts_work : (b : Bounds) (s : State) (work : Work) → IsAtBeginning s.place
-    → IsAtBeginning (do_now b s work).place
-unfolding do_now mark go
+starts_work : (b : Bounds) (s : State) (work : Work) → IsAtBeginning s.position
+    → IsAtBeginning (write_and_jump b s work).position
+unfolding write_and_jump or_fault jump_to
 starts_work b s work h =
-    starts_gone (write_all s work.puts).place work.jump (subst IsAtBeginning (sym (written_place s work.puts)) h)
+    starts_gone (write_all s work.sets).position work.jump (subst IsAtBeginning (sym (written_position s work.sets)) h)
 
 starts_store : (w : Processor) (f : Found Pending Stage) (t : Stage) → Starts w → Starts (after_store w f t)
 unfolding after_store after_work
@@ -254,25 +254,25 @@ starts_store w f Waiting h = h
 starts_store w f (HasRead os) h = h
 starts_store w f (Finished v) h = starts_work (bounds_of w.state) w.state _ h
 
-starts_accept : (w : Processor) (f : Found Pending HopperEntry) (a : ℕ) (access : Access) → Starts w
+starts_accept : (w : Processor) (f : Found Pending Reference) (a : ℕ) (access : Access) → Starts w
     → Starts (after_accept w f a access)
-unfolding after_accept poke
+unfolding after_accept store_word
 starts_accept w f a (LoadInto n) h = h
 starts_accept w f a (StoreWord v) h = h
 
 starts_exchange : (w : Processor) (o : Option ℕ) → Starts w → Starts (after_exchange w o)
-unfolding after_exchange swap begun
+unfolding after_exchange swap program_entered
 starts_exchange w None h = h
 starts_exchange w (Some n) h = λ e. refl
 
 -- an event leaves the machine at the beginning of a word, where it leaves no word held
 pub event_starts : (w : Processor) (e : Event) → Starts w → Starts (after w e)
-unfolding after after_read after_finish after_return after_pp_read after_pp_write write poke
-event_starts w Issue h = starts_issue w _ (begins_fetched (bounds_of w.state) w.state.memory w.state.place)
+unfolding after after_read after_finish after_return after_pp_read after_pp_write write store_word
+event_starts w Issue h = starts_issue w _ (begins_fetched (bounds_of w.state) w.state.memory w.state.position)
 event_starts w (Read u) h = starts_found w _ _ (λ f. h) h
 event_starts w (Finish u) h = starts_found w _ _ (λ f. h) h
 event_starts w (StoreResult u) h = starts_found w _ _ (λ f. starts_store w f f.answer h) h
-event_starts w (Accept p) h = starts_found w _ _ (λ f. starts_accept w f f.answer.a f.answer.access h) h
+event_starts w (Accept p) h = starts_found w _ _ (λ f. starts_accept w f f.answer.address f.answer.access h) h
 event_starts w (Return c) h = starts_found w _ _ (λ f. h) h
 event_starts w (BankFree k) h = h
 event_starts w (Ask n) h = h

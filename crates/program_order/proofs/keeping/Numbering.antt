@@ -15,14 +15,14 @@ use Rattle.relocation.specs.declared.area.Access.TheVariants.{Load as LoadInto, 
 use Rattle.scoreboard.specs.Units.{may_take}
 use Rattle.sequential.specs.declared.fetching.Fetched.{Fetched}
 use Rattle.sequential.specs.declared.fetching.Fetched.TheVariants.{Halting, Passing, Taking}
-use Rattle.sequential.specs.declared.place.Place.{Place}
+use Rattle.sequential.specs.declared.position.ProgramPosition.{ProgramPosition}
 use Rattle.sequential.specs.declared.state.State.{State}
 use Rattle.sequential.specs.Replay.{LogStep, Issued, Exchanged, ReadAt, Wrote, boot}
 use Rattle.sequential.specs.State.{bounds_of}
 use Rattle.sequential.specs.Step.{fetch}
-use Rattle.sequential.specs.Taken.{taken_by, taken_unless, taken_in, one_for, taken_at, taken}
-use Rattle.sequential.proofs.Taken.{taken-push}
-use Rattle.in_flight.specs.declared.pending.HopperEntry.{HopperEntry}
+use Rattle.sequential.specs.UnitIssues.{taken_by, taken_unless, taken_in, one_for, taken_at, taken}
+use Rattle.sequential.proofs.UnitIssues.{taken-push}
+use Rattle.hopper.specs.declared.reference.Reference.{Reference}
 use Rattle.in_flight.specs.declared.pending.Pending.{Pending}
 use Rattle.in_flight.specs.declared.pending.Stage.{Stage}
 use Rattle.in_flight.specs.declared.pending.Stage.TheVariants.{Waiting, Read as HasRead, Finished}
@@ -43,26 +43,26 @@ use Rattle.program_order.specs.Issue.{after_issue, fetch_waits, issue_tests}
 use Rattle.program_order.specs.Memory.{after_accept, after_return}
 use Rattle.program_order.specs.Processor.{Processor, boot_processor, completed, replayed}
 use Rattle.program_order.specs.Run.{IsAnswer, answer_by, answer_of, done_by, note_by, settled}
-use Rattle.program_order.specs.Sound.{IsReplay}
+use Rattle.program_order.specs.Invariant.{IsReplay}
 use Rattle.program_order.specs.Telling.{IsNumbered, IsNoted}
 use Rattle.program_order.specs.Units.{after_finish, after_read, after_store, after_work}
-use Rattle.program_order.proofs.effects.Completing.{complete-bounds, complete-halted, complete-place, each_no_branch}
+use Rattle.program_order.proofs.effects.Completing.{complete-bounds, complete-halted, complete-position, each_no_branch}
 use Rattle.program_order.proofs.keeping.Slotted.{unit_found}
 use Rattle.program_order.proofs.theorem.Issuing.{fetch-same}
 use Rattle.program_order.proofs.theorem.Theorem.{is_some_none, made_allowed}
 
 -- the completed state takes what the present one does
 taken_completed : (w : Processor) → w.state.halt ≡ None → list_any is_branch w.pending ≡ false
-    → fetch_waits (bounds_of w.state) w.state.place w.pending ≡ false
-    → taken_in (completed w) ≡ taken_by (fetch (bounds_of w.state) w.state.memory w.state.place)
+    → fetch_waits (bounds_of w.state) w.state.position w.pending ≡ false
+    → taken_in (completed w) ≡ taken_by (fetch (bounds_of w.state) w.state.memory w.state.position)
 unfolding taken_in taken_unless completed
 taken_completed w h nb f =
     let b = bounds_of w.state in
     let c = complete b w.state w.pending in
     ap (taken_unless c) (complete-halted b w.state w.pending ∙ h)
-    ∙ ap (λ d. taken_by (fetch d c.memory c.place)) (complete-bounds b w.state w.pending)
-    ∙ ap (λ k. taken_by (fetch b c.memory k)) (complete-place b w.state w.pending (each_no_branch w.pending nb))
-    ∙ ap taken_by (fetch-same b w.state w.pending w.state.place nb f)
+    ∙ ap (λ d. taken_by (fetch d c.memory c.position)) (complete-bounds b w.state w.pending)
+    ∙ ap (λ k. taken_by (fetch b c.memory k)) (complete-position b w.state w.pending (each_no_branch w.pending nb))
+    ∙ ap taken_by (fetch-same b w.state w.pending w.state.position nb f)
 
 -- ---- every event ----
 
@@ -78,7 +78,7 @@ numbers_store w f Waiting h = h
 numbers_store w f (HasRead os) h = h
 numbers_store w f (Finished v) h = h
 
-numbers_accept : (w : Processor) (f : Found Pending HopperEntry) (a : ℕ) (access : Access) → IsNumbered w
+numbers_accept : (w : Processor) (f : Found Pending Reference) (a : ℕ) (access : Access) → IsNumbered w
     → IsNumbered (after_accept w f a access)
 unfolding after_accept
 numbers_accept w f a (LoadInto n) h = h
@@ -109,12 +109,12 @@ issued_count w g r t =
 numbers_issue : (w : Processor) (g : Fetched) → IsReplay w → IsNumbered w → taken_in (completed w) ≡ taken_by g
     → IsNumbered (after_issue w g)
 unfolding after_issue taken_by one_for
-numbers_issue w (Halting halt place) r h t = let e = issued_count w (Halting halt place) r t in omega (arith, e, h)
-numbers_issue w (Passing place) r h t = let e = issued_count w (Passing place) r t in omega (arith, e, h)
-numbers_issue w (Taking i place) r h t = let e = issued_count w (Taking i place) r t in omega (arith, e, h)
+numbers_issue w (Halting halt position) r h t = let e = issued_count w (Halting halt position) r t in omega (arith, e, h)
+numbers_issue w (Passing position) r h t = let e = issued_count w (Passing position) r t in omega (arith, e, h)
+numbers_issue w (Taking i position) r h t = let e = issued_count w (Taking i position) r t in omega (arith, e, h)
 
 issue_taken : (w : Processor) → allowed w Issue ≡ None
-    → taken_in (completed w) ≡ taken_by (fetch (bounds_of w.state) w.state.memory w.state.place)
+    → taken_in (completed w) ≡ taken_by (fetch (bounds_of w.state) w.state.memory w.state.position)
 unfolding allowed tests_of issue_tests
 issue_taken w h =
     let t = refusal_none _ h in
@@ -127,7 +127,7 @@ numbers_kept w Issue a r h = numbers_issue w _ r h (issue_taken w a)
 numbers_kept w (Read u) a r h = numbers_found w _ _ (λ f. h) h
 numbers_kept w (Finish u) a r h = numbers_found w _ _ (λ f. h) h
 numbers_kept w (StoreResult u) a r h = numbers_found w _ _ (λ f. numbers_store w f f.answer h) h
-numbers_kept w (Accept p) a r h = numbers_found w _ _ (λ f. numbers_accept w f f.answer.a f.answer.access h) h
+numbers_kept w (Accept p) a r h = numbers_found w _ _ (λ f. numbers_accept w f f.answer.address f.answer.access h) h
 numbers_kept w (Return c) a r h = numbers_found w _ _ (λ f. h) h
 numbers_kept w (BankFree k) a r h = h
 numbers_kept w (Ask n) a r h = h
@@ -141,21 +141,21 @@ boot_numbered memory budget = refl
 
 -- ---- what an issue answers ----
 
-reserved_unit : (w : Processor) (i : Instr) (place : Place)
-    → Each (λ t. t.fails ≡ false) (reservation_tests w.pending (Taking i place))
+reserved_unit : (w : Processor) (i : Instr) (position : ProgramPosition)
+    → Each (λ t. t.fails ≡ false) (reservation_tests w.pending (Taking i position))
     → may_take (uses i).unit (unwrap_or (unit_for w.pending (uses i).unit) Branch) ≡ true
 unfolding reservation_tests
-reserved_unit w i place h = (unit_found w.pending (uses i).unit h.0).of_kind
+reserved_unit w i position h = (unit_found w.pending (uses i).unit h.0).of_kind
 
 noted_by : (w : Processor) (g : Fetched) → IsReplay w → IsNumbered w → taken_in (completed w) ≡ taken_by g
     → Each (λ t. t.fails ≡ false) (reservation_tests w.pending g)
     → IsNoted (completed w) (taken (boot w.boot_memory) (w.log ++ Issued ∷ [])) (note_by w g)
 unfolding note_by taken_by one_for
-noted_by w (Halting halt place) r h t u =
+noted_by w (Halting halt position) r h t u =
     record { none = λ _. refl; some = λ i e. let k = sym t ∙ e in absurd (cc) }
-noted_by w (Passing place) r h t u = record { none = λ _. refl; some = λ i e. let k = sym t ∙ e in absurd (cc) }
-noted_by w (Taking i place) r h t u =
-    let c = issued_count w (Taking i place) r t in
+noted_by w (Passing position) r h t u = record { none = λ _. refl; some = λ i e. let k = sym t ∙ e in absurd (cc) }
+noted_by w (Taking i position) r h t u =
+    let c = issued_count w (Taking i position) r t in
     let n : suc w.last ≡ taken (boot w.boot_memory) (w.log ++ Issued ∷ []) = omega (arith, c, h) in
     let note : Note = record { unit = unwrap_or (unit_for w.pending (uses i).unit) Branch; number = suc w.last } in
     record {
@@ -165,7 +165,7 @@ noted_by w (Taking i place) r h t u =
             note,
             refl,
             record {
-              of_kind = subst (λ x. may_take (uses x).unit note.unit ≡ true) k (reserved_unit w i place u);
+              of_kind = subst (λ x. may_take (uses x).unit note.unit ≡ true) k (reserved_unit w i position u);
               numbered = n;
             },
           );
@@ -174,12 +174,12 @@ noted_by w (Taking i place) r h t u =
 log_issue : (w : Processor) (g : Fetched)
     → ((after_issue w g).log ≡ w.log ++ Issued ∷ []) × ((after_issue w g).boot_memory ≡ w.boot_memory)
 unfolding after_issue
-log_issue w (Halting halt place) = (refl, refl)
-log_issue w (Passing place) = (refl, refl)
-log_issue w (Taking i place) = (refl, refl)
+log_issue w (Halting halt position) = (refl, refl)
+log_issue w (Passing position) = (refl, refl)
+log_issue w (Taking i position) = (refl, refl)
 
 issue_reservations : (w : Processor) → allowed w Issue ≡ None
-    → Each (λ t. t.fails ≡ false) (reservation_tests w.pending (fetch (bounds_of w.state) w.state.memory w.state.place))
+    → Each (λ t. t.fails ≡ false) (reservation_tests w.pending (fetch (bounds_of w.state) w.state.memory w.state.position))
 unfolding allowed tests_of issue_tests
 issue_reservations w h = (refusal_none _ h).1.1.1.1.1.1
 
@@ -203,7 +203,7 @@ is_issue w (PpRead a) o h = absurd (cc)
 is_issue w (PpWrite a v) o h = absurd (cc)
 
 note_is : (w : Processor) (note : Option Note) → DoneIssue note ≡ done_by w Issue
-    → note ≡ note_by w (fetch (bounds_of w.state) w.state.memory w.state.place)
+    → note ≡ note_by w (fetch (bounds_of w.state) w.state.memory w.state.position)
 unfolding done_by
 note_is w o h = cc
 
@@ -212,7 +212,7 @@ noted_at : (w : Processor) (note : Option Note) → IsReplay w → IsNumbered w 
     → IsNoted (completed w) (taken (boot (after w Issue).boot_memory) (after w Issue).log) note
 unfolding after
 noted_at w note r h a d =
-    let g = fetch (bounds_of w.state) w.state.memory w.state.place in
+    let g = fetch (bounds_of w.state) w.state.memory w.state.position in
     let l = log_issue w g in
     subst (λ o. IsNoted (completed w) (taken (boot (after_issue w g).boot_memory) (after_issue w g).log) o)
     (sym (note_is w note d))

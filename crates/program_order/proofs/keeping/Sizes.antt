@@ -1,4 +1,5 @@
 -- Memory keeps its size, and the package of a request lies in it.
+use Rattle.std.specs.Prelude.{option_and_then}
 use Rattle.std.proofs.Common.{◌≡◌, ◌≤◌, ◌+◌, ℕ, Bool, true, false, List, [], ◌∷◌, Option, Some, None, cond, length}
 use Rattle.std.proofs.Common.{refl, sym, ap, ◌∙◌, subst, ltb}
 use Rattle.std.proofs.lemmas.List.{length-set}
@@ -11,28 +12,28 @@ use Rattle.relocation.proofs.Overwriting.{length-overwritten}
 use Rattle.sequential.specs.declared.fetching.Fetched.{Fetched}
 use Rattle.sequential.specs.declared.fetching.Fetched.TheVariants.{Halting, Passing, Taking}
 use Rattle.sequential.specs.declared.state.State.{State}
-use Rattle.sequential.specs.Replay.{LogStep, Issued, Exchanged, ReadAt, Wrote, do_log_step, replay, then_replay}
+use Rattle.sequential.specs.Replay.{LogStep, Issued, Exchanged, ReadAt, Wrote, do_log_step, replay}
 use Rattle.sequential.specs.Replay.{boot}
-use Rattle.sequential.specs.State.{Bounds, bounds_of, halt_by, move_to, poke}
+use Rattle.sequential.specs.State.{Bounds, bounds_of, halt_by, move_to, store_word}
 use Rattle.sequential.specs.Step.{do_fetched, do_instruction, fetch, step, step_unless}
-use Rattle.sequential.specs.Swap.{begun, package_of, swap}
-use Rattle.program_order.specs.Sound.{Fits, IsReplay}
+use Rattle.sequential.specs.Swap.{program_entered, package_of, swap}
+use Rattle.program_order.specs.Invariant.{Fits, IsReplay}
 use Rattle.program_order.specs.Processor.{Processor, completed, replayed}
 use Rattle.program_order.proofs.effects.Completing.{complete-bounds}
 use Rattle.program_order.proofs.effects.Effects.{do_work-bounds}
 
 fetched_size : (b : Bounds) (s : State) (at : ℕ) (g : Fetched) → length (do_fetched b s at g).memory ≡ length s.memory
 unfolding do_fetched do_instruction halt_by move_to bounds_of
-fetched_size b s at (Halting h place) = refl
-fetched_size b s at (Passing place) = refl
-fetched_size b s at (Taking i place) = ap (λ (d : Bounds). d.size) (do_work-bounds b (record s { place = place }) _)
+fetched_size b s at (Halting h position) = refl
+fetched_size b s at (Passing position) = refl
+fetched_size b s at (Taking i position) = ap (λ (d : Bounds). d.size) (do_work-bounds b (record s { position = position }) _)
 
 step_size : (s : State) → length (step s).memory ≡ length s.memory
 unfolding step step_unless
 step_size s = by_halt s.halt
   where
     by_halt : (h : Option Halt) → length (step_unless s h).memory ≡ length s.memory
-    by_halt None = fetched_size (bounds_of s) s s.place.p (fetch (bounds_of s) s.memory s.place)
+    by_halt None = fetched_size (bounds_of s) s s.position.p (fetch (bounds_of s) s.memory s.position)
     by_halt (Some h) = refl
 
 pub package_within : (n size : ℕ) → package_fits n size ≡ true → n + 16 ≤ size
@@ -41,7 +42,7 @@ package_within n size h = leb-true (n + 16) size h
 
 pub swap_size : (s : State) (n : ℕ) → package_fits n (length s.memory) ≡ true
     → length (swap n s).memory ≡ length s.memory
-unfolding swap begun words_of
+unfolding swap program_entered words_of
 swap_size s n h = length-overwritten s.memory n (words_of (package_of s)) (package_within n (length s.memory) h)
 
 if_within : (b : Bool) (s u t : State) → cond b (Some u) None ≡ Some t → length u.memory ≡ length s.memory
@@ -50,7 +51,7 @@ if_within true s u t e k = sym (ap (λ o. length (unwrap_or o s).memory) e) ∙ 
 if_within false s u t e k = absurd (false≢true (ap is_some e))
 
 log_step_size : (s : State) (x : LogStep) (t : State) → do_log_step s x ≡ Some t → length t.memory ≡ length s.memory
-unfolding do_log_step poke
+unfolding do_log_step store_word
 log_step_size s Issued t h = sym (ap (λ o. length (unwrap_or o s).memory) h) ∙ step_size s
 log_step_size s (Exchanged n) t h = by_fit (package_fits n (length s.memory)) refl h
   where
@@ -59,16 +60,16 @@ log_step_size s (Exchanged n) t h = by_fit (package_fits n (length s.memory)) re
     by_fit true f e = sym (ap (λ o. length (unwrap_or o s).memory) e) ∙ swap_size s n f
     by_fit false f e = absurd (false≢true (ap is_some e))
 log_step_size s (ReadAt a) t h = if_within (ltb a (length s.memory)) s s t h refl
-log_step_size s (Wrote a w) t h = if_within (ltb a (length s.memory)) s (poke s a w) t h (length-set s.memory a w)
+log_step_size s (Wrote a w) t h = if_within (ltb a (length s.memory)) s (store_word s a w) t h (length-set s.memory a w)
 
 pub replay_size : (s : State) (xs : List LogStep) (t : State) → replay s xs ≡ Some t → length t.memory ≡ length s.memory
-unfolding replay then_replay
+unfolding replay
 replay_size s [] t h = sym (ap (λ o. length (unwrap_or o s).memory) h)
 replay_size s (x ∷ xs) t h = after (do_log_step s x) refl (λ u. replay_size u xs t) h
   where
     after : (o : Option State) → do_log_step s x ≡ o
         → ((u : State) → replay u xs ≡ Some t → length t.memory ≡ length u.memory)
-        → then_replay o (λ u. replay u xs) ≡ Some t → length t.memory ≡ length s.memory
+        → option_and_then (λ u. replay u xs) o ≡ Some t → length t.memory ≡ length s.memory
     after None e ih k = absurd (false≢true (ap is_some k))
     after (Some u) e ih k = ih u k ∙ log_step_size s x u e
 

@@ -11,7 +11,7 @@ use Rattle.instructions.specs.declared.instr.UnitKind.{UnitKind}
 use Rattle.instructions.specs.declared.instr.UnitKind.TheVariants.{Branch as BranchKind, Boolean as BooleanKind}
 use Rattle.instructions.specs.declared.instr.UnitKind.TheVariants.{Shift as ShiftKind, LongAdd as LongAddKind}
 use Rattle.instructions.specs.declared.instr.UnitKind.TheVariants.{Divide as DivideKind, Increment as IncrementKind}
-use Rattle.instructions.specs.Shape.{Shape, Puts, Loads, Stores, Jumps, Links, shape_of}
+use Rattle.instructions.specs.Shape.{Shape, Sets, Loads, Stores, Jumps, Links, shape_of}
 use Rattle.instructions.specs.Operands.{uses}
 use Rattle.relocation.specs.declared.area.Access.{Access}
 use Rattle.relocation.specs.declared.area.Access.TheVariants.{Load as LoadInto, Store as StoreWord}
@@ -23,7 +23,7 @@ use Rattle.scoreboard.specs.Conflicts.{is_held, first_free, free_unit, unit_for 
 use Rattle.sequential.specs.declared.work.ProgramReference.{ProgramReference}
 use Rattle.sequential.specs.declared.fetching.Fetched.{Fetched}
 use Rattle.sequential.specs.declared.fetching.Fetched.TheVariants.{Halting, Passing, Taking}
-use Rattle.sequential.specs.State.{Bounds, bounds_of, absolute, poke, write, move_to, halt_by}
+use Rattle.sequential.specs.State.{Bounds, bounds_of, absolute, store_word, write, move_to, halt_by}
 use Rattle.sequential.specs.Work.{reference_for, work_of}
 use Rattle.unit_ops.specs.declared.UnitValue.{UnitValue}
 use Rattle.program_order.specs.declared.event.Event.{Event}
@@ -31,7 +31,7 @@ use Rattle.program_order.specs.declared.event.Event.TheVariants.{Issue, Read, Fi
 use Rattle.program_order.specs.declared.event.Event.TheVariants.{Return, BankFree, Ask, Exchange, PpRead, PpWrite}
 use Rattle.program_order.specs.Peripheral.{after_pp_read, after_pp_write}
 use Rattle.in_flight.specs.declared.pending.Arrival.{Arrival}
-use Rattle.in_flight.specs.declared.pending.HopperEntry.{HopperEntry}
+use Rattle.hopper.specs.declared.reference.Reference.{Reference}
 use Rattle.in_flight.specs.declared.pending.Outstanding.{Outstanding}
 use Rattle.in_flight.specs.declared.pending.Outstanding.TheVariants.{Entered, Accepted}
 use Rattle.in_flight.specs.declared.pending.Phase.{Phase}
@@ -41,9 +41,9 @@ use Rattle.in_flight.specs.declared.pending.Stage.{Stage}
 use Rattle.in_flight.specs.declared.pending.Stage.TheVariants.{Waiting, Read as HasRead, Finished}
 use Rattle.instructions.specs.Each.{Each}
 use Rattle.in_flight.specs.Pending.{progress_of, reservation_of}
-use Rattle.in_flight.proofs.asking.Asked.{holds}
-use Rattle.in_flight.specs.inner.Slots.{unit_slot, clash_in, clash, IsChannel, IsLoadable, IsPlaced}
-use Rattle.in_flight.specs.inner.Slots.{IsProper, IsSlotted}
+use Rattle.in_flight.proofs.asking.PendingReservations.{holds}
+use Rattle.in_flight.specs.inner.OwnSlots.{unit_slot, clash_in, clash, IsChannel, IsLoadable, IsPlaced}
+use Rattle.in_flight.specs.inner.OwnSlots.{IsProper, HasOwnSlots}
 use Rattle.instructions.specs.Finding.{Found, seek, put_back}
 use Rattle.program_order.specs.Processor.{Processor}
 use Rattle.program_order.specs.Issue.{issue_tests, after_issue}
@@ -53,7 +53,7 @@ use Rattle.program_order.specs.Events.{tests_of, allowed, after_found, after}
 use Rattle.program_order.specs.Memory.{after_accept, after_return}
 use Rattle.in_flight.specs.Tests.{refusal_of, tests_found, unit_for, reservation_tests}
 use Rattle.in_flight.specs.Lookup.{stage_at, entry_at, arrival_at, in_place, place_for, enters, kept}
-use Rattle.program_order.proofs.effects.Effects.{do_now-bounds}
+use Rattle.program_order.proofs.effects.Effects.{write_and_jump-bounds}
 use Rattle.in_flight.proofs.asking.Finding.{refusal_none, stage_found, entry_found}
 use Rattle.instructions.proofs.Finding.{seek_splits}
 use Rattle.instructions.proofs.Lists.{each_of_any, each_append, each_both, pairs_push}
@@ -67,7 +67,7 @@ use Rattle.program_order.proofs.theorem.Theorem.{not_pending}
 pub reference_loadable : (h : Shape) (v : UnitValue) (r : ProgramReference) → ((n : ℕ) → h ≡ Loads n → IsChannel n)
     → reference_for h v ≡ Some r → IsLoadable r.access
 unfolding reference_for
-reference_loadable (Puts rs) v r f e = cc
+reference_loadable (Sets rs) v r f e = cc
 reference_loadable (Loads n) v r f e = subst (λ o. IsLoadable o) (access_is e) (f n refl)
   where
     access_is : {a : ℕ} → Some (record { address = a; access = LoadInto n }) ≡ Some r → LoadInto n ≡ r.access
@@ -154,14 +154,14 @@ place_taken ms f h e = by_place (place_for ms) refl (ap (λ x. x && is_none (pla
 
 -- slots after an event
 abbrev pub IsSlottedWhole : Processor → Type 0
-IsSlottedWhole w = IsSlotted (length w.state.memory) w.pending
+IsSlottedWhole w = HasOwnSlots (length w.state.memory) w.pending
 
-from_size : (old new : ℕ) (ms : List Pending) → new ≡ old → IsSlotted old ms → IsSlotted new ms
-from_size old new ms e h = subst (λ n. IsSlotted n ms) (sym e) h
+from_size : (old new : ℕ) (ms : List Pending) → new ≡ old → HasOwnSlots old ms → HasOwnSlots new ms
+from_size old new ms e h = subst (λ n. HasOwnSlots n ms) (sym e) h
 
 split_slotted : (w : Processor) (es : List Pending) (m : Pending) (ls : List Pending) → w.pending ≡ es ++ m ∷ ls
-    → IsSlottedWhole w → IsSlotted (length w.state.memory) (es ++ m ∷ ls)
-split_slotted w es m ls e h = subst (IsSlotted (length w.state.memory)) e h
+    → IsSlottedWhole w → HasOwnSlots (length w.state.memory) (es ++ m ∷ ls)
+split_slotted w es m ls e h = subst (HasOwnSlots (length w.state.memory)) e h
 
 read_slotted : (w : Processor) (u : FunctionalUnit) (o : Option (Found Pending Stage))
     → seek (stage_at u) w.pending ≡ o → IsSlottedWhole w → IsSlottedWhole (after_found w o (after_read w))
@@ -184,8 +184,8 @@ finish_slotted w u (Some f) e h =
 kept_slotted : (b : Bounds) (es : List Pending) (m : Pending) (ls : List Pending) (p : ℕ) (r : Option ProgramReference)
     (o : Option Outstanding) → rest_of b p r ≡ o → ((x : ProgramReference) → r ≡ Some x → IsLoadable x.access)
     → (enters (rest_of b 0 r) ≡ true → p < 4)
-    → (enters (rest_of b 0 r) ≡ true → list_any (in_place p) (es ++ m ∷ ls) ≡ false) → IsSlotted b.size (es ++ m ∷ ls)
-    → IsSlotted b.size (es ++ (kept m o ++ ls))
+    → (enters (rest_of b 0 r) ≡ true → list_any (in_place p) (es ++ m ∷ ls) ≡ false) → HasOwnSlots b.size (es ++ m ∷ ls)
+    → HasOwnSlots b.size (es ++ (kept m o ++ ls))
 unfolding kept
 kept_slotted b es m ls p r None e f g free h = slotted_without b.size es m ls h
 kept_slotted b es m ls p r (Some l) e f g free h =
@@ -201,7 +201,7 @@ store_at w f (Finished v) s h k =
     let test = (refusal_none _ h).1.0 in
     let b : Bounds = record { area = w.state.area; size = length w.state.memory } in
     from_size (length w.state.memory) _ _
-    (ap (λ (x : Bounds). x.size) (do_now-bounds b w.state (work_of (shape_of f.item.instr) v)))
+    (ap (λ (x : Bounds). x.size) (write_and_jump-bounds b w.state (work_of (shape_of f.item.instr) v)))
     (kept_slotted b f.earlier f.item f.later (unwrap_or (place_for w.pending) 0)
     (reference_for (shape_of f.item.instr) v) _ refl
     (λ x e. reference_loadable (shape_of f.item.instr) v x (λ n i. loads_channel f.item.instr n i) e)
@@ -217,10 +217,10 @@ unfolding tests_found after_found
 store_slotted w u None e h k = k
 store_slotted w u (Some f) e h k = store_at w f f.answer (seek_splits (stage_at u) w.pending f e).0 h k
 
-accept_at : (w : Processor) (f : Found Pending HopperEntry) (slot a : ℕ) (access : Access) → w.pending ≡ f.earlier
+accept_at : (w : Processor) (f : Found Pending Reference) (slot a : ℕ) (access : Access) → w.pending ≡ f.earlier
     ++ f.item ∷ f.later → f.item.phase ≡ After (Entered slot a access) → IsSlottedWhole w
     → IsSlottedWhole (after_accept w f a access)
-unfolding after_accept put_back poke
+unfolding after_accept put_back store_word
 accept_at w f slot a (LoadInto n) s e h =
     let k = split_slotted w f.earlier f.item f.later s h in
     slotted_after (length w.state.memory) f.earlier f.item f.later (Accepted n (get_or w.state.memory a 0))
@@ -232,14 +232,14 @@ accept_at w f slot a (StoreWord v) s e h =
     (slotted_without (length w.state.memory) f.earlier f.item f.later
     (split_slotted w f.earlier f.item f.later s h))
 
-accept_slotted : (w : Processor) (p : ℕ) (o : Option (Found Pending HopperEntry)) → seek (entry_at p) w.pending ≡ o
-    → IsSlottedWhole w → IsSlottedWhole (after_found w o (λ f. after_accept w f f.answer.a f.answer.access))
+accept_slotted : (w : Processor) (p : ℕ) (o : Option (Found Pending Reference)) → seek (entry_at p) w.pending ≡ o
+    → IsSlottedWhole w → IsSlottedWhole (after_found w o (λ f. after_accept w f f.answer.address f.answer.access))
 unfolding after_found
 accept_slotted w p None e h = h
 accept_slotted w p (Some f) e h =
     let q = seek_splits (entry_at p) w.pending f e in
     let k = entry_found p f.item f.answer q.1 in
-    accept_at w f k.0 f.answer.a f.answer.access q.0 k.1 h
+    accept_at w f k.0 f.answer.address f.answer.access q.0 k.1 h
 
 return_slotted : (w : Processor) (c : ℕ) (o : Option (Found Pending Arrival)) → seek (arrival_at c) w.pending ≡ o
     → IsSlottedWhole w → IsSlottedWhole (after_found w o (after_return w))
@@ -318,7 +318,7 @@ new_clash size x m e h p k =
 
 pub slotted_push : (size : ℕ) (ms : List Pending) (m : Pending) → m.phase ≡ Before Waiting
     → may_take (uses m.instr).unit m.unit ≡ true → unit_slot m.unit < 7 → list_any (holds m.unit) ms ≡ false
-    → IsSlotted size ms → IsSlotted size (ms ++ m ∷ [])
+    → HasOwnSlots size ms → HasOwnSlots size (ms ++ m ∷ [])
 slotted_push size ms m e u h free s = record {
   apart = pairs_push (λ a b. clash a b ≡ false) ms m s.apart
       (each_both (IsProper size) (λ x. holds m.unit x ≡ false) (λ x. clash x m ≡ false)
@@ -341,10 +341,10 @@ exchange_slotted : (w : Processor) (o : Option ℕ) → w.pending ≡ [] → IsS
     → IsSlottedWhole (after_exchange w o)
 unfolding after_exchange
 exchange_slotted w None e h = h
-exchange_slotted w (Some n) e h = subst (IsSlotted _) (sym e) (record { apart = tt; proper = tt })
+exchange_slotted w (Some n) e h = subst (HasOwnSlots _) (sym e) (record { apart = tt; proper = tt })
 
 pub event_slotted : (w : Processor) (e : Event) → allowed w e ≡ None → IsSlottedWhole w → IsSlottedWhole (after w e)
-unfolding allowed tests_of after after_pp_read after_pp_write poke issue_tests exchange_tests
+unfolding allowed tests_of after after_pp_read after_pp_write store_word issue_tests exchange_tests
 event_slotted w Issue h s = issue_slotted w _ (refusal_none _ h).1.1.1.1.1.1 s
 event_slotted w (Read u) h s = read_slotted w u (seek (stage_at u) w.pending) refl s
 event_slotted w (Finish u) h s = finish_slotted w u (seek (stage_at u) w.pending) refl s

@@ -11,7 +11,7 @@ use Rattle.instructions.specs.Each.{Each}
 use Rattle.sequential.specs.declared.fetching.Fetched.{Fetched}
 use Rattle.sequential.specs.declared.fetching.Fetched.TheVariants.{Halting, Passing, Taking}
 use Rattle.sequential.specs.declared.state.State.{State}
-use Rattle.sequential.specs.State.{Bounds, bounds_of, mark}
+use Rattle.sequential.specs.State.{Bounds, bounds_of, or_fault}
 use Rattle.in_flight.specs.declared.pending.Pending.{Pending}
 use Rattle.in_flight.specs.Lookup.{is_pending}
 use Rattle.in_flight.specs.Tests.{Test, refusal_of, reservation_tests}
@@ -32,7 +32,7 @@ use Rattle.program_order.specs.Run.{IsAnswer, answer_of, done_by, settled}
 use Rattle.program_order.specs.Telling.{IsWhy}
 use Rattle.program_order.proofs.Opened.{refusals_by_event}
 use Rattle.program_order.proofs.effects.Completing.{complete-change, complete-halted, each_all}
-use Rattle.program_order.proofs.effects.OnePending.{run-mark}
+use Rattle.program_order.proofs.effects.OnePending.{finish_effects-or_fault}
 use Rattle.program_order.proofs.keeping.Naming.{answered_err, one_of, refusal_named}
 use Rattle.program_order.proofs.keeping.Numbering.{ok_done}
 use Rattle.program_order.proofs.theorem.Theorem.{completed_read, drained_completed, made_allowed, not_pending}
@@ -40,19 +40,19 @@ use Rattle.program_order.proofs.theorem.Theorem.{completed_read, drained_complet
 -- ---- a fault stays to the completed state ----
 
 complete-fault : (b : Bounds) (s : State) (ms : List Pending) → s.fault ≡ true → (complete b s ms).fault ≡ true
-unfolding mark
+unfolding or_fault
 complete-fault b s ms h =
-    let m = complete-change b (λ x. mark x true) ms (each_all _ (λ m x. run-mark b x m true) ms) s in
-    marked (complete b s ms) (complete b (mark s true) ms) (sym m) (ap (λ x. complete b x ms) (is_marked s h))
+    let m = complete-change b (λ x. or_fault x true) ms (each_all _ (λ m x. finish_effects-or_fault b x m true) ms) s in
+    marked (complete b s ms) (complete b (or_fault s true) ms) (sym m) (ap (λ x. complete b x ms) (is_marked s h))
   where
-    is_marked : (x : State) → x.fault ≡ true → mark x true ≡ x
+    is_marked : (x : State) → x.fault ≡ true → or_fault x true ≡ x
     is_marked x e = ap (λ f. record x { fault = f || true }) e ∙ ap (λ f. record x { fault = f }) (sym e)
 
     or_true : (f : Bool) → (f || true) ≡ true
     or_true true = refl
     or_true false = refl
 
-    marked : (x y : State) → mark x true ≡ y → y ≡ x → x.fault ≡ true
+    marked : (x y : State) → or_fault x true ≡ y → y ≡ x → x.fault ≡ true
     marked x y e i = ap (λ (z : State). z.fault) (sym i ∙ sym e) ∙ or_true x.fault
 
 -- ---- the first refusal ----
@@ -77,9 +77,9 @@ is_other _ = true
 
 reservations_other : (ms : List Pending) (g : Fetched) → Each (λ t. is_other t.refusal ≡ true) (reservation_tests ms g)
 unfolding reservation_tests is_other
-reservations_other ms (Halting h place) = tt
-reservations_other ms (Passing place) = tt
-reservations_other ms (Taking i place) = (refl, (refl, tt))
+reservations_other ms (Halting h position) = tt
+reservations_other ms (Passing position) = tt
+reservations_other ms (Taking i position) = (refl, (refl, tt))
 
 halt_is : (o : Option Halt) (h : Halt) → is_some o ≡ true → Halted (unwrap_or o Stop) ≡ Halted h → o ≡ Some h
 halt_is None h e i = absurd (cc)
@@ -125,10 +125,10 @@ record IsMidWord (w : Processor) : Type 0 where
   pub drained : w.pending ≡ []
   pub halt : w.state.halt ≡ None
   pub fault : w.state.fault ≡ false
-  pub held : is_some w.state.place.held ≡ true
+  pub held : is_some w.state.position.held ≡ true
 
 in_mid_word : (w : Processor) → is_pending w.pending ≡ false
-    → (is_none w.state.halt && (not w.state.fault && is_some w.state.place.held)) ≡ true → IsMidWord w
+    → (is_none w.state.halt && (not w.state.fault && is_some w.state.position.held)) ≡ true → IsMidWord w
 in_mid_word w p h =
     let a = and_parts _ _ h in
     let b = and_parts _ _ a.1 in
@@ -210,7 +210,7 @@ why w e k a = record {
       let d = drained_completed w m.drained in (
         ap (λ (s : State). s.halt) d ∙ m.halt,
         ap (λ (s : State). s.fault) d ∙ m.fault,
-        ap (λ (s : State). is_some s.place.held) d ∙ m.held,
+        ap (λ (s : State). is_some s.position.held) d ∙ m.held,
       );
 }
 

@@ -6,13 +6,12 @@ use Rattle.instructions.specs.declared.instr.Unit.{Unit as FunctionalUnit}
 use Rattle.instructions.specs.declared.instr.UnitKind.{UnitKind}
 use Rattle.hopper.specs.declared.reference.Reference.{Reference}
 use Rattle.program_order.specs.declared.event.Event.TheVariants.{Accept}
-use Rattle.in_flight.specs.declared.pending.HopperEntry.{HopperEntry}
 use Rattle.in_flight.specs.declared.pending.Outstanding.TheVariants.{Entered}
 use Rattle.in_flight.specs.declared.pending.Pending.{Pending}
 use Rattle.in_flight.specs.declared.pending.Phase.TheVariants.{After}
-use Rattle.in_flight.specs.Lookup.{sought, entry_at}
+use Rattle.in_flight.specs.Lookup.{located, entry_at}
 use Rattle.scoreboard.specs.Units.{may_take}
-use Rattle.in_flight.specs.inner.Slots.{IsSlotted, IsProper}
+use Rattle.in_flight.specs.inner.OwnSlots.{HasOwnSlots, IsProper}
 use Rattle.instructions.specs.Finding.{Found, seek}
 use Rattle.program_order.specs.Processor.{Processor}
 use Rattle.program_order.specs.Events.{allowed, tests_of}
@@ -22,10 +21,10 @@ use Rattle.in_flight.proofs.asking.Finding.{entry_found, no_sought, not_nothing,
 use Rattle.in_flight.proofs.asking.Slotting.{proper_there, placed_in}
 
 found_proper : {K : Type 0} (size : ℕ) (ms : List Pending) (g : Pending → Option K) (f : Found Pending K)
-    → seek g ms ≡ Some f → IsSlotted size ms → IsProper size f.item
+    → seek g ms ≡ Some f → HasOwnSlots size ms → IsProper size f.item
 found_proper size ms g f p h =
     let q = seek_splits g ms f p in
-    proper_there size f.earlier f.item f.later (subst (IsSlotted size) q.0 h)
+    proper_there size f.earlier f.item f.later (subst (HasOwnSlots size) q.0 h)
 
 has_some : (o : Option UnitKind) (u : FunctionalUnit) → may_take o u ≡ true → IsSome o
 unfolding may_take
@@ -34,10 +33,10 @@ has_some (Some kind) u h = refl
 
 -- its instruction has a unit
 pub unit_there : {K : Type 0} (size : ℕ) (ms : List Pending) (g : Pending → Option K) (m : Pending) (k : K)
-    → sought (seek g ms) ≡ Some (record { pending = m; answer = k }) → IsSlotted size ms → IsSome (uses m.instr).unit
+    → located (seek g ms) ≡ Some (record { pending = m; answer = k }) → HasOwnSlots size ms → IsSome (uses m.instr).unit
 unit_there {K} size ms g m k h s = found (seek g ms) refl h
   where
-    found : (q : Option (Found Pending K)) → seek g ms ≡ q → sought q ≡ Some (record { pending = m; answer = k })
+    found : (q : Option (Found Pending K)) → seek g ms ≡ q → located q ≡ Some (record { pending = m; answer = k })
         → IsSome (uses m.instr).unit
     found None e i = absurd (no_sought (record { pending = m; answer = k }) i)
     found (Some f) e i = subst (λ (x : Pending). IsSome (uses x.instr).unit)
@@ -46,17 +45,17 @@ unit_there {K} size ms g m k h s = found (seek g ms) refl h
 
 -- its address lies in memory
 pub entry_within : (w : Processor) (place : ℕ) (r : Reference) → allowed w (Accept place) ≡ None
-    → IfSome (seek (entry_at place) w.pending) (λ f. f.answer ≡ record { a = r.address; access = r.access })
-    → IsSlotted (length w.state.memory) w.pending → r.address < length w.state.memory
+    → IfSome (seek (entry_at place) w.pending) (λ f. f.answer ≡ record { address = r.address; access = r.access })
+    → HasOwnSlots (length w.state.memory) w.pending → r.address < length w.state.memory
 unfolding allowed tests_of tests_found
 entry_within w place r a h s = found (seek (entry_at place) w.pending) refl a h
   where
-    found : (q : Option (Found Pending HopperEntry)) → seek (entry_at place) w.pending ≡ q
+    found : (q : Option (Found Pending Reference)) → seek (entry_at place) w.pending ≡ q
         → refusal_of (tests_found q (λ f. accept_tests w.busy f.earlier f.answer)) ≡ None
-        → IfSome q (λ f. f.answer ≡ record { a = r.address; access = r.access }) → r.address < length w.state.memory
+        → IfSome q (λ f. f.answer ≡ record { address = r.address; access = r.access }) → r.address < length w.state.memory
     found None e k i = absurd (not_nothing k)
     found (Some f) e k i =
         let p = entry_found place f.item f.answer (seek_splits (entry_at place) w.pending f e).1 in
-        subst (λ (x : HopperEntry). x.a < length w.state.memory) i
-        (placed_in (length w.state.memory) f.item (After (Entered p.0 f.answer.a f.answer.access)) p.1
+        subst (λ (x : Reference). x.address < length w.state.memory) i
+        (placed_in (length w.state.memory) f.item (After (Entered p.0 f.answer.address f.answer.access)) p.1
         (found_proper (length w.state.memory) w.pending (entry_at place) f e s)).1

@@ -14,7 +14,7 @@ use Rattle.program_order.specs.Reached.{GoesOn, GoesOnByWork, IsReached, without
 use Rattle.program_order.specs.Run.{IsAnswer, IsAnswered, IsRun, answer_by, answer_of, done_by, settled, settled_all}
 use Rattle.program_order.specs.Processor.{Processor, boot_processor}
 use Rattle.program_order.specs.Events.{after, allowed}
-use Rattle.program_order.specs.Working.{Accepts, Works, leads_to}
+use Rattle.program_order.specs.Drain.{Accepts, Works, leads_to}
 use Rattle.program_order.proofs.draining.OnPending.{is_work, on_pending}
 use Rattle.program_order.proofs.theorem.Headline.{fault_run}
 use Rattle.program_order.proofs.reaching.Runs.{answered_append, answered_rest, settled_append}

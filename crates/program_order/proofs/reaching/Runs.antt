@@ -14,7 +14,7 @@ use Rattle.program_order.specs.Run.{settled_all}
 use Rattle.program_order.specs.Processor.{Processor}
 use Rattle.program_order.specs.Events.{allowed, after}
 use Rattle.in_flight.specs.Lookup.{is_pending}
-use Rattle.program_order.specs.Working.{works_on, Accepts, leads_to, Works, next_of, work_left}
+use Rattle.program_order.specs.Drain.{works_on, Accepts, leads_to, Works, next_of, work_left}
 use Rattle.program_order.proofs.theorem.Theorem.{made_allowed}
 use Rattle.program_order.proofs.draining.Draining.{Eases, saved_of, nothing_next, next_eases, all_done}
 use Rattle.program_order.proofs.draining.OnPending.{is_work, next_works_on, on_pending}

@@ -14,7 +14,7 @@ use Rattle.program_order.specs.declared.event.Event.TheVariants.{Issue, Read, Fi
 use Rattle.program_order.specs.declared.event.Event.TheVariants.{Ask, Exchange, PpRead, PpWrite}
 use Rattle.in_flight.specs.declared.pending.Stage.{Stage}
 use Rattle.in_flight.specs.declared.pending.Stage.TheVariants.{Waiting, Read as HasRead, Finished}
-use Rattle.in_flight.specs.declared.pending.HopperEntry.{HopperEntry}
+use Rattle.hopper.specs.declared.reference.Reference.{Reference}
 use Rattle.program_order.specs.Run.{IsAnswer, IsAnswered, answer_by, answer_of, done_by, note_by, settled, settled_all}
 use Rattle.instructions.specs.Finding.{Found}
 use Rattle.program_order.specs.Processor.{Processor}
@@ -24,7 +24,7 @@ use Rattle.program_order.specs.Exchange.{after_exchange}
 use Rattle.program_order.specs.Peripheral.{after_pp_read, after_pp_write, word_read}
 use Rattle.program_order.specs.Units.{after_finish, after_read, after_store, after_work}
 use Rattle.program_order.specs.Issue.{after_issue}
-use Rattle.program_order.specs.Working.{Accepts}
+use Rattle.program_order.specs.Drain.{Accepts}
 
 -- the machine, with its seats given out or not
 abbrev pub seated : Bool → Processor → Processor
@@ -90,7 +90,7 @@ store_after b w f Waiting = refl
 store_after b w f (HasRead os) = refl
 store_after b w f (Finished v) = refl
 
-accept_after : (b : Bool) (w : Processor) (f : Found Pending HopperEntry) (a : ℕ) (access : Access)
+accept_after : (b : Bool) (w : Processor) (f : Found Pending Reference) (a : ℕ) (access : Access)
     → after_accept (seated b w) f a access ≡ seated b (after_accept w f a access)
 unfolding after_accept
 accept_after b w f a (LoadInto n) = refl
@@ -108,7 +108,7 @@ same_after b w Issue = issue_after b w _
 same_after b w (Read u) = found_after b w _ _ _ (λ x. refl)
 same_after b w (Finish u) = found_after b w _ _ _ (λ x. refl)
 same_after b w (Store u) = found_after b w _ _ _ (λ x. store_after b w x x.answer)
-same_after b w (Accept p) = found_after b w _ _ _ (λ x. accept_after b w x x.answer.a x.answer.access)
+same_after b w (Accept p) = found_after b w _ _ _ (λ x. accept_after b w x x.answer.address x.answer.access)
 same_after b w (Return c) = found_after b w _ _ _ (λ x. refl)
 same_after b w (BankFree k) = refl
 same_after b w (Ask n) = refl

@@ -3,7 +3,7 @@ use Rattle.scoreboard.specs.Conflicts as conflict
 use Rattle.scoreboard.specs.Reservations as board
 use Rattle.in_flight.specs.Pending.{progress_of, reservation_of, awaited, entered_in, has_turn, holds_back}
 use Rattle.in_flight.specs.Pending.{holds_back_in, is_branch, is_entered, to_be_read, to_come, waits_in, delays_access}
-use Rattle.in_flight.proofs.asking.Asked.{comes, reads_it}
+use Rattle.in_flight.proofs.asking.PendingReservations.{comes, reads_it}
 use Rattle.in_flight.proofs.asking.Phases.{before_and, may_store, may_store_in, target_of, to_come_in}
 use Rattle.scoreboard.specs.Reservations.{is_reserved}
 use Rattle.std.proofs.Common.{◌≡◌, ℕ, Bool, true, false, List, [], ◌∷◌, ◌++◌, Option, Some, None, refl, sym, ap, ◌∙◌}
@@ -18,8 +18,8 @@ use Rattle.program_order.proofs.effects.OnePending.{touches_in, touches}
 use Rattle.program_order.proofs.effects.Completing.{IsFree, IsNoBranch}
 use Rattle.hopper.specs.Hopper.{is_store, keep_order}
 use Rattle.instructions.specs.RegisterLists.{is_in, overlap}
-use Rattle.instructions.specs.Shape.{Jumps, Links, Loads, Puts, Shape, Stores, has_reference, has_store}
-use Rattle.instructions.specs.Shape.{is_branch_shape, loads_of, puts_of, results, shape_of}
+use Rattle.instructions.specs.Shape.{Jumps, Links, Loads, Sets, Shape, Stores, has_reference, has_store}
+use Rattle.instructions.specs.Shape.{is_branch_shape, loads_of, sets_of, results, shape_of}
 use Rattle.instructions.specs.Operands.{reg_eq}
 use Rattle.instructions.specs.declared.instr.Reg.{Reg}
 use Rattle.instructions.specs.declared.instr.Reg.TheVariants.{X}
@@ -78,22 +78,22 @@ to_come_is : (m : Pending) (p : Phase) → m.phase ≡ p → to_come m ≡ to_co
 unfolding results_to_come
 to_come_is m p e = ap (to_come_in (shape_of m.instr)) e
 
-results_free : (h : Shape) (ts : List Reg) → overlap (results h) ts ≡ false → Each (λ r. is_in ts r ≡ false) (puts_of h)
+results_free : (h : Shape) (ts : List Reg) → overlap (results h) ts ≡ false → Each (λ r. is_in ts r ≡ false) (sets_of h)
 unfolding overlap results
-results_free h ts k = each_of_any (is_in ts) (λ r. is_in ts r ≡ false) (λ r i. i) (puts_of h)
-    (any_left (is_in ts) (puts_of h) (loads_of h) k)
+results_free h ts k = each_of_any (is_in ts) (λ r. is_in ts r ≡ false) (λ r i. i) (sets_of h)
+    (any_left (is_in ts) (sets_of h) (loads_of h) k)
 
 pub results_still : (h : Shape) (ts : List Reg) → overlap (results h) ts ≡ false → overlap (loads_of h) ts ≡ false
 unfolding overlap results
-results_still h ts k = any_right (is_in ts) (puts_of h) (loads_of h) k
+results_still h ts k = any_right (is_in ts) (sets_of h) (loads_of h) k
 
 -- the registers that an instruction is about to write at its store event are free of the earlier ones
 pub free_to_put : (es : List Pending) (m : Pending) (t : Stage) → m.phase ≡ Before t → Each (λ e. IsApart e m) es
-    → list_any (to_be_read es) (puts_of (shape_of m.instr)) ≡ false
-    → Each (λ r. Each (IsFree r) es) (puts_of (shape_of m.instr))
+    → list_any (to_be_read es) (sets_of (shape_of m.instr)) ≡ false
+    → Each (λ r. Each (IsFree r) es) (sets_of (shape_of m.instr))
 unfolding results_to_come operands_to_read reads_it board.reads_it
 free_to_put es m t e apart h =
-    let rs = puts_of (shape_of m.instr) in
+    let rs = sets_of (shape_of m.instr) in
     let cols : Each (λ r. Each (λ e. is_in (to_come e) r ≡ false) es) rs =
     each_swap (λ e r. is_in (to_come e) r ≡ false) es rs
     (each_map (λ e. IsApart e m) (λ e. Each (λ r. is_in (to_come e) r ≡ false) rs)
@@ -136,7 +136,7 @@ touches-unless-held f a v (After (Accepted n w)) h k = refl
 
 store_from_reference : (h : Shape) → has_reference h ≡ false → has_store h ≡ false
 unfolding has_reference has_store
-store_from_reference (Puts rs) e = refl
+store_from_reference (Sets rs) e = refl
 store_from_reference (Loads n) e = refl
 store_from_reference (Stores n) e = e
 store_from_reference Jumps e = refl
@@ -266,7 +266,7 @@ less_after m t l e f = record {
   comes_less = λ ts h. ap (λ rs. overlap rs ts) f
       ∙ results_still (shape_of m.instr) ts (ap (λ p. overlap (to_come_in (shape_of m.instr) p) ts) (sym e) ∙ h);
   in_less = λ r h. ap (λ rs. is_in rs r) f
-      ∙ any_right (reg_eq r) (puts_of (shape_of m.instr)) (loads_of (shape_of m.instr))
+      ∙ any_right (reg_eq r) (sets_of (shape_of m.instr)) (loads_of (shape_of m.instr))
       (ap (λ p. is_in (to_come_in (shape_of m.instr) p) r) (sym e) ∙ h);
   turn_less = λ h. refl;
   branch_less = λ h. refl;

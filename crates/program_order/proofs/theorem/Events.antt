@@ -8,19 +8,19 @@ use Rattle.instructions.proofs.Lists.{each_map, pairs_before, pairs_without}
 use Rattle.program_order.proofs.effects.Effects.{rest_targets}
 use Rattle.in_flight.proofs.asking.Phases.{targets_left}
 use Rattle.program_order.proofs.effects.OnePending.{operands-agree}
-use Rattle.program_order.proofs.effects.Completing.{complete-get, complete-now, complete-word, complete-poke}
+use Rattle.program_order.proofs.effects.Completing.{complete-get, complete-now, complete-word, complete-store_word}
 use Rattle.program_order.proofs.effects.Completing.{complete-write, each_all}
-use Rattle.program_order.proofs.theorem.Moves.{complete-put_back, run-read, run-finish, run-store, run-accept_load}
-use Rattle.program_order.proofs.theorem.Moves.{run-accept_store, run-return}
+use Rattle.program_order.proofs.theorem.Moves.{complete-put_back, finish_effects-read, finish_effects-finish, finish_effects-store, finish_effects-accept_load}
+use Rattle.program_order.proofs.theorem.Moves.{finish_effects-accept_store, finish_effects-return}
 use Rattle.program_order.proofs.theorem.Apart.{not_awaited, free_to_put, free_to_return, turns_past, untouched}
 use Rattle.program_order.proofs.theorem.Apart.{unstored, no_branches, pairs_less, less_before, less_after}
 use Rattle.program_order.proofs.theorem.Apart.{less_accepted, turns_at_store}
-use Rattle.instructions.specs.Shape.{has_reference, puts_of, shape_of}
+use Rattle.instructions.specs.Shape.{has_reference, sets_of, shape_of}
 use Rattle.instructions.specs.Operands.{sources_of}
 use Rattle.instructions.specs.declared.instr.Reg.TheVariants.{X}
 use Rattle.instructions.specs.Each.{Each, Pairs}
 use Rattle.in_flight.specs.Pending.{awaited, entered_in, has_turn, holds_back, is_entered, to_be_read}
-use Rattle.in_flight.proofs.asking.Asked.{comes}
+use Rattle.in_flight.proofs.asking.PendingReservations.{comes}
 use Rattle.program_order.specs.Complete.{complete}
 use Rattle.in_flight.specs.Apart.{IsApart}
 use Rattle.in_flight.specs.Lookup.{in_phase, kept}
@@ -33,8 +33,8 @@ use Rattle.in_flight.specs.declared.pending.Stage.{Stage}
 use Rattle.in_flight.specs.declared.pending.Stage.TheVariants.{Finished}
 use Rattle.registers.specs.Registers.{get}
 use Rattle.relocation.specs.declared.area.Access.TheVariants.{Load as LoadInto, Store as StoreWord}
-use Rattle.sequential.specs.State.{Bounds, poke, write}
-use Rattle.sequential.specs.Work.{do_now, reference_for, work_of}
+use Rattle.sequential.specs.State.{Bounds, store_word, write}
+use Rattle.sequential.specs.Work.{write_and_jump, reference_for, work_of}
 use Rattle.sequential.specs.declared.state.State.{State}
 use Rattle.unit_ops.specs.declared.UnitValue.{UnitValue}
 
@@ -56,7 +56,7 @@ read_event b s es m ls t e h apart = record {
   apart = pairs_less es (in_phase m (Before (stage_after_read s.registers m.instr m.at t))) m ls (less_before m t _ e)
       (not_entered es (in_phase m (Before (stage_after_read s.registers m.instr m.at t))) refl) apart;
   same = complete-put_back b s s es ((in_phase m (Before (stage_after_read s.registers m.instr m.at t))) ∷ []) m ls
-      (run-read b (complete b s es) m t s.registers e
+      (finish_effects-read b (complete b s es) m t s.registers e
       (operands-agree m.instr m.at s.registers (complete b s es).registers
       (each_map (λ r. Each (λ y. comes r y ≡ false) es) (λ r. get s.registers r ≡ get (complete b s es).registers r)
       (λ r k. sym (complete-get b s es r k)) (sources_of m.instr) (not_awaited es (sources_of m.instr) h))));
@@ -70,7 +70,7 @@ finish_event b s es m ls t e apart = record {
   apart = pairs_less es (in_phase m (Before (stage_after_finish m.instr t))) m ls (less_before m t _ e)
       (not_entered es (in_phase m (Before (stage_after_finish m.instr t))) refl) apart;
   same = complete-put_back b s s es ((in_phase m (Before (stage_after_finish m.instr t))) ∷ []) m ls
-      (run-finish b (complete b s es) m t e);
+      (finish_effects-finish b (complete b s es) m t e);
 }
 
 kept_apart : (es : List Pending) (m : Pending) (ls : List Pending) (t : Stage) (b : Bounds) (slot : ℕ) (v : UnitValue)
@@ -87,20 +87,20 @@ kept_apart es m ls t b slot v (Some l) k e h apart =
     apart
 
 pub store_event : (b : Bounds) (s : State) (es : List Pending) (m : Pending) (ls : List Pending) (v : UnitValue)
-    (slot : ℕ) → m.phase ≡ Before (Finished v) → list_any (to_be_read es) (puts_of (shape_of m.instr)) ≡ false
+    (slot : ℕ) → m.phase ≡ Before (Finished v) → list_any (to_be_read es) (sets_of (shape_of m.instr)) ≡ false
     → (has_reference (shape_of m.instr) && list_any has_turn es) ≡ false → Pairs IsApart (es ++ m ∷ ls)
-    → IsKept b s (do_now b s (work_of (shape_of m.instr) v)) (es ++ m ∷ ls)
+    → IsKept b s (write_and_jump b s (work_of (shape_of m.instr) v)) (es ++ m ∷ ls)
     (es ++ (kept m (rest_of b slot (work_of (shape_of m.instr) v).reference) ++ ls))
 unfolding work_of
 store_event b s es m ls v slot e held turn apart =
     let before = pairs_before IsApart es m ls apart in
     record {
       apart = kept_apart es m ls (Finished v) b slot v _ refl e turn apart;
-      same = complete-put_back b s (do_now b s (work_of (shape_of m.instr) v)) es _ m ls
+      same = complete-put_back b s (write_and_jump b s (work_of (shape_of m.instr) v)) es _ m ls
           (ap (λ x. complete b x (kept m (rest_of b slot (work_of (shape_of m.instr) v).reference)))
           (complete-now b b s es (shape_of m.instr) v (no_branches es m before)
           (free_to_put es m (Finished v) e before held))
-          ∙ run-store b (complete b s es) m v slot e);
+          ∙ finish_effects-store b (complete b s es) m v slot e);
     }
 
 pub accept_load_event : (b : Bounds) (s : State) (es : List Pending) (m : Pending) (ls : List Pending) (slot a n : ℕ)
@@ -114,20 +114,20 @@ accept_load_event b s es m ls slot a n e first apart =
       apart = pairs_less es (in_phase m (After (Accepted n (get_or s.memory a 0)))) m ls (less_accepted m slot a n _ e)
           (not_entered es (in_phase m (After (Accepted n (get_or s.memory a 0)))) refl) apart;
       same = complete-put_back b s s es ((in_phase m (After (Accepted n (get_or s.memory a 0)))) ∷ []) m ls
-          (run-accept_load b (complete b s es) m slot a n _ e
+          (finish_effects-accept_load b (complete b s es) m slot a n _ e
           (sym (complete-word b s es a (unstored es a n turns first))));
     }
 
 pub accept_store_event : (b : Bounds) (s : State) (es : List Pending) (m : Pending) (ls : List Pending) (slot a v : ℕ)
     → m.phase ≡ After (Entered slot a (StoreWord v)) → list_any (holds_back a (StoreWord v)) es ≡ false
-    → Pairs IsApart (es ++ m ∷ ls) → IsKept b s (poke s a v) (es ++ m ∷ ls) (es ++ ([] ++ ls))
+    → Pairs IsApart (es ++ m ∷ ls) → IsKept b s (store_word s a v) (es ++ m ∷ ls) (es ++ ([] ++ ls))
 accept_store_event b s es m ls slot a v e first apart =
     let turns = turns_past es m slot a _ e (pairs_before IsApart es m ls apart) in
     record {
       apart = pairs_without IsApart es m ls apart;
-      same = complete-put_back b s (poke s a v) es [] m ls
-          (ap (λ x. complete b x []) (complete-poke b s es a v (untouched es a v turns first))
-          ∙ run-accept_store b (complete b s es) m slot a v e);
+      same = complete-put_back b s (store_word s a v) es [] m ls
+          (ap (λ x. complete b x []) (complete-store_word b s es a v (untouched es a v turns first))
+          ∙ finish_effects-accept_store b (complete b s es) m slot a v e);
     }
 
 pub return_event : (b : Bounds) (s : State) (es : List Pending) (m : Pending) (ls : List Pending) (c v : ℕ)
@@ -138,6 +138,6 @@ return_event b s es m ls c v e held apart =
       apart = pairs_without IsApart es m ls apart;
       same = complete-put_back b s (write s (X c) v) es [] m ls
           (ap (λ x. complete b x []) (complete-write b s es (X c) v
-          (free_to_return es m c v e (pairs_before IsApart es m ls apart) held)) ∙ run-return b (complete b s
+          (free_to_return es m c v e (pairs_before IsApart es m ls apart) held)) ∙ finish_effects-return b (complete b s
           es) m c v e);
     }

@@ -1,5 +1,6 @@
 -- The headline: the log is what was issued and exchanged, and a fault's run.
-use Rattle.sequential.specs.Place.{gone}
+use Rattle.std.specs.Prelude.{option_and_then}
+use Rattle.sequential.specs.Position.{after_jump}
 use Rattle.std.proofs.Common.{◌≡◌, ℕ, Bool, true, false, ◌||◌, List, [], ◌∷◌, ◌++◌, Option, Some, None, cond, refl, sym}
 use Rattle.std.proofs.Common.{ap, ◌∙◌, subst, subst₂, drop, length, append_assoc, append-nil, get_or, ltb}
 use Rattle.std.specs.List.{list_any, list_all}
@@ -27,7 +28,7 @@ use Rattle.program_order.specs.Complete.{do_outstanding}
 use Rattle.program_order.specs.declared.event.Done.{Done}
 use Rattle.program_order.specs.declared.event.Done.TheVariants.{Word}
 use Rattle.program_order.specs.Run.{done_by, settled, IsAnswer, IsAnswered, settled_all}
-use Rattle.sequential.specs.Swap.{begun, swap}
+use Rattle.sequential.specs.Swap.{program_entered, swap}
 use Rattle.std.specs.Prelude.{not, is_some, unwrap_or, Result, Ok, Err}
 use Rattle.instructions.specs.Finding.{Found}
 use Rattle.program_order.specs.Processor.{Processor, boot_processor, completed, replayed}
@@ -40,7 +41,7 @@ use Rattle.program_order.specs.Issue.{after_issue, issue_tests}
 use Rattle.program_order.specs.declared.event.Event.{Event}
 use Rattle.program_order.specs.declared.event.Event.TheVariants.{Accept, Ask, BankFree, Exchange, Finish, Issue, Read}
 use Rattle.program_order.specs.declared.event.Event.TheVariants.{Return, Store as StoreResult, PpRead, PpWrite}
-use Rattle.in_flight.specs.declared.pending.HopperEntry.{HopperEntry}
+use Rattle.hopper.specs.declared.reference.Reference.{Reference}
 use Rattle.in_flight.specs.declared.pending.Outstanding.{Outstanding}
 use Rattle.in_flight.specs.declared.pending.Outstanding.TheVariants.{Accepted, Entered}
 use Rattle.in_flight.specs.declared.pending.Stage.{Stage}
@@ -49,10 +50,9 @@ use Rattle.relocation.specs.declared.area.Access.{Access}
 use Rattle.relocation.specs.declared.area.Access.TheVariants.{Load as LoadInto, Store as StoreWord}
 use Rattle.sequential.specs.Log.{issued}
 use Rattle.sequential.specs.Replay.{Exchanged, Issued, LogStep, ReadAt, Wrote, boot, do_log_step, replay}
-use Rattle.sequential.specs.Replay.{then_replay}
-use Rattle.sequential.specs.State.{Bounds, access_at, bounds_of, go, halt_by, mark, move_to, poke, write}
+use Rattle.sequential.specs.State.{Bounds, access_at, bounds_of, jump_to, halt_by, or_fault, move_to, store_word, write}
 use Rattle.sequential.specs.Step.{do_fetched, do_instruction, step, step_unless}
-use Rattle.sequential.specs.Work.{Work, do_now}
+use Rattle.sequential.specs.Work.{Work, write_and_jump}
 use Rattle.sequential.specs.declared.fetching.Fetched.{Fetched}
 use Rattle.sequential.specs.declared.fetching.Fetched.TheVariants.{Halting, Passing, Taking}
 use Rattle.sequential.specs.declared.state.State.{State}
@@ -81,7 +81,7 @@ books_store w f Waiting = books_same w _ refl refl refl refl
 books_store w f (HasRead os) = books_same w _ refl refl refl refl
 books_store w f (Finished v) = books_same w _ refl refl refl refl
 
-books_accept : (w : Processor) (f : Found Pending HopperEntry) (a : ℕ) (access : Access)
+books_accept : (w : Processor) (f : Found Pending Reference) (a : ℕ) (access : Access)
     → Books w (after_accept w f a access) w.request []
 unfolding after_accept
 books_accept w f a (LoadInto n) = books_same w _ refl refl refl refl
@@ -89,9 +89,9 @@ books_accept w f a (StoreWord v) = books_same w _ refl refl refl refl
 
 books_issue : (w : Processor) (g : Fetched) → Books w (after_issue w g) w.request (Issued ∷ [])
 unfolding after_issue
-books_issue w (Halting k place) = record { log = refl; request = refl; boot = refl; budget = refl }
-books_issue w (Passing place) = record { log = refl; request = refl; boot = refl; budget = refl }
-books_issue w (Taking i place) = record { log = refl; request = refl; boot = refl; budget = refl }
+books_issue w (Halting k position) = record { log = refl; request = refl; boot = refl; budget = refl }
+books_issue w (Passing position) = record { log = refl; request = refl; boot = refl; budget = refl }
+books_issue w (Taking i position) = record { log = refl; request = refl; boot = refl; budget = refl }
 
 books_exchange : (w : Processor) (o : Option ℕ) → w.request ≡ o → Books w (after_exchange w o) None (exchange_step o)
 unfolding after_exchange exchange_step
@@ -104,7 +104,7 @@ books_after w Issue = books_issue w _
 books_after w (Read u) = books_found w _ _ (λ f. books_same w _ refl refl refl refl)
 books_after w (Finish u) = books_found w _ _ (λ f. books_same w _ refl refl refl refl)
 books_after w (StoreResult u) = books_found w _ _ (λ f. books_store w f f.answer)
-books_after w (Accept p) = books_found w _ _ (λ f. books_accept w f f.answer.a f.answer.access)
+books_after w (Accept p) = books_found w _ _ (λ f. books_accept w f f.answer.address f.answer.access)
 books_after w (Return c) = books_found w _ _ (λ f. books_same w _ refl refl refl refl)
 books_after w (BankFree k) = books_same w _ refl refl refl refl
 books_after w (Ask n) = record { log = sym (append-nil w.log); request = refl; boot = refl; budget = refl }
@@ -139,17 +139,17 @@ run_boot w (e ∷ es) (a ∷ given) = run_boot (settled w e a) es given ∙ (boo
 
 -- ---- a fault stays ----
 
-go-fault : (s : State) (j : Option ℕ) → (go s j).fault ≡ s.fault
-unfolding go gone
-go-fault s None = refl
-go-fault s (Some to) = refl
+jump_to-fault : (s : State) (j : Option ℕ) → (jump_to s j).fault ≡ s.fault
+unfolding jump_to after_jump
+jump_to-fault s None = refl
+jump_to-fault s (Some to) = refl
 
-do_now-fault : (b : Bounds) (s : State) (w : Work) → s.fault ≡ true → (do_now b s w).fault ≡ true
-unfolding do_now mark
-do_now-fault b s w h = or_left _ _ (go-fault _ w.jump ∙ ap (λ y. y.fault) (write_all_rest s w.puts) ∙ h)
+write_and_jump-fault : (b : Bounds) (s : State) (w : Work) → s.fault ≡ true → (write_and_jump b s w).fault ≡ true
+unfolding write_and_jump or_fault
+write_and_jump-fault b s w h = or_left _ _ (jump_to-fault _ w.jump ∙ ap (λ y. y.fault) (write_all_rest s w.sets) ∙ h)
 
 do_option-fault : (s : State) (o : Option Outstanding) → (do_option s o).fault ≡ s.fault
-unfolding do_option do_outstanding access_at write poke
+unfolding do_option do_outstanding access_at write store_word
 do_option-fault s None = refl
 do_option-fault s (Some (Entered slot a (LoadInto n))) = refl
 do_option-fault s (Some (Entered slot a (StoreWord w))) = refl
@@ -157,10 +157,10 @@ do_option-fault s (Some (Accepted n w)) = refl
 
 do_fetched-fault : (b : Bounds) (s : State) (at : ℕ) (g : Fetched) → s.fault ≡ true → (do_fetched b s at g).fault ≡ true
 unfolding do_fetched do_instruction do_parts halt_by move_to
-do_fetched-fault b s at (Halting k place) h = h
-do_fetched-fault b s at (Passing place) h = h
-do_fetched-fault b s at (Taking i place) h = ap (λ y. y.fault) (do_work-is b (record s { place = place }) _)
-    ∙ do_option-fault _ _ ∙ do_now-fault b (record s { place = place }) _ h
+do_fetched-fault b s at (Halting k position) h = h
+do_fetched-fault b s at (Passing position) h = h
+do_fetched-fault b s at (Taking i position) h = ap (λ y. y.fault) (do_work-is b (record s { position = position }) _)
+    ∙ do_option-fault _ _ ∙ write_and_jump-fault b (record s { position = position }) _ h
 
 step-fault : (s : State) → s.fault ≡ true → (step s).fault ≡ true
 unfolding step step_unless
@@ -177,25 +177,25 @@ let_through false s t h = cc
 
 log_step-fault : (s : State) (x : LogStep) (t : State) → is_exchanged x ≡ false → do_log_step s x ≡ Some t
     → s.fault ≡ true → t.fault ≡ true
-unfolding do_log_step is_exchanged poke
+unfolding do_log_step is_exchanged store_word
 log_step-fault s Issued t n h f = ap (λ (y : State). y.fault) (sym (same_Some (step s) t h)) ∙ step-fault s f
 log_step-fault s (Exchanged k) t n h f = cc
 log_step-fault s (ReadAt a) t n h f =
     ap (λ (y : State). y.fault) (sym (let_through (ltb a (length s.memory)) s t h)) ∙ f
 log_step-fault s (Wrote a w) t n h f =
-    ap (λ (y : State). y.fault) (sym (let_through (ltb a (length s.memory)) (poke s a w) t h)) ∙ f
+    ap (λ (y : State). y.fault) (sym (let_through (ltb a (length s.memory)) (store_word s a w) t h)) ∙ f
 
 -- once set, it stays through all later steps but an exchange
 replay-fault : (s : State) (xs : List LogStep) (t : State) → list_any is_exchanged xs ≡ false → replay s xs ≡ Some t
     → s.fault ≡ true → t.fault ≡ true
-unfolding replay then_replay
+unfolding replay
 replay-fault s [] t n h f = ap (λ (y : State). y.fault) (sym (same_Some s t h)) ∙ f
 replay-fault s (x ∷ xs) t n h f =
     let p = or_parts (is_exchanged x) (list_any is_exchanged xs) n in
     after (do_log_step s x) refl (λ u k g. replay-fault u xs t p.1 k g) p.0 h
   where
     after : (o : Option State) → do_log_step s x ≡ o → ((u : State) → replay u xs ≡ Some t → u.fault ≡ true
-        → t.fault ≡ true) → is_exchanged x ≡ false → then_replay o (λ u. replay u xs) ≡ Some t → t.fault ≡ true
+        → t.fault ≡ true) → is_exchanged x ≡ false → option_and_then (λ u. replay u xs) o ≡ Some t → t.fault ≡ true
     after None e ih q k = cc
     after (Some u) e ih q k = ih u k (log_step-fault s x u q e f)
 
@@ -214,7 +214,7 @@ pub record FirstFault (s : State) (xs : List LogStep) : Type 0 where
 -- the first step sets it: no exchange and no peripheral access does
 set_at_once : (s u : State) (x : LogStep) (xs : List LogStep) → s.fault ≡ false → is_exchanged x ≡ false
     → do_log_step s x ≡ Some u → u.fault ≡ true → FirstFault s (x ∷ xs)
-unfolding do_log_step is_exchanged poke replay then_replay
+unfolding do_log_step is_exchanged store_word replay
 set_at_once s u Issued xs f n h g = record {
   earlier = [];
   later = xs;
@@ -233,12 +233,12 @@ set_at_once s u (ReadAt a) xs f n h g =
     absurd (false≢true (sym f ∙ ap (λ (y : State). y.fault) (let_through (ltb a (length s.memory)) s u h) ∙ g))
 set_at_once s u (Wrote a w) xs f n h g =
     absurd (false≢true (sym f
-    ∙ ap (λ (y : State). y.fault) (let_through (ltb a (length s.memory)) (poke s a w) u h) ∙ g))
+    ∙ ap (λ (y : State). y.fault) (let_through (ltb a (length s.memory)) (store_word s a w) u h) ∙ g))
 
 -- the first step doesn't set it
 set_later : (s u : State) (x : LogStep) (xs : List LogStep) → s.fault ≡ false → do_log_step s x ≡ Some u
     → FirstFault u xs → FirstFault s (x ∷ xs)
-unfolding replay then_replay
+unfolding replay
 set_later s u x xs f h r = record {
   earlier = x ∷ r.earlier;
   later = r.later;
@@ -247,9 +247,9 @@ set_later s u x xs f h r = record {
   always_after = λ more q t k. r.always_after more q t (onward (r.earlier ++ Issued ∷ more) t k);
 }
   where
-    onward : (ys : List LogStep) (t : State) → then_replay (do_log_step s x) (λ v. replay v ys) ≡ Some t
+    onward : (ys : List LogStep) (t : State) → option_and_then (λ v. replay v ys) (do_log_step s x) ≡ Some t
         → replay u ys ≡ Some t
-    onward ys t k = sym (ap (λ o. then_replay o (λ v. replay v ys)) h) ∙ k
+    onward ys t k = sym (ap (λ o. option_and_then (λ v. replay v ys) o) h) ∙ k
 
     not_before : (front rest : List LogStep) → x ∷ r.earlier ≡ front ++ rest → (t : State) → replay s front ≡ Some t
         → t.fault ≡ false
@@ -258,11 +258,11 @@ set_later s u x xs f h r = record {
         let head : y ≡ x = cc in
         let tail : r.earlier ≡ front ++ rest = cc in
         r.never_before front rest tail t
-        (onward front t (ap (λ z. then_replay (do_log_step s z) (λ v. replay v front)) (sym head) ∙ k))
+        (onward front t (ap (λ z. option_and_then (λ v. replay v front) (do_log_step s z)) (sym head) ∙ k))
 
 first_fault : (s : State) (xs : List LogStep) (t : State) → list_any is_exchanged xs ≡ false → replay s xs ≡ Some t
     → s.fault ≡ false → t.fault ≡ true → FirstFault s xs
-unfolding replay then_replay
+unfolding replay
 first_fault s [] t n h f g =
     absurd (false≢true (sym f ∙ ap (λ (y : State). y.fault) (same_Some s t h) ∙ g))
 first_fault s (x ∷ xs) t n h f g =
@@ -276,7 +276,7 @@ first_fault s (x ∷ xs) t n h f g =
 
     after : (o : Option State) → do_log_step s x ≡ o
         → ((u : State) → replay u xs ≡ Some t → u.fault ≡ false → FirstFault u xs) → is_exchanged x ≡ false
-        → then_replay o (λ u. replay u xs) ≡ Some t → FirstFault s (x ∷ xs)
+        → option_and_then (λ u. replay u xs) o ≡ Some t → FirstFault s (x ∷ xs)
     after None e ih q k = cc
     after (Some u) e ih q k = by_fault u u.fault refl e (ih u k) q
 
@@ -296,7 +296,7 @@ no_exchange_more (y ∷ xs) x h k =
     ap (λ b. b || list_any is_exchanged (xs ++ x ∷ [])) p.0 ∙ no_exchange_more xs x p.1 k
 
 pub swap-no_fault : (n : ℕ) (s : State) → (swap n s).fault ≡ false
-unfolding swap begun
+unfolding swap program_entered
 swap-no_fault n s = refl
 
 -- a log up to its last exchange, and its steps since then
@@ -354,14 +354,14 @@ split_more memory log s t (Wrote a w) p h = split_other memory log s t (Wrote a 
 
 split_all : (memory : List ℕ) (log more : List LogStep) (s t : State) → IsSplit memory log s → replay s more ≡ Some t
     → IsSplit memory (log ++ more) t
-unfolding replay then_replay
+unfolding replay
 split_all memory log [] s t p h = subst₂ (IsSplit memory) (sym (append-nil log)) (same_Some s t h) p
 split_all memory log (x ∷ xs) s t p h =
     after (do_log_step s x) refl (λ u q k. split_all memory (log ++ x ∷ []) xs u t q k) h
   where
     after : (o : Option State) → do_log_step s x ≡ o
         → ((u : State) → IsSplit memory (log ++ x ∷ []) u → replay u xs ≡ Some t
-        → IsSplit memory ((log ++ x ∷ []) ++ xs) t) → then_replay o (λ u. replay u xs) ≡ Some t
+        → IsSplit memory ((log ++ x ∷ []) ++ xs) t) → option_and_then (λ u. replay u xs) o ≡ Some t
         → IsSplit memory (log ++ x ∷ xs) t
     after None e ih k = cc
     after (Some u) e ih k =
@@ -394,28 +394,28 @@ fault_store : (w : Processor) (f : Found Pending Stage) (t : Stage) → w.state.
 unfolding after_store after_work
 fault_store w f Waiting h = h
 fault_store w f (HasRead os) h = h
-fault_store w f (Finished v) h = do_now-fault (bounds_of w.state) w.state _ h
+fault_store w f (Finished v) h = write_and_jump-fault (bounds_of w.state) w.state _ h
 
-fault_accept : (w : Processor) (f : Found Pending HopperEntry) (a : ℕ) (access : Access) → w.state.fault ≡ true
+fault_accept : (w : Processor) (f : Found Pending Reference) (a : ℕ) (access : Access) → w.state.fault ≡ true
     → (after_accept w f a access).state.fault ≡ true
-unfolding after_accept poke
+unfolding after_accept store_word
 fault_accept w f a (LoadInto n) h = h
 fault_accept w f a (StoreWord v) h = h
 
 fault_issue : (w : Processor) (g : Fetched) → w.state.fault ≡ true → (after_issue w g).state.fault ≡ true
 unfolding after_issue move_to halt_by
-fault_issue w (Halting k place) h = h
-fault_issue w (Passing place) h = h
-fault_issue w (Taking i place) h = h
+fault_issue w (Halting k position) h = h
+fault_issue w (Passing position) h = h
+fault_issue w (Taking i position) h = h
 
 pub fault_after : (w : Processor) (e : Event) → is_exchange e ≡ false → w.state.fault ≡ true
     → (after w e).state.fault ≡ true
-unfolding after is_exchange after_read after_finish after_return after_pp_read after_pp_write write poke
+unfolding after is_exchange after_read after_finish after_return after_pp_read after_pp_write write store_word
 fault_after w Issue n h = fault_issue w _ h
 fault_after w (Read u) n h = fault_found w _ _ (λ f. h) h
 fault_after w (Finish u) n h = fault_found w _ _ (λ f. h) h
 fault_after w (StoreResult u) n h = fault_found w _ _ (λ f. fault_store w f f.answer h) h
-fault_after w (Accept p) n h = fault_found w _ _ (λ f. fault_accept w f f.answer.a f.answer.access h) h
+fault_after w (Accept p) n h = fault_found w _ _ (λ f. fault_accept w f f.answer.address f.answer.access h) h
 fault_after w (Return c) n h = fault_found w _ _ (λ f. h) h
 fault_after w (BankFree k) n h = h
 fault_after w (Ask k) n h = h

@@ -5,7 +5,7 @@ use Rattle.program_order.proofs.effects.Completing.{complete-append}
 use Rattle.instructions.specs.Shape.{shape_of}
 use Rattle.instructions.specs.declared.instr.Instr.{Instr}
 use Rattle.instructions.specs.declared.instr.Reg.TheVariants.{X}
-use Rattle.program_order.specs.Complete.{complete, do_outstanding, run, run_phase, value_at}
+use Rattle.program_order.specs.Complete.{complete, do_outstanding, finish_effects, run_phase, value_at}
 use Rattle.program_order.specs.Units.{entering, rest_of, stage_after_finish, stage_after_read}
 use Rattle.in_flight.specs.Lookup.{in_phase, kept}
 use Rattle.in_flight.specs.declared.pending.Outstanding.{Outstanding}
@@ -18,8 +18,8 @@ use Rattle.in_flight.specs.declared.pending.Stage.TheVariants.{Finished, Read as
 use Rattle.registers.specs.declared.file.RegisterFile.{RegisterFile}
 use Rattle.relocation.specs.declared.area.Access.{Access}
 use Rattle.relocation.specs.declared.area.Access.TheVariants.{Load as LoadInto, Store as StoreWord}
-use Rattle.sequential.specs.State.{Bounds, absolute, access_at, poke, write}
-use Rattle.sequential.specs.Work.{do_now, do_work, operands, work_of}
+use Rattle.sequential.specs.State.{Bounds, absolute, access_at, store_word, write}
+use Rattle.sequential.specs.Work.{write_and_jump, do_work, operands, work_of}
 use Rattle.sequential.specs.declared.state.State.{State}
 use Rattle.sequential.specs.declared.work.ProgramReference.{ProgramReference}
 use Rattle.unit_ops.specs.Values.{value_of}
@@ -27,7 +27,7 @@ use Rattle.unit_ops.specs.declared.UnitValue.{UnitValue}
 
 -- others put for one of the list
 pub complete-put_back : (b : Bounds) (s c : State) (es ns : List Pending) (m : Pending) (ls : List Pending)
-    → complete b (complete b c es) ns ≡ run b (complete b s es) m
+    → complete b (complete b c es) ns ≡ finish_effects b (complete b s es) m
     → complete b c (es ++ (ns ++ ls)) ≡ complete b s (es ++ m ∷ ls)
 unfolding complete
 complete-put_back b s c es ns m ls h =
@@ -36,8 +36,8 @@ complete-put_back b s c es ns m ls h =
     ∙ ap (λ x. complete b x ls) h
     ∙ sym (complete-append b s es (m ∷ ls))
 
-pub run_in : (b : Bounds) (s : State) (m : Pending) (p : Phase) → m.phase ≡ p → run b s m ≡ run_phase b s m.instr m.at p
-unfolding run
+pub run_in : (b : Bounds) (s : State) (m : Pending) (p : Phase) → m.phase ≡ p → finish_effects b s m ≡ run_phase b s m.instr m.at p
+unfolding finish_effects
 run_in b s m p e = ap (run_phase b s m.instr m.at) e
 
 value-read : (i : Instr) (at : ℕ) (g k : RegisterFile) (t : Stage) → operands i at g ≡ operands i at k
@@ -47,11 +47,11 @@ value-read i at g k Waiting e = ap (value_of i) e
 value-read i at g k (HasRead os) e = refl
 value-read i at g k (Finished v) e = refl
 
-pub run-read : (b : Bounds) (s : State) (m : Pending) (t : Stage) (g : RegisterFile) → m.phase ≡ Before t
+pub finish_effects-read : (b : Bounds) (s : State) (m : Pending) (t : Stage) (g : RegisterFile) → m.phase ≡ Before t
     → operands m.instr m.at g ≡ operands m.instr m.at s.registers
-    → run b s (in_phase m (Before (stage_after_read g m.instr m.at t))) ≡ run b s m
-unfolding run run_phase in_phase
-run-read b s m t g e a =
+    → finish_effects b s (in_phase m (Before (stage_after_read g m.instr m.at t))) ≡ finish_effects b s m
+unfolding finish_effects run_phase in_phase
+finish_effects-read b s m t g e a =
     ap (λ v. do_work b s (work_of (shape_of m.instr) v)) (value-read m.instr m.at g s.registers t a)
     ∙ sym (run_in b s m (Before t) e)
 
@@ -62,10 +62,10 @@ value-finish i at g Waiting = refl
 value-finish i at g (HasRead os) = refl
 value-finish i at g (Finished v) = refl
 
-pub run-finish : (b : Bounds) (s : State) (m : Pending) (t : Stage) → m.phase ≡ Before t
-    → run b s (in_phase m (Before (stage_after_finish m.instr t))) ≡ run b s m
-unfolding run run_phase in_phase
-run-finish b s m t e =
+pub finish_effects-finish : (b : Bounds) (s : State) (m : Pending) (t : Stage) → m.phase ≡ Before t
+    → finish_effects b s (in_phase m (Before (stage_after_finish m.instr t))) ≡ finish_effects b s m
+unfolding finish_effects run_phase in_phase
+finish_effects-finish b s m t e =
     ap (λ v. do_work b s (work_of (shape_of m.instr) v)) (value-finish m.instr m.at s.registers t)
     ∙ sym (run_in b s m (Before t) e)
 
@@ -84,32 +84,32 @@ rest-slot b s p q (Some r) = entering-slot s p q (absolute b r.address) r.access
 
 complete-kept : (b : Bounds) (s : State) (m : Pending) (o : Option Outstanding)
     → complete b s (kept m o) ≡ do_option s o
-unfolding complete kept do_option run run_phase in_phase
+unfolding complete kept do_option finish_effects run_phase in_phase
 complete-kept b s m None = refl
 complete-kept b s m (Some l) = refl
 
-pub run-store : (b : Bounds) (s : State) (m : Pending) (v : UnitValue) (slot : ℕ) → m.phase ≡ Before (Finished v)
-    → complete b (do_now b s (work_of (shape_of m.instr) v))
-    (kept m (rest_of b slot (work_of (shape_of m.instr) v).reference)) ≡ run b s m
+pub finish_effects-store : (b : Bounds) (s : State) (m : Pending) (v : UnitValue) (slot : ℕ) → m.phase ≡ Before (Finished v)
+    → complete b (write_and_jump b s (work_of (shape_of m.instr) v))
+    (kept m (rest_of b slot (work_of (shape_of m.instr) v).reference)) ≡ finish_effects b s m
 unfolding run_phase do_parts value_at
-run-store b s m v slot e =
+finish_effects-store b s m v slot e =
     complete-kept b _ m _
     ∙ rest-slot b _ slot 0 _
     ∙ sym (do_work-is b s (work_of (shape_of m.instr) v))
     ∙ sym (run_in b s m (Before (Finished v)) e)
 
-pub run-accept_load : (b : Bounds) (s : State) (m : Pending) (slot a n word : ℕ)
+pub finish_effects-accept_load : (b : Bounds) (s : State) (m : Pending) (slot a n word : ℕ)
     → m.phase ≡ After (Entered slot a (LoadInto n)) → word ≡ get_or s.memory a 0
-    → run b s (in_phase m (After (Accepted n word))) ≡ run b s m
-unfolding run run_phase in_phase do_outstanding access_at
-run-accept_load b s m slot a n word e f = ap (write s (X n)) f ∙ sym (run_in b s m _ e)
+    → finish_effects b s (in_phase m (After (Accepted n word))) ≡ finish_effects b s m
+unfolding finish_effects run_phase in_phase do_outstanding access_at
+finish_effects-accept_load b s m slot a n word e f = ap (write s (X n)) f ∙ sym (run_in b s m _ e)
 
-pub run-accept_store : (b : Bounds) (s : State) (m : Pending) (slot a v : ℕ)
-    → m.phase ≡ After (Entered slot a (StoreWord v)) → complete b (poke s a v) [] ≡ run b s m
+pub finish_effects-accept_store : (b : Bounds) (s : State) (m : Pending) (slot a v : ℕ)
+    → m.phase ≡ After (Entered slot a (StoreWord v)) → complete b (store_word s a v) [] ≡ finish_effects b s m
 unfolding complete run_phase do_outstanding access_at
-run-accept_store b s m slot a v e = sym (run_in b s m _ e)
+finish_effects-accept_store b s m slot a v e = sym (run_in b s m _ e)
 
-pub run-return : (b : Bounds) (s : State) (m : Pending) (n v : ℕ) → m.phase ≡ After (Accepted n v)
-    → complete b (write s (X n) v) [] ≡ run b s m
+pub finish_effects-return : (b : Bounds) (s : State) (m : Pending) (n v : ℕ) → m.phase ≡ After (Accepted n v)
+    → complete b (write s (X n) v) [] ≡ finish_effects b s m
 unfolding complete run_phase do_outstanding
-run-return b s m n v e = sym (run_in b s m _ e)
+finish_effects-return b s m n v e = sym (run_in b s m _ e)

@@ -6,8 +6,8 @@ use Rattle.std.specs.Prelude.{is_some, Result, Ok, Err}
 use Rattle.std.proofs.lemmas.List.{length-set}
 use Rattle.std.specs.List.{list_any}
 use Rattle.std.proofs.lemmas.Bool.{not-false}
-use Rattle.program_order.proofs.effects.Effects.{do_now-bounds}
-use Rattle.program_order.proofs.effects.Completing.{each_no_branch, complete-bounds, complete-move, complete-poke}
+use Rattle.program_order.proofs.effects.Effects.{write_and_jump-bounds}
+use Rattle.program_order.proofs.effects.Completing.{each_no_branch, complete-bounds, complete-move, complete-store_word}
 use Rattle.program_order.proofs.effects.Completing.{complete-word}
 use Rattle.program_order.proofs.theorem.Apart.{untouched_by_access, unstored_by_access}
 use Rattle.in_flight.proofs.asking.Finding.{refusal_none, not_nothing, stage_found, entry_found, arrival_found}
@@ -22,7 +22,7 @@ use Rattle.instructions.specs.declared.refusal.Refusal.{Refusal}
 use Rattle.instructions.specs.Each.{Each, Pairs}
 use Rattle.in_flight.specs.Pending.{awaited, delays_access, has_turn, is_branch}
 use Rattle.program_order.specs.Complete.{complete}
-use Rattle.program_order.specs.Sound.{Fits, IsReplay, IsSound}
+use Rattle.program_order.specs.Invariant.{Fits, IsReplay, IsSound}
 use Rattle.in_flight.specs.Apart.{IsApart}
 use Rattle.instructions.specs.declared.instr.Unit.{Unit as FunctionalUnit}
 use Rattle.in_flight.specs.declared.pending.Arrival.{Arrival}
@@ -43,7 +43,7 @@ use Rattle.in_flight.specs.Lookup.{arrival_at, entry_at, is_pending, stage_at}
 use Rattle.program_order.specs.declared.event.Event.{Event}
 use Rattle.program_order.specs.declared.event.Event.TheVariants.{Accept, Ask, BankFree, Exchange, Finish, Issue, Read}
 use Rattle.program_order.specs.declared.event.Event.TheVariants.{Return, Store as StoreResult, PpRead, PpWrite}
-use Rattle.in_flight.specs.declared.pending.HopperEntry.{HopperEntry}
+use Rattle.hopper.specs.declared.reference.Reference.{Reference}
 use Rattle.in_flight.specs.declared.pending.Outstanding.TheVariants.{Entered}
 use Rattle.in_flight.specs.declared.pending.Pending.{Pending}
 use Rattle.in_flight.specs.declared.pending.Phase.TheVariants.{After, Before}
@@ -52,7 +52,7 @@ use Rattle.in_flight.specs.declared.pending.Stage.TheVariants.{Finished, Read as
 use Rattle.relocation.specs.declared.area.Access.{Access}
 use Rattle.relocation.specs.declared.area.Access.TheVariants.{Load as LoadInto, Store as StoreWord}
 use Rattle.sequential.specs.Replay.{Exchanged, Issued, ReadAt, Wrote, boot, do_log_step, replay}
-use Rattle.sequential.specs.State.{Bounds, bounds_of, halt_by, move_to, poke, write}
+use Rattle.sequential.specs.State.{Bounds, bounds_of, halt_by, move_to, store_word, write}
 use Rattle.sequential.specs.Step.{do_fetched, fetch, step}
 use Rattle.sequential.specs.Swap.{swap}
 use Rattle.sequential.specs.Work.{work_of}
@@ -124,7 +124,7 @@ store_at w f (Finished v) s e h r =
     from_kept w _ _ s
     (store_event (bounds_of w.state) w.state f.earlier f.item f.later v _ e t.0 t.1.1.0
     (subst (Pairs IsApart) s r.0.apart))
-    (do_now-bounds (bounds_of w.state) w.state (work_of (shape_of f.item.instr) v)) refl refl r
+    (write_and_jump-bounds (bounds_of w.state) w.state (work_of (shape_of f.item.instr) v)) refl refl r
 
 store_kept : (w : Processor) (u : FunctionalUnit) (o : Option (Found Pending Stage)) → seek (stage_at u) w.pending ≡ o
     → refusal_of (tests_found o (λ f. store_tests (bounds_of w.state) w.pending f.answer f.earlier f.item.instr))
@@ -137,13 +137,13 @@ store_kept w u (Some f) e h r =
 
 -- ---- accept ----
 
-poke-bounds : (s : State) (a v : ℕ) → bounds_of (poke s a v) ≡ bounds_of s
-unfolding bounds_of poke
-poke-bounds s a v = ap (λ n. record { area = s.area; size = n }) (length-set s.memory a v)
+store_word-bounds : (s : State) (a v : ℕ) → bounds_of (store_word s a v) ≡ bounds_of s
+unfolding bounds_of store_word
+store_word-bounds s a v = ap (λ n. record { area = s.area; size = n }) (length-set s.memory a v)
 
-accept_at : (w : Processor) (f : Found Pending HopperEntry) (slot a : ℕ) (access : Access) (busy : List Bool)
+accept_at : (w : Processor) (f : Found Pending Reference) (slot a : ℕ) (access : Access) (busy : List Bool)
     → w.pending ≡ f.earlier ++ f.item ∷ f.later → f.item.phase ≡ After (Entered slot a access)
-    → refusal_of (accept_tests busy f.earlier (record { a = a; access = access })) ≡ None → IsRight w
+    → refusal_of (accept_tests busy f.earlier (record { address = a; access = access })) ≡ None → IsRight w
     → IsRight (after_accept w f a access)
 unfolding accept_tests after_accept put_back replayed
 accept_at w f slot a (LoadInto n) busy s e h r =
@@ -155,17 +155,17 @@ accept_at w f slot a (StoreWord v) busy s e h r =
     from_kept w _ _ s
     (accept_store_event (bounds_of w.state) w.state f.earlier f.item f.later slot a v e (refusal_none _ h).1.0
     (subst (Pairs IsApart) s r.0.apart))
-    (poke-bounds w.state a v) refl refl r
+    (store_word-bounds w.state a v) refl refl r
 
-accept_kept : (w : Processor) (p : ℕ) (o : Option (Found Pending HopperEntry)) → seek (entry_at p) w.pending ≡ o
+accept_kept : (w : Processor) (p : ℕ) (o : Option (Found Pending Reference)) → seek (entry_at p) w.pending ≡ o
     → refusal_of (tests_found o (λ f. accept_tests w.busy f.earlier f.answer)) ≡ None → IsRight w
-    → IsRight (after_found w o (λ f. after_accept w f f.answer.a f.answer.access))
+    → IsRight (after_found w o (λ f. after_accept w f f.answer.address f.answer.access))
 unfolding tests_found after_found
 accept_kept w p None e h r = absurd (not_nothing h)
 accept_kept w p (Some f) e h r =
     let q = seek_splits (entry_at p) w.pending f e in
     let k = entry_found p f.item f.answer q.1 in
-    accept_at w f k.0 f.answer.a f.answer.access w.busy q.0 k.1 h r
+    accept_at w f k.0 f.answer.address f.answer.access w.busy q.0 k.1 h r
 
 -- ---- return ----
 
@@ -188,7 +188,7 @@ is_some_none None h = refl
 is_some_none (Some x) h = cc
 
 issue_completed : (w : Processor) (g : Fetched) → list_any is_branch w.pending ≡ false
-    → completed (after_issue w g) ≡ do_fetched (bounds_of w.state) (completed w) w.state.place.p g
+    → completed (after_issue w g) ≡ do_fetched (bounds_of w.state) (completed w) w.state.position.p g
 unfolding completed after_issue do_fetched bounds_of move_to halt_by
 issue_completed w (Halting k place) nb = issue_halting _ w.state w.pending place k nb
 issue_completed w (Passing place) nb = complete-move _ w.state w.pending place (each_no_branch w.pending nb)
@@ -210,11 +210,11 @@ issue_replayed w (Passing place) t h = replay_more _ t w.log Issued h
 issue_replayed w (Taking i place) t h = replay_more _ t w.log Issued h
 
 issue_kept : (w : Processor) → refusal_of (issue_tests w.state w.pending w.request w.budget (issued w.log)) ≡ None
-    → IsRight w → IsRight (after_issue w (fetch (bounds_of w.state) w.state.memory w.state.place))
+    → IsRight w → IsRight (after_issue w (fetch (bounds_of w.state) w.state.memory w.state.position))
 unfolding issue_tests completed
 issue_kept w h r =
     let t = refusal_none _ h in
-    let g = fetch (bounds_of w.state) w.state.memory w.state.place in
+    let g = fetch (bounds_of w.state) w.state.memory w.state.position in
     let nb = t.1.1.1.0 in (
       issue_sound w g nb t.1.1.1.1.1.1 r.0,
       issue_replayed w g _ r.1
@@ -264,11 +264,11 @@ completed_within w a h =
 
 -- a word that is written is written after all that is still to come as well as before it
 completed_write : (w : Processor) (a v : ℕ) → list_any (delays_access a) w.pending ≡ false
-    → completed (after_pp_write w a v) ≡ poke (completed w) a v
+    → completed (after_pp_write w a v) ≡ store_word (completed w) a v
 unfolding completed after_pp_write
 completed_write w a v h =
-    ap (λ b. complete b (poke w.state a v) w.pending) (poke-bounds w.state a v)
-    ∙ complete-poke (bounds_of w.state) w.state w.pending a v (untouched_by_access w.pending a h)
+    ap (λ b. complete b (store_word w.state a v) w.pending) (store_word-bounds w.state a v)
+    ∙ complete-store_word (bounds_of w.state) w.state w.pending a v (untouched_by_access w.pending a h)
 
 -- a word that is read is that of the completed memory
 pub completed_read : (w : Processor) (a : ℕ) → allowed w (PpRead a) ≡ None
@@ -292,11 +292,11 @@ unfolding allowed tests_of access_tests after_pp_write replayed do_log_step boun
 pp_write_kept w a v h r = (
   record {
     apart = r.0.apart;
-    request_fits = subst (Fits w.request) (sym (ap (λ (b : Bounds). b.size) (poke-bounds w.state a v)))
+    request_fits = subst (Fits w.request) (sym (ap (λ (b : Bounds). b.size) (store_word-bounds w.state a v)))
         r.0.request_fits;
   },
   replay_more _ (completed w) w.log (Wrote a v) r.1
-      ∙ ap (λ b. cond b (Some (poke (completed w) a v)) None) (completed_within w a (refusal_none _ h).1.1.0)
+      ∙ ap (λ b. cond b (Some (store_word (completed w) a v)) None) (completed_within w a (refusal_none _ h).1.1.0)
       ∙ ap Some (sym (completed_write w a v (refusal_none _ h).1.0)),
 )
 

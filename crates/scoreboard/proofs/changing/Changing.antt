@@ -16,11 +16,11 @@ use Rattle.scoreboard.specs.Answers.{with_issued}
 use Rattle.scoreboard.specs.inner.Fields.{channels_with}
 use Rattle.scoreboard.specs.Issued.{number_of, channel_of}
 use Rattle.instructions.specs.Order.{sort_by, somes}
-use Rattle.scoreboard.specs.inner.View.{standing_of, seated, seat_of, IsRight}
-use Rattle.instructions.proofs.Seats.{within, moved_with, taken_without, seated_here, before_seat, after_seat}
-use Rattle.scoreboard.proofs.seating.Seating.{set_back, own_keys, sits_reserved}
-use Rattle.scoreboard.proofs.seating.Standing.{changed, nobody_changed, nobody_held, nobody_returns, unit_seat}
-use Rattle.scoreboard.proofs.seating.Standing.{channel_seat, others_free, here_held, others_not_returning, here_returns}
+use Rattle.scoreboard.specs.inner.View.{standing_of, in_slots, slot_of, IsRight}
+use Rattle.instructions.proofs.Slots.{within, moved_with, taken_without, in_slots_here, before_slot, after_slot}
+use Rattle.scoreboard.proofs.in_slots.InSlots.{set_back, own_keys, stands_reserved}
+use Rattle.scoreboard.proofs.in_slots.Standing.{changed, nobody_changed, nobody_held, nobody_returns, unit_slot}
+use Rattle.scoreboard.proofs.in_slots.Standing.{channel_slot, others_free, here_held, others_not_returning, here_returns}
 use Rattle.scoreboard.proofs.changing.Right.{channel_empty}
 
 with_same : (s : Standing) (xs : List Issued) → xs ≡ s.issued → with_issued s xs ≡ s
@@ -33,11 +33,11 @@ pub nobody_marked : (f : Issued → List Issued) (units channels : List (Option 
     → standing_of units channels last
     ≡ with_issued (standing_of units channels last)
     (replaced (seek (held_in u) (standing_of units channels last).issued) (standing_of units channels last).issued f)
-unfolding seated
+unfolding in_slots
 nobody_marked f units channels producers ws last u i right e h =
     sym (with_same (standing_of units channels last) _
     (nobody_changed (held_in u) f (units ++ channels)
-    (nobody_held u (units ++ channels) i e (unit_seat units channels u i None right.all_units e h) right.sits)))
+    (nobody_held u (units ++ channels) i e (unit_slot units channels u i None right.all_units e h) right.stands)))
 
 pub nobody_returned : (f : Issued → List Issued) (units channels : List (Option Issued))
     (producers : List (List (Option Writer))) (ws : Writers) (last n : ℕ) → IsRight units channels producers ws last
@@ -46,11 +46,11 @@ pub nobody_returned : (f : Issued → List Issued) (units channels : List (Optio
     ≡ with_issued (standing_of units channels last)
     (replaced (seek (returning_by n) (standing_of units channels last).issued) (standing_of units channels last).issued
     f)
-unfolding seated
+unfolding in_slots
 nobody_returned f units channels producers ws last n right h =
     sym (with_same (standing_of units channels last) _
     (nobody_changed (returning_by n) f (units ++ channels)
-    (nobody_returns n (units ++ channels) (channel_seat units channels n None right.all_units h) right.sits)))
+    (nobody_returns n (units ++ channels) (channel_slot units channels n None right.all_units h) right.stands)))
 
 pub marked_view : (units channels : List (Option Issued)) (producers : List (List (Option Writer))) (ws : Writers)
     (last : ℕ) (u : FunctionalUnit) (i : ℕ) (x : Issued) → IsRight units channels producers ws last → i ≡ unit_number u
@@ -59,14 +59,14 @@ pub marked_view : (units channels : List (Option Issued)) (producers : List (Lis
     ≡ with_issued (standing_of units channels last)
     (replaced (seek (held_in u) (standing_of units channels last).issued) (standing_of units channels last).issued
     read)
-unfolding seated with_issued read number_of in_progress
+unfolding in_slots with_issued read number_of in_progress
 marked_view units channels producers ws last u i x right e h =
     ap (λ l. record { issued = l; last = last })
     (ap (λ l. sort_by number_of (somes l))
     (sym (set-set os i None (Some y) ∙ set-append_left units channels i (Some y) (within units i x h)))
     ∙ moved_with number_of os i i x y here refl empty room (own_keys (somes os) right.apart)
-    ∙ sym (changed (held_in u) read os i x here right.apart (here_held u os i x e here right.sits)
-    (others_free u os i e right.sits)))
+    ∙ sym (changed (held_in u) read os i x here right.apart (here_held u os i x e here right.stands)
+    (others_free u os i e right.stands)))
   where
     os : List (Option Issued)
     os = units ++ channels
@@ -75,7 +75,7 @@ marked_view units channels producers ws last u i x right e h =
     y = in_progress x (Reserved true)
 
     here : get_or os i None ≡ Some x
-    here = unit_seat units channels u i (Some x) right.all_units e h
+    here = unit_slot units channels u i (Some x) right.all_units e h
 
     empty : get_or (set os i None) i None ≡ None
     empty = get_or-set_same os i None None (within os i x here)
@@ -90,21 +90,21 @@ pub released_view : (units channels : List (Option Issued)) (producers : List (L
     ≡ with_issued (standing_of units channels last)
     (replaced (seek (held_in u) (standing_of units channels last).issued) (standing_of units channels last).issued
     left)
-unfolding seated with_issued left left_with number_of in_progress channels_with
+unfolding in_slots with_issued left left_with number_of in_progress channels_with
 released_view units channels producers ws last u i x right e h below_8 =
     ap (λ l. record { issued = l; last = last })
     (by_channel (channel_of (shape_of x.reservation.instr)) refl below_8
-    ∙ sym (changed (held_in u) left os i x here right.apart (here_held u os i x e here right.sits)
-    (others_free u os i e right.sits)))
+    ∙ sym (changed (held_in u) left os i x here right.apart (here_held u os i x e here right.stands)
+    (others_free u os i e right.stands)))
   where
     os : List (Option Issued)
     os = units ++ channels
 
     here : get_or os i None ≡ Some x
-    here = unit_seat units channels u i (Some x) right.all_units e h
+    here = unit_slot units channels u i (Some x) right.all_units e h
 
     reserved : (b : Bool) × (x.reservation.progress ≡ Reserved b) × (same_unit x.reservation.unit u ≡ true)
-    reserved = sits_reserved u x (seated_here seat_of os 0 i x here right.sits ∙ omega (arith, e))
+    reserved = stands_reserved u x (in_slots_here slot_of os 0 i x here right.stands ∙ omega (arith, e))
 
     front : set os i None ≡ set units i None ++ channels
     front = set-append_left units channels i None (within units i x h)
@@ -113,15 +113,15 @@ released_view units channels producers ws last u i x right e h below_8 =
     fewer = length-set units i None ∙ right.all_units
 
     by_channel : (o : Option ℕ) → channel_of (shape_of x.reservation.instr) ≡ o → IfSome o (λ n. n < 8)
-        → sort_by number_of (somes (set units i None ++ channels_with channels x o)) ≡ before_seat number_of os i x
-        ++ (left_with x o ++ after_seat number_of os i x)
+        → sort_by number_of (somes (set units i None ++ channels_with channels x o)) ≡ before_slot number_of os i x
+        ++ (left_with x o ++ after_slot number_of os i x)
     by_channel None k l = ap (λ m. sort_by number_of (somes m)) (sym front) ∙ taken_without number_of (number_of x) os i
     by_channel (Some n) k l =
         ap (λ m. sort_by number_of (somes m))
         (sym (ap (λ m. set m (10 + n) (Some y)) front
         ∙ set_back (set units i None) channels n (10 + n) (Some y) (omega (arith, fewer))))
         ∙ moved_with number_of os i (10 + n) x y here refl
-        (channel_empty os i n x reserved.0 l here right.sits right.apart reserved.1 k) room
+        (channel_empty os i n x reserved.0 l here right.stands right.apart reserved.1 k) room
         (own_keys (somes os) right.apart)
       where
         y : Issued
@@ -137,17 +137,17 @@ pub returned_view : (units channels : List (Option Issued)) (producers : List (L
     ≡ with_issued (standing_of units channels last)
     (replaced (seek (returning_by n) (standing_of units channels last).issued)
     (standing_of units channels last).issued gone)
-unfolding seated with_issued gone
+unfolding in_slots with_issued gone
 returned_view units channels producers ws last n x right below_8 h =
     ap (λ l. record { issued = l; last = last })
     (ap (λ m. sort_by number_of (somes m))
     (sym (set_back units channels n (10 + n) None (omega (arith, right.all_units))))
     ∙ taken_without number_of (number_of x) os (10 + n)
-    ∙ sym (changed (returning_by n) gone os (10 + n) x here right.apart (here_returns n os x below_8 here right.sits)
-    (others_not_returning n os right.sits)))
+    ∙ sym (changed (returning_by n) gone os (10 + n) x here right.apart (here_returns n os x below_8 here right.stands)
+    (others_not_returning n os right.stands)))
   where
     os : List (Option Issued)
     os = units ++ channels
 
     here : get_or os (10 + n) None ≡ Some x
-    here = channel_seat units channels n (Some x) right.all_units h
+    here = channel_slot units channels n (Some x) right.all_units h

@@ -1,4 +1,4 @@
--- Which units take branches, references and stores: a test of all is a test of their seats.
+-- Which units take branches, references and stores: a test of all is a test of their slots.
 use Rattle.std.proofs.Common.{◌≡◌, ◌≢◌, ℕ, zero, suc, Bool, true, false, cond, List, [], ◌∷◌, ◌++◌, Option, Some, None}
 use Rattle.std.proofs.Common.{refl, sym, ap, ◌∙◌, eqb, leb, ltb, length, get_or, set, arith}
 use Rattle.std.specs.Prelude.{not, ◌&&◌, ◌||◌}
@@ -37,11 +37,11 @@ use Rattle.instructions.specs.declared.instr.XTest.TheVariants.{Definite, Indefi
 use Rattle.instructions.specs.declared.refusal.Refusal.TheVariants.{OutOfTurn}
 use Rattle.instructions.specs.Each.{Each}
 use Rattle.instructions.specs.Finding.{seek}
-use Rattle.instructions.specs.Order.{sort_by, somes, IsSeated}
-use Rattle.instructions.specs.Shape.{Puts, Loads, Stores, shape_of, is_branch_shape, has_reference, has_store}
+use Rattle.instructions.specs.Order.{sort_by, somes, IsInSlots}
+use Rattle.instructions.specs.Shape.{Sets, Loads, Stores, shape_of, is_branch_shape, has_reference, has_store}
 use Rattle.instructions.specs.Operands.{uses}
 use Rattle.instructions.proofs.Lists.{each_map, each_both, or_false, any_same}
-use Rattle.instructions.proofs.Seats.{seated_others, seated_empty, found_there}
+use Rattle.instructions.proofs.Slots.{in_slots_others, in_slots_empty, found_there}
 use Rattle.instructions.proofs.Sorted.{any_sort}
 use Rattle.scoreboard.specs.declared.issued.Issued.{Issued}
 use Rattle.scoreboard.specs.declared.reservation.Progress.{Progress}
@@ -50,14 +50,14 @@ use Rattle.scoreboard.specs.declared.writer.Writer.{Writer}
 use Rattle.scoreboard.specs.declared.writers.Writers.{Writers}
 use Rattle.scoreboard.specs.Answers.{held_in, unless, turn_answer}
 use Rattle.scoreboard.specs.Conflicts.{is_held}
-use Rattle.scoreboard.specs.inner.Fields.{seat_is, seat_has_turn, seat_at, is_taken, in_increment}
+use Rattle.scoreboard.specs.inner.Fields.{slot_is, slot_has_turn, slot_at, is_taken, in_increment}
 use Rattle.scoreboard.specs.Issued.{reservation_of, number_of}
 use Rattle.scoreboard.specs.Reservations.{holds, is_branch, has_turn, has_store_turn, is_reserved}
 use Rattle.scoreboard.specs.Units.{unit_number, same_unit, units_of, may_take}
-use Rattle.scoreboard.specs.inner.View.{seated, seat_in, seat_of, IsOfKind, IsRight}
+use Rattle.scoreboard.specs.inner.View.{in_slots, slot_in, slot_of, IsOfKind, IsRight}
 use Rattle.scoreboard.proofs.changing.Reserving.{held_taken}
-use Rattle.scoreboard.proofs.seating.Seating.{own_keys}
-use Rattle.scoreboard.proofs.seating.Standing.{none_any, unit_seat, earlier_any, here_held, others_free}
+use Rattle.scoreboard.proofs.in_slots.InSlots.{own_keys}
+use Rattle.scoreboard.proofs.in_slots.Standing.{none_any, unit_slot, earlier_any, here_held, others_free}
 
 -- ---- the kind of unit that an instruction takes, by its name ----
 
@@ -124,38 +124,38 @@ increment_unit TargetX i (Registers AMinusB j k) = refl
 increment_unit TargetX i (Registers BPlusB j k) = refl
 increment_unit TargetX i (Registers BMinusB j k) = refl
 
--- ---- the seats of a kind ----
+-- ---- the slots of a kind ----
 
-branch_seat : (u : FunctionalUnit) → may_take (Some BranchKind) u ≡ true → unit_number u ≡ unit_number Branch
+branch_slot : (u : FunctionalUnit) → may_take (Some BranchKind) u ≡ true → unit_number u ≡ unit_number Branch
 unfolding may_take units_of same_unit
-branch_seat Branch h = refl
-branch_seat Boolean h = cc
-branch_seat Shift h = cc
-branch_seat Add h = cc
-branch_seat LongAdd h = cc
-branch_seat Multiply1 h = cc
-branch_seat Multiply2 h = cc
-branch_seat Divide h = cc
-branch_seat Increment1 h = cc
-branch_seat Increment2 h = cc
+branch_slot Branch h = refl
+branch_slot Boolean h = cc
+branch_slot Shift h = cc
+branch_slot Add h = cc
+branch_slot LongAdd h = cc
+branch_slot Multiply1 h = cc
+branch_slot Multiply2 h = cc
+branch_slot Divide h = cc
+branch_slot Increment1 h = cc
+branch_slot Increment2 h = cc
 
-increment_seat : (u : FunctionalUnit) → may_take (Some IncrementKind) u ≡ true → unit_number u ≢ unit_number Increment1
+increment_slot : (u : FunctionalUnit) → may_take (Some IncrementKind) u ≡ true → unit_number u ≢ unit_number Increment1
     → unit_number u ≢ unit_number Increment2 → ⊥
 unfolding may_take units_of same_unit
-increment_seat Branch h a b = cc
-increment_seat Boolean h a b = cc
-increment_seat Shift h a b = cc
-increment_seat Add h a b = cc
-increment_seat LongAdd h a b = cc
-increment_seat Multiply1 h a b = cc
-increment_seat Multiply2 h a b = cc
-increment_seat Divide h a b = cc
-increment_seat Increment1 h a b = a refl
-increment_seat Increment2 h a b = b refl
+increment_slot Branch h a b = cc
+increment_slot Boolean h a b = cc
+increment_slot Shift h a b = cc
+increment_slot Add h a b = cc
+increment_slot LongAdd h a b = cc
+increment_slot Multiply1 h a b = cc
+increment_slot Multiply2 h a b = cc
+increment_slot Divide h a b = cc
+increment_slot Increment1 h a b = a refl
+increment_slot Increment2 h a b = b refl
 
 branch_alone : (u : FunctionalUnit) → may_take (Some BranchKind) u ≡ true → same_unit u Branch ≡ true
 unfolding same_unit
-branch_alone u h = eq-eqb (unit_number u) (unit_number Branch) (branch_seat u h)
+branch_alone u h = eq-eqb (unit_number u) (unit_number Branch) (branch_slot u h)
 
 not_branch : (k : UnitKind) (u : FunctionalUnit) → may_take (Some k) u ≡ true
     → list_any (same_unit Branch) (units_of k) ≡ false → same_unit u Branch ≡ false
@@ -182,7 +182,7 @@ increment_no_branch : (target : Target) (i : ℕ) (a : Addends)
 unfolding shape_of is_branch_shape
 increment_no_branch TargetA i a = by_tests (eqb i 0) (leb i 5)
   where
-    by_tests : (p q : Bool) → is_branch_shape (cond p (Puts (A 0 ∷ [])) (cond q (Loads i) (Stores i))) ≡ false
+    by_tests : (p q : Bool) → is_branch_shape (cond p (Sets (A 0 ∷ [])) (cond q (Loads i) (Stores i))) ≡ false
     by_tests true q = refl
     by_tests false true = refl
     by_tests false false = refl
@@ -224,7 +224,7 @@ no_reference : (i : Instr) (u : FunctionalUnit) → may_take (uses i).unit u ≡
 unfolding shape_of has_reference
 no_reference Stop u h a b c = refl
 no_reference Pass u h a b c = refl
-no_reference (ReturnJump K) u h a b c = absurd (a (branch_seat u h))
+no_reference (ReturnJump K) u h a b c = absurd (a (branch_slot u h))
 no_reference (Jump i K) u h a b c = refl
 no_reference (BranchX t j K) u h a b c = refl
 no_reference (BranchB t i j K) u h a b c = refl
@@ -237,7 +237,7 @@ no_reference (LongSum o i j k) u h a b c = refl
 no_reference (Mask i jk) u h a b c = refl
 no_reference (CountOnes i k) u h a b c = refl
 no_reference (Increment TargetA i a) u h z b c =
-    absurd (increment_seat u (of_kind (uses (Increment TargetA i a)).unit IncrementKind u (increment_unit TargetA i a)
+    absurd (increment_slot u (of_kind (uses (Increment TargetA i a)).unit IncrementKind u (increment_unit TargetA i a)
     h) b c)
 no_reference (Increment TargetB i a) u h z b c = refl
 no_reference (Increment TargetX i a) u h z b c = refl
@@ -261,7 +261,7 @@ no_store (LongSum o i j k) u h b c = refl
 no_store (Mask i jk) u h b c = refl
 no_store (CountOnes i k) u h b c = refl
 no_store (Increment TargetA i a) u h b c =
-    absurd (increment_seat u (of_kind (uses (Increment TargetA i a)).unit IncrementKind u (increment_unit TargetA i a)
+    absurd (increment_slot u (of_kind (uses (Increment TargetA i a)).unit IncrementKind u (increment_unit TargetA i a)
     h) b c)
 no_store (Increment TargetB i a) u h b c = refl
 no_store (Increment TargetX i a) u h b c = refl
@@ -280,37 +280,37 @@ branch_holds y h =
     ap (λ b. b && is_reserved y.reservation.progress) (branch_there y.reservation.instr y.reservation.unit h)
     ∙ and_swap (is_branch_shape (shape_of y.reservation.instr)) (is_reserved y.reservation.progress)
 
-turn_silent : (y : Issued) → IsOfKind y → seat_of y ≢ unit_number Branch → seat_of y ≢ unit_number Increment1
-    → seat_of y ≢ unit_number Increment2 → has_turn y.reservation ≡ false
-unfolding has_turn seat_of seat_in is_reserved
+turn_silent : (y : Issued) → IsOfKind y → slot_of y ≢ unit_number Branch → slot_of y ≢ unit_number Increment1
+    → slot_of y ≢ unit_number Increment2 → has_turn y.reservation ≡ false
+unfolding has_turn slot_of slot_in is_reserved
 turn_silent y h = by_progress y.reservation.progress
   where
-    by_progress : (p : Progress) → seat_in y.reservation.unit p ≢ unit_number Branch
-        → seat_in y.reservation.unit p ≢ unit_number Increment1 → seat_in y.reservation.unit p ≢ unit_number Increment2
+    by_progress : (p : Progress) → slot_in y.reservation.unit p ≢ unit_number Branch
+        → slot_in y.reservation.unit p ≢ unit_number Increment1 → slot_in y.reservation.unit p ≢ unit_number Increment2
         → (is_reserved p && has_reference (shape_of y.reservation.instr)) ≡ false
     by_progress (Reserved has_read) a b c = no_reference y.reservation.instr y.reservation.unit h a b c
     by_progress (Left o) a b c = refl
 
-store_silent : (y : Issued) → IsOfKind y → seat_of y ≢ unit_number Increment1 → seat_of y ≢ unit_number Increment2
+store_silent : (y : Issued) → IsOfKind y → slot_of y ≢ unit_number Increment1 → slot_of y ≢ unit_number Increment2
     → has_store_turn y.reservation ≡ false
-unfolding has_store_turn seat_of seat_in is_reserved
+unfolding has_store_turn slot_of slot_in is_reserved
 store_silent y h = by_progress y.reservation.progress
   where
-    by_progress : (p : Progress) → seat_in y.reservation.unit p ≢ unit_number Increment1
-        → seat_in y.reservation.unit p ≢ unit_number Increment2
+    by_progress : (p : Progress) → slot_in y.reservation.unit p ≢ unit_number Increment1
+        → slot_in y.reservation.unit p ≢ unit_number Increment2
         → ((is_reserved p && has_store (shape_of y.reservation.instr)) && not (is_branch_shape (shape_of
         y.reservation.instr))) ≡ false
     by_progress (Reserved has_read) b c = no_store y.reservation.instr y.reservation.unit h b c
     by_progress (Left o) b c = refl
 
--- ---- a test of all is a test of some seats ----
+-- ---- a test of all is a test of some slots ----
 
 swap_or : (a b c : Bool) → (a || (b || c)) ≡ (b || (a || c))
 swap_or true true c = refl
 swap_or true false c = refl
 swap_or false b c = refl
 
--- one seat, and the others
+-- one slot, and the others
 any_out : (t : Issued → Bool) (g : Option Issued → Bool) → g None ≡ false → ((x : Issued) → g (Some x) ≡ t x)
     → (os : List (Option Issued)) (i : ℕ)
     → list_any t (somes os) ≡ (g (get_or os i None) || list_any t (somes (set os i None)))
@@ -338,10 +338,10 @@ emptied (o ∷ os) zero = refl
 emptied (o ∷ os) (suc i) = emptied os i
 
 -- whether that one is emptied doesn't count for the others
-others_kept : (g : Option Issued → Bool) → g None ≡ false → (os : List (Option Issued)) (i : ℕ) (seats : List ℕ)
-    → (g (get_or os i None) || list_any (λ j. g (get_or (set os i None) j None)) seats)
-    ≡ (g (get_or os i None) || list_any (λ j. g (get_or os j None)) seats)
-others_kept g none os i seats = by_test (g (get_or os i None)) refl
+others_kept : (g : Option Issued → Bool) → g None ≡ false → (os : List (Option Issued)) (i : ℕ) (slots : List ℕ)
+    → (g (get_or os i None) || list_any (λ j. g (get_or (set os i None) j None)) slots)
+    ≡ (g (get_or os i None) || list_any (λ j. g (get_or os j None)) slots)
+others_kept g none os i slots = by_test (g (get_or os i None)) refl
   where
     same_at : g (get_or os i None) ≡ false → (j : ℕ) (b : Bool) → eqb j i ≡ b
         → g (get_or (set os i None) j None) ≡ g (get_or os j None)
@@ -351,33 +351,33 @@ others_kept g none os i seats = by_test (g (get_or os i None)) refl
     same_at e j false q = ap g (get_or-set_other os i j None None (eqb-false j i q))
 
     by_test : (b : Bool) → g (get_or os i None) ≡ b
-        → (b || list_any (λ j. g (get_or (set os i None) j None)) seats)
-        ≡ (b || list_any (λ j. g (get_or os j None)) seats)
+        → (b || list_any (λ j. g (get_or (set os i None) j None)) slots)
+        ≡ (b || list_any (λ j. g (get_or os j None)) slots)
     by_test true e = refl
     by_test false e = any_same (λ j. g (get_or (set os i None) j None)) (λ j. g (get_or os j None))
-        (λ j. same_at e j (eqb j i) refl) seats
+        (λ j. same_at e j (eqb j i) refl) slots
 
--- the seats outside which the test fails
-seats_any : (t : Issued → Bool) (g : Option Issued → Bool) → g None ≡ false → ((x : Issued) → g (Some x) ≡ t x)
-    → (seats : List ℕ) (P : Issued → Type 0) (os : List (Option Issued)) → IsSeated seat_of 0 os → Each P (somes os)
-    → ((y : Issued) → P y → Each (λ i. seat_of y ≢ i) seats → t y ≡ false)
-    → list_any t (somes os) ≡ list_any (λ i. g (get_or os i None)) seats
-seats_any t g none some [] P os s p silent =
+-- the slots outside which the test fails
+slots_any : (t : Issued → Bool) (g : Option Issued → Bool) → g None ≡ false → ((x : Issued) → g (Some x) ≡ t x)
+    → (slots : List ℕ) (P : Issued → Type 0) (os : List (Option Issued)) → IsInSlots slot_of 0 os → Each P (somes os)
+    → ((y : Issued) → P y → Each (λ i. slot_of y ≢ i) slots → t y ≡ false)
+    → list_any t (somes os) ≡ list_any (λ i. g (get_or os i None)) slots
+slots_any t g none some [] P os s p silent =
     none_any t (somes os) (each_map P (λ y. t y ≡ false) (λ y k. silent y k tt) (somes os) p)
-seats_any t g none some (i ∷ seats) P os s p silent =
+slots_any t g none some (i ∷ slots) P os s p silent =
     any_out t g none some os i
     ∙ ap (λ b. g (get_or os i None) || b)
-    (seats_any t g none some seats (λ y. (seat_of y ≢ i) × P y) (set os i None) (seated_empty seat_of os 0 i s)
-    (each_both (λ y. seat_of y ≢ i) P (λ y. (seat_of y ≢ i) × P y) (λ y a b. (a, b)) (somes (set os i None))
-    (seated_others seat_of os 0 i i (omega arith) s) (each_out P os i p))
+    (slots_any t g none some slots (λ y. (slot_of y ≢ i) × P y) (set os i None) (in_slots_empty slot_of os 0 i s)
+    (each_both (λ y. slot_of y ≢ i) P (λ y. (slot_of y ≢ i) × P y) (λ y a b. (a, b)) (somes (set os i None))
+    (in_slots_others slot_of os 0 i i (omega arith) s) (each_out P os i p))
     (λ y k l. silent y k.1 (k.0, l)))
-    ∙ others_kept g none os i seats
+    ∙ others_kept g none os i slots
 
 -- ---- in the words of the code ----
 
-seat_same : (units channels : List (Option Issued)) (u : FunctionalUnit) → length units ≡ 10
-    → get_or (units ++ channels) (unit_number u) None ≡ seat_at units u
-seat_same units channels u l = unit_seat units channels u (unit_number u) (seat_at units u) l refl refl
+slot_same : (units channels : List (Option Issued)) (u : FunctionalUnit) → length units ≡ 10
+    → get_or (units ++ channels) (unit_number u) None ≡ slot_at units u
+slot_same units channels u l = unit_slot units channels u (unit_number u) (slot_at units u) l refl refl
 
 -- a test that fails outside the Increment units
 in_increments : (t : Issued → Bool) (g : Option Issued → Bool) → g None ≡ false → ((x : Issued) → g (Some x) ≡ t x)
@@ -388,8 +388,8 @@ in_increments t g none some units channels l =
     ap (λ b. g (get_or (units ++ channels) (unit_number Increment1) None) || b)
     (or_false (g (get_or (units ++ channels) (unit_number Increment2) None)))
     ∙ ap (λ o. g o || g (get_or (units ++ channels) (unit_number Increment2) None))
-    (seat_same units channels Increment1 l)
-    ∙ ap (λ o. g (seat_at units Increment1) || g o) (seat_same units channels Increment2 l)
+    (slot_same units channels Increment1 l)
+    ∙ ap (λ o. g (slot_at units Increment1) || g o) (slot_same units channels Increment2 l)
 
 each_of_same : (f g : Issued → Bool) (P : Issued → Type 0) → ((y : Issued) → P y → f y ≡ g y) → (ys : List Issued)
     → Each P ys → list_any f ys ≡ list_any g ys
@@ -400,8 +400,8 @@ each_of_same f g P h (y ∷ ys) p =
 -- a branch is issued where Branch is taken
 pub branch_found : (units channels : List (Option Issued)) (producers : List (List (Option Writer))) (ws : Writers)
     (last : ℕ) → IsRight units channels producers ws last
-    → is_taken units Branch ≡ list_any (λ y. is_branch y.reservation) (sort_by number_of (seated units channels))
-unfolding seated is_held reservation_of
+    → is_taken units Branch ≡ list_any (λ y. is_branch y.reservation) (sort_by number_of (in_slots units channels))
+unfolding in_slots is_held reservation_of
 branch_found units channels producers ws last right =
     held_taken units channels producers ws last right Branch
     ∙ any_sort number_of (λ y. holds Branch y.reservation) (somes (units ++ channels))
@@ -413,63 +413,63 @@ branch_found units channels producers ws last right =
 -- an SA6 or SA7 is in an Increment unit
 pub store_found : (units channels : List (Option Issued)) (producers : List (List (Option Writer))) (ws : Writers)
     (last : ℕ) → IsRight units channels producers ws last
-    → in_increment (seat_is has_store_turn) units
-    ≡ list_any (λ y. has_store_turn y.reservation) (sort_by number_of (seated units channels))
-unfolding seated seat_is
+    → in_increment (slot_is has_store_turn) units
+    ≡ list_any (λ y. has_store_turn y.reservation) (sort_by number_of (in_slots units channels))
+unfolding in_slots slot_is
 store_found units channels producers ws last right =
     let t : Issued → Bool = λ y. has_store_turn y.reservation in
     sym (any_sort number_of t (somes (units ++ channels))
-    ∙ seats_any t (seat_is has_store_turn) refl (λ y. refl) (unit_number Increment1 ∷ unit_number Increment2 ∷ [])
-    IsOfKind (units ++ channels) right.sits right.kinds (λ y k l. store_silent y k l.0 l.1.0)
-    ∙ in_increments t (seat_is has_store_turn) refl (λ y. refl) units channels right.all_units)
+    ∙ slots_any t (slot_is has_store_turn) refl (λ y. refl) (unit_number Increment1 ∷ unit_number Increment2 ∷ [])
+    IsOfKind (units ++ channels) right.stands right.kinds (λ y k l. store_silent y k l.0 l.1.0)
+    ∙ in_increments t (slot_is has_store_turn) refl (λ y. refl) units channels right.all_units)
 
 -- a reference is in Branch or in an Increment unit
 pub reference_found : (units channels : List (Option Issued)) (producers : List (List (Option Writer))) (ws : Writers)
     (last : ℕ) → IsRight units channels producers ws last
-    → (seat_is has_turn (seat_at units Branch) || in_increment (seat_is has_turn) units)
-    ≡ list_any (λ y. has_turn y.reservation) (sort_by number_of (seated units channels))
-unfolding seated seat_is
+    → (slot_is has_turn (slot_at units Branch) || in_increment (slot_is has_turn) units)
+    ≡ list_any (λ y. has_turn y.reservation) (sort_by number_of (in_slots units channels))
+unfolding in_slots slot_is
 reference_found units channels producers ws last right =
     let t : Issued → Bool = λ y. has_turn y.reservation in
     sym (any_sort number_of t (somes (units ++ channels))
-    ∙ seats_any t (seat_is has_turn) refl (λ y. refl)
-    (unit_number Branch ∷ unit_number Increment1 ∷ unit_number Increment2 ∷ []) IsOfKind (units ++ channels) right.sits
+    ∙ slots_any t (slot_is has_turn) refl (λ y. refl)
+    (unit_number Branch ∷ unit_number Increment1 ∷ unit_number Increment2 ∷ []) IsOfKind (units ++ channels) right.stands
     right.kinds (λ y k l. turn_silent y k l.0 l.1.0 l.1.1.0)
-    ∙ ap (λ o. seat_is has_turn o || list_any (λ i. seat_is has_turn (get_or (units ++ channels) i None))
-    (unit_number Increment1 ∷ unit_number Increment2 ∷ [])) (seat_same units channels Branch right.all_units)
-    ∙ ap (λ b. seat_is has_turn (seat_at units Branch) || b)
-    (in_increments t (seat_is has_turn) refl (λ y. refl) units channels right.all_units))
+    ∙ ap (λ o. slot_is has_turn o || list_any (λ i. slot_is has_turn (get_or (units ++ channels) i None))
+    (unit_number Increment1 ∷ unit_number Increment2 ∷ [])) (slot_same units channels Branch right.all_units)
+    ∙ ap (λ b. slot_is has_turn (slot_at units Branch) || b)
+    (in_increments t (slot_is has_turn) refl (λ y. refl) units channels right.all_units))
 
 -- and one of a lower number
 pub turn_found : (n : ℕ) (units channels : List (Option Issued)) → length units ≡ 10
-    → IsSeated seat_of 0 (units ++ channels) → Each IsOfKind (somes (units ++ channels))
-    → (seat_has_turn n (seat_at units Branch) || in_increment (seat_has_turn n) units)
+    → IsInSlots slot_of 0 (units ++ channels) → Each IsOfKind (somes (units ++ channels))
+    → (slot_has_turn n (slot_at units Branch) || in_increment (slot_has_turn n) units)
     ≡ list_any (λ y. ltb y.number n && has_turn y.reservation) (somes (units ++ channels))
-unfolding seat_has_turn
+unfolding slot_has_turn
 turn_found n units channels l s k =
     let t : Issued → Bool = λ y. ltb y.number n && has_turn y.reservation in
-    sym (seats_any t (seat_has_turn n) refl (λ y. refl)
+    sym (slots_any t (slot_has_turn n) refl (λ y. refl)
     (unit_number Branch ∷ unit_number Increment1 ∷ unit_number Increment2 ∷ []) IsOfKind (units ++ channels) s k
     (λ y q d. ap (λ b. ltb y.number n && b) (turn_silent y q d.0 d.1.0 d.1.1.0) ∙ and_right (ltb y.number n) false refl)
-    ∙ ap (λ o. seat_has_turn n o || list_any (λ i. seat_has_turn n (get_or (units ++ channels) i None))
-    (unit_number Increment1 ∷ unit_number Increment2 ∷ [])) (seat_same units channels Branch l)
-    ∙ ap (λ b. seat_has_turn n (seat_at units Branch) || b)
-    (in_increments t (seat_has_turn n) refl (λ y. refl) units channels l))
+    ∙ ap (λ o. slot_has_turn n o || list_any (λ i. slot_has_turn n (get_or (units ++ channels) i None))
+    (unit_number Increment1 ∷ unit_number Increment2 ∷ [])) (slot_same units channels Branch l)
+    ∙ ap (λ b. slot_has_turn n (slot_at units Branch) || b)
+    (in_increments t (slot_has_turn n) refl (λ y. refl) units channels l))
 
 pub turn_answered : (units channels : List (Option Issued)) (producers : List (List (Option Writer))) (ws : Writers)
     (last : ℕ) (u : FunctionalUnit) (i : ℕ) (x : Issued) (b : Bool) → IsRight units channels producers ws last
     → i ≡ unit_number u → get_or units i None ≡ Some x
     → b ≡ (has_reference (shape_of x.reservation.instr)
-    && (seat_has_turn x.number (seat_at units Branch)
-    || in_increment (seat_has_turn x.number) units)) → unless b OutOfTurn ≡ turn_answer (seek (held_in u) (sort_by
-    number_of (seated units channels)))
-unfolding seated turn_answer number_of reservation_of
+    && (slot_has_turn x.number (slot_at units Branch)
+    || in_increment (slot_has_turn x.number) units)) → unless b OutOfTurn ≡ turn_answer (seek (held_in u) (sort_by
+    number_of (in_slots units channels)))
+unfolding in_slots turn_answer number_of reservation_of
 turn_answered units channels producers ws last u i x b right e h eb =
     let os : List (Option Issued) = units ++ channels in
-    let here = unit_seat units channels u i (Some x) right.all_units e h in
+    let here = unit_slot units channels u i (Some x) right.all_units e h in
     ap (λ q. unless q OutOfTurn) (eb ∙ ap (λ q. has_reference (shape_of x.reservation.instr) && q)
-    (turn_found x.number units channels right.all_units right.sits right.kinds
+    (turn_found x.number units channels right.all_units right.stands right.kinds
     ∙ earlier_any (λ y. has_turn y.reservation) os i x here right.apart))
     ∙ ap turn_answer (sym (found_there number_of (held_in u) os i x x.reservation.instr here (own_keys (somes os)
     right.apart)
-    (here_held u os i x e here right.sits) (others_free u os i e right.sits)))
+    (here_held u os i x e here right.stands) (others_free u os i e right.stands)))

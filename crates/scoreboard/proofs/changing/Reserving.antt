@@ -15,7 +15,7 @@ use Rattle.instructions.specs.declared.instr.UnitKind.{UnitKind}
 use Rattle.instructions.specs.declared.refusal.Refusal.{Refusal}
 use Rattle.instructions.specs.declared.refusal.Refusal.TheVariants.{UnitBusy, ResultReserved}
 use Rattle.instructions.specs.RegisterLists.{is_in}
-use Rattle.instructions.specs.Shape.{shape_of, puts_of, results}
+use Rattle.instructions.specs.Shape.{shape_of, sets_of, results}
 use Rattle.instructions.specs.Operands.{uses, sources_of, reg_eq}
 use Rattle.scoreboard.specs.Conflicts.{awaited, is_held, first_free, free_unit, unit_for, first_such}
 use Rattle.scoreboard.specs.Reservations.{comes, to_come, to_come_in, holds}
@@ -30,17 +30,17 @@ use Rattle.scoreboard.specs.inner.Fields.{writers_with, is_taken, free_for}
 use Rattle.scoreboard.specs.Issued.{reservation_of, number_of, channel_of, written_by_channel, written_in, written_by}
 use Rattle.scoreboard.specs.Issued.{or_else}
 use Rattle.scoreboard.specs.Issued.{first_some, if_earlier, writer_of, writer_before}
-use Rattle.instructions.specs.Order.{sort_by, somes, IsSeated}
-use Rattle.scoreboard.specs.inner.View.{standing_of, seated, seat_in, seat_of, IsOther, IsOfKind, AreProducers}
+use Rattle.instructions.specs.Order.{sort_by, somes, IsInSlots}
+use Rattle.scoreboard.specs.inner.View.{standing_of, in_slots, slot_in, slot_of, IsOther, IsOfKind, AreProducers}
 use Rattle.scoreboard.specs.inner.View.{first_produced, IsRight}
 use Rattle.scoreboard.specs.Writers.{IsRegister, writer_at, set_writer}
 use Rattle.instructions.proofs.Lists.{each_map, any_same}
-use Rattle.instructions.proofs.Seats.{within, seated_fill, sort_new}
+use Rattle.instructions.proofs.Slots.{within, in_slots_fill, sort_new}
 use Rattle.instructions.proofs.Sorted.{any_sort, before_place, after_place, somes-at}
-use Rattle.scoreboard.proofs.seating.Registers.{AreSized, reg_eq_same, set_gives, set_sized, each_sized, each_gives}
-use Rattle.scoreboard.proofs.seating.Writing.{some_any, some_written, all_earlier}
-use Rattle.scoreboard.proofs.seating.Seating.{pairs_put, each_here, each_put, writer_put, unit_below}
-use Rattle.scoreboard.proofs.seating.Standing.{none_any, unit_seat, nobody_holds, here_holds, produced_found, any_find}
+use Rattle.scoreboard.proofs.in_slots.Registers.{AreSized, reg_eq_same, set_gives, set_sized, each_sized, each_gives}
+use Rattle.scoreboard.proofs.in_slots.Writing.{some_any, some_written, all_earlier}
+use Rattle.scoreboard.proofs.in_slots.InSlots.{pairs_put, each_here, each_put, writer_put, unit_below}
+use Rattle.scoreboard.proofs.in_slots.Standing.{none_any, unit_slot, nobody_holds, here_holds, produced_found, any_find}
 use Rattle.scoreboard.proofs.changing.Right.{right_again, producers_same}
 
 -- ---- the registers' writers ----
@@ -81,8 +81,8 @@ with_gives ws u rs (Some n) r l v b =
 -- somebody is to write a register where it is a result still to come
 pub awaited_field : (units channels : List (Option Issued)) (producers : List (List (Option Writer))) (ws : Writers)
     (last : ℕ) → IsRight units channels producers ws last → (r : Reg) → IsRegister r
-    → is_some (writer_at ws r) ≡ awaited reservation_of (sort_by number_of (seated units channels)) r
-unfolding seated awaited reservation_of writer_of
+    → is_some (writer_at ws r) ≡ awaited reservation_of (sort_by number_of (in_slots units channels)) r
+unfolding in_slots awaited reservation_of writer_of
 awaited_field units channels producers ws last right r v =
     ap is_some (right.written r v)
     ∙ some_any (written_by r) (somes (units ++ channels))
@@ -99,10 +99,10 @@ find_valid f g h (r ∷ rs) v =
 pub first_awaited : (units channels : List (Option Issued)) (producers : List (List (Option Writer))) (ws : Writers)
     (last : ℕ) (rs : List Reg) (ps : List (Option Writer)) (o : Option Reg) → IsRight units channels producers ws last
     → AreProducers (writer_at ws) rs ps → Each IsRegister rs → o ≡ first_produced rs ps
-    → o ≡ find (awaited reservation_of (sort_by number_of (seated units channels))) rs
+    → o ≡ find (awaited reservation_of (sort_by number_of (in_slots units channels))) rs
 first_awaited units channels producers ws last rs ps o right h v e =
     e ∙ produced_found (writer_at ws) rs ps h
-    ∙ find_valid (λ r. is_some (writer_at ws r)) (awaited reservation_of (sort_by number_of (seated units channels)))
+    ∙ find_valid (λ r. is_some (writer_at ws r)) (awaited reservation_of (sort_by number_of (in_slots units channels)))
     (λ r k. awaited_field units channels producers ws last right r k) rs v
 
 -- where none passes, each fails
@@ -125,14 +125,14 @@ new_comes r i u n = refl
 
 -- none of the new results is still to come
 pub fresh : (units channels : List (Option Issued)) (i : Instr) (u : FunctionalUnit) (n : ℕ)
-    → find (awaited reservation_of (sort_by number_of (seated units channels))) (results (shape_of i)) ≡ None
+    → find (awaited reservation_of (sort_by number_of (in_slots units channels))) (results (shape_of i)) ≡ None
     → (r : Reg)
     → comes r (new_issued i u n).reservation ≡ true → list_any (λ z. comes r z.reservation) (somes (units ++ channels))
     ≡ false
-unfolding seated awaited reservation_of
+unfolding in_slots awaited reservation_of
 fresh units channels i u n h r k =
     sym (any_sort number_of (λ z. comes r z.reservation) (somes (units ++ channels)))
-    ∙ found_none (awaited reservation_of (sort_by number_of (seated units channels))) (results (shape_of i)) h r
+    ∙ found_none (awaited reservation_of (sort_by number_of (in_slots units channels))) (results (shape_of i)) h r
     (sym (new_comes r i u n) ∙ k)
 
 -- ---- the unit ----
@@ -149,23 +149,23 @@ any_here t os i x h e =
     ∙ ap (λ b. list_any t (before_place os i) || (b || list_any t (after_place os i))) e
     ∙ or_true (list_any t (before_place os i))
 
--- a unit is held where its seat is taken
+-- a unit is held where its slot is taken
 pub held_taken : (units channels : List (Option Issued)) (producers : List (List (Option Writer))) (ws : Writers)
     (last : ℕ) → IsRight units channels producers ws last → (u : FunctionalUnit)
-    → is_taken units u ≡ is_held reservation_of (sort_by number_of (seated units channels)) u
-unfolding seated is_held reservation_of
-held_taken units channels producers ws last right u = by_seat (get_or units (unit_number u) None) refl
+    → is_taken units u ≡ is_held reservation_of (sort_by number_of (in_slots units channels)) u
+unfolding in_slots is_held reservation_of
+held_taken units channels producers ws last right u = by_slot (get_or units (unit_number u) None) refl
     ∙ sym (any_sort number_of (λ y. holds u y.reservation) (somes (units ++ channels)))
   where
-    by_seat : (o : Option Issued) → get_or units (unit_number u) None ≡ o
+    by_slot : (o : Option Issued) → get_or units (unit_number u) None ≡ o
         → is_some o ≡ list_any (λ y. holds u y.reservation) (somes (units ++ channels))
-    by_seat None e = sym (none_any (λ y. holds u y.reservation) (somes (units ++ channels))
+    by_slot None e = sym (none_any (λ y. holds u y.reservation) (somes (units ++ channels))
         (nobody_holds u (units ++ channels) (unit_number u) refl
-        (unit_seat units channels u (unit_number u) None right.all_units refl e) right.sits))
-    by_seat (Some x) e =
-        let here = unit_seat units channels u (unit_number u) (Some x) right.all_units refl e in
+        (unit_slot units channels u (unit_number u) None right.all_units refl e) right.stands))
+    by_slot (Some x) e =
+        let here = unit_slot units channels u (unit_number u) (Some x) right.all_units refl e in
         sym (any_here (λ y. holds u y.reservation) (units ++ channels) (unit_number u) x here
-        (here_holds u (units ++ channels) (unit_number u) x refl here right.sits))
+        (here_holds u (units ++ channels) (unit_number u) x refl here right.stands))
 
 pub first_free_same : (f g : FunctionalUnit → Bool) → ((u : FunctionalUnit) → f u ≡ g u) → (us : List FunctionalUnit)
     → first_free f us ≡ first_free g us
@@ -176,11 +176,11 @@ first_free_same f g h (u ∷ us) =
 
 pub free_same : (units channels : List (Option Issued)) (producers : List (List (Option Writer))) (ws : Writers)
     (last : ℕ) → IsRight units channels producers ws last → (k : Option UnitKind)
-    → free_for (is_taken units) k ≡ unit_for reservation_of (sort_by number_of (seated units channels)) k
+    → free_for (is_taken units) k ≡ unit_for reservation_of (sort_by number_of (in_slots units channels)) k
 unfolding free_for unit_for free_unit
 free_same units channels producers ws last right None = refl
 free_same units channels producers ws last right (Some k) =
-    first_free_same (is_taken units) (is_held reservation_of (sort_by number_of (seated units channels)))
+    first_free_same (is_taken units) (is_held reservation_of (sort_by number_of (in_slots units channels)))
     (held_taken units channels producers ws last right) (units_of k)
 
 first_is_free : (f : FunctionalUnit → Bool) (us : List FunctionalUnit) (u : FunctionalUnit) → first_free f us ≡ Some u
@@ -219,11 +219,11 @@ unfolding free_for may_take
 free_kind units None u h = cc
 free_kind units (Some k) u h = first_is_one (is_taken units) (units_of k) u h
 
-pub free_seat : (units : List (Option Issued)) (k : Option UnitKind) (u : FunctionalUnit)
+pub free_slot : (units : List (Option Issued)) (k : Option UnitKind) (u : FunctionalUnit)
     → free_for (is_taken units) k ≡ Some u → get_or units (unit_number u) None ≡ None
 unfolding free_for
-free_seat units None u h = cc
-free_seat units (Some k) u h =
+free_slot units None u h = cc
+free_slot units (Some k) u h =
     none_there (get_or units (unit_number u) None) (first_is_free (is_taken units) (units_of k) u h)
 
 -- ---- the answers ----
@@ -256,9 +256,9 @@ reserved_answer s i o u n e t k =
 
 -- ---- what holds then ----
 
-front_seat : (units channels : List (Option Issued)) (j : ℕ) (z : Issued) → get_or units j None ≡ Some z
+front_slot : (units channels : List (Option Issued)) (j : ℕ) (z : Issued) → get_or units j None ≡ Some z
     → get_or (units ++ channels) j None ≡ Some z
-front_seat units channels j z h = get_or_append_left units channels None j (within units j z h) ∙ h
+front_slot units channels j z h = get_or_append_left units channels None j (within units j z h) ∙ h
 
 fresh_others : (last : ℕ) (y : Issued) (ys : List Issued) → y.number ≡ suc last → Each (λ x. x.number ≤ last) ys
     → ((r : Reg) → comes r y.reservation ≡ true → list_any (λ z. comes r z.reservation) ys ≡ false)
@@ -300,13 +300,13 @@ producers_valid f g h (r ∷ rs) (p ∷ ps) v k = (k.0 ∙ sym (h r v.0), produc
 
 new_written : (r : Reg) (i : Instr) (u : FunctionalUnit) (n : ℕ)
     → written_by r (new_issued i u n)
-    ≡ cond (is_in (puts_of (shape_of i)) r) (Some (OfUnit u)) (written_by_channel r (channel_of (shape_of i)))
+    ≡ cond (is_in (sets_of (shape_of i)) r) (Some (OfUnit u)) (written_by_channel r (channel_of (shape_of i)))
 unfolding written_by written_in new_issued
 new_written r i u n = refl
 
-new_seat : (i : Instr) (u : FunctionalUnit) (n : ℕ) → seat_of (new_issued i u n) ≡ unit_number u
-unfolding seat_of seat_in new_issued
-new_seat i u n = refl
+new_slot : (i : Instr) (u : FunctionalUnit) (n : ℕ) → slot_of (new_issued i u n) ≡ unit_number u
+unfolding slot_of slot_in new_issued
+new_slot i u n = refl
 
 new_number : (i : Instr) (u : FunctionalUnit) (n : ℕ) → (new_issued i u n).number ≡ n
 unfolding new_issued
@@ -324,23 +324,23 @@ pub reserved_right : (units channels : List (Option Issued)) (producers : List (
     (last : ℕ) (u : FunctionalUnit) (k : ℕ) (i : Instr) (ps : List (Option Writer))
     → IsRight units channels producers ws last → k ≡ unit_number u → get_or units k None ≡ None
     → AreProducers (writer_at ws) (sources_of i) ps → Each IsRegister (sources_of i)
-    → Each IsRegister (puts_of (shape_of i)) → IfSome (channel_of (shape_of i)) (λ n. n < 8)
+    → Each IsRegister (sets_of (shape_of i)) → IfSome (channel_of (shape_of i)) (λ n. n < 8)
     → ((r : Reg) → comes r (new_issued i u (suc last)).reservation ≡ true
     → list_any (λ z. comes r z.reservation) (somes (units ++ channels)) ≡ false) → may_take (uses i).unit u ≡ true
     → IsRight (set units k (Some (new_issued i u (suc last)))) channels (set producers k ps)
-    (writers_with ws u (puts_of (shape_of i)) (channel_of (shape_of i))) (suc last)
-unfolding seated writer_before or_else
-reserved_right units channels producers ws last u k i ps right e h made sources puts channel new kind =
+    (writers_with ws u (sets_of (shape_of i)) (channel_of (shape_of i))) (suc last)
+unfolding in_slots writer_before or_else
+reserved_right units channels producers ws last u k i ps right e h made sources sets channel new kind =
     right_again (set units k (Some y)) channels (set os k (Some y)) (set producers k ps)
-    (writers_with ws u (puts_of (shape_of i)) (channel_of (shape_of i))) (suc last)
+    (writers_with ws u (sets_of (shape_of i)) (channel_of (shape_of i))) (suc last)
     (set-append_left units channels k (Some y) inside) (length-set units k (Some y) ∙ right.all_units)
     right.all_channels (length-set producers k ps ∙ right.all_producers)
-    (with_sized ws u (puts_of (shape_of i)) (channel_of (shape_of i)) right.all_writers)
-    (seated_fill seat_of os 0 k y (new_seat i u (suc last) ∙ omega (arith, e)) right.sits)
+    (with_sized ws u (sets_of (shape_of i)) (channel_of (shape_of i)) right.all_writers)
+    (in_slots_fill slot_of os 0 k y (new_slot i u (suc last) ∙ omega (arith, e)) right.stands)
     (pairs_put os k y empty room others right.apart)
     (each_put (λ z. z.number ≤ suc last) os k y empty room (omega (arith, number)) below_next)
     (each_put IsOfKind os k y empty room (new_kind i u (suc last) kind) right.kinds)
-    (λ r v. with_gives ws u (puts_of (shape_of i)) (channel_of (shape_of i)) r right.all_writers puts channel
+    (λ r v. with_gives ws u (sets_of (shape_of i)) (channel_of (shape_of i)) r right.all_writers sets channel
     ∙ ap (λ o. or_else o (writer_at ws r))
     (sym (new_written r i u (suc last)) ∙ sym (is_earlier (suc (suc last)) r y (omega (arith, number))))
     ∙ ap (or_else (if_earlier (suc (suc last)) (written_by r) y))
@@ -361,7 +361,7 @@ reserved_right units channels producers ws last u k i ps right e h made sources 
     inside = let b = unit_below u in omega (arith, b, e, right.all_units)
 
     empty : get_or os k None ≡ None
-    empty = unit_seat units channels u k None right.all_units e h
+    empty = unit_slot units channels u k None right.all_units e h
 
     room : k < length os
     room = let q = length-append units channels in omega (arith, q, inside)
@@ -400,7 +400,7 @@ reserved_right units channels producers ws last u k i ps right e h made sources 
     by_place j z q false b =
         let t : get_or units j None ≡ Some z = sym (get_or-set_other units k j (Some y) None (eqb-false j k b)) ∙ q in
         let n : z.number ≤ last =
-        each_here (λ w. w.number ≤ last) os j z (front_seat units channels j z t) right.counted in
+        each_here (λ w. w.number ≤ last) os j z (front_slot units channels j z t) right.counted in
         subst (λ l. AreProducers (writer_before z.number (somes (set os k (Some y)))) (sources_of z.reservation.instr)
         l)
         (sym (get_or-set_other producers k j ps [] (eqb-false j k b)))
@@ -415,7 +415,7 @@ pub reserved_view : (units channels : List (Option Issued)) (producers : List (L
     → get_or units k None ≡ None
     → standing_of (set units k (Some (new_issued i u (suc last)))) channels (suc last)
     ≡ reserved (standing_of units channels last) i (Ok (u, suc last))
-unfolding seated reserved number_of
+unfolding in_slots reserved number_of
 reserved_view units channels producers ws last u k i right e h =
     let os : List (Option Issued) = units ++ channels in
     let y : Issued = new_issued i u (suc last) in
@@ -425,7 +425,7 @@ reserved_view units channels producers ws last u k i right e h =
     ap (λ l. record { issued = l; last = suc last })
     (ap (λ m. sort_by number_of (somes m))
     (sym (set-append_left units channels k (Some y) (omega (arith, b, e, right.all_units))))
-    ∙ sort_new number_of os k y (unit_seat units channels u k None right.all_units e h)
+    ∙ sort_new number_of os k y (unit_slot units channels u k None right.all_units e h)
     (omega (arith, b, e, right.all_units, q))
     (each_map (λ z. z.number ≤ last) (λ z. z.number < y.number) (λ z p. omega (arith, p, number)) (somes os)
     right.counted))
@@ -450,10 +450,10 @@ no_somes [] h = refl
 no_somes (None ∷ os) h = no_somes os h.1
 no_somes (Some x ∷ os) h = absurd (let q : Some x ≡ None = h.0 in cc)
 
-none_seated : (os : List (Option Issued)) (k : ℕ) → AreNone os → IsSeated seat_of k os
-none_seated [] k h = tt
-none_seated (None ∷ os) k h = none_seated os (suc k) h.1
-none_seated (Some x ∷ os) k h = absurd (let q : Some x ≡ None = h.0 in cc)
+none_in_slots : (os : List (Option Issued)) (k : ℕ) → AreNone os → IsInSlots slot_of k os
+none_in_slots [] k h = tt
+none_in_slots (None ∷ os) k h = none_in_slots os (suc k) h.1
+none_in_slots (Some x ∷ os) k h = absurd (let q : Some x ≡ None = h.0 in cc)
 
 writer_none : (ws : Writers) (r : Reg) → AreNone ws.x → AreNone ws.a → AreNone ws.b → writer_at ws r ≡ None
 unfolding writer_at
@@ -469,7 +469,7 @@ unfolding writer_before first_some
 none_right units channels producers ws hu hc hx ha hb lu lc lp lw =
     let none = no_somes (units ++ channels) (none_join units channels hu hc) in
     right_again units channels (units ++ channels) producers ws 0 refl lu lc lp lw
-    (none_seated (units ++ channels) 0 (none_join units channels hu hc))
+    (none_in_slots (units ++ channels) 0 (none_join units channels hu hc))
     (subst (Pairs IsOther) (sym none) tt)
     (subst (Each (λ x. x.number ≤ 0)) (sym none) tt)
     (subst (Each IsOfKind) (sym none) tt)
@@ -478,7 +478,7 @@ none_right units channels producers ws hu hc hx ha hb lu lc lp lw =
 
 pub none_view : (units channels : List (Option Issued)) → AreNone units → AreNone channels
     → standing_of units channels 0 ≡ record { issued = []; last = 0 }
-unfolding seated sort_by
+unfolding in_slots sort_by
 none_view units channels hu hc =
     ap (λ l. record { issued = sort_by number_of l; last = 0 })
     (no_somes (units ++ channels) (none_join units channels hu hc))
@@ -495,12 +495,12 @@ pub first_found : (units channels : List (Option Issued)) (producers : List (Lis
     (last : ℕ) (i : Instr) (rs ss : List Reg) (ps : List (Option Writer)) (q : Option Reg)
     → IsRight units channels producers ws last → AreProducers (writer_at ws) rs ps → Each IsRegister rs
     → rs ≡ results (shape_of i) → ss ≡ results (shape_of i) → q ≡ first_produced ss ps
-    → q ≡ find (awaited reservation_of (sort_by number_of (seated units channels))) (results (shape_of i))
+    → q ≡ find (awaited reservation_of (sort_by number_of (in_slots units channels))) (results (shape_of i))
 first_found units channels producers ws last i rs ss ps q right h v er es eq =
     let e : rs ≡ ss = er ∙ sym es in
     first_awaited units channels producers ws last ss ps q right (subst (λ l. AreProducers (writer_at ws) l ps) e h)
     (subst (Each IsRegister) e v) eq
-    ∙ ap (find (awaited reservation_of (sort_by number_of (seated units channels)))) es
+    ∙ ap (find (awaited reservation_of (sort_by number_of (in_slots units channels)))) es
 
 pub unit_found : (units channels : List (Option Issued)) (producers : List (List (Option Writer))) (ws : Writers)
     (last : ℕ) (k : Option UnitKind) (o q : Option FunctionalUnit) → IsRight units channels producers ws last
@@ -508,9 +508,9 @@ pub unit_found : (units channels : List (Option Issued)) (producers : List (List
 unit_found units channels producers ws last k o q right e h =
     sym (free_same units channels producers ws last right k) ∙ sym e ∙ h
 
-pub seat_found : (units : List (Option Issued)) (k : Option UnitKind) (o : Option FunctionalUnit) (u : FunctionalUnit)
+pub slot_found : (units : List (Option Issued)) (k : Option UnitKind) (o : Option FunctionalUnit) (u : FunctionalUnit)
     (i : ℕ) → o ≡ free_for (is_taken units) k → o ≡ Some u → i ≡ unit_number u → get_or units i None ≡ None
-seat_found units k o u i e h q = ap (λ m. get_or units m None) q ∙ free_seat units k u (sym e ∙ h)
+slot_found units k o u i e h q = ap (λ m. get_or units m None) q ∙ free_slot units k u (sym e ∙ h)
 
 pub kind_found : (units : List (Option Issued)) (k : Option UnitKind) (o : Option FunctionalUnit) (u : FunctionalUnit)
     → o ≡ free_for (is_taken units) k → o ≡ Some u → may_take k u ≡ true
@@ -520,20 +520,20 @@ pub new_right : (units channels : List (Option Issued)) (producers : List (List 
     (last n : ℕ) (u : FunctionalUnit) (k : ℕ) (i : Instr) (rs : List Reg) (ps : List (Option Writer)) (y : Issued)
     → IsRight units channels producers ws last → n ≡ suc last → k ≡ unit_number u → get_or units k None ≡ None
     → rs ≡ sources_of i → AreProducers (writer_at ws) rs ps → Each IsRegister rs
-    → Each IsRegister (puts_of (shape_of i)) → IfSome (channel_of (shape_of i)) (λ m. m < 8)
-    → find (awaited reservation_of (sort_by number_of (seated units channels))) (results (shape_of i)) ≡ None
+    → Each IsRegister (sets_of (shape_of i)) → IfSome (channel_of (shape_of i)) (λ m. m < 8)
+    → find (awaited reservation_of (sort_by number_of (in_slots units channels))) (results (shape_of i)) ≡ None
     → may_take (uses i).unit u ≡ true → y ≡ new_issued i u n
-    → ws' ≡ writers_with ws u (puts_of (shape_of i)) (channel_of (shape_of i))
+    → ws' ≡ writers_with ws u (sets_of (shape_of i)) (channel_of (shape_of i))
     → IsRight (set units k (Some y)) channels (set producers k ps) ws' n
-new_right units channels producers ws ws' last n u k i rs ps y right en e h er made sources puts channel none kind ey
+new_right units channels producers ws ws' last n u k i rs ps y right en e h er made sources sets channel none kind ey
     ew =
     subst (λ v. IsRight (set units k (Some y)) channels (set producers k ps) v n) (sym ew)
     (subst (λ v. IsRight (set units k (Some v)) channels (set producers k ps)
-    (writers_with ws u (puts_of (shape_of i)) (channel_of (shape_of i))) n) (sym ey)
+    (writers_with ws u (sets_of (shape_of i)) (channel_of (shape_of i))) n) (sym ey)
     (subst (λ m. IsRight (set units k (Some (new_issued i u m))) channels (set producers k ps)
-    (writers_with ws u (puts_of (shape_of i)) (channel_of (shape_of i))) m) (sym en)
+    (writers_with ws u (sets_of (shape_of i)) (channel_of (shape_of i))) m) (sym en)
     (reserved_right units channels producers ws last u k i ps right e h
-    (subst (λ l. AreProducers (writer_at ws) l ps) er made) (subst (Each IsRegister) er sources) puts channel
+    (subst (λ l. AreProducers (writer_at ws) l ps) er made) (subst (Each IsRegister) er sources) sets channel
     (fresh units channels i u (suc last) none) kind)))
 
 pub new_view : (units channels : List (Option Issued)) (producers : List (List (Option Writer))) (ws : Writers)

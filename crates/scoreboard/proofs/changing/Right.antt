@@ -9,7 +9,7 @@ use Rattle.instructions.specs.declared.instr.Reg.{Reg}
 use Rattle.instructions.specs.declared.instr.Reg.TheVariants.{X}
 use Rattle.instructions.specs.declared.instr.Unit.{Unit as FunctionalUnit}
 use Rattle.instructions.specs.RegisterLists.{is_in}
-use Rattle.instructions.specs.Shape.{Shape, Puts, Loads, Stores, Jumps, Links, shape_of, puts_of, loads_of, results}
+use Rattle.instructions.specs.Shape.{Shape, Sets, Loads, Stores, Jumps, Links, shape_of, sets_of, loads_of, results}
 use Rattle.instructions.specs.Operands.{sources_of, reg_eq}
 use Rattle.scoreboard.specs.declared.reservation.Progress.TheVariants.{Reserved, Left}
 use Rattle.scoreboard.specs.Reservations.{comes, to_come, to_come_in, returning_to}
@@ -23,36 +23,36 @@ use Rattle.instructions.specs.Each.{Each, Pairs}
 use Rattle.scoreboard.specs.inner.Fields.{channels_with, forget_in_taken}
 use Rattle.scoreboard.specs.Issued.{number_of, channel_of, written_by_channel, written_in, written_by, or_else}
 use Rattle.scoreboard.specs.Issued.{first_some, if_earlier, writer_of, writer_before}
-use Rattle.instructions.specs.Order.{somes, IsSeated}
-use Rattle.scoreboard.specs.inner.View.{seated, seat_in, seat_of, IsOther, IsOfKind, AreProducers, IsRight}
+use Rattle.instructions.specs.Order.{somes, IsInSlots}
+use Rattle.scoreboard.specs.inner.View.{in_slots, slot_in, slot_of, IsOther, IsOfKind, AreProducers, IsRight}
 use Rattle.scoreboard.specs.Writers.{IsRegister, writer_at, set_writer, set_each, same_writer, forget}
 use Rattle.instructions.proofs.Lists.{each_map}
-use Rattle.instructions.proofs.Seats.{within, seated_others, seated_here, seated_empty, seated_fill}
-use Rattle.scoreboard.proofs.seating.Registers.{AreSized, reg_eq_same, set_gives, set_sized, each_sized, each_gives}
-use Rattle.scoreboard.proofs.seating.Writing.{all_earlier, producers_forget, forget_first, earlier_forget, earlier_at}
-use Rattle.scoreboard.proofs.seating.Writing.{channel_no_unit, unit_kept, channel_kept, left_written, returned_written}
-use Rattle.scoreboard.proofs.seating.Seating.{set_back, sits_reserved, sits_returning, others_of, pairs_taken}
-use Rattle.scoreboard.proofs.seating.Seating.{pairs_put, each_taken, each_here, each_put, writer_put, writer_taken}
-use Rattle.scoreboard.proofs.seating.Seating.{writer_gone, writer_same}
-use Rattle.scoreboard.proofs.seating.Standing.{unit_seat, channel_seat}
+use Rattle.instructions.proofs.Slots.{within, in_slots_others, in_slots_here, in_slots_empty, in_slots_fill}
+use Rattle.scoreboard.proofs.in_slots.Registers.{AreSized, reg_eq_same, set_gives, set_sized, each_sized, each_gives}
+use Rattle.scoreboard.proofs.in_slots.Writing.{all_earlier, producers_forget, forget_first, earlier_forget, earlier_at}
+use Rattle.scoreboard.proofs.in_slots.Writing.{channel_no_unit, unit_kept, channel_kept, left_written, returned_written}
+use Rattle.scoreboard.proofs.in_slots.InSlots.{set_back, stands_reserved, stands_returning, others_of, pairs_taken}
+use Rattle.scoreboard.proofs.in_slots.InSlots.{pairs_put, each_taken, each_here, each_put, writer_put, writer_taken}
+use Rattle.scoreboard.proofs.in_slots.InSlots.{writer_gone, writer_same}
+use Rattle.scoreboard.proofs.in_slots.Standing.{unit_slot, channel_slot}
 
--- ---- from the seats as one list ----
+-- ---- from the slots as one list ----
 
 pub right_again : (units channels l : List (Option Issued)) (producers : List (List (Option Writer))) (ws : Writers)
     (last : ℕ) → l ≡ units ++ channels → length units ≡ 10 → length channels ≡ 8 → length producers ≡ 10
     → (length ws.x ≡ 8) × (length ws.a ≡ 8) × (length ws.b ≡ 8)
-    → IsSeated seat_of 0 l → Pairs IsOther (somes l) → Each (λ x. x.number ≤ last) (somes l) → Each IsOfKind (somes l)
+    → IsInSlots slot_of 0 l → Pairs IsOther (somes l) → Each (λ x. x.number ≤ last) (somes l) → Each IsOfKind (somes l)
     → ((r : Reg) → IsRegister r → writer_at ws r ≡ writer_before (suc last) (somes l) r)
     → ((j : ℕ) (z : Issued) → get_or units j None ≡ Some z
     → AreProducers (writer_before z.number (somes l)) (sources_of z.reservation.instr)
     (get_or producers j [])) → IsRight units channels producers ws last
-unfolding seated
+unfolding in_slots
 right_again units channels l producers ws last e lu lc lp lw s a n k w p = record {
   all_units = lu;
   all_channels = lc;
   all_producers = lp;
   all_writers = lw;
-  sits = subst (IsSeated seat_of 0) e s;
+  stands = subst (IsInSlots slot_of 0) e s;
   apart = subst (λ m. Pairs IsOther (somes m)) e a;
   counted = subst (λ m. Each (λ x. x.number ≤ last) (somes m)) e n;
   kinds = subst (λ m. Each IsOfKind (somes m)) e k;
@@ -65,7 +65,7 @@ right_again units channels l producers ws last e lu lc lp lw s a n k w p = recor
 written_now : (units channels : List (Option Issued)) (producers : List (List (Option Writer))) (ws : Writers)
     (last : ℕ) → IsRight units channels producers ws last → (r : Reg) → IsRegister r
     → writer_at ws r ≡ writer_before (suc last) (somes (units ++ channels)) r
-unfolding seated
+unfolding in_slots
 written_now units channels producers ws last right r v =
     right.written r v ∙ sym (all_earlier last r (somes (units ++ channels)) right.counted)
 
@@ -101,10 +101,10 @@ pub marked_comes : (r : Reg) (x : Issued) (b : Bool) → x.reservation.progress 
 unfolding comes to_come to_come_in in_progress
 marked_comes r x b e = sym (ap (λ p. is_in (to_come_in (shape_of x.reservation.instr) p) r) e)
 
-marked_seat : (x : Issued) (b : Bool) → x.reservation.progress ≡ Reserved b
-    → seat_of (in_progress x (Reserved true)) ≡ seat_of x
-unfolding seat_of seat_in in_progress
-marked_seat x b e = sym (ap (seat_in x.reservation.unit) e)
+marked_slot : (x : Issued) (b : Bool) → x.reservation.progress ≡ Reserved b
+    → slot_of (in_progress x (Reserved true)) ≡ slot_of x
+unfolding slot_of slot_in in_progress
+marked_slot x b e = sym (ap (slot_in x.reservation.unit) e)
 
 marked_other : (x z : Issued) (b : Bool) → x.reservation.progress ≡ Reserved b → IsOther x z
     → IsOther (in_progress x (Reserved true)) z
@@ -115,13 +115,13 @@ pub marked_right : (units channels : List (Option Issued)) (producers : List (Li
     (last : ℕ) (u : FunctionalUnit) (i : ℕ) (x : Issued) → IsRight units channels producers ws last → i ≡ unit_number u
     → get_or units i None ≡ Some x
     → IsRight (set units i (Some (in_progress x (Reserved true)))) channels producers ws last
-unfolding seated number_of in_progress
+unfolding in_slots number_of in_progress
 marked_right units channels producers ws last u i x right e h =
     right_again (set units i (Some y)) channels (set os i (Some y)) producers ws last
     (set-append_left units channels i (Some y) (within units i x h))
     (length-set units i (Some y) ∙ right.all_units) right.all_channels right.all_producers right.all_writers
-    (seated_fill seat_of os 0 i y (marked_seat x reserved.0 reserved.1 ∙ seated_here seat_of os 0 i x here right.sits)
-    right.sits)
+    (in_slots_fill slot_of os 0 i y (marked_slot x reserved.0 reserved.1 ∙ in_slots_here slot_of os 0 i x here right.stands)
+    right.stands)
     (subst (λ m. Pairs IsOther (somes m)) again
     (pairs_put (set os i None) i y empty room others (pairs_taken os i x here right.apart)))
     (subst (λ m. Each (λ z. z.number ≤ last) (somes m)) again
@@ -141,10 +141,10 @@ marked_right units channels producers ws last u i x right e h =
     y = in_progress x (Reserved true)
 
     here : get_or os i None ≡ Some x
-    here = unit_seat units channels u i (Some x) right.all_units e h
+    here = unit_slot units channels u i (Some x) right.all_units e h
 
     reserved : (b : Bool) × (x.reservation.progress ≡ Reserved b) × (same_unit x.reservation.unit u ≡ true)
-    reserved = sits_reserved u x (seated_here seat_of os 0 i x here right.sits ∙ omega (arith, e))
+    reserved = stands_reserved u x (in_slots_here slot_of os 0 i x here right.stands ∙ omega (arith, e))
 
     again : set (set os i None) i (Some y) ≡ set os i (Some y)
     again = set-set os i None (Some y)
@@ -213,7 +213,7 @@ pub all_forgotten : (w : Writer) (units channels units' : List (Option Issued))
     (producers : List (List (Option Writer))) (ws : Writers) (last : ℕ) → IsRight units channels producers ws last
     → ((j : ℕ) (z : Issued) → get_or units' j None ≡ Some z → get_or units j None ≡ Some z)
     → AreForgotten w (units ++ channels) units' (forget_in_taken w units' producers)
-unfolding seated
+unfolding in_slots
 all_forgotten w units channels units' producers ws last right t = (
   length_forgotten w units' producers ∙ right.all_producers,
   λ j z h g k. subst (λ ps. AreProducers g (sources_of z.reservation.instr) ps) (sym (forgotten_at w units' producers j
@@ -226,18 +226,18 @@ pub written : (w : Writer) (units channels units' channels' l : List (Option Iss
     (producers pss : List (List (Option Writer))) (ws ws' : Writers) (last : ℕ)
     → IsRight units channels producers ws last → l ≡ units' ++ channels' → length units' ≡ 10 → length channels' ≡ 8
     → AreSized ws'
-    → IsSeated seat_of 0 l → Pairs IsOther (somes l) → Each (λ x. x.number ≤ last) (somes l) → Each IsOfKind (somes l)
+    → IsInSlots slot_of 0 l → Pairs IsOther (somes l) → Each (λ x. x.number ≤ last) (somes l) → Each IsOfKind (somes l)
     → ((n : ℕ) (r : Reg) → writer_before n (somes l) r ≡ forget w (writer_before n (somes (units ++ channels)) r))
     → ((r : Reg) → IsRegister r → writer_at ws' r ≡ forget w (writer_at ws r))
     → AreForgotten w (units ++ channels) units' pss
     → IsRight units' channels' pss ws' last
-unfolding seated
+unfolding in_slots
 written w units channels units' channels' l producers pss ws ws' last right e lu lc lw s a n o k f p =
     right_again units' channels' l pss ws' last e lu lc p.0 lw s a n o
     (λ r v. f r v ∙ ap (forget w) (written_now units channels producers ws last right r v) ∙ sym (k (suc last) r))
     (λ j z h. p.1 j z h (writer_before z.number (somes l)) (k z.number))
 
--- a register's field is cleared where the one in a seat has its writer entered there
+-- a register's field is cleared where the one in a slot has its writer entered there
 cleared : (w : Writer) (b : Bool) (units channels : List (Option Issued)) (producers : List (List (Option Writer)))
     (ws : Writers) (last : ℕ) (i : ℕ) (x : Issued) (r : Reg) → IsRight units channels producers ws last → IsRegister r
     → get_or (units ++ channels) i None ≡ Some x
@@ -245,7 +245,7 @@ cleared : (w : Writer) (b : Bool) (units channels : List (Option Issued)) (produ
     → ((rest : Option Writer) → forget w rest ≡ rest
     → cond b None (or_else (written_by r x) rest) ≡ forget w (or_else (written_by r x) rest))
     → cond b None (writer_at ws r) ≡ forget w (writer_at ws r)
-unfolding writer_before seated
+unfolding writer_before in_slots
 cleared w b units channels producers ws last i x r right v h k step =
     ap (λ o. cond b None o) entered ∙ step rest kept ∙ ap (forget w) (sym entered)
   where
@@ -269,7 +269,7 @@ cleared w b units channels producers ws last i x r right v h k step =
         ∙ writer_taken (suc last) r os i x h right.apart
         ∙ ap (λ o. or_else o rest) (earlier_at last r x (each_here (λ y. y.number ≤ last) os i x h right.counted))
 
--- what was in a seat that was not emptied
+-- what was in a slot that was not emptied
 not_emptied : (units : List (Option Issued)) (i : ℕ) (j : ℕ) (z : Issued) → i < length units
     → get_or (set units i None) j None ≡ Some z → get_or units j None ≡ Some z
 not_emptied units i j z l h = by_place (eqb j i) refl
@@ -310,7 +310,7 @@ gone_written w os i x h p g k n r =
     ap (λ o. or_else o (writer_before n (somes (set os i None)) r)) (earlier_gone w n r x (g r))
     ∙ writer_gone w n r os i x h p k
 
--- what those up to the number of the one in a seat wait for is no result of its own
+-- what those up to the number of the one in a slot wait for is no result of its own
 nobody_waits : (w : Writer) (os : List (Option Issued)) (i : ℕ) (x : Issued) (n : ℕ) (r : Reg)
     → get_or os i None ≡ Some x → Pairs IsOther (somes os)
     → Each (λ y. forget w (written_by r y) ≡ written_by r y) (somes (set os i None)) → n ≤ x.number
@@ -340,7 +340,7 @@ last_forgotten : (w : Writer) (units channels units' : List (Option Issued)) (pr
     → x.number ≡ last
     → ((j : ℕ) (z : Issued) → get_or units' j None ≡ Some z → get_or units j None ≡ Some z)
     → AreForgotten w (units ++ channels) units' producers
-unfolding seated
+unfolding in_slots
 last_forgotten w units channels units' producers ws last i x right here others k t = (
   right.all_producers,
   λ j z q g f.
@@ -387,13 +387,13 @@ pub returned_right : (units channels : List (Option Issued)) (producers : List (
     (last n : ℕ) (x : Issued) → IsRight units channels producers ws last → n < 8 → get_or channels n None ≡ Some x
     → (pss : List (List (Option Writer))) → AreForgotten (OfChannel n) (units ++ channels) units pss
     → IsRight units (set channels n None) pss (set_writer ws (X n) None) last
-unfolding seated
+unfolding in_slots
 returned_right units channels producers ws last n x right below_8 h pss forgotten =
     written (OfChannel n) units channels units (set channels n None) (set os (10 + n) None) producers pss ws
     (set_writer ws (X n) None) last right
     (set_back units channels n (10 + n) None (omega (arith, right.all_units))) right.all_units
     (length-set channels n None ∙ right.all_channels) (set_sized ws (X n) None right.all_writers)
-    (seated_empty seat_of os 0 (10 + n) right.sits) (pairs_taken os (10 + n) x here right.apart)
+    (in_slots_empty slot_of os 0 (10 + n) right.stands) (pairs_taken os (10 + n) x here right.apart)
     (each_taken (λ z. z.number ≤ last) os (10 + n) x here right.counted)
     (each_taken IsOfKind os (10 + n) x here right.kinds)
     (gone_written (OfChannel n) os (10 + n) x here right.apart (λ r. returned_written n r x returning) others)
@@ -406,10 +406,10 @@ returned_right units channels producers ws last n x right below_8 h pss forgotte
     os = units ++ channels
 
     here : get_or os (10 + n) None ≡ Some x
-    here = channel_seat units channels n (Some x) right.all_units h
+    here = channel_slot units channels n (Some x) right.all_units h
 
     returning : x.reservation.progress ≡ Left (Some n)
-    returning = sits_returning n x below_8 (seated_here seat_of os 0 (10 + n) x here right.sits ∙ omega arith)
+    returning = stands_returning n x below_8 (in_slots_here slot_of os 0 (10 + n) x here right.stands ∙ omega arith)
 
     others : (r : Reg) → Each (λ y. forget (OfChannel n) (written_by r y) ≡ written_by r y)
         (somes (set os (10 + n) None))
@@ -421,18 +421,18 @@ pub returned_last : (units channels : List (Option Issued)) (producers : List (L
     (last n : ℕ) (x : Issued) → IsRight units channels producers ws last → n < 8 → get_or channels n None ≡ Some x
     → x.number ≡ last
     → AreForgotten (OfChannel n) (units ++ channels) units producers
-unfolding seated
+unfolding in_slots
 returned_last units channels producers ws last n x right below_8 h k =
     last_forgotten (OfChannel n) units channels units producers ws last (10 + n) x right here
     (others_not_loading n x (somes (set (units ++ channels) (10 + n) None)) (comes_returning n x returning)
     (others_of (units ++ channels) (10 + n) x here right.apart)) k (λ j z q. q)
   where
     here : get_or (units ++ channels) (10 + n) None ≡ Some x
-    here = channel_seat units channels n (Some x) right.all_units h
+    here = channel_slot units channels n (Some x) right.all_units h
 
     returning : x.reservation.progress ≡ Left (Some n)
     returning =
-        sits_returning n x below_8 (seated_here seat_of (units ++ channels) 0 (10 + n) x here right.sits ∙ omega arith)
+        stands_returning n x below_8 (in_slots_here slot_of (units ++ channels) 0 (10 + n) x here right.stands ∙ omega arith)
 
 -- and for that of another they wait no longer
 pub returned_others : (units channels : List (Option Issued)) (producers : List (List (Option Writer))) (ws : Writers)
@@ -445,10 +445,10 @@ returned_others units channels producers ws last n right =
 
 field_left_in : (u v : FunctionalUnit) (r : Reg) (s : Shape) (has_read : Bool) (rest : Option Writer)
     → same_unit v u ≡ true → forget (OfUnit u) rest ≡ rest
-    → cond (is_in (puts_of s) r) None (or_else (written_in r v s (Reserved has_read)) rest)
+    → cond (is_in (sets_of s) r) None (or_else (written_in r v s (Reserved has_read)) rest)
     ≡ forget (OfUnit u) (or_else (written_in r v s (Reserved has_read)) rest)
 unfolding written_in forget same_writer or_else
-field_left_in u v r s has_read rest h k = by_test (is_in (puts_of s) r)
+field_left_in u v r s has_read rest h k = by_test (is_in (sets_of s) r)
   where
     by_channel : (o : Option Writer) → forget (OfUnit u) o ≡ o → or_else o rest ≡ forget (OfUnit u) (or_else o rest)
     by_channel None e = sym k
@@ -461,27 +461,27 @@ field_left_in u v r s has_read rest h k = by_test (is_in (puts_of s) r)
 
 field_left : (u : FunctionalUnit) (r : Reg) (x : Issued) (has_read : Bool) (rest : Option Writer)
     → x.reservation.progress ≡ Reserved has_read → same_unit x.reservation.unit u ≡ true → forget (OfUnit u) rest ≡ rest
-    → cond (is_in (puts_of (shape_of x.reservation.instr)) r) None (or_else (written_by r x) rest)
+    → cond (is_in (sets_of (shape_of x.reservation.instr)) r) None (or_else (written_by r x) rest)
     ≡ forget (OfUnit u) (or_else (written_by r x) rest)
 unfolding written_by
 field_left u r x has_read rest e h k =
-    ap (λ p. cond (is_in (puts_of (shape_of x.reservation.instr)) r) None
+    ap (λ p. cond (is_in (sets_of (shape_of x.reservation.instr)) r) None
     (or_else (written_in r x.reservation.unit (shape_of x.reservation.instr) p) rest)) e
     ∙ field_left_in u x.reservation.unit r (shape_of x.reservation.instr) has_read rest h k
     ∙ ap (λ p. forget (OfUnit u) (or_else (written_in r x.reservation.unit (shape_of x.reservation.instr) p) rest))
     (sym e)
 
-others_elsewhere : (u : FunctionalUnit) (os : List (Option Issued)) (i : ℕ) → i ≡ unit_number u → IsSeated seat_of 0 os
+others_elsewhere : (u : FunctionalUnit) (os : List (Option Issued)) (i : ℕ) → i ≡ unit_number u → IsInSlots slot_of 0 os
     → (r : Reg) → Each (λ y. forget (OfUnit u) (written_by r y) ≡ written_by r y) (somes (set os i None))
 others_elsewhere u os i e s r =
-    each_map (λ y. seat_of y ≢ i) (λ y. forget (OfUnit u) (written_by r y) ≡ written_by r y)
+    each_map (λ y. slot_of y ≢ i) (λ y. forget (OfUnit u) (written_by r y) ≡ written_by r y)
     (λ y k. unit_kept u r y (λ q. k (q ∙ sym e))) (somes (set os i None))
-    (seated_others seat_of os 0 i i (omega arith) s)
+    (in_slots_others slot_of os 0 i i (omega arith) s)
 
 comes_loading_in : (n : ℕ) (s : Shape) (b : Bool) → channel_of s ≡ Some n
     → is_in (to_come_in s (Reserved b)) (X n) ≡ true
-unfolding channel_of to_come_in results puts_of loads_of is_in
-comes_loading_in n (Puts rs) b h = cc
+unfolding channel_of to_come_in results sets_of loads_of is_in
+comes_loading_in n (Sets rs) b h = cc
 comes_loading_in n (Loads m) b h = let e : m ≡ n = cc in ap (λ t. t || false) (eq-eqb n m (sym e))
 comes_loading_in n (Stores m) b h = cc
 comes_loading_in n Jumps b h = cc
@@ -524,21 +524,21 @@ left_nothing : (u : FunctionalUnit) (r : Reg) (x : Issued) (b : Bool) → x.rese
 unfolding written_by_channel
 left_nothing u r x b e h k = ap (written_by_channel r) (sym k) ∙ left_written u r x b e h
 
-left_seat : (n : ℕ) (x : Issued) → seat_of (in_progress x (Left (Some n))) ≡ 10 + n
-unfolding seat_of seat_in in_progress
-left_seat n x = refl
+left_slot : (n : ℕ) (x : Issued) → slot_of (in_progress x (Left (Some n))) ≡ 10 + n
+unfolding slot_of slot_in in_progress
+left_slot n x = refl
 
 -- the channel of a load that is in its unit is empty
 pub channel_empty : (os : List (Option Issued)) (i n : ℕ) (x : Issued) (b : Bool) → n < 8 → get_or os i None ≡ Some x
-    → IsSeated seat_of 0 os → Pairs IsOther (somes os) → x.reservation.progress ≡ Reserved b
+    → IsInSlots slot_of 0 os → Pairs IsOther (somes os) → x.reservation.progress ≡ Reserved b
     → channel_of (shape_of x.reservation.instr) ≡ Some n → get_or (set os i None) (10 + n) None ≡ None
-channel_empty os i n x b l h s p e k = by_seat (get_or (set os i None) (10 + n) None) refl
+channel_empty os i n x b l h s p e k = by_slot (get_or (set os i None) (10 + n) None) refl
   where
-    by_seat : (o : Option Issued) → get_or (set os i None) (10 + n) None ≡ o → o ≡ None
-    by_seat None q = refl
-    by_seat (Some z) q =
+    by_slot : (o : Option Issued) → get_or (set os i None) (10 + n) None ≡ o → o ≡ None
+    by_slot None q = refl
+    by_slot (Some z) q =
         let t : z.reservation.progress ≡ Left (Some n) =
-        sits_returning n z l (seated_here seat_of (set os i None) 0 (10 + n) z q (seated_empty seat_of os 0 i s)
+        stands_returning n z l (in_slots_here slot_of (set os i None) 0 (10 + n) z q (in_slots_empty slot_of os 0 i s)
         ∙ omega arith) in
         let o : IsOther x z = each_here (IsOther x) (set os i None) (10 + n) z q (others_of os i x h p) in
         let f : (comes (X n) x.reservation && comes (X n) z.reservation) ≡ false = o.results (X n) in
@@ -559,8 +559,8 @@ pub released_last : (units channels : List (Option Issued)) (producers : List (L
     → AreForgotten (OfUnit u) (units ++ channels) (set units i None) producers
 released_last units channels producers ws last u i x right e h k =
     last_forgotten (OfUnit u) units channels (set units i None) producers ws last i x right
-    (unit_seat units channels u i (Some x) right.all_units e h)
-    (others_elsewhere u (units ++ channels) i e right.sits) k (λ j z q. not_emptied units i j z (within units i x h) q)
+    (unit_slot units channels u i (Some x) right.all_units e h)
+    (others_elsewhere u (units ++ channels) i e right.stands) k (λ j z q. not_emptied units i j z (within units i x h) q)
 
 -- and for those of another they wait no longer
 pub released_others : (units channels : List (Option Issued)) (producers : List (List (Option Writer))) (ws : Writers)
@@ -574,12 +574,12 @@ released_others units channels producers ws last u i x right h =
 
 pub released_right : (units channels : List (Option Issued)) (producers : List (List (Option Writer))) (ws : Writers)
     (last : ℕ) (u : FunctionalUnit) (i : ℕ) (x : Issued) → IsRight units channels producers ws last → i ≡ unit_number u
-    → get_or units i None ≡ Some x → Each IsRegister (puts_of (shape_of x.reservation.instr))
+    → get_or units i None ≡ Some x → Each IsRegister (sets_of (shape_of x.reservation.instr))
     → IfSome (channel_of (shape_of x.reservation.instr)) (λ n. n < 8)
     → (pss : List (List (Option Writer))) → AreForgotten (OfUnit u) (units ++ channels) (set units i None) pss
     → IsRight (set units i None) (channels_with channels x (channel_of (shape_of x.reservation.instr))) pss
-    (set_each ws (puts_of (shape_of x.reservation.instr)) None) last
-unfolding seated channels_with number_of in_progress
+    (set_each ws (sets_of (shape_of x.reservation.instr)) None) last
+unfolding in_slots channels_with number_of in_progress
 released_right units channels producers ws last u i x right e h valid below_8 pss forgotten =
     by_channel (channel_of (shape_of x.reservation.instr)) refl below_8
   where
@@ -587,10 +587,10 @@ released_right units channels producers ws last u i x right e h valid below_8 ps
     os = units ++ channels
 
     here : get_or os i None ≡ Some x
-    here = unit_seat units channels u i (Some x) right.all_units e h
+    here = unit_slot units channels u i (Some x) right.all_units e h
 
     reserved : (b : Bool) × (x.reservation.progress ≡ Reserved b) × (same_unit x.reservation.unit u ≡ true)
-    reserved = sits_reserved u x (seated_here seat_of os 0 i x here right.sits ∙ omega (arith, e))
+    reserved = stands_reserved u x (in_slots_here slot_of os 0 i x here right.stands ∙ omega (arith, e))
 
     front : set os i None ≡ set units i None ++ channels
     front = set-append_left units channels i None (within units i x h)
@@ -599,28 +599,28 @@ released_right units channels producers ws last u i x right e h valid below_8 ps
     fewer = length-set units i None ∙ right.all_units
 
     emptied : Writers
-    emptied = set_each ws (puts_of (shape_of x.reservation.instr)) None
+    emptied = set_each ws (sets_of (shape_of x.reservation.instr)) None
 
     sized : AreSized emptied
-    sized = each_sized (puts_of (shape_of x.reservation.instr)) ws None right.all_writers
+    sized = each_sized (sets_of (shape_of x.reservation.instr)) ws None right.all_writers
 
     elsewhere : (r : Reg) → Each (λ y. forget (OfUnit u) (written_by r y) ≡ written_by r y) (somes (set os i None))
-    elsewhere = others_elsewhere u os i e right.sits
+    elsewhere = others_elsewhere u os i e right.stands
 
     fields : (r : Reg) → IsRegister r → writer_at emptied r ≡ forget (OfUnit u) (writer_at ws r)
     fields r v =
-        each_gives (puts_of (shape_of x.reservation.instr)) ws r None right.all_writers valid
-        ∙ cleared (OfUnit u) (is_in (puts_of (shape_of x.reservation.instr)) r) units channels producers ws last i x r
+        each_gives (sets_of (shape_of x.reservation.instr)) ws r None right.all_writers valid
+        ∙ cleared (OfUnit u) (is_in (sets_of (shape_of x.reservation.instr)) r) units channels producers ws last i x r
         right v
         here elsewhere (λ rest k. field_left u r x reserved.0 rest reserved.1 reserved.2 k)
 
     by_channel : (o : Option ℕ) → channel_of (shape_of x.reservation.instr) ≡ o → IfSome o (λ n. n < 8)
         → IsRight (set units i None) (channels_with channels x o) pss
-        (set_each ws (puts_of (shape_of x.reservation.instr)) None) last
+        (set_each ws (sets_of (shape_of x.reservation.instr)) None) last
     by_channel None k l =
         written (OfUnit u) units channels (set units i None) channels (set os i None) producers pss ws emptied last
         right front fewer right.all_channels sized
-        (seated_empty seat_of os 0 i right.sits) (pairs_taken os i x here right.apart)
+        (in_slots_empty slot_of os 0 i right.stands) (pairs_taken os i x here right.apart)
         (each_taken (λ z. z.number ≤ last) os i x here right.counted) (each_taken IsOfKind os i x here right.kinds)
         (gone_written (OfUnit u) os i x here right.apart (λ r. left_nothing u r x reserved.0 reserved.1 reserved.2 k)
         elsewhere)
@@ -632,8 +632,8 @@ released_right units channels producers ws last u i x right e h valid below_8 ps
         (ap (λ m. set m (10 + n) (Some y)) front
         ∙ set_back (set units i None) channels n (10 + n) (Some y) (omega (arith, fewer))) fewer (length-set
         channels n (Some y) ∙ right.all_channels) sized
-        (seated_fill seat_of (set os i None) 0 (10 + n) y (left_seat n x ∙ omega arith)
-        (seated_empty seat_of os 0 i right.sits))
+        (in_slots_fill slot_of (set os i None) 0 (10 + n) y (left_slot n x ∙ omega arith)
+        (in_slots_empty slot_of os 0 i right.stands))
         (pairs_put (set os i None) (10 + n) y empty room others (pairs_taken os i x here right.apart))
         (each_put (λ z. z.number ≤ last) (set os i None) (10 + n) y empty room
         (each_here (λ z. z.number ≤ last) os i x here right.counted)
@@ -651,7 +651,7 @@ released_right units channels producers ws last u i x right e h valid below_8 ps
         y = in_progress x (Left (Some n))
 
         empty : get_or (set os i None) (10 + n) None ≡ None
-        empty = channel_empty os i n x reserved.0 l here right.sits right.apart reserved.1 k
+        empty = channel_empty os i n x reserved.0 l here right.stands right.apart reserved.1 k
 
         room : 10 + n < length (set os i None)
         room = let q = ap length front

@@ -1,4 +1,4 @@
--- Questions to the fields of a board, and what an issue or a store event changes in the fields. A seat is the field of
+-- Questions to the fields of a board, and what an issue or a store event changes in the fields. A slot is the field of
 -- one unit or of one load channel.
 -- Source: Thornton, scoreboard; docs/scoreboard.md sets the fields beside his.
 use Rattle.std.specs.Prelude.{ℕ, Bool, false, ◌&&◌, ◌||◌, nat_lt, List, [], ◌∷◌, Option, Some, None, is_some, map}
@@ -20,37 +20,37 @@ use Rattle.instructions.specs.declared.instr.Unit.{Unit as FunctionalUnit}
 use Rattle.scoreboard.specs.Reservations.{is_unread, reads_it, has_turn}
 use Rattle.scoreboard.specs.declared.issued.Issued.{Issued}
 
--- an instruction sits there, and it passes the test
-unfoldable pub seat_is : (Reservation → Bool) → Option Issued → Bool
-seat_is test None = false
-seat_is test (Some x) = test x.reservation
+-- an instruction stands there, and it passes the test
+unfoldable pub slot_is : (Reservation → Bool) → Option Issued → Bool
+slot_is test None = false
+slot_is test (Some x) = test x.reservation
 
 -- its instruction has a lower number and has not come to its read event
-unfoldable pub seat_waits : ℕ → Option Issued → Bool
-seat_waits n None = false
-seat_waits n (Some x) = nat_lt x.number n && is_unread x.reservation.progress
+unfoldable pub slot_waits : ℕ → Option Issued → Bool
+slot_waits n None = false
+slot_waits n (Some x) = nat_lt x.number n && is_unread x.reservation.progress
 
 -- its instruction has a lower number and has still to read the register
-unfoldable pub seat_reads : ℕ → Reg → Option Issued → Bool
-seat_reads n r None = false
-seat_reads n r (Some x) = nat_lt x.number n && reads_it r x.reservation
+unfoldable pub slot_reads : ℕ → Reg → Option Issued → Bool
+slot_reads n r None = false
+slot_reads n r (Some x) = nat_lt x.number n && reads_it r x.reservation
 
 -- its instruction has a lower number and a reference that has not come to its store event
-unfoldable pub seat_has_turn : ℕ → Option Issued → Bool
-seat_has_turn n None = false
-seat_has_turn n (Some x) = nat_lt x.number n && has_turn x.reservation
+unfoldable pub slot_has_turn : ℕ → Option Issued → Bool
+slot_has_turn n None = false
+slot_has_turn n (Some x) = nat_lt x.number n && has_turn x.reservation
 
--- what sits in the seat of the unit
-abbrev pub seat_at : List (Option Issued) → FunctionalUnit → Option Issued
-seat_at units unit = slice_index_or units (unit_number unit) None
+-- what stands in the slot of the unit
+abbrev pub slot_at : List (Option Issued) → FunctionalUnit → Option Issued
+slot_at units unit = slice_index_or units (unit_number unit) None
 
--- the seat of the unit is taken
+-- the slot of the unit is taken
 abbrev pub is_taken : List (Option Issued) → FunctionalUnit → Bool
-is_taken units unit = is_some (seat_at units unit)
+is_taken units unit = is_some (slot_at units unit)
 
--- the seat of an Increment unit passes the test
+-- the slot of an Increment unit passes the test
 abbrev pub in_increment : (Option Issued → Bool) → List (Option Issued) → Bool
-in_increment test units = test (seat_at units Increment1) || test (seat_at units Increment2)
+in_increment test units = test (slot_at units Increment1) || test (slot_at units Increment2)
 
 -- the first unit of a kind that is not taken
 unfoldable pub free_for : (FunctionalUnit → Bool) → Option UnitKind → Option FunctionalUnit

@@ -15,26 +15,26 @@ use Rattle.scoreboard.specs.declared.writers.Writers.{Writers}
 use Rattle.scoreboard.specs.Answers.{Standing}
 use Rattle.instructions.specs.Each.{Each, Pairs}
 use Rattle.scoreboard.specs.Issued.{number_of, writer_of, writer_before}
-use Rattle.instructions.specs.Order.{sort_by, somes, IsSeated}
+use Rattle.instructions.specs.Order.{sort_by, somes, IsInSlots}
 use Rattle.scoreboard.specs.Writers.{IsRegister, writer_at}
 
--- what stands in the seats, units first
-unfoldable pub seated : List (Option Issued) → List (Option Issued) → List Issued
-seated units channels = somes (units ++ channels)
+-- what stands in the slots, units first
+unfoldable pub in_slots : List (Option Issued) → List (Option Issued) → List Issued
+in_slots units channels = somes (units ++ channels)
 
--- what the board stands for: those in the seats, in the order of their numbers, and the last number
+-- what the board stands for: those in the slots, in the order of their numbers, and the last number
 abbrev pub standing_of : List (Option Issued) → List (Option Issued) → ℕ → Standing
-standing_of units channels last = record { issued = sort_by number_of (seated units channels); last = last }
+standing_of units channels last = record { issued = sort_by number_of (in_slots units channels); last = last }
 
--- units have the seats 0 to 9 by their numbers, the channels 10 to 17; there is no seat 18
-unfoldable pub seat_in : FunctionalUnit → Progress → ℕ
-seat_in unit (Reserved has_read) = unit_number unit
-seat_in unit (Left (Some n)) = 10 + n
-seat_in unit (Left None) = 18
+-- units have the slots 0 to 9 by their numbers, the channels 10 to 17; there is no slot 18
+unfoldable pub slot_in : FunctionalUnit → Progress → ℕ
+slot_in unit (Reserved has_read) = unit_number unit
+slot_in unit (Left (Some n)) = 10 + n
+slot_in unit (Left None) = 18
 
--- the seat of an issued instruction
-unfoldable pub seat_of : Issued → ℕ
-seat_of x = seat_in x.reservation.unit x.reservation.progress
+-- the slot of an issued instruction
+unfoldable pub slot_of : Issued → ℕ
+slot_of x = slot_in x.reservation.unit x.reservation.progress
 
 -- two have neither the number nor a result still to come in common
 pub record IsOther (x y : Issued) : Type 0 where
@@ -67,16 +67,16 @@ pub record IsRight (units channels : List (Option Issued)) (producers : List (Li
   pub all_producers : length producers ≡ 10
   -- a writer or none for each register
   pub all_writers : (length writers.x ≡ 8) × (length writers.a ≡ 8) × (length writers.b ≡ 8)
-  -- each sits in its own seat
-  pub sits : IsSeated seat_of 0 (units ++ channels)
+  -- each stands in its own slot
+  pub stands : IsInSlots slot_of 0 (units ++ channels)
   -- no two have the number or a result still to come in common, and no number is above the last
-  pub apart : Pairs IsOther (seated units channels)
-  pub counted : Each (λ x. x.number ≤ last) (seated units channels)
+  pub apart : Pairs IsOther (in_slots units channels)
+  pub counted : Each (λ x. x.number ≤ last) (in_slots units channels)
   -- each was issued to a unit of its kind
-  pub kinds : Each IsOfKind (seated units channels)
+  pub kinds : Each IsOfKind (in_slots units channels)
   -- each register's writer is the writer of it among all
-  pub written : (r : Reg) → IsRegister r → writer_at writers r ≡ writer_of (seated units channels) r
+  pub written : (r : Reg) → IsRegister r → writer_at writers r ≡ writer_of (in_slots units channels) r
   -- each operand's producer is the writer of its register among those with a lower number
   pub produced : (i : ℕ) (x : Issued) → slice_index_or units i None ≡ Some x
-      → AreProducers (writer_before x.number (seated units channels)) (sources_of x.reservation.instr)
+      → AreProducers (writer_before x.number (in_slots units channels)) (sources_of x.reservation.instr)
       (slice_index_or producers i [])

@@ -8,7 +8,7 @@ use Rattle.program_order.specs.declared.event.Done.TheVariants.{Made}
 use Rattle.program_order.specs.declared.event.Event.{Event}
 use Rattle.program_order.specs.declared.event.Event.TheVariants.{Ask, Exchange, Issue}
 use Rattle.program_order.specs.Headline.{log_of}
-use Rattle.program_order.specs.Snapped.{Snapped}
+use Rattle.program_order.specs.SnapshotView.{Snapped}
 use Rattle.program_order.specs.Processor.{Processor}
 use Rattle.machine_tests.proofs.reached_tests.shown.Goals as goal
 

@@ -1,6 +1,6 @@
 -- The first register that has a producer: found, passed over, or none.
 use Rattle.std.proofs.Common.{sym, ◌∙◌, refl, arith}
-use Rattle.scoreboard.proofs.seating.Small.{produced_here, produced_after, produced_nowhere}
+use Rattle.scoreboard.proofs.in_slots.Small.{produced_here, produced_after, produced_nowhere}
 use Rattle.scoreboard.proofs.fields.first_produced.Goals as goal
 
 pub returns-then-is_some : goal.returns-then-is_some

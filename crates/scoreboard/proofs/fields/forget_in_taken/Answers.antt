@@ -1,7 +1,7 @@
 -- One more unit, which is taken or free; in the end all were looked at.
 use Rattle.std.proofs.Common.{refl, sym, ◌∙◌, arith}
 use Rattle.scoreboard.specs.inner.Fields.{forget_in_taken}
-use Rattle.scoreboard.proofs.seating.Small.{taken_more, free_more}
+use Rattle.scoreboard.proofs.in_slots.Small.{taken_more, free_more}
 use Rattle.scoreboard.proofs.fields.forget_in_taken.Goals.{then-is_some, else-is_some}
 use Rattle.scoreboard.proofs.fields.forget_in_taken.Goals as goal
 

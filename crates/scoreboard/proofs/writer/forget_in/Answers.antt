@@ -1,7 +1,7 @@
--- One more place in which the writer is forgotten, if it is expected there.
+-- One more position in which the writer is forgotten, if it is expected there.
 use Rattle.std.proofs.Common.{None, get_or, sym, ◌∙◌}
 use Rattle.scoreboard.specs.Writers.{forget}
-use Rattle.scoreboard.proofs.seating.Small.{mapped_more, mapped_same, expected_goes, other_stays}
+use Rattle.scoreboard.proofs.in_slots.Small.{mapped_more, mapped_same, expected_goes, other_stays}
 use Rattle.scoreboard.proofs.writer.forget_in.Goals.{then-is_expected, else-is_expected}
 use Rattle.scoreboard.proofs.writer.forget_in.Goals as goal
 

@@ -3,7 +3,7 @@ use Rattle.instructions.specs.declared.refusal.Refusal.TheVariants.{PackageRange
 use Rattle.relocation.specs.Relocation.{package_fits}
 use Rattle.sequential.specs.Log.{steps_of}
 use Rattle.sequential.specs.Replay.{Exchanged, ReadAt, Wrote, do_log_step, step_refusal}
-use Rattle.sequential.specs.State.{poke}
+use Rattle.sequential.specs.State.{store_word}
 use Rattle.sequential.specs.Swap.{swap}
 use Rattle.sequential.proofs.Runs.{issues_done, single_answered, single_refused, either_way}
 use Rattle.sequential.proofs.replaying.replay_entry.Goals as goal
@@ -45,7 +45,7 @@ pub returns-in-PpWrite-clause-done : goal.returns-in-PpWrite-clause-done
 unfolding steps_of do_log_step
 returns-in-PpWrite-clause-done c =
     single_answered c.peripheral_write.result c.args.state.now _
-    (poke c.args.state.now c.in-PpWrite.at c.in-PpWrite.word) (Wrote c.in-PpWrite.at c.in-PpWrite.word) _
+    (store_word c.args.state.now c.in-PpWrite.at c.in-PpWrite.word) (Wrote c.in-PpWrite.at c.in-PpWrite.word) _
     (ltb c.in-PpWrite.at (length c.args.state.now.memory)) PeripheralRange
     (ap (λ e. steps_of (e ∷ [])) c.in-PpWrite.is) refl c.peripheral_write.ensures.answer
     c.peripheral_write.ensures.after
@@ -54,7 +54,7 @@ pub returns-in-PpWrite-clause-refused : goal.returns-in-PpWrite-clause-refused
 unfolding steps_of step_refusal
 returns-in-PpWrite-clause-refused c =
     single_refused c.peripheral_write.result c.args.state.now _
-    (poke c.args.state.now c.in-PpWrite.at c.in-PpWrite.word) (Wrote c.in-PpWrite.at c.in-PpWrite.word) _
+    (store_word c.args.state.now c.in-PpWrite.at c.in-PpWrite.word) (Wrote c.in-PpWrite.at c.in-PpWrite.word) _
     (ltb c.in-PpWrite.at (length c.args.state.now.memory)) PeripheralRange
     (ap (λ e. steps_of (e ∷ [])) c.in-PpWrite.is) refl c.peripheral_write.ensures.answer
     c.peripheral_write.ensures.after

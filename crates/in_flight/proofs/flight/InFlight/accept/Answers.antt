@@ -4,7 +4,7 @@ use Rattle.instructions.specs.Each.{Pairs}
 use Rattle.hopper.specs.declared.reference.Reference.{Reference}
 use Rattle.in_flight.specs.Tests.{refusal_in, refusal_of, tests_found, accept_tests}
 use Rattle.in_flight.specs.Flight.{Flight}
-use Rattle.in_flight.specs.inner.Slots.{IsSlotted}
+use Rattle.in_flight.specs.inner.OwnSlots.{HasOwnSlots}
 use Rattle.in_flight.specs.Apart.{IsApart}
 use Rattle.instructions.specs.Finding.{seek}
 use Rattle.in_flight.specs.Lookup.{entry_at}
@@ -27,16 +27,16 @@ left_by-left-requires c =
     c.self.invariant.entered c.accept.ensures.answer c.in-Ok.is) in
     subst (λ (r : Reference). r.address < length c.args.memory.now) p.2
     (entry_placed (length c.args.memory.now) c.args.place c.self.inside.slots p.0
-    (subst (λ (x : Flight). IsSlotted (length c.args.memory.now) x.pending) (sym c.self.view_is)
-    c.requires.slotted) p.1).1
+    (subst (λ (x : Flight). HasOwnSlots (length c.args.memory.now) x.pending) (sym c.self.view_is)
+    c.requires.own_slots) p.1).1
 
 pub accept-requires-2-clause-place : goal.accept-requires-2-clause-place
 accept-requires-2-clause-place c =
     let p = (accept_found c.args.place c.self.inside.slots c.self.inside.hopper c.accept.result c.in-Ok.reference
     c.self.invariant.entered c.accept.ensures.answer c.in-Ok.is) in
     (entry_placed (length c.args.memory.now) c.args.place c.self.inside.slots p.0
-    (subst (λ (x : Flight). IsSlotted (length c.args.memory.now) x.pending) (sym c.self.view_is)
-    c.requires.slotted) p.1).0
+    (subst (λ (x : Flight). HasOwnSlots (length c.args.memory.now) x.pending) (sym c.self.view_is)
+    c.requires.own_slots) p.1).0
 
 pub accept-requires-2-clause-room : goal.accept-requires-2-clause-room
 accept-requires-2-clause-room c =
@@ -44,8 +44,8 @@ accept-requires-2-clause-room c =
     c.self.invariant.entered c.accept.ensures.answer c.in-Ok.is) in
     room_for_word c.args.memory.now c.args.place c.self.inside.slots p.0 c.in-Ok.reference c.left_by-left.result
     (subst (λ (x : Flight). Pairs IsApart x.pending) (sym c.self.view_is) c.requires.apart)
-    (subst (λ (x : Flight). IsSlotted (length c.args.memory.now) x.pending) (sym c.self.view_is)
-    c.requires.slotted) p.1 p.2 c.left_by-left.ensures
+    (subst (λ (x : Flight). HasOwnSlots (length c.args.memory.now) x.pending) (sym c.self.view_is)
+    c.requires.own_slots) p.1 p.2 c.left_by-left.ensures
 
 pub invariant_of-self-2 : goal.invariant_of-self-2
 invariant_of-self-2 c =
@@ -69,7 +69,7 @@ returns-clause-entry c =
     let p = (accept_found c.args.place c.self.inside.slots c.self.inside.hopper c.accept.result c.in-Ok.reference
     c.self.invariant.entered c.accept.ensures.answer c.in-Ok.is) in
     subst (λ (x : Flight). IfSome (seek (entry_at c.args.place) x.pending)
-    (λ f. f.answer ≡ record { a = c.in-Ok.reference.address; access = c.in-Ok.reference.access })) c.self.view_is
+    (λ f. f.answer ≡ record { address = c.in-Ok.reference.address; access = c.in-Ok.reference.access })) c.self.view_is
     (entry_answered c.args.place c.self.inside.slots p.0 c.in-Ok.reference p.1 p.2)
 
 pub returns-clause-after : goal.returns-clause-after

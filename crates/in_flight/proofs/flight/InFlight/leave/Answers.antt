@@ -3,7 +3,7 @@ use Rattle.std.specs.Prelude.{IfSome, is_none}
 use Rattle.instructions.specs.Each.{Pairs}
 use Rattle.instructions.specs.Shape.{shape_of}
 use Rattle.in_flight.specs.Flight.{Flight, IsRestOf, outstanding_of}
-use Rattle.in_flight.specs.Lookup.{sought, stage_at, place_for, enters}
+use Rattle.in_flight.specs.Lookup.{located, stage_at, place_for, enters}
 use Rattle.in_flight.specs.Apart.{IsApart}
 use Rattle.instructions.specs.Finding.{seek}
 use Rattle.in_flight.proofs.answering.Beside.{some_from, nobody_from}
@@ -23,7 +23,7 @@ leave-requires c =
     c.find_stage.ensures c.is_none.ensures c.if-is_none.false) in
     room_for_rest c.args.unit c.self.inside.slots c.self.inside.hopper p.0 c.args.rest.now c.waiting_rest-later.result
     c.self.invariant.entered (subst (λ (x : Flight). Pairs IsApart x.pending) (sym c.self.view_is)
-    c.requires.apart) p.1 (subst (λ (x : Flight). IfSome (sought (seek (stage_at c.args.unit) x.pending))
+    c.requires.apart) p.1 (subst (λ (x : Flight). IfSome (located (seek (stage_at c.args.unit) x.pending))
     (λ s. IsRestOf (shape_of s.pending.instr) c.args.rest.now)) (sym
     c.self.view_is) c.requires.rest) c.waiting_rest-later.ensures.answer
 
@@ -34,7 +34,7 @@ invariant_of-self c =
     leave_tied c.args.unit c.self.inside.slots c.leave.new.self c.self.inside.hopper c.waiting_rest-later.new.hopper
     c.self.inside.board c.release.new.self p.0 c.args.rest.now c.waiting_rest-later.result c.self.invariant
     (subst (λ (x : Flight). Pairs IsApart x.pending) (sym c.self.view_is) c.requires.apart) p.1
-    (subst (λ (x : Flight). IfSome (sought (seek (stage_at c.args.unit) x.pending))
+    (subst (λ (x : Flight). IfSome (located (seek (stage_at c.args.unit) x.pending))
     (λ s. IsRestOf (shape_of s.pending.instr) c.args.rest.now)) (sym
     c.self.view_is) c.requires.rest) (subst (λ (x : Flight). enters (outstanding_of 0 c.args.rest.now) ≡ true
     → is_none (place_for x.pending)

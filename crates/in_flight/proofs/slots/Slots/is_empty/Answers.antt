@@ -1,8 +1,8 @@
 use Rattle.std.proofs.Common.{ap, sym, ◌∙◌}
 use Rattle.std.specs.Prelude.{is_none, ◌&&◌}
 use Rattle.std.specs.List.{list_all}
-use Rattle.in_flight.specs.inner.Seats.{has_none}
-use Rattle.in_flight.proofs.seating.Moving.{none_pending}
+use Rattle.in_flight.specs.inner.Slots.{has_none}
+use Rattle.in_flight.proofs.in_slots.Moving.{none_pending}
 use Rattle.in_flight.proofs.slots.Slots.is_empty.Goals as goal
 
 pub returns-then-not-none_held : goal.returns-then-not-none_held

@@ -1,7 +1,7 @@
 use Rattle.std.proofs.Common.{ap, ◌∙◌}
 use Rattle.in_flight.specs.Lookup.{first_of}
-use Rattle.in_flight.specs.inner.Seats.{lower_of, lowest_of}
-use Rattle.in_flight.proofs.seating.Oldest.{first_pending}
+use Rattle.in_flight.specs.inner.Slots.{lower_of, lowest_of}
+use Rattle.in_flight.proofs.in_slots.Oldest.{first_pending}
 use Rattle.in_flight.proofs.slots.Slots.oldest.Goals as goal
 
 pub returns : goal.returns

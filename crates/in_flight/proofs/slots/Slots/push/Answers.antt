@@ -3,14 +3,14 @@ use Rattle.in_flight.specs.declared.pending.Stage.TheVariants.{Waiting}
 use Rattle.instructions.specs.Each.{Each}
 use Rattle.instructions.specs.Finding.{seek}
 use Rattle.in_flight.specs.Lookup.{stage_at}
-use Rattle.in_flight.proofs.seating.Moving.{seat_free, new_right, new_view}
+use Rattle.in_flight.proofs.in_slots.Moving.{slot_free, new_right, new_view}
 use Rattle.in_flight.proofs.slots.Slots.push.Goals as goal
 
 pub invariant_of-self : goal.invariant_of-self
 invariant_of-self c =
     new_right c.self.inside.units c.self.inside.places c.self.inside.channels c.index_of-index.result c.args.pending
     Waiting c.self.invariant c.index_of-index.ensures.value c.requires.waits
-    (seat_free c.self.inside.units c.self.inside.places c.self.inside.channels c.args.pending.unit
+    (slot_free c.self.inside.units c.self.inside.places c.self.inside.channels c.args.pending.unit
     c.index_of-index.result c.self.invariant c.index_of-index.ensures.value
     (ap (seek (stage_at c.args.pending.unit)) c.self.view_is ∙ c.requires.free))
     (subst (Each (λ x. x.number < c.args.pending.number)) (sym c.self.view_is) c.requires.last)
@@ -19,7 +19,7 @@ pub returns : goal.returns
 returns c =
     new_view c.self.inside.units c.self.inside.places c.self.inside.channels c.index_of-index.result c.args.pending
     c.self.invariant c.index_of-index.ensures.value
-    (seat_free c.self.inside.units c.self.inside.places c.self.inside.channels c.args.pending.unit
+    (slot_free c.self.inside.units c.self.inside.places c.self.inside.channels c.args.pending.unit
     c.index_of-index.result c.self.invariant c.index_of-index.ensures.value
     (ap (seek (stage_at c.args.pending.unit)) c.self.view_is ∙ c.requires.free))
     (subst (Each (λ x. x.number < c.args.pending.number)) (sym c.self.view_is) c.requires.last)

@@ -3,10 +3,10 @@ use Rattle.std.proofs.lemmas.List.{set-get_or}
 use Rattle.in_flight.specs.declared.pending.Phase.TheVariants.{Before}
 use Rattle.in_flight.specs.declared.slots.Slots.TheInside.{Inside}
 use Rattle.instructions.specs.Finding.{seek, replaced}
-use Rattle.instructions.proofs.Seats.{seat_any}
+use Rattle.instructions.proofs.Slots.{slot_any}
 use Rattle.in_flight.specs.Lookup.{stage_at, in_phase}
-use Rattle.in_flight.specs.inner.Seats.{seats, in_order, IsRight}
-use Rattle.in_flight.proofs.seating.Moving.{staged_right, staged_view, nobody_replaced}
+use Rattle.in_flight.specs.inner.Slots.{slots, in_order, IsRight}
+use Rattle.in_flight.proofs.in_slots.Moving.{staged_right, staged_view, nobody_replaced}
 use Rattle.in_flight.proofs.slots.Slots.set_stage.Goals as goal
 use Rattle.in_flight.proofs.slots.Slots.set_stage.Goals.{in-Some, in_default}
 
@@ -18,7 +18,7 @@ invariant_of-self c =
           subst (λ (x : Inside). IsRight x.units x.places x.channels) (sym w.self-inside-is)
           (staged_right c.self.inside.units c.self.inside.places c.self.inside.channels c.args.unit
           c.index_of-index.result w.in-Some.pending c.args.stage c.self.invariant c.index_of-index.ensures.value
-          (seat_any c.self.inside.units c.index_of-index.result c.index-self-index.result
+          (slot_any c.self.inside.units c.index_of-index.result c.index-self-index.result
           (omega (arith, c.index_of-index.ensures.range, c.self.invariant.all_units)) ∙ w.in-Some.is))
       | in_default w ↦
           subst (λ (x : Inside). IsRight x.units x.places x.channels) (sym w.self-inside-is)
@@ -31,21 +31,21 @@ unfolding in_phase
 returns c =
     elim c.match-self-index.branch [
       | in-Some w ↦
-          ap (λ (x : Inside). in_order (seats x.units x.places x.channels)) w.self-inside-is
+          ap (λ (x : Inside). in_order (slots x.units x.places x.channels)) w.self-inside-is
           ∙ staged_view c.self.inside.units c.self.inside.places c.self.inside.channels c.args.unit
           c.index_of-index.result w.in-Some.pending c.args.stage c.self.invariant c.index_of-index.ensures.value
-          (seat_any c.self.inside.units c.index_of-index.result c.index-self-index.result
+          (slot_any c.self.inside.units c.index_of-index.result c.index-self-index.result
           (omega (arith, c.index_of-index.ensures.range, c.self.invariant.all_units)) ∙ w.in-Some.is)
           ∙ ap (λ ms. replaced (seek (stage_at c.args.unit) ms) ms (λ m. in_phase m (Before c.args.stage) ∷ []))
           c.self.view_is
       | in_default w ↦
-          ap (λ (x : Inside). in_order (seats x.units x.places x.channels)) w.self-inside-is
-          ∙ ap (λ us. in_order (seats us c.self.inside.places c.self.inside.channels))
+          ap (λ (x : Inside). in_order (slots x.units x.places x.channels)) w.self-inside-is
+          ∙ ap (λ us. in_order (slots us c.self.inside.places c.self.inside.channels))
           (set-get_or c.self.inside.units c.index_of-index.result c.index-self-index.result)
           ∙ nobody_replaced (λ m. in_phase m (Before c.args.stage) ∷ []) c.self.inside.units c.self.inside.places
           c.self.inside.channels c.args.unit c.index_of-index.result c.self.invariant
           c.index_of-index.ensures.value
-          (seat_any c.self.inside.units c.index_of-index.result c.index-self-index.result
+          (slot_any c.self.inside.units c.index_of-index.result c.index-self-index.result
           (omega (arith, c.index_of-index.ensures.range, c.self.invariant.all_units)) ∙ w.in_default.is)
           ∙ ap (λ ms. replaced (seek (stage_at c.args.unit) ms) ms (λ m. in_phase m (Before c.args.stage) ∷ []))
           c.self.view_is

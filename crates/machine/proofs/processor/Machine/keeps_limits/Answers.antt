@@ -3,7 +3,7 @@ use Rattle.instructions.specs.declared.refusal.Refusal.TheVariants.{Nothing}
 use Rattle.program_order.specs.declared.event.Event.TheVariants.{Accept, BankFree, Return}
 use Rattle.program_order.specs.Events.{allowed}
 use Rattle.program_order.specs.Processor.{Processor}
-use Rattle.program_order.specs.Sound.{IsAtBeginning}
+use Rattle.program_order.specs.Invariant.{IsAtBeginning}
 use Rattle.program_order.proofs.keeping.Limits.{no_bank, no_channel_above, no_channel_zero, no_place}
 use Rattle.machine.specs.contracts.processor.Machine.{the_view}
 use Rattle.machine.proofs.processor.Machine.keeps_limits.Goals as goal
@@ -30,4 +30,4 @@ returns-clause-banks c = λ bank above.
 
 pub returns-clause-parcel : goal.returns-clause-parcel
 returns-clause-parcel c =
-    subst (λ (w : Processor). IsAtBeginning w.state.place) c.self.view_is c.self.invariant.starts
+    subst (λ (w : Processor). IsAtBeginning w.state.position) c.self.view_is c.self.invariant.starts

@@ -1,10 +1,10 @@
 use Rattle.std.proofs.Common.{sym, ap, subst}
-use Rattle.machine_lock.specs.Known.{IsMade}
+use Rattle.machine_lock.specs.CallerKnowledge.{IsMade}
 use Rattle.machine_lock.specs.inner.Rules.{History}
 use Rattle.machine_lock.proofs.Lists.{last_step}
 use Rattle.machine_lock.proofs.Laws.{Recorded, Compared, LastAccess, known_by, refused_same, refused_past}
 use Rattle.machine_lock.proofs.Laws.{last_access, word_of, recorded, kept_longer, compared, kept_same, replay_by}
-use Rattle.program_order.specs.Sound.{IsReplay}
+use Rattle.program_order.specs.Invariant.{IsReplay}
 use Rattle.machine_lock.proofs.locked.Locked.access.Given as given
 use Rattle.machine_lock.proofs.locked.Locked.access.Goals as goal
 use Rattle.machine_lock.proofs.locked.Locked.access.Goals.{After-keeps_replay, After-compare}

@@ -1,15 +1,15 @@
 use Rattle.std.proofs.Common.{◌∙◌, sym, ap, subst}
 use Rattle.std.specs.Prelude.{IfErr}
-use Rattle.machine_lock.specs.Known.{IsMade}
+use Rattle.machine_lock.specs.CallerKnowledge.{IsMade}
 use Rattle.machine_lock.specs.inner.Rules.{History}
 use Rattle.machine_lock.proofs.Lists.{last_step}
 use Rattle.machine_lock.proofs.Laws.{Recorded, Compared, LastExchange, known_by, refused_same, refused_past}
 use Rattle.machine_lock.proofs.Laws.{last_exchange, why_of, recorded, kept_longer, compared, kept_same, replay_by}
-use Rattle.machine_lock.specs.inner.Kept.{Kept}
+use Rattle.machine_lock.specs.inner.LockInvariant.{Kept}
 use Rattle.program_order.specs.declared.event.Event.TheVariants.{Exchange}
 use Rattle.program_order.specs.Processor.{completed}
 use Rattle.program_order.specs.Telling.{IsWhy}
-use Rattle.program_order.specs.Sound.{IsReplay}
+use Rattle.program_order.specs.Invariant.{IsReplay}
 use Rattle.machine_lock.proofs.locked.Locked.exchange.Given as given
 use Rattle.machine_lock.proofs.locked.Locked.exchange.Goals as goal
 use Rattle.machine_lock.proofs.locked.Locked.exchange.Goals.{After-keeps_replay, After-compare}

@@ -1,14 +1,14 @@
 use Rattle.std.proofs.Common.{◌≡◌, [], ◌∷◌, ◌++◌, sym, ap, subst}
 use Rattle.std.specs.Prelude.{IfErr}
 use Rattle.sequential.specs.Replay.{Issued}
-use Rattle.machine_lock.specs.Known.{booted_by}
+use Rattle.machine_lock.specs.CallerKnowledge.{booted_by}
 use Rattle.machine_lock.specs.inner.Rules.{History, history, past}
 use Rattle.machine_lock.proofs.Laws.{Recorded, Compared, known_by, refused_same, refused_past, issued_past, note_of}
 use Rattle.machine_lock.proofs.Laws.{why_of, recorded, kept_longer, compared, kept_same, replay_by}
 use Rattle.program_order.specs.declared.event.Event.TheVariants.{Issue}
 use Rattle.program_order.specs.Processor.{completed}
 use Rattle.program_order.specs.Telling.{IsWhy}
-use Rattle.program_order.specs.Sound.{IsReplay}
+use Rattle.program_order.specs.Invariant.{IsReplay}
 use Rattle.machine_lock.proofs.locked.Locked.issue.Given as given
 use Rattle.machine_lock.proofs.locked.Locked.issue.Goals as goal
 use Rattle.machine_lock.proofs.locked.Locked.issue.Goals.{After-keeps_replay, After-compare}

@@ -1,6 +1,6 @@
 use Rattle.std.proofs.Common.{◌≡◌, [], take}
 use Rattle.sequential.specs.Log.{steps_of}
-use Rattle.machine_lock.specs.Known.{booted_by}
+use Rattle.machine_lock.specs.CallerKnowledge.{booted_by}
 use Rattle.machine_lock.specs.inner.Rules.{history, keeper, caller}
 use Rattle.machine_lock.proofs.word.Word.start.Given as goal
 

@@ -2,7 +2,7 @@
 use Rattle.std.proofs.Common.{ap, sym, ◌∙◌, subst, arith}
 use Rattle.std.proofs.lemmas.List.{set-get_or}
 use Rattle.instructions.specs.Finding.{seek, replaced}
-use Rattle.instructions.proofs.Seats.{seat_any}
+use Rattle.instructions.proofs.Slots.{slot_any}
 use Rattle.scoreboard.specs.declared.board.Board.TheInside.{Inside}
 use Rattle.scoreboard.specs.Answers.{Standing, held_in, with_issued, read, in_progress}
 use Rattle.scoreboard.specs.inner.View.{standing_of, IsRight}
@@ -20,7 +20,7 @@ invariant_of-self c =
           (marked_right c.self.inside.units c.self.inside.channels c.self.inside.producers c.self.inside.writers
           c.self.inside.last c.args.unit c.index_of-index.result w.in-Some.issued c.self.invariant
           c.index_of-index.ensures.value
-          (seat_any c.self.inside.units c.index_of-index.result c.index-self-index.result
+          (slot_any c.self.inside.units c.index_of-index.result c.index-self-index.result
           (omega (arith, c.index_of-index.ensures.range, c.self.invariant.all_units)) ∙ w.in-Some.is))
       | in_default w ↦
           subst (λ (b : Inside). IsRight b.units b.channels b.producers b.writers b.last) (sym w.self-inside-is)
@@ -38,7 +38,7 @@ returns c =
           ∙ marked_view c.self.inside.units c.self.inside.channels c.self.inside.producers c.self.inside.writers
           c.self.inside.last c.args.unit c.index_of-index.result w.in-Some.issued c.self.invariant
           c.index_of-index.ensures.value
-          (seat_any c.self.inside.units c.index_of-index.result c.index-self-index.result
+          (slot_any c.self.inside.units c.index_of-index.result c.index-self-index.result
           (omega (arith, c.index_of-index.ensures.range, c.self.invariant.all_units)) ∙ w.in-Some.is)
           ∙ ap (λ (s : Standing). with_issued s (replaced (seek (held_in c.args.unit) s.issued) s.issued read))
           c.self.view_is
@@ -48,7 +48,7 @@ returns c =
           (set-get_or c.self.inside.units c.index_of-index.result c.index-self-index.result)
           ∙ nobody_marked read c.self.inside.units c.self.inside.channels c.self.inside.producers c.self.inside.writers
           c.self.inside.last c.args.unit c.index_of-index.result c.self.invariant c.index_of-index.ensures.value
-          (seat_any c.self.inside.units c.index_of-index.result c.index-self-index.result
+          (slot_any c.self.inside.units c.index_of-index.result c.index-self-index.result
           (omega (arith, c.index_of-index.ensures.range, c.self.invariant.all_units)) ∙ w.in_default.is)
           ∙ ap (λ (s : Standing). with_issued s (replaced (seek (held_in c.args.unit) s.issued) s.issued read))
           c.self.view_is

@@ -4,9 +4,9 @@ use Rattle.instructions.specs.Finding.{seek}
 use Rattle.instructions.specs.Operands.{sources_of}
 use Rattle.scoreboard.specs.Answers.{Standing, read_answer, held_in}
 use Rattle.instructions.specs.declared.refusal.Refusal.TheVariants.{OperandAwaited}
-use Rattle.instructions.proofs.Seats.{seat_any}
-use Rattle.scoreboard.proofs.seating.Standing.{nobody_answers, read_answered, from_found, no_seat, list_read}
-use Rattle.scoreboard.proofs.seating.Small.{none_produced}
+use Rattle.instructions.proofs.Slots.{slot_any}
+use Rattle.scoreboard.proofs.in_slots.Standing.{nobody_answers, read_answered, from_found, no_slot, list_read}
+use Rattle.scoreboard.proofs.in_slots.Small.{none_produced}
 use Rattle.scoreboard.proofs.board.Board.may_read.Goals as goal
 
 pub returns-in_default : goal.returns-in_default
@@ -15,9 +15,9 @@ returns-in_default c =
     ap read_answer (sym (nobody_answers c.self.inside.units c.self.inside.channels c.self.inside.producers
     c.self.inside.writers c.self.inside.last c.args.unit c.index_of-index.result c.self.invariant
     c.index_of-index.ensures.value
-    (seat_any c.self.inside.units c.index_of-index.result c.index-self-index.result
+    (slot_any c.self.inside.units c.index_of-index.result c.index-self-index.result
     (omega (arith, c.index_of-index.ensures.range, c.self.invariant.all_units))
-    ∙ no_seat (get_or c.self.inside.units c.index_of-index.result c.index-self-index.result)
+    ∙ no_slot (get_or c.self.inside.units c.index_of-index.result c.index-self-index.result)
     c.in_default.not-Some)))
     ∙ ap (λ (s : Standing). read_answer (seek (held_in c.args.unit) s.issued)) c.self.view_is
 
@@ -28,7 +28,7 @@ returns-then-not-any_writer c =
     c.self.inside.last c.args.unit c.index_of-index.result c.in-Some.issued (sources_of
     c.in-Some.issued.reservation.instr)
     c.index-producers-index.result None c.self.invariant c.index_of-index.ensures.value
-    (seat_any c.self.inside.units c.index_of-index.result c.index-self-index.result
+    (slot_any c.self.inside.units c.index_of-index.result c.index-self-index.result
     (omega (arith, c.index_of-index.ensures.range, c.self.invariant.all_units))
     ∙ c.in-Some.is) refl (list_read c.self.inside.producers c.index_of-index.result c.index-producers-index.result
     (omega (arith, c.index_of-index.ensures.range, c.self.invariant.all_producers)) c.index-producers-index.is)
@@ -43,7 +43,7 @@ returns-in-Some-first_produced c =
     ∙ read_answered c.self.inside.units c.self.inside.channels c.self.inside.producers c.self.inside.writers
     c.self.inside.last c.args.unit c.index_of-index.result c.in-Some.issued c.as_slice.result.now
     c.index-producers-index.result c.first_produced.result c.self.invariant c.index_of-index.ensures.value
-    (seat_any c.self.inside.units c.index_of-index.result c.index-self-index.result
+    (slot_any c.self.inside.units c.index_of-index.result c.index-self-index.result
     (omega (arith, c.index_of-index.ensures.range, c.self.invariant.all_units))
     ∙ c.in-Some.is) (c.as_slice.ensures.value
     ∙ c.sources-sources.ensures) (list_read c.self.inside.producers c.index_of-index.result
@@ -58,7 +58,7 @@ returns-in-None c =
     ∙ read_answered c.self.inside.units c.self.inside.channels c.self.inside.producers c.self.inside.writers
     c.self.inside.last c.args.unit c.index_of-index.result c.in-Some.issued c.as_slice.result.now
     c.index-producers-index.result c.first_produced.result c.self.invariant c.index_of-index.ensures.value
-    (seat_any c.self.inside.units c.index_of-index.result c.index-self-index.result
+    (slot_any c.self.inside.units c.index_of-index.result c.index-self-index.result
     (omega (arith, c.index_of-index.ensures.range, c.self.invariant.all_units))
     ∙ c.in-Some.is) (c.as_slice.ensures.value
     ∙ c.sources-sources.ensures) (list_read c.self.inside.producers c.index_of-index.result

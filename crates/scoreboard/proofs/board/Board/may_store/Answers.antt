@@ -3,8 +3,8 @@ use Rattle.std.proofs.Common.{ap, sym, ◌∙◌, get_or, arith}
 use Rattle.instructions.specs.Finding.{seek}
 use Rattle.scoreboard.specs.Answers.{Standing, store_answer, held_in}
 use Rattle.instructions.specs.declared.refusal.Refusal.TheVariants.{ResultHeld}
-use Rattle.instructions.proofs.Seats.{seat_any}
-use Rattle.scoreboard.proofs.seating.Standing.{nobody_answers, store_answered, from_found, no_seat}
+use Rattle.instructions.proofs.Slots.{slot_any}
+use Rattle.scoreboard.proofs.in_slots.Standing.{nobody_answers, store_answered, from_found, no_slot}
 use Rattle.scoreboard.proofs.board.Board.may_store.Goals as goal
 
 pub returns-in_default : goal.returns-in_default
@@ -13,9 +13,9 @@ returns-in_default c =
     ap store_answer (sym (nobody_answers c.self.inside.units c.self.inside.channels c.self.inside.producers
     c.self.inside.writers c.self.inside.last c.args.unit c.index_of-index.result c.self.invariant
     c.index_of-index.ensures.value
-    (seat_any c.self.inside.units c.index_of-index.result c.index-self-index.result
+    (slot_any c.self.inside.units c.index_of-index.result c.index-self-index.result
     (omega (arith, c.index_of-index.ensures.range, c.self.invariant.all_units))
-    ∙ no_seat (get_or c.self.inside.units c.index_of-index.result c.index-self-index.result)
+    ∙ no_slot (get_or c.self.inside.units c.index_of-index.result c.index-self-index.result)
     c.in_default.not-Some)))
     ∙ ap (λ (s : Standing). store_answer (seek (held_in c.args.unit) s.issued)) c.self.view_is
 
@@ -26,9 +26,9 @@ returns-in-Some-first_to_be_read c =
     ∙ store_answered c.self.inside.units c.self.inside.channels c.self.inside.producers c.self.inside.writers
     c.self.inside.last c.args.unit c.index_of-index.result c.in-Some.issued c.as_slice.result.now
     c.first_to_be_read.result c.self.invariant c.index_of-index.ensures.value
-    (seat_any c.self.inside.units c.index_of-index.result c.index-self-index.result
+    (slot_any c.self.inside.units c.index_of-index.result c.index-self-index.result
     (omega (arith, c.index_of-index.ensures.range, c.self.invariant.all_units))
-    ∙ c.in-Some.is) (c.as_slice.ensures.value ∙ c.puts-written.ensures) c.first_to_be_read.ensures
+    ∙ c.in-Some.is) (c.as_slice.ensures.value ∙ c.sets-written.ensures) c.first_to_be_read.ensures
     ∙ ap (λ (s : Standing). store_answer (seek (held_in c.args.unit) s.issued)) c.self.view_is
 
 pub returns-in-None : goal.returns-in-None
@@ -38,7 +38,7 @@ returns-in-None c =
     ∙ store_answered c.self.inside.units c.self.inside.channels c.self.inside.producers c.self.inside.writers
     c.self.inside.last c.args.unit c.index_of-index.result c.in-Some.issued c.as_slice.result.now
     c.first_to_be_read.result c.self.invariant c.index_of-index.ensures.value
-    (seat_any c.self.inside.units c.index_of-index.result c.index-self-index.result
+    (slot_any c.self.inside.units c.index_of-index.result c.index-self-index.result
     (omega (arith, c.index_of-index.ensures.range, c.self.invariant.all_units))
-    ∙ c.in-Some.is) (c.as_slice.ensures.value ∙ c.puts-written.ensures) c.first_to_be_read.ensures
+    ∙ c.in-Some.is) (c.as_slice.ensures.value ∙ c.sets-written.ensures) c.first_to_be_read.ensures
     ∙ ap (λ (s : Standing). store_answer (seek (held_in c.args.unit) s.issued)) c.self.view_is

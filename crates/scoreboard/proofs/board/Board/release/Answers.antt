@@ -4,7 +4,7 @@ use Rattle.instructions.specs.Each.{Each}
 use Rattle.instructions.specs.Shape.{shape_of}
 use Rattle.scoreboard.specs.declared.writer.Writer.TheVariants.{OfUnit}
 use Rattle.instructions.specs.Finding.{seek, replaced}
-use Rattle.instructions.proofs.Seats.{seat_any}
+use Rattle.instructions.proofs.Slots.{slot_any}
 use Rattle.scoreboard.specs.Answers.{Standing, held_in, with_issued, left}
 use Rattle.scoreboard.specs.inner.Fields.{channels_with}
 use Rattle.scoreboard.specs.Issued.{channel_of}
@@ -19,7 +19,7 @@ returns-in_default c =
     sym c.self.view_is
     ∙ nobody_marked left c.self.inside.units c.self.inside.channels c.self.inside.producers c.self.inside.writers
     c.self.inside.last c.args.unit c.index_of-index.result c.self.invariant c.index_of-index.ensures.value
-    (seat_any c.self.inside.units c.index_of-index.result c.index-self-index.result
+    (slot_any c.self.inside.units c.index_of-index.result c.index-self-index.result
     (omega (arith, c.index_of-index.ensures.range, c.self.invariant.all_units)) ∙ c.in_default.is)
     ∙ ap (λ (s : Standing). with_issued s (replaced (seek (held_in c.args.unit) s.issued) s.issued left)) c.self.view_is
 
@@ -31,20 +31,20 @@ invariant_of-self c =
     (channels_with c.self.inside.channels c.in-Some.issued (channel_of (shape_of c.in-Some.issued.reservation.instr)))
     c.forget_in_taken.new.producers ws c.self.inside.last) (sym
     (c.set_each.ensures.value ∙ ap (λ rs. set_each c.self.inside.writers rs None)
-    (c.as_slice.ensures.value ∙ c.puts-written.ensures)))
+    (c.as_slice.ensures.value ∙ c.sets-written.ensures)))
     (released_right c.self.inside.units c.self.inside.channels c.self.inside.producers c.self.inside.writers
     c.self.inside.last c.args.unit c.index_of-index.result c.in-Some.issued c.self.invariant
     c.index_of-index.ensures.value
-    (seat_any c.self.inside.units c.index_of-index.result c.index-self-index.result
+    (slot_any c.self.inside.units c.index_of-index.result c.index-self-index.result
     (omega (arith, c.index_of-index.ensures.range, c.self.invariant.all_units)) ∙ c.in-Some.is)
-    (subst (Each IsRegister) (c.as_slice.ensures.value ∙ c.puts-written.ensures) c.set_each.ensures.registers)
+    (subst (Each IsRegister) (c.as_slice.ensures.value ∙ c.sets-written.ensures) c.set_each.ensures.registers)
     c.put_left.ensures.channel
     c.forget_in_taken.new.producers
     (subst (AreForgotten (OfUnit c.args.unit) (c.self.inside.units ++ c.self.inside.channels)
     (set c.self.inside.units c.index_of-index.result None)) (sym c.forget_in_taken.ensures)
     (released_others c.self.inside.units c.self.inside.channels c.self.inside.producers c.self.inside.writers
     c.self.inside.last c.args.unit c.index_of-index.result c.in-Some.issued c.self.invariant
-    (seat_any c.self.inside.units c.index_of-index.result c.index-self-index.result
+    (slot_any c.self.inside.units c.index_of-index.result c.index-self-index.result
     (omega (arith, c.index_of-index.ensures.range, c.self.invariant.all_units)) ∙ c.in-Some.is)))))
 
 pub invariant_of-self-else-issued-self : goal.invariant_of-self-else-issued-self
@@ -55,19 +55,19 @@ invariant_of-self-else-issued-self c =
     (channels_with c.self.inside.channels c.in-Some.issued (channel_of (shape_of c.in-Some.issued.reservation.instr)))
     c.self.inside.producers ws c.self.inside.last) (sym
     (c.set_each.ensures.value ∙ ap (λ rs. set_each c.self.inside.writers rs None)
-    (c.as_slice.ensures.value ∙ c.puts-written.ensures)))
+    (c.as_slice.ensures.value ∙ c.sets-written.ensures)))
     (released_right c.self.inside.units c.self.inside.channels c.self.inside.producers c.self.inside.writers
     c.self.inside.last c.args.unit c.index_of-index.result c.in-Some.issued c.self.invariant
     c.index_of-index.ensures.value
-    (seat_any c.self.inside.units c.index_of-index.result c.index-self-index.result
+    (slot_any c.self.inside.units c.index_of-index.result c.index-self-index.result
     (omega (arith, c.index_of-index.ensures.range, c.self.invariant.all_units)) ∙ c.in-Some.is)
-    (subst (Each IsRegister) (c.as_slice.ensures.value ∙ c.puts-written.ensures) c.set_each.ensures.registers)
+    (subst (Each IsRegister) (c.as_slice.ensures.value ∙ c.sets-written.ensures) c.set_each.ensures.registers)
     c.put_left.ensures.channel
     c.self.inside.producers
     (released_last c.self.inside.units c.self.inside.channels c.self.inside.producers c.self.inside.writers
     c.self.inside.last c.args.unit c.index_of-index.result c.in-Some.issued c.self.invariant
     c.index_of-index.ensures.value
-    (seat_any c.self.inside.units c.index_of-index.result c.index-self-index.result
+    (slot_any c.self.inside.units c.index_of-index.result c.index-self-index.result
     (omega (arith, c.index_of-index.ensures.range, c.self.invariant.all_units)) ∙ c.in-Some.is) (search rules))))
 
 pub returns-then-issued-self : goal.returns-then-issued-self
@@ -77,7 +77,7 @@ returns-then-issued-self c =
     ∙ released_view c.self.inside.units c.self.inside.channels c.self.inside.producers c.self.inside.writers
     c.self.inside.last c.args.unit c.index_of-index.result c.in-Some.issued c.self.invariant
     c.index_of-index.ensures.value
-    (seat_any c.self.inside.units c.index_of-index.result c.index-self-index.result
+    (slot_any c.self.inside.units c.index_of-index.result c.index-self-index.result
     (omega (arith, c.index_of-index.ensures.range, c.self.invariant.all_units))
     ∙ c.in-Some.is) c.put_left.ensures.channel
     ∙ ap (λ (s : Standing). with_issued s (replaced (seek (held_in c.args.unit) s.issued) s.issued left)) c.self.view_is
@@ -89,7 +89,7 @@ returns-else-issued-self c =
     ∙ released_view c.self.inside.units c.self.inside.channels c.self.inside.producers c.self.inside.writers
     c.self.inside.last c.args.unit c.index_of-index.result c.in-Some.issued c.self.invariant
     c.index_of-index.ensures.value
-    (seat_any c.self.inside.units c.index_of-index.result c.index-self-index.result
+    (slot_any c.self.inside.units c.index_of-index.result c.index-self-index.result
     (omega (arith, c.index_of-index.ensures.range, c.self.invariant.all_units))
     ∙ c.in-Some.is) c.put_left.ensures.channel
     ∙ ap (λ (s : Standing). with_issued s (replaced (seek (held_in c.args.unit) s.issued) s.issued left)) c.self.view_is

@@ -3,7 +3,7 @@ use Rattle.std.proofs.Common.{rules, ap, sym, ◌∙◌, ◌++◌, subst, None, 
 use Rattle.instructions.specs.declared.instr.Reg.TheVariants.{X}
 use Rattle.scoreboard.specs.declared.writer.Writer.TheVariants.{OfChannel}
 use Rattle.instructions.specs.Finding.{seek, replaced}
-use Rattle.instructions.proofs.Seats.{seat_any}
+use Rattle.instructions.proofs.Slots.{slot_any}
 use Rattle.scoreboard.specs.Answers.{Standing, returning_by, with_issued, gone}
 use Rattle.scoreboard.specs.inner.Fields.{forget_in_taken}
 use Rattle.scoreboard.specs.inner.View.{standing_of, IsRight}
@@ -18,7 +18,7 @@ returns-in_default c =
     ∙ nobody_returned gone c.self.inside.units c.self.inside.channels c.self.inside.producers c.self.inside.writers
     c.self.inside.last c.args.channel c.self.invariant
     (ap (λ k. get_or c.self.inside.channels k None) (sym c.from-index.ensures)
-    ∙ seat_any c.self.inside.channels c.from-index.result c.index-self-index.result
+    ∙ slot_any c.self.inside.channels c.from-index.result c.index-self-index.result
     (omega (arith, c.requires, c.from-index.ensures, c.self.invariant.all_channels)) ∙ c.in_default.is)
     ∙ ap (λ (s : Standing). with_issued s (replaced (seek (returning_by c.args.channel) s.issued) s.issued gone))
     c.self.view_is
@@ -33,7 +33,7 @@ invariant_of-self c =
     (returned_right c.self.inside.units c.self.inside.channels c.self.inside.producers c.self.inside.writers
     c.self.inside.last c.args.channel c.in-Some.issued c.self.invariant c.requires
     (ap (λ k. get_or c.self.inside.channels k None) (sym c.from-index.ensures)
-    ∙ seat_any c.self.inside.channels c.from-index.result c.index-self-index.result
+    ∙ slot_any c.self.inside.channels c.from-index.result c.index-self-index.result
     (omega (arith, c.requires, c.from-index.ensures, c.self.invariant.all_channels)) ∙ c.in-Some.is)
     c.forget_in_taken.new.producers
     (subst (AreForgotten (OfChannel c.args.channel) (c.self.inside.units ++ c.self.inside.channels)
@@ -52,13 +52,13 @@ invariant_of-self-else-issued-self c =
     (returned_right c.self.inside.units c.self.inside.channels c.self.inside.producers c.self.inside.writers
     c.self.inside.last c.args.channel c.in-Some.issued c.self.invariant c.requires
     (ap (λ k. get_or c.self.inside.channels k None) (sym c.from-index.ensures)
-    ∙ seat_any c.self.inside.channels c.from-index.result c.index-self-index.result
+    ∙ slot_any c.self.inside.channels c.from-index.result c.index-self-index.result
     (omega (arith, c.requires, c.from-index.ensures, c.self.invariant.all_channels)) ∙ c.in-Some.is)
     c.self.inside.producers
     (returned_last c.self.inside.units c.self.inside.channels c.self.inside.producers c.self.inside.writers
     c.self.inside.last c.args.channel c.in-Some.issued c.self.invariant c.requires
     (ap (λ k. get_or c.self.inside.channels k None) (sym c.from-index.ensures)
-    ∙ seat_any c.self.inside.channels c.from-index.result c.index-self-index.result
+    ∙ slot_any c.self.inside.channels c.from-index.result c.index-self-index.result
     (omega (arith, c.requires, c.from-index.ensures, c.self.invariant.all_channels))
     ∙ c.in-Some.is) (search rules))))
 
@@ -69,7 +69,7 @@ returns-then-issued-self c =
     ∙ returned_view c.self.inside.units c.self.inside.channels c.self.inside.producers c.self.inside.writers
     c.self.inside.last c.args.channel c.in-Some.issued c.self.invariant c.requires
     (ap (λ k. get_or c.self.inside.channels k None) (sym c.from-index.ensures)
-    ∙ seat_any c.self.inside.channels c.from-index.result c.index-self-index.result
+    ∙ slot_any c.self.inside.channels c.from-index.result c.index-self-index.result
     (omega (arith, c.requires, c.from-index.ensures, c.self.invariant.all_channels)) ∙ c.in-Some.is)
     ∙ ap (λ (s : Standing). with_issued s (replaced (seek (returning_by c.args.channel) s.issued) s.issued gone))
     c.self.view_is
@@ -81,7 +81,7 @@ returns-else-issued-self c =
     ∙ returned_view c.self.inside.units c.self.inside.channels c.self.inside.producers c.self.inside.writers
     c.self.inside.last c.args.channel c.in-Some.issued c.self.invariant c.requires
     (ap (λ k. get_or c.self.inside.channels k None) (sym c.from-index.ensures)
-    ∙ seat_any c.self.inside.channels c.from-index.result c.index-self-index.result
+    ∙ slot_any c.self.inside.channels c.from-index.result c.index-self-index.result
     (omega (arith, c.requires, c.from-index.ensures, c.self.invariant.all_channels)) ∙ c.in-Some.is)
     ∙ ap (λ (s : Standing). with_issued s (replaced (seek (returning_by c.args.channel) s.issued) s.issued gone))
     c.self.view_is

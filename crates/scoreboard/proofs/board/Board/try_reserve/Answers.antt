@@ -7,7 +7,7 @@ use Rattle.scoreboard.specs.Conflicts.{unit_for}
 use Rattle.scoreboard.specs.Issued.{reservation_of}
 use Rattle.scoreboard.specs.Answers.{Standing, reserve_answer, reserved}
 use Rattle.scoreboard.specs.inner.View.{standing_of}
-use Rattle.scoreboard.proofs.changing.Reserving.{first_found, unit_found, seat_found, kind_found, new_right, new_view}
+use Rattle.scoreboard.proofs.changing.Reserving.{first_found, unit_found, slot_found, kind_found, new_right, new_view}
 use Rattle.scoreboard.proofs.changing.Reserving.{reserved_answer, taken_answer, busy_answer, refused_after}
 use Rattle.scoreboard.proofs.board.Board.try_reserve.Goals as goal
 
@@ -54,7 +54,7 @@ invariant_of-self c =
     c.expect.new.writers c.self.inside.last (c.self.inside.last + 1) c.in-Some.unit c.index_of-index.result
     c.args.instr.now c.as_slice-3.result.now c.of.result c.new.result c.self.invariant (omega arith)
     c.index_of-index.ensures.value
-    (seat_found c.self.inside.units (uses c.args.instr.now).unit c.free_unit_for.result c.in-Some.unit
+    (slot_found c.self.inside.units (uses c.args.instr.now).unit c.free_unit_for.result c.in-Some.unit
     c.index_of-index.result c.free_unit_for.ensures c.in-Some.is c.index_of-index.ensures.value)
     (c.as_slice-3.ensures.value ∙ c.sources-sources.ensures) c.of.ensures.writers c.of.ensures.registers
     c.expect.ensures.registers c.expect.ensures.channel
@@ -91,6 +91,6 @@ returns-clause-after c =
     new_view c.self.inside.units c.self.inside.channels c.self.inside.producers c.self.inside.writers
     c.self.inside.last (c.self.inside.last + 1) c.in-Some.unit c.index_of-index.result c.args.instr.now
     c.new.result c.self.invariant (omega arith) c.index_of-index.ensures.value
-    (seat_found c.self.inside.units (uses c.args.instr.now).unit c.free_unit_for.result c.in-Some.unit
+    (slot_found c.self.inside.units (uses c.args.instr.now).unit c.free_unit_for.result c.in-Some.unit
     c.index_of-index.result c.free_unit_for.ensures c.in-Some.is c.index_of-index.ensures.value) c.new.ensures
     ∙ ap (λ (s : Standing). reserved s c.args.instr.now (Ok (c.in-Some.unit, c.self.inside.last + 1))) c.self.view_is

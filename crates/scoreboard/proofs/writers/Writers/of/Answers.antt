@@ -1,6 +1,6 @@
 -- The writers of at most three registers.
 use Rattle.scoreboard.specs.Writers.{writer_at}
-use Rattle.scoreboard.proofs.seating.Small.{three_writers, three_registers}
+use Rattle.scoreboard.proofs.in_slots.Small.{three_writers, three_registers}
 use Rattle.scoreboard.proofs.writers.Writers.of.Goals as goal
 
 pub returns-clause-writers : goal.returns-clause-writers

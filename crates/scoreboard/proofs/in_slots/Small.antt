@@ -12,12 +12,12 @@ use Rattle.instructions.specs.RegisterLists.{is_in}
 use Rattle.instructions.specs.Operands.{sources_of}
 use Rattle.scoreboard.specs.declared.reservation.Progress.{Progress}
 use Rattle.scoreboard.specs.declared.reservation.Progress.TheVariants.{Reserved, Left}
-use Rattle.scoreboard.specs.inner.Fields.{forget_in_taken, seat_waits, seat_reads}
+use Rattle.scoreboard.specs.inner.Fields.{forget_in_taken, slot_waits, slot_reads}
 use Rattle.scoreboard.specs.Reservations.{is_unread, reads, reads_in, reads_it}
 use Rattle.scoreboard.specs.inner.View.{AreProducers, first_produced}
 use Rattle.scoreboard.specs.Writers.{IsRegister, writer_if, is_expected, forget}
 
--- ---- a change of each element, in place ----
+-- ---- a change of each element, in position ----
 
 mapped_at : {K : Type 0} (f : K → K) (xs : List K) (i : ℕ) (d z : K) → i < length xs
     → z ≡ f (get_or (map f (take i xs) ++ drop i xs) i d)
@@ -167,8 +167,8 @@ three_registers (r ∷ s ∷ t ∷ u ∷ rs) h e g k = absurd (omega arith)
 
 -- ---- nothing is to be read ----
 
-no_source : (n : ℕ) (r : Reg) (o : Option Issued) → seat_waits n o ≡ false → seat_reads n r o ≡ false
-unfolding seat_waits seat_reads reads_it reads is_unread reads_in is_in
+no_source : (n : ℕ) (r : Reg) (o : Option Issued) → slot_waits n o ≡ false → slot_reads n r o ≡ false
+unfolding slot_waits slot_reads reads_it reads is_unread reads_in is_in
 no_source n r None h = refl
 no_source n r (Some x) h = by_test (ltb x.number n) x.reservation.progress h
   where
@@ -179,12 +179,12 @@ no_source n r (Some x) h = by_test (ltb x.number n) x.reservation.progress h
     by_test true (Reserved true) k = refl
     by_test true (Left returning) k = refl
 
-no_sources : (n : ℕ) (r : Reg) (os : List (Option Issued)) → list_any (seat_waits n) os ≡ false
-    → list_any (seat_reads n r) os ≡ false
+no_sources : (n : ℕ) (r : Reg) (os : List (Option Issued)) → list_any (slot_waits n) os ≡ false
+    → list_any (slot_reads n r) os ≡ false
 no_sources n r [] h = refl
 no_sources n r (o ∷ os) h =
-    let both = neither (seat_waits n o) (list_any (seat_waits n) os) h in
-    ap (λ b. b || list_any (seat_reads n r) os) (no_source n r o both.0) ∙ no_sources n r os both.1
+    let both = neither (slot_waits n o) (list_any (slot_waits n) os) h in
+    ap (λ b. b || list_any (slot_reads n r) os) (no_source n r o both.0) ∙ no_sources n r os both.1
   where
     neither : (a b : Bool) → (a || b) ≡ false → (a ≡ false) × (b ≡ false)
     neither false b k = (refl, k)
@@ -196,9 +196,9 @@ none_in_nothing f [] h = refl
 none_in_nothing f (r ∷ rs) h = absurd (omega (arith, h))
 
 -- where nobody has still to read, no register is found
-pub none_to_be_read : (n : ℕ) (os : List (Option Issued)) (rs : List Reg) → list_any (seat_waits n) os ≡ false
-    → find (λ r. list_any (seat_reads n r) os) rs ≡ None
+pub none_to_be_read : (n : ℕ) (os : List (Option Issued)) (rs : List Reg) → list_any (slot_waits n) os ≡ false
+    → find (λ r. list_any (slot_reads n r) os) rs ≡ None
 none_to_be_read n os [] h = refl
 none_to_be_read n os (r ∷ rs) h =
-    ap (λ b. cond b (Some r) (find (λ v. list_any (seat_reads n v) os) rs)) (no_sources n r os h)
+    ap (λ b. cond b (Some r) (find (λ v. list_any (slot_reads n v) os) rs)) (no_sources n r os h)
     ∙ none_to_be_read n os rs h

@@ -1,11 +1,11 @@
--- What is kept in seats (units, hopper places and channels as one list): each sits in its own; seen in order, one is
+-- What is kept in slots (units, hopper places and channels as one list): each stands in its own; seen in order, one is
 -- taken out, one put in, one found.
 use Rattle.std.proofs.Common.{◌≡◌, ◌≢◌, ℕ, zero, suc, ◌<◌, ◌≤◌, ◌+◌, List, [], ◌∷◌, ◌++◌, Option, Some}
 use Rattle.std.proofs.Common.{None, refl, sym, ap, ◌∙◌, subst, length, set, get_or, arith}
 use Rattle.std.proofs.lemmas.List.{set-get_or}
 use Rattle.instructions.specs.Each.{Each, Pairs}
 use Rattle.instructions.specs.Finding.{seek}
-use Rattle.instructions.specs.Order.{insert_by, sort_by, somes, IsSeated}
+use Rattle.instructions.specs.Order.{insert_by, sort_by, somes, IsInSlots}
 use Rattle.instructions.proofs.Finding.{seek_around, seek_nobody}
 use Rattle.instructions.proofs.Lists.{each_left, each_right, each_append, each_map, pairs_before}
 use Rattle.instructions.proofs.Lists.{pairs_right, pairs_without, pairs_insert}
@@ -17,12 +17,12 @@ within [] i x h = cc
 within (o ∷ os) zero x h = omega arith
 within (o ∷ os) (suc i) x h = let k : i < length os = within os i x h in omega arith
 
--- what was read from a seat, whatever is read after the last
-pub seat_any : {K : Type 0} (os : List (Option K)) (i : ℕ) (o : Option K) → i < length os
+-- what was read from a slot, whatever is read after the last
+pub slot_any : {K : Type 0} (os : List (Option K)) (i : ℕ) (o : Option K) → i < length os
     → get_or os i None ≡ get_or os i o
-seat_any [] i o h = absurd (omega arith)
-seat_any (x ∷ os) zero o h = refl
-seat_any (x ∷ os) (suc i) o h = seat_any os i o (omega arith)
+slot_any [] i o h = absurd (omega arith)
+slot_any (x ∷ os) zero o h = refl
+slot_any (x ∷ os) (suc i) o h = slot_any os i o (omega arith)
 
 -- no two have one number
 abbrev pub HasOwnKeys : {K : Type 0} → (K → ℕ) → List K → Type 0
@@ -58,7 +58,7 @@ own_put key os i m h l d own =
     (each_map (λ x. key x ≢ key m) (λ x. key m ≢ key x) (λ x k. λ i. k (sym i)) (after_place os i)
     (each_right (λ x. key x ≢ key m) (before_place os i) (after_place os i) dd)))
 
--- one taken out of its seat
+-- one taken out of its slot
 pub sort_take : {K : Type 0} (key : K → ℕ) (os : List (Option K)) (i : ℕ) (m : K) → get_or os i None ≡ Some m
     → HasOwnKeys key (somes os) → sort_by key (somes os) ≡ insert_by key m (sort_by key (somes (set os i None)))
 sort_take key os i m h own =
@@ -68,7 +68,7 @@ sort_take key os i m h own =
     (subst (HasOwnKeys key) (somes-at os i m h) own))
     ∙ ap (λ l. insert_by key m (sort_by key l)) (sym (somes-set_none os i (within os i m h)))
 
--- one put into an empty seat
+-- one put into an empty slot
 pub sort_put : {K : Type 0} (key : K → ℕ) (os : List (Option K)) (i : ℕ) (m : K) → get_or os i None ≡ None
     → i < length os → Each (λ x. key x ≢ key m) (somes os)
     → sort_by key (somes (set os i (Some m))) ≡ insert_by key m (sort_by key (somes os))
@@ -90,7 +90,7 @@ pub taken_without : {K : Type 0} (key : K → ℕ) (n : ℕ) (os : List (Option 
     ++ above key n (sort_by key (somes (set os i None)))
 taken_without key n os i = below-above key n (sort_by key (somes (set os i None)))
 
--- taken out of one seat, and put back into another under its number
+-- taken out of one slot, and put back into another under its number
 pub moved_with : {K : Type 0} (key : K → ℕ) (os : List (Option K)) (i j : ℕ) (m m' : K) → get_or os i None ≡ Some m
     → key m' ≡ key m → get_or (set os i None) j None ≡ None → j < length (set os i None) → HasOwnKeys key (somes os)
     → sort_by key (somes (set (set os i None) j (Some m'))) ≡ below key (key m) (sort_by key (somes (set os i None)))
@@ -111,92 +111,92 @@ sort_new key os i m h l d =
     sort_put key os i m h l (each_map (λ x. key x < key m) (λ x. key x ≢ key m) (λ x k. omega arith) (somes os) d)
     ∙ insert_last key m (sort_by key (somes os)) (sort_each key (λ x. key x < key m) (somes os) d)
 
--- ---- each in its own seat ----
+-- ---- each in its own slot ----
 
-seated_from : {K : Type 0} (seat_of : K → ℕ) (os : List (Option K)) (k v : ℕ) → v < k → IsSeated seat_of k os
-    → Each (λ y. seat_of y ≢ v) (somes os)
+in_slots_from : {K : Type 0} (slot_of : K → ℕ) (os : List (Option K)) (k v : ℕ) → v < k → IsInSlots slot_of k os
+    → Each (λ y. slot_of y ≢ v) (somes os)
 unfolding somes
-seated_from seat_of [] k v h s = tt
-seated_from seat_of (None ∷ os) k v h s = seated_from seat_of os (suc k) v (omega arith) s
-seated_from seat_of (Some x ∷ os) k v h s =
-    (λ e. let q : seat_of x ≡ k = s.0 in omega (arith, e, q, h), seated_from seat_of os (suc k) v (omega arith) s.1)
+in_slots_from slot_of [] k v h s = tt
+in_slots_from slot_of (None ∷ os) k v h s = in_slots_from slot_of os (suc k) v (omega arith) s
+in_slots_from slot_of (Some x ∷ os) k v h s =
+    (λ e. let q : slot_of x ≡ k = s.0 in omega (arith, e, q, h), in_slots_from slot_of os (suc k) v (omega arith) s.1)
 
--- no other sits there
-pub seated_others : {K : Type 0} (seat_of : K → ℕ) (os : List (Option K)) (k i v : ℕ) → v ≡ k + i
-    → IsSeated seat_of k os → Each (λ y. seat_of y ≢ v) (somes (set os i None))
+-- no other stands there
+pub in_slots_others : {K : Type 0} (slot_of : K → ℕ) (os : List (Option K)) (k i v : ℕ) → v ≡ k + i
+    → IsInSlots slot_of k os → Each (λ y. slot_of y ≢ v) (somes (set os i None))
 unfolding somes
-seated_others seat_of [] k i v e s = tt
-seated_others seat_of (None ∷ os) k zero v e s = seated_from seat_of os (suc k) v (omega (arith, e)) s
-seated_others seat_of (Some x ∷ os) k zero v e s = seated_from seat_of os (suc k) v (omega (arith, e)) s.1
-seated_others seat_of (None ∷ os) k (suc i) v e s = seated_others seat_of os (suc k) i v (omega (arith, e)) s
-seated_others seat_of (Some x ∷ os) k (suc i) v e s = (
-  λ q. let p : seat_of x ≡ k = s.0 in omega (arith, e, q, p),
-  seated_others seat_of os (suc k) i v (omega (arith, e)) s.1,
+in_slots_others slot_of [] k i v e s = tt
+in_slots_others slot_of (None ∷ os) k zero v e s = in_slots_from slot_of os (suc k) v (omega (arith, e)) s
+in_slots_others slot_of (Some x ∷ os) k zero v e s = in_slots_from slot_of os (suc k) v (omega (arith, e)) s.1
+in_slots_others slot_of (None ∷ os) k (suc i) v e s = in_slots_others slot_of os (suc k) i v (omega (arith, e)) s
+in_slots_others slot_of (Some x ∷ os) k (suc i) v e s = (
+  λ q. let p : slot_of x ≡ k = s.0 in omega (arith, e, q, p),
+  in_slots_others slot_of os (suc k) i v (omega (arith, e)) s.1,
 )
 
 -- and nobody at all where it is empty
-pub seated_nobody : {K : Type 0} (seat_of : K → ℕ) (os : List (Option K)) (i : ℕ) → get_or os i None ≡ None
-    → IsSeated seat_of 0 os → Each (λ y. seat_of y ≢ i) (somes os)
-seated_nobody seat_of os i h s =
-    subst (λ l. Each (λ y. seat_of y ≢ i) (somes l)) (ap (set os i) (sym h) ∙ set-get_or os i None)
-    (seated_others seat_of os 0 i i (omega arith) s)
+pub in_slots_nobody : {K : Type 0} (slot_of : K → ℕ) (os : List (Option K)) (i : ℕ) → get_or os i None ≡ None
+    → IsInSlots slot_of 0 os → Each (λ y. slot_of y ≢ i) (somes os)
+in_slots_nobody slot_of os i h s =
+    subst (λ l. Each (λ y. slot_of y ≢ i) (somes l)) (ap (set os i) (sym h) ∙ set-get_or os i None)
+    (in_slots_others slot_of os 0 i i (omega arith) s)
 
-pub seated_here : {K : Type 0} (seat_of : K → ℕ) (os : List (Option K)) (k i : ℕ) (x : K) → get_or os i None ≡ Some x
-    → IsSeated seat_of k os → seat_of x ≡ k + i
-seated_here seat_of [] k i x h s = cc
-seated_here seat_of (None ∷ os) k zero x h s = cc
-seated_here seat_of (Some y ∷ os) k zero x h s =
-    let e : y ≡ x = cc in let q : seat_of y ≡ k = s.0 in ap seat_of (sym e) ∙ q ∙ omega arith
-seated_here seat_of (None ∷ os) k (suc i) x h s = seated_here seat_of os (suc k) i x h s ∙ omega arith
-seated_here seat_of (Some y ∷ os) k (suc i) x h s = seated_here seat_of os (suc k) i x h s.1 ∙ omega arith
+pub in_slots_here : {K : Type 0} (slot_of : K → ℕ) (os : List (Option K)) (k i : ℕ) (x : K) → get_or os i None ≡ Some x
+    → IsInSlots slot_of k os → slot_of x ≡ k + i
+in_slots_here slot_of [] k i x h s = cc
+in_slots_here slot_of (None ∷ os) k zero x h s = cc
+in_slots_here slot_of (Some y ∷ os) k zero x h s =
+    let e : y ≡ x = cc in let q : slot_of y ≡ k = s.0 in ap slot_of (sym e) ∙ q ∙ omega arith
+in_slots_here slot_of (None ∷ os) k (suc i) x h s = in_slots_here slot_of os (suc k) i x h s ∙ omega arith
+in_slots_here slot_of (Some y ∷ os) k (suc i) x h s = in_slots_here slot_of os (suc k) i x h s.1 ∙ omega arith
 
-pub seated_empty : {K : Type 0} (seat_of : K → ℕ) (os : List (Option K)) (k i : ℕ) → IsSeated seat_of k os
-    → IsSeated seat_of k (set os i None)
-seated_empty seat_of [] k i s = tt
-seated_empty seat_of (None ∷ os) k zero s = s
-seated_empty seat_of (Some x ∷ os) k zero s = s.1
-seated_empty seat_of (None ∷ os) k (suc i) s = seated_empty seat_of os (suc k) i s
-seated_empty seat_of (Some x ∷ os) k (suc i) s = (s.0, seated_empty seat_of os (suc k) i s.1)
+pub in_slots_empty : {K : Type 0} (slot_of : K → ℕ) (os : List (Option K)) (k i : ℕ) → IsInSlots slot_of k os
+    → IsInSlots slot_of k (set os i None)
+in_slots_empty slot_of [] k i s = tt
+in_slots_empty slot_of (None ∷ os) k zero s = s
+in_slots_empty slot_of (Some x ∷ os) k zero s = s.1
+in_slots_empty slot_of (None ∷ os) k (suc i) s = in_slots_empty slot_of os (suc k) i s
+in_slots_empty slot_of (Some x ∷ os) k (suc i) s = (s.0, in_slots_empty slot_of os (suc k) i s.1)
 
-pub seated_fill : {K : Type 0} (seat_of : K → ℕ) (os : List (Option K)) (k i : ℕ) (y : K) → seat_of y ≡ k + i
-    → IsSeated seat_of k os → IsSeated seat_of k (set os i (Some y))
-seated_fill seat_of [] k i y e s = tt
-seated_fill seat_of (None ∷ os) k zero y e s = (e ∙ omega arith, s)
-seated_fill seat_of (Some x ∷ os) k zero y e s = (e ∙ omega arith, s.1)
-seated_fill seat_of (None ∷ os) k (suc i) y e s = seated_fill seat_of os (suc k) i y (e ∙ omega arith) s
-seated_fill seat_of (Some x ∷ os) k (suc i) y e s = (s.0, seated_fill seat_of os (suc k) i y (e ∙ omega arith) s.1)
+pub in_slots_fill : {K : Type 0} (slot_of : K → ℕ) (os : List (Option K)) (k i : ℕ) (y : K) → slot_of y ≡ k + i
+    → IsInSlots slot_of k os → IsInSlots slot_of k (set os i (Some y))
+in_slots_fill slot_of [] k i y e s = tt
+in_slots_fill slot_of (None ∷ os) k zero y e s = (e ∙ omega arith, s)
+in_slots_fill slot_of (Some x ∷ os) k zero y e s = (e ∙ omega arith, s.1)
+in_slots_fill slot_of (None ∷ os) k (suc i) y e s = in_slots_fill slot_of os (suc k) i y (e ∙ omega arith) s
+in_slots_fill slot_of (Some x ∷ os) k (suc i) y e s = (s.0, in_slots_fill slot_of os (suc k) i y (e ∙ omega arith) s.1)
 
--- a seat in which none of them sits is empty
-pub seat_empty : {K : Type 0} (seat_of : K → ℕ) (os : List (Option K)) (k i v : ℕ) → v ≡ k + i → IsSeated seat_of k os
-    → Each (λ y. seat_of y ≢ v) (somes os) → get_or os i None ≡ None
+-- a slot in which none of them stands is empty
+pub slot_empty : {K : Type 0} (slot_of : K → ℕ) (os : List (Option K)) (k i v : ℕ) → v ≡ k + i → IsInSlots slot_of k os
+    → Each (λ y. slot_of y ≢ v) (somes os) → get_or os i None ≡ None
 unfolding somes
-seat_empty seat_of [] k i v e s h = refl
-seat_empty seat_of (None ∷ os) k zero v e s h = refl
-seat_empty seat_of (Some x ∷ os) k zero v e s h = absurd (h.0 (let q : seat_of x ≡ k = s.0 in q ∙ omega (arith, e)))
-seat_empty seat_of (None ∷ os) k (suc i) v e s h = seat_empty seat_of os (suc k) i v (omega (arith, e)) s h
-seat_empty seat_of (Some x ∷ os) k (suc i) v e s h = seat_empty seat_of os (suc k) i v (omega (arith, e)) s.1 h.1
+slot_empty slot_of [] k i v e s h = refl
+slot_empty slot_of (None ∷ os) k zero v e s h = refl
+slot_empty slot_of (Some x ∷ os) k zero v e s h = absurd (h.0 (let q : slot_of x ≡ k = s.0 in q ∙ omega (arith, e)))
+slot_empty slot_of (None ∷ os) k (suc i) v e s h = slot_empty slot_of os (suc k) i v (omega (arith, e)) s h
+slot_empty slot_of (Some x ∷ os) k (suc i) v e s h = slot_empty slot_of os (suc k) i v (omega (arith, e)) s.1 h.1
 
--- each seat has a number below how many there are
-pub seats_below : {K : Type 0} (seat_of : K → ℕ) (os : List (Option K)) (k n : ℕ) → k + length os ≤ n
-    → IsSeated seat_of k os → Each (λ y. seat_of y < n) (somes os)
+-- each slot has a number below how many there are
+pub slots_below : {K : Type 0} (slot_of : K → ℕ) (os : List (Option K)) (k n : ℕ) → k + length os ≤ n
+    → IsInSlots slot_of k os → Each (λ y. slot_of y < n) (somes os)
 unfolding somes
-seats_below seat_of [] k n h s = tt
-seats_below seat_of (None ∷ os) k n h s = seats_below seat_of os (suc k) n (omega (arith, h)) s
-seats_below seat_of (Some x ∷ os) k n h s =
-    (let q : seat_of x ≡ k = s.0 in omega (arith, h, q), seats_below seat_of os (suc k) n (omega (arith, h)) s.1)
+slots_below slot_of [] k n h s = tt
+slots_below slot_of (None ∷ os) k n h s = slots_below slot_of os (suc k) n (omega (arith, h)) s
+slots_below slot_of (Some x ∷ os) k n h s =
+    (let q : slot_of x ≡ k = s.0 in omega (arith, h, q), slots_below slot_of os (suc k) n (omega (arith, h)) s.1)
 
--- ---- the one in a seat, in order ----
+-- ---- the one in a slot, in order ----
 
 -- those before it, and those after
-abbrev pub before_seat : {K : Type 0} → (K → ℕ) → List (Option K) → ℕ → K → List K
-before_seat key os i x = below key (key x) (sort_by key (somes (set os i None)))
+abbrev pub before_slot : {K : Type 0} → (K → ℕ) → List (Option K) → ℕ → K → List K
+before_slot key os i x = below key (key x) (sort_by key (somes (set os i None)))
 
-abbrev pub after_seat : {K : Type 0} → (K → ℕ) → List (Option K) → ℕ → K → List K
-after_seat key os i x = above key (key x) (sort_by key (somes (set os i None)))
+abbrev pub after_slot : {K : Type 0} → (K → ℕ) → List (Option K) → ℕ → K → List K
+after_slot key os i x = above key (key x) (sort_by key (somes (set os i None)))
 
 pub each_before : {K : Type 0} (key : K → ℕ) (P : K → Type 0) (os : List (Option K)) (i : ℕ) (x : K)
-    → Each P (somes (set os i None)) → Each P (before_seat key os i x)
-each_before key P os i x h = each_left P (before_seat key os i x) (after_seat key os i x)
+    → Each P (somes (set os i None)) → Each P (before_slot key os i x)
+each_before key P os i x h = each_left P (before_slot key os i x) (after_slot key os i x)
     (subst (Each P) (below-above key (key x) (sort_by key (somes (set os i None))))
     (sort_each key P (somes (set os i None)) h))
 
@@ -204,17 +204,17 @@ pub found_there : {K W : Type 0} (key : K → ℕ) (f : K → Option W) (os : Li
     → get_or os i None ≡ Some m → HasOwnKeys key (somes os) → f m ≡ Some answer
     → Each (λ y. f y ≡ None) (somes (set os i None))
     → seek f (sort_by key (somes os))
-    ≡ Some (record { earlier = before_seat key os i m; item = m; answer = answer; later = after_seat key os i m })
+    ≡ Some (record { earlier = before_slot key os i m; item = m; answer = answer; later = after_slot key os i m })
 found_there key f os i m answer h own e s =
     ap (seek f) (taken_with key os i m h own)
-    ∙ seek_around f (before_seat key os i m) m answer (after_seat key os i m)
+    ∙ seek_around f (before_slot key os i m) m answer (after_slot key os i m)
     (each_before key (λ y. f y ≡ None) os i m s) e
 
 pub found_nobody : {K W : Type 0} (key : K → ℕ) (f : K → Option W) (os : List (Option K))
     → Each (λ y. f y ≡ None) (somes os) → seek f (sort_by key (somes os)) ≡ None
 found_nobody key f os s = seek_nobody f (sort_by key (somes os)) (sort_each key (λ y. f y ≡ None) (somes os) s)
 
--- ---- each, and how many, when a seat is filled or emptied ----
+-- ---- each, and how many, when a slot is filled or emptied ----
 
 pub each_put : {K : Type 0} (P : K → Type 0) (os : List (Option K)) (i : ℕ) (y : K) → get_or os i None ≡ None
     → i < length os → P y → Each P (somes os) → Each P (somes (set os i (Some y)))

@@ -2,7 +2,7 @@
 use Rattle.std.proofs.Common.{sym, ap, ◌∙◌}
 use Rattle.hopper.specs.Queue.{accept_answer}
 use Rattle.hopper.proofs.Laws.{nothing_found, one_found, bank_refused, order_judged}
-use Rattle.hopper.proofs.places.acceptance.Goals as goal
+use Rattle.hopper.proofs.places.reference_to_accept.Goals as goal
 
 pub returns-in_default-clause-answer : goal.returns-in_default-clause-answer
 unfolding accept_answer

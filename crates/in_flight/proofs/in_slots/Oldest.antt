@@ -1,10 +1,10 @@
--- The pending instruction with the lowest number, from the seats.
+-- The pending instruction with the lowest number, from the slots.
 use Rattle.std.proofs.Common.{◌≡◌, ◌<◌, ◌≤◌, ◌+◌, ℕ, zero, suc, Bool, true, false, cond, List, [], ◌∷◌, ◌++◌, Option}
 use Rattle.std.proofs.Common.{Some, None, refl, sym, ap, ◌∙◌, ltb, drop, get_or, length, add-one, arith}
 use Rattle.std.proofs.lemmas.Bool.{ltb-true, ltb-false}
 use Rattle.instructions.specs.Order.{insert_by, sort_by, somes}
 use Rattle.in_flight.specs.declared.pending.Pending.{Pending}
-use Rattle.in_flight.specs.inner.Seats.{number_of, seats, in_order, lower_of, lowest_of}
+use Rattle.in_flight.specs.inner.Slots.{number_of, slots, in_order, lower_of, lowest_of}
 use Rattle.in_flight.specs.Lookup.{first_of}
 
 lower_none : (o : Option Pending) → lower_of o None ≡ o
@@ -63,14 +63,14 @@ lowest_sorted (Some x ∷ os) =
 
 pub first_pending : (units places channels : List (Option Pending))
     → lower_of (lowest_of units) (lower_of (lowest_of places) (lowest_of channels))
-    ≡ first_of (in_order (seats units places channels))
-unfolding seats
+    ≡ first_of (in_order (slots units places channels))
+unfolding slots
 first_pending units places channels =
     ap (lower_of (lowest_of units)) (sym (lowest-append places channels))
     ∙ sym (lowest-append units (places ++ channels))
     ∙ lowest_sorted (units ++ (places ++ channels))
 
--- ---- over the seats ----
+-- ---- over the slots ----
 
 lowest_next : (found next : Option Pending) (os : List (Option Pending)) (i : ℕ) (o d l : Option Pending)
     → i < length os → next ≡ lower_of found o → o ≡ get_or os i d → lower_of found (lowest_of (drop i os)) ≡ l

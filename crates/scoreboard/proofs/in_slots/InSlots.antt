@@ -1,4 +1,4 @@
--- The seats of a board, when one is read, emptied or filled.
+-- The slots of a board, when one is read, emptied or filled.
 use Rattle.std.proofs.Common.{◌≡◌, ◌≢◌, ◌<◌, ◌+◌, ℕ, zero, suc, Bool, true, false, cond, List, [], ◌∷◌, ◌++◌, Option}
 use Rattle.std.proofs.Common.{Some, None, refl, sym, ap, ◌∙◌, subst, ltb, get_or, set, length, arith}
 use Rattle.std.specs.Prelude.{◌&&◌}
@@ -17,16 +17,16 @@ use Rattle.scoreboard.specs.Answers.{held_in, returns_in, returning_by}
 use Rattle.instructions.specs.Each.{Each, Pairs}
 use Rattle.scoreboard.specs.Issued.{number_of, written_by, or_else, first_some, if_earlier, writer_before}
 use Rattle.instructions.specs.Order.{somes}
-use Rattle.scoreboard.specs.inner.View.{IsOther, seat_in, seat_of}
+use Rattle.scoreboard.specs.inner.View.{IsOther, slot_in, slot_of}
 use Rattle.scoreboard.specs.Writers.{forget}
 use Rattle.instructions.proofs.Lists.{each_left, each_right, each_append, each_map, pairs_before, pairs_right}
 use Rattle.instructions.proofs.Lists.{pairs_without, pairs_insert}
 use Rattle.instructions.proofs.Sorted.{before_place, after_place, somes-at, somes-set_some, somes-set_none, somes-empty}
-use Rattle.instructions.proofs.Seats.{within, HasOwnKeys}
-use Rattle.scoreboard.proofs.seating.Writing.{IsAlone, first_at, first_none, first_replaced, forget_first}
-use Rattle.scoreboard.proofs.seating.Writing.{forgotten_rest, earlier_alone, earlier_forget}
+use Rattle.instructions.proofs.Slots.{within, HasOwnKeys}
+use Rattle.scoreboard.proofs.in_slots.Writing.{IsAlone, first_at, first_none, first_replaced, forget_first}
+use Rattle.scoreboard.proofs.in_slots.Writing.{forgotten_rest, earlier_alone, earlier_forget}
 
--- ---- two lists of seats as one ----
+-- ---- two lists of slots as one ----
 
 pub get_back : {K : Type 0} (xs ys : List K) (i j : ℕ) (d : K) → j ≡ length xs + i
     → get_or (xs ++ ys) j d ≡ get_or ys i d
@@ -40,7 +40,7 @@ set_back [] ys i j v h = let e : j ≡ i = omega (arith, h) in ap (λ k. set ys 
 set_back (x ∷ xs) ys i zero v h = absurd (omega (arith, h))
 set_back (x ∷ xs) ys i (suc j) v h = ap (λ l. x ∷ l) (set_back xs ys i j v (omega (arith, h)))
 
--- ---- which seat is whose ----
+-- ---- which slot is whose ----
 
 pub unit_below : (u : FunctionalUnit) → unit_number u < 10
 unit_below Branch = omega arith
@@ -54,74 +54,74 @@ unit_below Divide = omega arith
 unit_below Increment1 = omega arith
 unit_below Increment2 = omega arith
 
-holds_in : (u v : FunctionalUnit) (p : Progress) → seat_in v p ≡ unit_number u → (same_unit v u && is_reserved p) ≡ true
-unfolding seat_in same_unit is_reserved
+holds_in : (u v : FunctionalUnit) (p : Progress) → slot_in v p ≡ unit_number u → (same_unit v u && is_reserved p) ≡ true
+unfolding slot_in same_unit is_reserved
 holds_in u v (Reserved has_read) h = ap (λ b. b && true) (eq-eqb (unit_number v) (unit_number u) h)
 holds_in u v (Left None) h = absurd (let b = unit_below u in omega (arith, h, b))
 holds_in u v (Left (Some n)) h = absurd (let b = unit_below u in omega (arith, h, b))
 
-pub sits_holds : (u : FunctionalUnit) (x : Issued) → seat_of x ≡ unit_number u → holds u x.reservation ≡ true
-unfolding holds seat_of
-sits_holds u x h = holds_in u x.reservation.unit x.reservation.progress h
+pub stands_holds : (u : FunctionalUnit) (x : Issued) → slot_of x ≡ unit_number u → holds u x.reservation ≡ true
+unfolding holds slot_of
+stands_holds u x h = holds_in u x.reservation.unit x.reservation.progress h
 
-holds_not_in : (u v : FunctionalUnit) (p : Progress) → (seat_in v p ≡ unit_number u → ⊥)
+holds_not_in : (u v : FunctionalUnit) (p : Progress) → (slot_in v p ≡ unit_number u → ⊥)
     → (same_unit v u && is_reserved p) ≡ false
-unfolding seat_in same_unit is_reserved
+unfolding slot_in same_unit is_reserved
 holds_not_in u v (Reserved has_read) h = ap (λ b. b && true) (ne_eqb (unit_number v) (unit_number u) h)
 holds_not_in u v (Left o) h = and_right (same_unit v u) false refl
 
-pub sits_not : (u : FunctionalUnit) (x : Issued) → (seat_of x ≡ unit_number u → ⊥) → holds u x.reservation ≡ false
-unfolding holds seat_of
-sits_not u x h = holds_not_in u x.reservation.unit x.reservation.progress h
+pub stands_not : (u : FunctionalUnit) (x : Issued) → (slot_of x ≡ unit_number u → ⊥) → holds u x.reservation ≡ false
+unfolding holds slot_of
+stands_not u x h = holds_not_in u x.reservation.unit x.reservation.progress h
 
-pub sits_held : (u : FunctionalUnit) (x : Issued) → seat_of x ≡ unit_number u → held_in u x ≡ Some x.reservation.instr
+pub stands_held : (u : FunctionalUnit) (x : Issued) → slot_of x ≡ unit_number u → held_in u x ≡ Some x.reservation.instr
 unfolding held_in
-sits_held u x h = ap (λ b. cond b (Some x.reservation.instr) None) (sits_holds u x h)
+stands_held u x h = ap (λ b. cond b (Some x.reservation.instr) None) (stands_holds u x h)
 
-pub sits_not_held : (u : FunctionalUnit) (x : Issued) → (seat_of x ≡ unit_number u → ⊥) → held_in u x ≡ None
+pub stands_not_held : (u : FunctionalUnit) (x : Issued) → (slot_of x ≡ unit_number u → ⊥) → held_in u x ≡ None
 unfolding held_in
-sits_not_held u x h = ap (λ b. cond b (Some x.reservation.instr) None) (sits_not u x h)
+stands_not_held u x h = ap (λ b. cond b (Some x.reservation.instr) None) (stands_not u x h)
 
--- one in the seat of a unit is reserved there
-reserved_in : (u v : FunctionalUnit) (p : Progress) → seat_in v p ≡ unit_number u → (b : Bool) × (p ≡ Reserved b)
+-- one in the slot of a unit is reserved there
+reserved_in : (u v : FunctionalUnit) (p : Progress) → slot_in v p ≡ unit_number u → (b : Bool) × (p ≡ Reserved b)
     × (same_unit v u ≡ true)
-unfolding seat_in same_unit
+unfolding slot_in same_unit
 reserved_in u v (Reserved has_read) h = (has_read, refl, eq-eqb (unit_number v) (unit_number u) h)
 reserved_in u v (Left None) h = absurd (let b = unit_below u in omega (arith, h, b))
 reserved_in u v (Left (Some n)) h = absurd (let b = unit_below u in omega (arith, h, b))
 
-pub sits_reserved : (u : FunctionalUnit) (x : Issued) → seat_of x ≡ unit_number u → (b : Bool)
+pub stands_reserved : (u : FunctionalUnit) (x : Issued) → slot_of x ≡ unit_number u → (b : Bool)
     × (x.reservation.progress ≡ Reserved b) × (same_unit x.reservation.unit u ≡ true)
-unfolding seat_of
-sits_reserved u x h = reserved_in u x.reservation.unit x.reservation.progress h
+unfolding slot_of
+stands_reserved u x h = reserved_in u x.reservation.unit x.reservation.progress h
 
-returns_at : (n : ℕ) (v : FunctionalUnit) (p : Progress) → n < 8 → seat_in v p ≡ 10 + n → p ≡ Left (Some n)
-unfolding seat_in
+returns_at : (n : ℕ) (v : FunctionalUnit) (p : Progress) → n < 8 → slot_in v p ≡ 10 + n → p ≡ Left (Some n)
+unfolding slot_in
 returns_at n v (Reserved has_read) b h = absurd (let k = unit_below v in omega (arith, h, k))
 returns_at n v (Left None) b h = absurd (omega (arith, h, b))
 returns_at n v (Left (Some m)) b h = let e : m ≡ n = omega (arith, h) in ap (λ k. Left (Some k)) e
 
-pub sits_returning : (n : ℕ) (x : Issued) → n < 8 → seat_of x ≡ 10 + n → x.reservation.progress ≡ Left (Some n)
-unfolding seat_of
-sits_returning n x b h = returns_at n x.reservation.unit x.reservation.progress b h
+pub stands_returning : (n : ℕ) (x : Issued) → n < 8 → slot_of x ≡ 10 + n → x.reservation.progress ≡ Left (Some n)
+unfolding slot_of
+stands_returning n x b h = returns_at n x.reservation.unit x.reservation.progress b h
 
-pub sits_returns : (n : ℕ) (x : Issued) → n < 8 → seat_of x ≡ 10 + n → returning_by n x ≡ Some x.reservation.instr
+pub stands_returns : (n : ℕ) (x : Issued) → n < 8 → slot_of x ≡ 10 + n → returning_by n x ≡ Some x.reservation.instr
 unfolding returning_by returns_in
-sits_returns n x b h =
-    ap (λ t. cond t (Some x.reservation.instr) None) (ap (returns_in n) (sits_returning n x b h) ∙ eq-eqb n n refl)
+stands_returns n x b h =
+    ap (λ t. cond t (Some x.reservation.instr) None) (ap (returns_in n) (stands_returning n x b h) ∙ eq-eqb n n refl)
 
-returns_not_in : (n : ℕ) (v : FunctionalUnit) (p : Progress) → (seat_in v p ≡ 10 + n → ⊥) → returns_in n p ≡ false
-unfolding seat_in returns_in
+returns_not_in : (n : ℕ) (v : FunctionalUnit) (p : Progress) → (slot_in v p ≡ 10 + n → ⊥) → returns_in n p ≡ false
+unfolding slot_in returns_in
 returns_not_in n v (Reserved has_read) h = refl
 returns_not_in n v (Left None) h = refl
 returns_not_in n v (Left (Some m)) h = ne_eqb m n (λ e. h (ap (λ k. 10 + k) e))
 
-pub sits_not_returning : (n : ℕ) (x : Issued) → (seat_of x ≡ 10 + n → ⊥) → returning_by n x ≡ None
-unfolding returning_by seat_of
-sits_not_returning n x h = ap (λ t. cond t (Some x.reservation.instr) None) (returns_not_in n x.reservation.unit
+pub stands_not_returning : (n : ℕ) (x : Issued) → (slot_of x ≡ 10 + n → ⊥) → returning_by n x ≡ None
+unfolding returning_by slot_of
+stands_not_returning n x h = ap (λ t. cond t (Some x.reservation.instr) None) (returns_not_in n x.reservation.unit
     x.reservation.progress h)
 
--- ---- pairs in seats ----
+-- ---- pairs in slots ----
 
 pub pairs_map : {X : Type 0} (R S : X → X → Type 0) → ((x y : X) → R x y → S x y) → (xs : List X) → Pairs R xs
     → Pairs S xs
@@ -195,7 +195,7 @@ each_put P os i y h l q p =
 pub own_keys : (xs : List Issued) → Pairs IsOther xs → HasOwnKeys number_of xs
 own_keys xs h = pairs_map IsOther (λ a b. number_of a ≢ number_of b) (λ x y k. k.number) xs h
 
--- ---- who writes, when a seat changes ----
+-- ---- who writes, when a slot changes ----
 
 first_taken : {W : Type 0} (f : Issued → Option W) (os : List (Option Issued)) (i : ℕ) (x : Issued)
     → get_or os i None ≡ Some x → Each (IsAlone f x) (somes (set os i None))

@@ -9,8 +9,8 @@ use Rattle.program_order.specs.declared.event.Event.{Event}
 use Rattle.program_order.specs.declared.event.Event.TheVariants.{Accept, Return, BankFree, Ask, PpRead, PpWrite}
 use Rattle.program_order.specs.Processor.{Processor}
 use Rattle.program_order.specs.Run.{IsAnswer, settled}
-use Rattle.program_order.specs.Sound.{IsReplay}
-use Rattle.machine_lock.specs.Known.{Known, booted_by}
+use Rattle.program_order.specs.Invariant.{IsReplay}
+use Rattle.machine_lock.specs.CallerKnowledge.{Known, booted_by}
 use Rattle.machine_lock.specs.inner.Rules.{Knowing, IsKeeper, past}
 
 -- the machine under the lock, and whether its users were told to end

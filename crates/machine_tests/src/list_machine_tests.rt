@@ -1,6 +1,6 @@
 //! Programs of which the machine and the machine as a list are asked the same generated events.
 
-use crate::scanning::{Program, accepted};
+use crate::list_machine::{Program, accepted};
 use std::process::Abort;
 use std::test::Fail;
 
@@ -434,7 +434,7 @@ const DECKS: [Program; 18] = [
 ];
 
 /// Both machines answer the same, and accept as many events of each kind as the program says.
-fn expect(rt: &(impl Abort + AllocGlobal), program: &Program) -> Result<(), Fail> {
+fn check_program(rt: &(impl Abort + AllocGlobal), program: &Program) -> Result<(), Fail> {
     assert_eq!(rt;
         accepted(rt.alloc(), program),
         Some(program.accepted),
@@ -447,7 +447,7 @@ fn expect(rt: &(impl Abort + AllocGlobal), program: &Program) -> Result<(), Fail
 #[test]
 fn conflicts(rt: HostRuntime) -> Result<(), Fail> {
     for program in &CONFLICTS {
-        expect(&rt, program)?;
+        check_program(&rt, program)?;
     }
     Ok(())
 }
@@ -455,7 +455,7 @@ fn conflicts(rt: HostRuntime) -> Result<(), Fail> {
 #[test]
 fn decks(rt: HostRuntime) -> Result<(), Fail> {
     for program in &DECKS {
-        expect(&rt, program)?;
+        check_program(&rt, program)?;
     }
     Ok(())
 }

@@ -1,4 +1,4 @@
--- The list that the seats stand for, when an instruction is found in its seat, changed there, moved or taken out.
+-- The list that the slots stand for, when an instruction is found in its slot, changed there, moved or taken out.
 use Rattle.std.proofs.Common.{◌≡◌, ◌≢◌, ◌<◌, ◌≤◌, ◌+◌, ℕ, Bool, true, false, cond, List, [], ◌∷◌, ◌++◌}
 use Rattle.std.proofs.Common.{Option, Some, None, refl, sym, ap, ◌∙◌, subst, eqb, ltb, get_or, set, length, arith}
 use Rattle.std.specs.Prelude.{◌&&◌, is_none}
@@ -8,15 +8,15 @@ use Rattle.std.proofs.lemmas.List.{length-set, set-set, set-append_left, get_or_
 use Rattle.instructions.specs.declared.instr.Unit.{Unit as FunctionalUnit}
 use Rattle.scoreboard.specs.Units.{unit_number, same_unit}
 use Rattle.instructions.specs.Each.{Each, Pairs}
-use Rattle.instructions.specs.Order.{insert_by, sort_by, somes, IsSeated}
+use Rattle.instructions.specs.Order.{insert_by, sort_by, somes, IsInSlots}
 use Rattle.instructions.proofs.Lists.{each_map}
-use Rattle.instructions.proofs.Seats.{seated_others, seated_nobody, seated_here, seated_empty, seated_fill, seat_empty}
-use Rattle.instructions.proofs.Seats.{seats_below, before_seat, after_seat, found_there, found_nobody, within}
-use Rattle.instructions.proofs.Seats.{others_differ, own_taken, own_put, taken_without, moved_with, sort_new}
-use Rattle.instructions.proofs.Seats.{each_taken}
-use Rattle.scoreboard.proofs.seating.Seating.{get_back, set_back, unit_below}
+use Rattle.instructions.proofs.Slots.{in_slots_others, in_slots_nobody, in_slots_here, in_slots_empty, in_slots_fill, slot_empty}
+use Rattle.instructions.proofs.Slots.{slots_below, before_slot, after_slot, found_there, found_nobody, within}
+use Rattle.instructions.proofs.Slots.{others_differ, own_taken, own_put, taken_without, moved_with, sort_new}
+use Rattle.instructions.proofs.Slots.{each_taken}
+use Rattle.scoreboard.proofs.in_slots.InSlots.{get_back, set_back, unit_below}
 use Rattle.in_flight.specs.declared.pending.Arrival.{Arrival}
-use Rattle.in_flight.specs.declared.pending.HopperEntry.{HopperEntry}
+use Rattle.hopper.specs.declared.reference.Reference.{Reference}
 use Rattle.in_flight.specs.declared.pending.Outstanding.{Outstanding}
 use Rattle.in_flight.specs.declared.pending.Outstanding.TheVariants.{Entered, Accepted}
 use Rattle.in_flight.specs.declared.pending.Pending.{Pending}
@@ -25,9 +25,9 @@ use Rattle.in_flight.specs.declared.pending.Phase.TheVariants.{Before, After}
 use Rattle.in_flight.specs.declared.pending.Stage.{Stage}
 use Rattle.instructions.specs.Finding.{seek, put_back, replaced}
 use Rattle.in_flight.specs.Lookup.{stage_in, stage_at, entry_in, entry_at, arrival_in, arrival_at, in_phase, kept}
-use Rattle.in_flight.specs.Lookup.{sought}
-use Rattle.in_flight.specs.inner.Seats.{number_of, seat_in, seat_of, seats, in_order, IsRight, AreElsewhere, HasRoom}
-use Rattle.in_flight.specs.inner.Seats.{places_with, channels_with, has_none}
+use Rattle.in_flight.specs.Lookup.{located}
+use Rattle.in_flight.specs.inner.Slots.{number_of, slot_in, slot_of, slots, in_order, IsRight, AreElsewhere, HasRoom}
+use Rattle.in_flight.specs.inner.Slots.{places_with, channels_with, has_none}
 use Rattle.instructions.proofs.Sorted.{each_sorted}
 
 -- ---- in order ----
@@ -41,14 +41,14 @@ none_either : (b : Bool) (o : Option Stage) → o ≡ None → cond b o None ≡
 none_either true o h = h
 none_either false o h = refl
 
-stage_not_in : (u v : FunctionalUnit) (p : Phase) → (seat_in v p ≡ unit_number u → ⊥)
+stage_not_in : (u v : FunctionalUnit) (p : Phase) → (slot_in v p ≡ unit_number u → ⊥)
     → cond (same_unit v u) (stage_in p) None ≡ None
-unfolding seat_in stage_in same_unit
+unfolding slot_in stage_in same_unit
 stage_not_in u v (Before t) h = ap (λ b. cond b (Some t) None) (ne_eqb (unit_number v) (unit_number u) h)
 stage_not_in u v (After l) h = none_either (eqb (unit_number v) (unit_number u)) (stage_in (After l)) refl
 
-stage_not : (u : FunctionalUnit) (y : Pending) → (seat_of y ≡ unit_number u → ⊥) → stage_at u y ≡ None
-unfolding stage_at seat_of
+stage_not : (u : FunctionalUnit) (y : Pending) → (slot_of y ≡ unit_number u → ⊥) → stage_at u y ≡ None
+unfolding stage_at slot_of
 stage_not u y h = stage_not_in u y.unit y.phase h
 
 far_entered : (u : FunctionalUnit) (p : ℕ) → cond (ltb p 4) (10 + p) 22 ≡ unit_number u → ⊥
@@ -65,84 +65,84 @@ far_accepted u n h = by_test (ltb n 8) h
     by_test true e = let q = unit_below u in omega (arith, e, q)
     by_test false e = let q = unit_below u in omega (arith, e, q)
 
-stage_is_in : (u v : FunctionalUnit) (p : Phase) → seat_in v p ≡ unit_number u → (t : Stage) × (p ≡ Before t)
+stage_is_in : (u v : FunctionalUnit) (p : Phase) → slot_in v p ≡ unit_number u → (t : Stage) × (p ≡ Before t)
     × (same_unit v u ≡ true)
-unfolding seat_in same_unit
+unfolding slot_in same_unit
 stage_is_in u v (Before t) h = (t, refl, eq-eqb (unit_number v) (unit_number u) h)
 stage_is_in u v (After (Entered p a x)) h = absurd (far_entered u p h)
 stage_is_in u v (After (Accepted n w)) h = absurd (far_accepted u n h)
 
-pub stage_is : (u : FunctionalUnit) (m : Pending) → seat_of m ≡ unit_number u → (t : Stage) × (m.phase ≡ Before t)
+pub stage_is : (u : FunctionalUnit) (m : Pending) → slot_of m ≡ unit_number u → (t : Stage) × (m.phase ≡ Before t)
     × (stage_at u m ≡ Some t)
-unfolding stage_at seat_of stage_in
+unfolding stage_at slot_of stage_in
 stage_is u m h =
     let p = stage_is_in u m.unit m.phase h in
     (p.0, p.1, ap (λ b. cond b (stage_in m.phase) None) p.2 ∙ ap stage_in p.1)
 
 others_elsewhere : (u : FunctionalUnit) (os : List (Option Pending)) (i : ℕ) → i ≡ unit_number u
-    → IsSeated seat_of 0 os → Each (λ y. stage_at u y ≡ None) (somes (set os i None))
+    → IsInSlots slot_of 0 os → Each (λ y. stage_at u y ≡ None) (somes (set os i None))
 others_elsewhere u os i e s =
-    each_map (λ y. seat_of y ≢ i) (λ y. stage_at u y ≡ None) (λ y k. stage_not u y (λ q. k (q ∙ sym e)))
-    (somes (set os i None)) (seated_others seat_of os 0 i i (omega arith) s)
+    each_map (λ y. slot_of y ≢ i) (λ y. stage_at u y ≡ None) (λ y k. stage_not u y (λ q. k (q ∙ sym e)))
+    (somes (set os i None)) (in_slots_others slot_of os 0 i i (omega arith) s)
 
-unit_seat : (units places channels : List (Option Pending)) (i : ℕ) (o : Option Pending) → i < length units
-    → get_or units i None ≡ o → get_or (seats units places channels) i None ≡ o
-unfolding seats
-unit_seat units places channels i o l h = get_or_append_left units (places ++ channels) None i l ∙ h
+unit_slot : (units places channels : List (Option Pending)) (i : ℕ) (o : Option Pending) → i < length units
+    → get_or units i None ≡ o → get_or (slots units places channels) i None ≡ o
+unfolding slots
+unit_slot units places channels i o l h = get_or_append_left units (places ++ channels) None i l ∙ h
 
 pub stage_found : (units places channels : List (Option Pending)) (u : FunctionalUnit) (i : ℕ) (m : Pending)
     → IsRight units places channels → i ≡ unit_number u → get_or units i None ≡ Some m
     → (t : Stage) × (m.phase ≡ Before t) × (stage_at u m ≡ Some t)
-    × (seek (stage_at u) (in_order (seats units places channels))
+    × (seek (stage_at u) (in_order (slots units places channels))
     ≡ Some (record {
-      earlier = before_seat number_of (seats units places channels) i m;
+      earlier = before_slot number_of (slots units places channels) i m;
       item = m;
       answer = t;
-      later = after_seat number_of (seats units places channels) i m;
+      later = after_slot number_of (slots units places channels) i m;
     }))
 stage_found units places channels u i m right e h =
-    let os : List (Option Pending) = seats units places channels in
-    let here : get_or os i None ≡ Some m = unit_seat units places channels i (Some m) (within units i m h) h in
-    let p = stage_is u m (seated_here seat_of os 0 i m here right.sits ∙ omega (arith, e)) in (
+    let os : List (Option Pending) = slots units places channels in
+    let here : get_or os i None ≡ Some m = unit_slot units places channels i (Some m) (within units i m h) h in
+    let p = stage_is u m (in_slots_here slot_of os 0 i m here right.stands ∙ omega (arith, e)) in (
       p.0,
       p.1,
       p.2,
       found_there number_of (stage_at u) os i m p.0 here right.own p.2
-          (others_elsewhere u os i e right.sits),
+          (others_elsewhere u os i e right.stands),
     )
 
 pub stage_nobody : (units places channels : List (Option Pending)) (u : FunctionalUnit) (i : ℕ)
     → IsRight units places channels → i ≡ unit_number u → get_or units i None ≡ None
-    → seek (stage_at u) (in_order (seats units places channels)) ≡ None
+    → seek (stage_at u) (in_order (slots units places channels)) ≡ None
 stage_nobody units places channels u i right e h =
-    let os : List (Option Pending) = seats units places channels in
+    let os : List (Option Pending) = slots units places channels in
     let b = unit_below u in
     found_nobody number_of (stage_at u) os
-    (each_map (λ y. seat_of y ≢ i) (λ y. stage_at u y ≡ None) (λ y k. stage_not u y (λ q. k (q ∙ sym e)))
-    (somes os) (seated_nobody seat_of os i
-    (unit_seat units places channels i None (omega (arith, b, e, right.all_units)) h) right.sits))
+    (each_map (λ y. slot_of y ≢ i) (λ y. stage_at u y ≡ None) (λ y k. stage_not u y (λ q. k (q ∙ sym e)))
+    (somes os) (in_slots_nobody slot_of os i
+    (unit_slot units places channels i None (omega (arith, b, e, right.all_units)) h) right.stands))
 
 pub found_answer : (units places channels : List (Option Pending)) (u : FunctionalUnit) (i : ℕ) (m : Pending)
     (t : Stage) → IsRight units places channels → i ≡ unit_number u → get_or units i None ≡ Some m
     → stage_at u m ≡ Some t → Some (record { pending = m; answer = t })
-    ≡ sought (seek (stage_at u) (in_order (seats units places channels)))
-unfolding sought
+    ≡ located (seek (stage_at u) (in_order (slots units places channels)))
+unfolding located
 found_answer units places channels u i m t right e h k =
     let p = stage_found units places channels u i m right e h in
     let q : Some t ≡ Some p.0 = sym k ∙ p.2 in
     let tp : t ≡ p.0 = cc in
-    ap (λ x. Some (record { pending = m; answer = x })) tp ∙ ap sought (sym p.3)
+    ap (λ x. Some (record { pending = m; answer = x })) tp ∙ ap located (sym p.3)
 
 pub found_must : (units places channels : List (Option Pending)) (u : FunctionalUnit) (i : ℕ) (m : Pending)
     → IsRight units places channels → i ≡ unit_number u → get_or units i None ≡ Some m → stage_at u m ≡ None → ⊥
 found_must units places channels u i m right e h k =
     let p = stage_found units places channels u i m right e h in let q : None ≡ Some p.0 = sym k ∙ p.2 in cc
 
--- ---- changed in its seat ----
+-- ---- changed in its slot ----
 
-staged_seat : (m : Pending) (t s : Stage) → m.phase ≡ Before t → seat_of (in_phase m (Before s)) ≡ seat_of m
-unfolding seat_of seat_in in_phase
-staged_seat m t s h = sym (ap (seat_in m.unit) h)
+staged_slot : (m : Pending) (t s : Stage) → m.phase ≡ Before t → slot_of (in_phase m (Before s)) ≡ slot_of m
+unfolding slot_of slot_in in_phase
+staged_slot m t s h = sym (ap (slot_in m.unit) h)
 
 phase_number : (m : Pending) (p : Phase) → number_of (in_phase m p) ≡ number_of m
 unfolding number_of in_phase
@@ -170,29 +170,29 @@ own_moved os i j m p h own e l =
 pub staged_right : (units places channels : List (Option Pending)) (u : FunctionalUnit) (i : ℕ) (m : Pending)
     (s : Stage) → IsRight units places channels → i ≡ unit_number u → get_or units i None ≡ Some m
     → IsRight (set units i (Some (in_phase m (Before s)))) places channels
-unfolding seats
+unfolding slots
 staged_right units places channels u i m s right e h =
     let os : List (Option Pending) = units ++ (places ++ channels) in
-    let here = unit_seat units places channels i (Some m) (within units i m h) h in
+    let here = unit_slot units places channels i (Some m) (within units i m h) h in
     let p = stage_found units places channels u i m right e h in
     let front = set-append_left units (places ++ channels) i (Some (in_phase m (Before s))) (within units i m h) in
     record {
       all_units = length-set units i (Some (in_phase m (Before s))) ∙ right.all_units;
       all_places = right.all_places;
       all_channels = right.all_channels;
-      sits = subst (IsSeated seat_of 0) front
-          (seated_fill seat_of os 0 i (in_phase m (Before s))
-          (staged_seat m p.0 s p.1 ∙ seated_here seat_of os 0 i m here right.sits) right.sits);
+      stands = subst (IsInSlots slot_of 0) front
+          (in_slots_fill slot_of os 0 i (in_phase m (Before s))
+          (staged_slot m p.0 s p.1 ∙ in_slots_here slot_of os 0 i m here right.stands) right.stands);
       own = subst Own (set-set os i None (Some (in_phase m (Before s))) ∙ front)
           (own_moved os i i m (Before s) here right.own (empty_there os i m here) (within os i m here));
     }
 
 staged_order : (units places channels : List (Option Pending)) (i : ℕ) (m : Pending) (s : Stage)
-    → get_or units i None ≡ Some m → Own (seats units places channels)
-    → in_order (seats (set units i (Some (in_phase m (Before s)))) places channels)
-    ≡ before_seat number_of (seats units places channels) i m
-    ++ ((in_phase m (Before s) ∷ []) ++ after_seat number_of (seats units places channels) i m)
-unfolding seats
+    → get_or units i None ≡ Some m → Own (slots units places channels)
+    → in_order (slots (set units i (Some (in_phase m (Before s)))) places channels)
+    ≡ before_slot number_of (slots units places channels) i m
+    ++ ((in_phase m (Before s) ∷ []) ++ after_slot number_of (slots units places channels) i m)
+unfolding slots
 staged_order units places channels i m s h own =
     let os : List (Option Pending) = units ++ (places ++ channels) in
     let here = get_or_append_left units (places ++ channels) None i (within units i m h) ∙ h in
@@ -204,59 +204,59 @@ staged_order units places channels i m s h own =
 
 pub staged_view : (units places channels : List (Option Pending)) (u : FunctionalUnit) (i : ℕ) (m : Pending)
     (s : Stage) → IsRight units places channels → i ≡ unit_number u → get_or units i None ≡ Some m
-    → in_order (seats (set units i (Some (in_phase m (Before s)))) places channels)
-    ≡ replaced (seek (stage_at u) (in_order (seats units places channels)))
-    (in_order (seats units places channels)) (λ x. in_phase x (Before s) ∷ [])
+    → in_order (slots (set units i (Some (in_phase m (Before s)))) places channels)
+    ≡ replaced (seek (stage_at u) (in_order (slots units places channels)))
+    (in_order (slots units places channels)) (λ x. in_phase x (Before s) ∷ [])
 unfolding replaced put_back
 staged_view units places channels u i m s right e h =
-    let os : List (Option Pending) = seats units places channels in
-    let here = unit_seat units places channels i (Some m) (within units i m h) h in
+    let os : List (Option Pending) = slots units places channels in
+    let here = unit_slot units places channels i (Some m) (within units i m h) h in
     let p = stage_found units places channels u i m right e h in
     staged_order units places channels i m s h right.own
     ∙ ap (λ o. replaced o (in_order os) (λ x. in_phase x (Before s) ∷ [])) (sym p.3)
 
 pub nobody_replaced : (g : Pending → List Pending) (units places channels : List (Option Pending)) (u : FunctionalUnit)
     (i : ℕ) → IsRight units places channels → i ≡ unit_number u → get_or units i None ≡ None
-    → in_order (seats units places channels)
-    ≡ replaced (seek (stage_at u) (in_order (seats units places channels)))
-    (in_order (seats units places channels)) g
+    → in_order (slots units places channels)
+    ≡ replaced (seek (stage_at u) (in_order (slots units places channels)))
+    (in_order (slots units places channels)) g
 unfolding replaced
 nobody_replaced g units places channels u i right e h =
-    ap (λ o. replaced o (in_order (seats units places channels)) g)
+    ap (λ o. replaced o (in_order (slots units places channels)) g)
     (sym (stage_nobody units places channels u i right e h))
 
 -- ---- moved to its place or its channel ----
 
-abbrev later_seat : Outstanding → ℕ
-later_seat (Entered place a access) = 10 + place
-later_seat (Accepted n word) = 14 + n
+abbrev later_slot : Outstanding → ℕ
+later_slot (Entered place a access) = 10 + place
+later_slot (Accepted n word) = 14 + n
 
--- what is left of an instruction, in its seat
-left_seats : (units places channels : List (Option Pending)) (m : Pending) (l : Outstanding) (ms : List Pending)
+-- what is left of an instruction, in its slot
+left_slots : (units places channels : List (Option Pending)) (m : Pending) (l : Outstanding) (ms : List Pending)
     → length units ≡ 10 → length places ≡ 4 → HasRoom (Some l) ms
-    → set (seats units places channels) (later_seat l) (Some (in_phase m (After l)))
-    ≡ seats units (places_with places m (Some l)) (channels_with channels m (Some l))
-unfolding seats places_with channels_with
-left_seats units places channels m (Entered place a access) ms lu lp room =
+    → set (slots units places channels) (later_slot l) (Some (in_phase m (After l)))
+    ≡ slots units (places_with places m (Some l)) (channels_with channels m (Some l))
+unfolding slots places_with channels_with
+left_slots units places channels m (Entered place a access) ms lu lp room =
     let y : Pending = in_phase m (After (Entered place a access)) in
     set_back units (places ++ channels) place (10 + place) (Some y) (omega (arith, lu))
     ∙ ap (λ os. units ++ os) (set-append_left places channels place (Some y) (omega (arith, lp, room.0)))
-left_seats units places channels m (Accepted n word) ms lu lp room =
+left_slots units places channels m (Accepted n word) ms lu lp room =
     let y : Pending = in_phase m (After (Accepted n word)) in
     set_back units (places ++ channels) (4 + n) (14 + n) (Some y) (omega (arith, lu))
     ∙ ap (λ os. units ++ os) (set_back places channels n (4 + n) (Some y) (omega (arith, lp)))
 
-left_sits : (m : Pending) (l : Outstanding) (ms : List Pending) → HasRoom (Some l) ms
-    → seat_of (in_phase m (After l)) ≡ later_seat l
-unfolding seat_of seat_in in_phase
-left_sits m (Entered place a access) ms room = ap (λ b. cond b (10 + place) 22) (lt-ltb place 4 room.0)
-left_sits m (Accepted n word) ms room = ap (λ b. cond b (14 + n) 22) (lt-ltb n 8 room.0)
+left_stands : (m : Pending) (l : Outstanding) (ms : List Pending) → HasRoom (Some l) ms
+    → slot_of (in_phase m (After l)) ≡ later_slot l
+unfolding slot_of slot_in in_phase
+left_stands m (Entered place a access) ms room = ap (λ b. cond b (10 + place) 22) (lt-ltb place 4 room.0)
+left_stands m (Accepted n word) ms room = ap (λ b. cond b (14 + n) 22) (lt-ltb n 8 room.0)
 
-left_elsewhere : (l : Outstanding) (ms : List Pending) → HasRoom (Some l) ms → AreElsewhere (later_seat l) ms
+left_elsewhere : (l : Outstanding) (ms : List Pending) → HasRoom (Some l) ms → AreElsewhere (later_slot l) ms
 left_elsewhere (Entered place a access) ms room = room.1
 left_elsewhere (Accepted n word) ms room = room.1
 
-left_below : (l : Outstanding) (ms : List Pending) → HasRoom (Some l) ms → later_seat l < 22
+left_below : (l : Outstanding) (ms : List Pending) → HasRoom (Some l) ms → later_slot l < 22
 left_below (Entered place a access) ms room = omega (arith, room.0)
 left_below (Accepted n word) ms room = omega (arith, room.0)
 
@@ -264,20 +264,20 @@ length_joined : {K : Type 0} (xs ys : List K) → length (xs ++ ys) ≡ length x
 length_joined [] ys = omega arith
 length_joined (x ∷ xs) ys = let e = length_joined xs ys in omega (arith, e)
 
-all_seats : (units places channels : List (Option Pending)) → IsRight units places channels
-    → length (seats units places channels) ≡ 22
-unfolding seats
-all_seats units places channels right =
+all_slots : (units places channels : List (Option Pending)) → IsRight units places channels
+    → length (slots units places channels) ≡ 22
+unfolding slots
+all_slots units places channels right =
     let a = length_joined units (places ++ channels) in
     let b = length_joined places channels in
     omega (arith, a, b, right.all_units, right.all_places, right.all_channels)
 
-left_empty : (os : List (Option Pending)) (i : ℕ) (l : Outstanding) → IsSeated seat_of 0 os
-    → HasRoom (Some l) (in_order os) → get_or (set os i None) (later_seat l) None ≡ None
+left_empty : (os : List (Option Pending)) (i : ℕ) (l : Outstanding) → IsInSlots slot_of 0 os
+    → HasRoom (Some l) (in_order os) → get_or (set os i None) (later_slot l) None ≡ None
 left_empty os i l s room =
-    seat_empty seat_of (set os i None) 0 (later_seat l) (later_seat l) (omega arith) (seated_empty seat_of os 0 i s)
-    (each_taken (λ y. seat_of y ≢ later_seat l) os i
-    (each_sorted number_of (λ y. seat_of y ≢ later_seat l) (somes os) (left_elsewhere l (in_order os) room)))
+    slot_empty slot_of (set os i None) 0 (later_slot l) (later_slot l) (omega arith) (in_slots_empty slot_of os 0 i s)
+    (each_taken (λ y. slot_of y ≢ later_slot l) os i
+    (each_sorted number_of (λ y. slot_of y ≢ later_slot l) (somes os) (left_elsewhere l (in_order os) room)))
 
 with_lengths : (places channels : List (Option Pending)) (m : Pending) (l : Option Outstanding)
     → (length (places_with places m l) ≡ length places) × (length (channels_with channels m l) ≡ length channels)
@@ -287,42 +287,42 @@ with_lengths places channels m (Some (Entered place a access)) = (length-set pla
 with_lengths places channels m (Some (Accepted n word)) = (refl, length-set channels n _)
 
 nothing_with : (units places channels : List (Option Pending)) (m : Pending)
-    → seats units places channels ≡ seats units (places_with places m None) (channels_with channels m None)
+    → slots units places channels ≡ slots units (places_with places m None) (channels_with channels m None)
 unfolding places_with channels_with
 nothing_with units places channels m = refl
 
--- one taken out of its seat: after it the seats are those of the other three lists, and what is left goes among them
+-- one taken out of its slot: after it the slots are those of the other three lists, and what is left goes among them
 pub moved_right : (os units places channels : List (Option Pending)) (i : ℕ) (m : Pending) (l : Option Outstanding)
-    → IsSeated seat_of 0 os → Own os → length os ≡ 22 → get_or os i None ≡ Some m
-    → set os i None ≡ seats units places channels → length units ≡ 10 → length places ≡ 4 → length channels ≡ 8
+    → IsInSlots slot_of 0 os → Own os → length os ≡ 22 → get_or os i None ≡ Some m
+    → set os i None ≡ slots units places channels → length units ≡ 10 → length places ≡ 4 → length channels ≡ 8
     → HasRoom l (in_order os) → IsRight units (places_with places m l) (channels_with channels m l)
 moved_right os units places channels i m None s own all h e lu lp lc room = record {
   all_units = lu;
   all_places = (with_lengths places channels m None).0 ∙ lp;
   all_channels = (with_lengths places channels m None).1 ∙ lc;
-  sits = subst (IsSeated seat_of 0) (e ∙ nothing_with units places channels m) (seated_empty seat_of os 0 i s);
+  stands = subst (IsInSlots slot_of 0) (e ∙ nothing_with units places channels m) (in_slots_empty slot_of os 0 i s);
   own = subst Own (e ∙ nothing_with units places channels m) (own_taken number_of os i m h own);
 }
 moved_right os units places channels i m (Some l) s own all h e lu lp lc room =
     let low = left_below l (in_order os) room in
-    let there = ap (λ k. set k (later_seat l) (Some (in_phase m (After l)))) e
-    ∙ left_seats units places channels m l (in_order os) lu lp room in
+    let there = ap (λ k. set k (later_slot l) (Some (in_phase m (After l)))) e
+    ∙ left_slots units places channels m l (in_order os) lu lp room in
     record {
       all_units = lu;
       all_places = (with_lengths places channels m (Some l)).0 ∙ lp;
       all_channels = (with_lengths places channels m (Some l)).1 ∙ lc;
-      sits = subst (IsSeated seat_of 0) there
-          (seated_fill seat_of (set os i None) 0 (later_seat l) (in_phase m (After l))
-          (left_sits m l (in_order os) room ∙ omega arith) (seated_empty seat_of os 0 i s));
-      own = subst Own there (own_moved os i (later_seat l) m (After l) h own (left_empty os i l s room)
+      stands = subst (IsInSlots slot_of 0) there
+          (in_slots_fill slot_of (set os i None) 0 (later_slot l) (in_phase m (After l))
+          (left_stands m l (in_order os) room ∙ omega arith) (in_slots_empty slot_of os 0 i s));
+      own = subst Own there (own_moved os i (later_slot l) m (After l) h own (left_empty os i l s room)
           (omega (arith, all, low)));
     }
 
 pub moved_order : (os units places channels : List (Option Pending)) (i : ℕ) (m : Pending) (l : Option Outstanding)
-    → IsSeated seat_of 0 os → Own os → length os ≡ 22 → get_or os i None ≡ Some m
-    → set os i None ≡ seats units places channels → length units ≡ 10 → length places ≡ 4 → HasRoom l (in_order os)
-    → in_order (seats units (places_with places m l) (channels_with channels m l)) ≡ before_seat number_of os i m
-    ++ (kept m l ++ after_seat number_of os i m)
+    → IsInSlots slot_of 0 os → Own os → length os ≡ 22 → get_or os i None ≡ Some m
+    → set os i None ≡ slots units places channels → length units ≡ 10 → length places ≡ 4 → HasRoom l (in_order os)
+    → in_order (slots units (places_with places m l) (channels_with channels m l)) ≡ before_slot number_of os i m
+    ++ (kept m l ++ after_slot number_of os i m)
 unfolding kept
 moved_order os units places channels i m None s own all h e lu lp room =
     ap (λ k. sort_by number_of (somes k)) (sym (e ∙ nothing_with units places channels m))
@@ -330,54 +330,54 @@ moved_order os units places channels i m None s own all h e lu lp room =
 moved_order os units places channels i m (Some l) s own all h e lu lp room =
     let low = left_below l (in_order os) room in
     ap (λ k. sort_by number_of (somes k))
-    (sym (ap (λ k. set k (later_seat l) (Some (in_phase m (After l)))) e
-    ∙ left_seats units places channels m l (in_order os) lu lp room))
-    ∙ moved_with number_of os i (later_seat l) m (in_phase m (After l)) h (phase_number m (After l))
-    (left_empty os i l s room) (room_there os i (later_seat l) (omega (arith, all, low))) own
+    (sym (ap (λ k. set k (later_slot l) (Some (in_phase m (After l)))) e
+    ∙ left_slots units places channels m l (in_order os) lu lp room))
+    ∙ moved_with number_of os i (later_slot l) m (in_phase m (After l)) h (phase_number m (After l))
+    (left_empty os i l s room) (room_there os i (later_slot l) (omega (arith, all, low))) own
 
 -- ---- out of a unit ----
 
 units_without : (units places channels : List (Option Pending)) (i : ℕ) → i < length units
-    → set (seats units places channels) i None ≡ seats (set units i None) places channels
-unfolding seats
+    → set (slots units places channels) i None ≡ slots (set units i None) places channels
+unfolding slots
 units_without units places channels i l = set-append_left units (places ++ channels) i None l
 
 pub left_right : (units places channels : List (Option Pending)) (i : ℕ) (m : Pending) (l : Option Outstanding)
-    → IsRight units places channels → get_or units i None ≡ Some m → HasRoom l (in_order (seats units places channels))
+    → IsRight units places channels → get_or units i None ≡ Some m → HasRoom l (in_order (slots units places channels))
     → IsRight (set units i None) (places_with places m l) (channels_with channels m l)
 left_right units places channels i m l right h room =
-    moved_right (seats units places channels) (set units i None) places channels i m l right.sits right.own
-    (all_seats units places channels right) (unit_seat units places channels i (Some m) (within units i m h) h)
+    moved_right (slots units places channels) (set units i None) places channels i m l right.stands right.own
+    (all_slots units places channels right) (unit_slot units places channels i (Some m) (within units i m h) h)
     (units_without units places channels i (within units i m h)) (length-set units i None ∙ right.all_units)
     right.all_places right.all_channels room
 
 pub left_view : (units places channels : List (Option Pending)) (u : FunctionalUnit) (i : ℕ) (m : Pending)
     (l : Option Outstanding) → IsRight units places channels → i ≡ unit_number u → get_or units i None ≡ Some m
-    → HasRoom l (in_order (seats units places channels))
-    → in_order (seats (set units i None) (places_with places m l) (channels_with channels m l))
-    ≡ replaced (seek (stage_at u) (in_order (seats units places channels)))
-    (in_order (seats units places channels)) (λ x. kept x l)
+    → HasRoom l (in_order (slots units places channels))
+    → in_order (slots (set units i None) (places_with places m l) (channels_with channels m l))
+    ≡ replaced (seek (stage_at u) (in_order (slots units places channels)))
+    (in_order (slots units places channels)) (λ x. kept x l)
 unfolding replaced put_back
 left_view units places channels u i m l right e h room =
-    moved_order (seats units places channels) (set units i None) places channels i m l right.sits right.own
-    (all_seats units places channels right) (unit_seat units places channels i (Some m) (within units i m h) h)
+    moved_order (slots units places channels) (set units i None) places channels i m l right.stands right.own
+    (all_slots units places channels right) (unit_slot units places channels i (Some m) (within units i m h) h)
     (units_without units places channels i (within units i m h)) (length-set units i None ∙ right.all_units)
     right.all_places room
-    ∙ ap (λ o. replaced o (in_order (seats units places channels)) (λ x. kept x l))
+    ∙ ap (λ o. replaced o (in_order (slots units places channels)) (λ x. kept x l))
     (sym (stage_found units places channels u i m right e h).3)
 
 -- ---- out of a place ----
 
-entry_not_in : (p : ℕ) (v : FunctionalUnit) (q : Phase) → p < 4 → (seat_in v q ≡ 10 + p → ⊥) → entry_in p q ≡ None
-unfolding entry_in seat_in
+entry_not_in : (p : ℕ) (v : FunctionalUnit) (q : Phase) → p < 4 → (slot_in v q ≡ 10 + p → ⊥) → entry_in p q ≡ None
+unfolding entry_in slot_in
 entry_not_in p v (Before t) b h = refl
 entry_not_in p v (After (Accepted n w)) b h = refl
 entry_not_in p v (After (Entered s a x)) b h =
-    ap (λ t. cond t (Some (record { a = a; access = x })) None)
+    ap (λ t. cond t (Some (record { address = a; access = x })) None)
     (ne_eqb s p (λ e. h (ap (λ t. cond t (10 + s) 22) (lt-ltb s 4 (omega (arith, b, e))) ∙ ap (λ k. 10 + k) e)))
 
-entry_not : (p : ℕ) (y : Pending) → p < 4 → (seat_of y ≡ 10 + p → ⊥) → entry_at p y ≡ None
-unfolding entry_at seat_of
+entry_not : (p : ℕ) (y : Pending) → p < 4 → (slot_of y ≡ 10 + p → ⊥) → entry_at p y ≡ None
+unfolding entry_at slot_of
 entry_not p y b h = entry_not_in p y.unit y.phase b h
 
 in_a_place : (p s : ℕ) → p < 4 → cond (ltb s 4) (10 + s) 22 ≡ 10 + p → s ≡ p
@@ -394,72 +394,72 @@ not_a_place p n b h = by_test (ltb n 8) h
     by_test true e = omega (arith, e, b)
     by_test false e = omega (arith, e, b)
 
-entry_is_in : (p : ℕ) (v : FunctionalUnit) (q : Phase) → p < 4 → seat_in v q ≡ 10 + p → (e : HopperEntry)
+entry_is_in : (p : ℕ) (v : FunctionalUnit) (q : Phase) → p < 4 → slot_in v q ≡ 10 + p → (e : Reference)
     × (entry_in p q ≡ Some e)
-unfolding entry_in seat_in
+unfolding entry_in slot_in
 entry_is_in p v (Before t) b h = absurd (let k = unit_below v in omega (arith, h, k))
 entry_is_in p v (After (Accepted n w)) b h = absurd (not_a_place p n b h)
 entry_is_in p v (After (Entered s a x)) b h = (
-  record { a = a; access = x },
-  ap (λ t. cond t (Some (record { a = a; access = x })) None) (eq-eqb s p (in_a_place p s b h)),
+  record { address = a; access = x },
+  ap (λ t. cond t (Some (record { address = a; access = x })) None) (eq-eqb s p (in_a_place p s b h)),
 )
 
-pub entry_is : (p : ℕ) (m : Pending) → p < 4 → seat_of m ≡ 10 + p → (e : HopperEntry) × (entry_at p m ≡ Some e)
-unfolding entry_at seat_of
+pub entry_is : (p : ℕ) (m : Pending) → p < 4 → slot_of m ≡ 10 + p → (e : Reference) × (entry_at p m ≡ Some e)
+unfolding entry_at slot_of
 entry_is p m b h = entry_is_in p m.unit m.phase b h
 
-place_seat : (units places channels : List (Option Pending)) (p : ℕ) (o : Option Pending) → length units ≡ 10
-    → p < length places → get_or places p None ≡ o → get_or (seats units places channels) (10 + p) None ≡ o
-unfolding seats
-place_seat units places channels p o lu b h = get_back units (places ++ channels) p (10 + p) None (omega (arith, lu))
+place_slot : (units places channels : List (Option Pending)) (p : ℕ) (o : Option Pending) → length units ≡ 10
+    → p < length places → get_or places p None ≡ o → get_or (slots units places channels) (10 + p) None ≡ o
+unfolding slots
+place_slot units places channels p o lu b h = get_back units (places ++ channels) p (10 + p) None (omega (arith, lu))
     ∙ get_or_append_left places channels None p b ∙ h
 
 places_without : (units places channels : List (Option Pending)) (p : ℕ) → length units ≡ 10 → p < length places
-    → set (seats units places channels) (10 + p) None ≡ seats units (set places p None) channels
-unfolding seats
+    → set (slots units places channels) (10 + p) None ≡ slots units (set places p None) channels
+unfolding slots
 places_without units places channels p lu b = set_back units (places ++ channels) p (10 + p) None (omega (arith, lu))
     ∙ ap (λ os. units ++ os) (set-append_left places channels p None b)
 
 pub entry_found : (units places channels : List (Option Pending)) (p : ℕ) (m : Pending) → IsRight units places channels
     → p < 4 → get_or places p None ≡ Some m
-    → (e : HopperEntry) × (entry_at p m ≡ Some e)
-    × (seek (entry_at p) (in_order (seats units places channels))
+    → (e : Reference) × (entry_at p m ≡ Some e)
+    × (seek (entry_at p) (in_order (slots units places channels))
     ≡ Some (record {
-      earlier = before_seat number_of (seats units places channels) (10 + p) m;
+      earlier = before_slot number_of (slots units places channels) (10 + p) m;
       item = m;
       answer = e;
-      later = after_seat number_of (seats units places channels) (10 + p) m;
+      later = after_slot number_of (slots units places channels) (10 + p) m;
     }))
 entry_found units places channels p m right b h =
-    let os : List (Option Pending) = seats units places channels in
+    let os : List (Option Pending) = slots units places channels in
     let here : get_or os (10 + p) None ≡ Some m =
-    place_seat units places channels p (Some m) right.all_units (within places p m h) h in
-    let q = entry_is p m b (seated_here seat_of os 0 (10 + p) m here right.sits ∙ omega arith) in (
+    place_slot units places channels p (Some m) right.all_units (within places p m h) h in
+    let q = entry_is p m b (in_slots_here slot_of os 0 (10 + p) m here right.stands ∙ omega arith) in (
       q.0,
       q.1,
       found_there number_of (entry_at p) os (10 + p) m q.0 here right.own q.1
-          (each_map (λ y. seat_of y ≢ 10 + p) (λ y. entry_at p y ≡ None) (λ y k. entry_not p y b k)
-          (somes (set os (10 + p) None)) (seated_others seat_of os 0 (10 + p) (10 + p) (omega arith) right.sits)),
+          (each_map (λ y. slot_of y ≢ 10 + p) (λ y. entry_at p y ≡ None) (λ y k. entry_not p y b k)
+          (somes (set os (10 + p) None)) (in_slots_others slot_of os 0 (10 + p) (10 + p) (omega arith) right.stands)),
     )
 
 pub entry_nobody : (units places channels : List (Option Pending)) (p : ℕ) → IsRight units places channels → p < 4
-    → get_or places p None ≡ None → seek (entry_at p) (in_order (seats units places channels)) ≡ None
+    → get_or places p None ≡ None → seek (entry_at p) (in_order (slots units places channels)) ≡ None
 entry_nobody units places channels p right b h =
-    let os : List (Option Pending) = seats units places channels in
+    let os : List (Option Pending) = slots units places channels in
     found_nobody number_of (entry_at p) os
-    (each_map (λ y. seat_of y ≢ 10 + p) (λ y. entry_at p y ≡ None) (λ y k. entry_not p y b k) (somes os)
-    (seated_nobody seat_of os (10 + p)
-    (place_seat units places channels p None right.all_units (omega (arith, b, right.all_places)) h) right.sits))
+    (each_map (λ y. slot_of y ≢ 10 + p) (λ y. entry_at p y ≡ None) (λ y k. entry_not p y b k) (somes os)
+    (in_slots_nobody slot_of os (10 + p)
+    (place_slot units places channels p None right.all_units (omega (arith, b, right.all_places)) h) right.stands))
 
-pub entry_answer : (units places channels : List (Option Pending)) (p : ℕ) (m : Pending) (x : HopperEntry)
+pub entry_answer : (units places channels : List (Option Pending)) (p : ℕ) (m : Pending) (x : Reference)
     → IsRight units places channels → p < 4 → get_or places p None ≡ Some m → entry_at p m ≡ Some x
-    → Some (record { pending = m; answer = x }) ≡ sought (seek (entry_at p) (in_order (seats units places channels)))
-unfolding sought
+    → Some (record { pending = m; answer = x }) ≡ located (seek (entry_at p) (in_order (slots units places channels)))
+unfolding located
 entry_answer units places channels p m x right b h k =
     let f = entry_found units places channels p m right b h in
     let q : Some x ≡ Some f.0 = sym k ∙ f.1 in
     let xe : x ≡ f.0 = cc in
-    ap (λ z. Some (record { pending = m; answer = z })) xe ∙ ap sought (sym f.2)
+    ap (λ z. Some (record { pending = m; answer = z })) xe ∙ ap located (sym f.2)
 
 pub entry_must : (units places channels : List (Option Pending)) (p : ℕ) (m : Pending) → IsRight units places channels
     → p < 4 → get_or places p None ≡ Some m → entry_at p m ≡ None → ⊥
@@ -468,53 +468,53 @@ entry_must units places channels p m right b h k =
 
 pub accepted_right : (units places channels : List (Option Pending)) (p : ℕ) (m : Pending) (l : Option Outstanding)
     → IsRight units places channels → get_or places p None ≡ Some m
-    → HasRoom l (in_order (seats units places channels))
+    → HasRoom l (in_order (slots units places channels))
     → IsRight units (places_with (set places p None) m l) (channels_with channels m l)
 accepted_right units places channels p m l right h room =
-    moved_right (seats units places channels) units (set places p None) channels (10 + p) m l right.sits right.own
-    (all_seats units places channels right)
-    (place_seat units places channels p (Some m) right.all_units (within places p m h) h)
+    moved_right (slots units places channels) units (set places p None) channels (10 + p) m l right.stands right.own
+    (all_slots units places channels right)
+    (place_slot units places channels p (Some m) right.all_units (within places p m h) h)
     (places_without units places channels p right.all_units (within places p m h)) right.all_units
     (length-set places p None ∙ right.all_places) right.all_channels room
 
 pub accepted_view : (units places channels : List (Option Pending)) (p : ℕ) (m : Pending) (l : Option Outstanding)
     → IsRight units places channels → p < 4 → get_or places p None ≡ Some m
-    → HasRoom l (in_order (seats units places channels))
-    → in_order (seats units (places_with (set places p None) m l) (channels_with channels m l))
-    ≡ replaced (seek (entry_at p) (in_order (seats units places channels)))
-    (in_order (seats units places channels)) (λ x. kept x l)
+    → HasRoom l (in_order (slots units places channels))
+    → in_order (slots units (places_with (set places p None) m l) (channels_with channels m l))
+    ≡ replaced (seek (entry_at p) (in_order (slots units places channels)))
+    (in_order (slots units places channels)) (λ x. kept x l)
 unfolding replaced put_back
 accepted_view units places channels p m l right b h room =
-    moved_order (seats units places channels) units (set places p None) channels (10 + p) m l right.sits right.own
-    (all_seats units places channels right)
-    (place_seat units places channels p (Some m) right.all_units (within places p m h) h)
+    moved_order (slots units places channels) units (set places p None) channels (10 + p) m l right.stands right.own
+    (all_slots units places channels right)
+    (place_slot units places channels p (Some m) right.all_units (within places p m h) h)
     (places_without units places channels p right.all_units (within places p m h)) right.all_units
     (length-set places p None ∙ right.all_places) room
-    ∙ ap (λ o. replaced o (in_order (seats units places channels)) (λ x. kept x l))
+    ∙ ap (λ o. replaced o (in_order (slots units places channels)) (λ x. kept x l))
     (sym (entry_found units places channels p m right b h).2)
 
 pub nobody_accepted : (g : Pending → List Pending) (units places channels : List (Option Pending)) (p : ℕ)
     → IsRight units places channels → p < 4 → get_or places p None ≡ None
-    → in_order (seats units places channels)
-    ≡ replaced (seek (entry_at p) (in_order (seats units places channels)))
-    (in_order (seats units places channels)) g
+    → in_order (slots units places channels)
+    ≡ replaced (seek (entry_at p) (in_order (slots units places channels)))
+    (in_order (slots units places channels)) g
 unfolding replaced
 nobody_accepted g units places channels p right b h =
-    ap (λ o. replaced o (in_order (seats units places channels)) g)
+    ap (λ o. replaced o (in_order (slots units places channels)) g)
     (sym (entry_nobody units places channels p right b h))
 
 -- ---- out of a channel ----
 
-arrival_not_in : (n : ℕ) (v : FunctionalUnit) (q : Phase) → n < 8 → (seat_in v q ≡ 14 + n → ⊥) → arrival_in n q ≡ None
-unfolding arrival_in seat_in
+arrival_not_in : (n : ℕ) (v : FunctionalUnit) (q : Phase) → n < 8 → (slot_in v q ≡ 14 + n → ⊥) → arrival_in n q ≡ None
+unfolding arrival_in slot_in
 arrival_not_in n v (Before t) b h = refl
 arrival_not_in n v (After (Entered s a x)) b h = refl
 arrival_not_in n v (After (Accepted m w)) b h =
     ap (λ t. cond t (Some (record { channel = m; word = w })) None)
     (ne_eqb m n (λ e. h (ap (λ t. cond t (14 + m) 22) (lt-ltb m 8 (omega (arith, b, e))) ∙ ap (λ k. 14 + k) e)))
 
-arrival_not : (n : ℕ) (y : Pending) → n < 8 → (seat_of y ≡ 14 + n → ⊥) → arrival_at n y ≡ None
-unfolding arrival_at seat_of
+arrival_not : (n : ℕ) (y : Pending) → n < 8 → (slot_of y ≡ 14 + n → ⊥) → arrival_at n y ≡ None
+unfolding arrival_at slot_of
 arrival_not n y b h = arrival_not_in n y.unit y.phase b h
 
 in_a_channel : (n m : ℕ) → n < 8 → cond (ltb m 8) (14 + m) 22 ≡ 14 + n → m ≡ n
@@ -528,9 +528,9 @@ not_a_channel : (n s : ℕ) (t : Bool) → ltb s 4 ≡ t → n < 8 → cond t (1
 not_a_channel n s true k b e = let l = ltb-true s 4 k in omega (arith, e, b, l)
 not_a_channel n s false k b e = omega (arith, e, b)
 
-arrival_is_in : (n : ℕ) (v : FunctionalUnit) (q : Phase) → n < 8 → seat_in v q ≡ 14 + n → (e : Arrival)
+arrival_is_in : (n : ℕ) (v : FunctionalUnit) (q : Phase) → n < 8 → slot_in v q ≡ 14 + n → (e : Arrival)
     × (arrival_in n q ≡ Some e)
-unfolding arrival_in seat_in
+unfolding arrival_in slot_in
 arrival_is_in n v (Before t) b h = absurd (let k = unit_below v in omega (arith, h, k))
 arrival_is_in n v (After (Entered s a x)) b h = absurd (not_a_channel n s (ltb s 4) refl b h)
 arrival_is_in n v (After (Accepted m w)) b h = (
@@ -538,20 +538,20 @@ arrival_is_in n v (After (Accepted m w)) b h = (
   ap (λ t. cond t (Some (record { channel = m; word = w })) None) (eq-eqb m n (in_a_channel n m b h)),
 )
 
-pub arrival_is : (n : ℕ) (m : Pending) → n < 8 → seat_of m ≡ 14 + n → (e : Arrival) × (arrival_at n m ≡ Some e)
-unfolding arrival_at seat_of
+pub arrival_is : (n : ℕ) (m : Pending) → n < 8 → slot_of m ≡ 14 + n → (e : Arrival) × (arrival_at n m ≡ Some e)
+unfolding arrival_at slot_of
 arrival_is n m b h = arrival_is_in n m.unit m.phase b h
 
-channel_seat : (units places channels : List (Option Pending)) (n : ℕ) (o : Option Pending) → length units ≡ 10
-    → length places ≡ 4 → get_or channels n None ≡ o → get_or (seats units places channels) (14 + n) None ≡ o
-unfolding seats
-channel_seat units places channels n o lu lp h =
+channel_slot : (units places channels : List (Option Pending)) (n : ℕ) (o : Option Pending) → length units ≡ 10
+    → length places ≡ 4 → get_or channels n None ≡ o → get_or (slots units places channels) (14 + n) None ≡ o
+unfolding slots
+channel_slot units places channels n o lu lp h =
     get_back units (places ++ channels) (4 + n) (14 + n) None (omega (arith, lu))
     ∙ get_back places channels n (4 + n) None (omega (arith, lp)) ∙ h
 
 channels_without : (units places channels : List (Option Pending)) (n : ℕ) → length units ≡ 10 → length places ≡ 4
-    → set (seats units places channels) (14 + n) None ≡ seats units places (set channels n None)
-unfolding seats
+    → set (slots units places channels) (14 + n) None ≡ slots units places (set channels n None)
+unfolding slots
 channels_without units places channels n lu lp =
     set_back units (places ++ channels) (4 + n) (14 + n) None (omega (arith, lu))
     ∙ ap (λ os. units ++ os) (set_back places channels n (4 + n) None (omega (arith, lp)))
@@ -559,36 +559,36 @@ channels_without units places channels n lu lp =
 pub arrival_found : (units places channels : List (Option Pending)) (n : ℕ) (m : Pending)
     → IsRight units places channels → n < 8 → get_or channels n None ≡ Some m
     → (e : Arrival) × (arrival_at n m ≡ Some e)
-    × (seek (arrival_at n) (in_order (seats units places channels))
+    × (seek (arrival_at n) (in_order (slots units places channels))
     ≡ Some (record {
-      earlier = before_seat number_of (seats units places channels) (14 + n) m;
+      earlier = before_slot number_of (slots units places channels) (14 + n) m;
       item = m;
       answer = e;
-      later = after_seat number_of (seats units places channels) (14 + n) m;
+      later = after_slot number_of (slots units places channels) (14 + n) m;
     }))
 arrival_found units places channels n m right b h =
-    let os : List (Option Pending) = seats units places channels in
+    let os : List (Option Pending) = slots units places channels in
     let here : get_or os (14 + n) None ≡ Some m =
-    channel_seat units places channels n (Some m) right.all_units right.all_places h in
-    let q = arrival_is n m b (seated_here seat_of os 0 (14 + n) m here right.sits ∙ omega arith) in (
+    channel_slot units places channels n (Some m) right.all_units right.all_places h in
+    let q = arrival_is n m b (in_slots_here slot_of os 0 (14 + n) m here right.stands ∙ omega arith) in (
       q.0,
       q.1,
       found_there number_of (arrival_at n) os (14 + n) m q.0 here right.own q.1
-          (each_map (λ y. seat_of y ≢ 14 + n) (λ y. arrival_at n y ≡ None) (λ y k. arrival_not n y b k)
-          (somes (set os (14 + n) None)) (seated_others seat_of os 0 (14 + n) (14 + n) (omega arith) right.sits)),
+          (each_map (λ y. slot_of y ≢ 14 + n) (λ y. arrival_at n y ≡ None) (λ y k. arrival_not n y b k)
+          (somes (set os (14 + n) None)) (in_slots_others slot_of os 0 (14 + n) (14 + n) (omega arith) right.stands)),
     )
 
 pub arrival_nobody : (units places channels : List (Option Pending)) (n : ℕ) → IsRight units places channels → n < 8
-    → get_or channels n None ≡ None → seek (arrival_at n) (in_order (seats units places channels)) ≡ None
+    → get_or channels n None ≡ None → seek (arrival_at n) (in_order (slots units places channels)) ≡ None
 arrival_nobody units places channels n right b h =
-    let os : List (Option Pending) = seats units places channels in
+    let os : List (Option Pending) = slots units places channels in
     found_nobody number_of (arrival_at n) os
-    (each_map (λ y. seat_of y ≢ 14 + n) (λ y. arrival_at n y ≡ None) (λ y k. arrival_not n y b k) (somes os)
-    (seated_nobody seat_of os (14 + n)
-    (channel_seat units places channels n None right.all_units right.all_places h) right.sits))
+    (each_map (λ y. slot_of y ≢ 14 + n) (λ y. arrival_at n y ≡ None) (λ y k. arrival_not n y b k) (somes os)
+    (in_slots_nobody slot_of os (14 + n)
+    (channel_slot units places channels n None right.all_units right.all_places h) right.stands))
 
-arrival_far_in : (n : ℕ) (v : FunctionalUnit) (q : Phase) → 8 ≤ n → seat_in v q < 22 → arrival_in n q ≡ None
-unfolding arrival_in seat_in
+arrival_far_in : (n : ℕ) (v : FunctionalUnit) (q : Phase) → 8 ≤ n → slot_in v q < 22 → arrival_in n q ≡ None
+unfolding arrival_in slot_in
 arrival_far_in n v (Before t) b h = refl
 arrival_far_in n v (After (Entered s a x)) b h = refl
 arrival_far_in n v (After (Accepted m w)) b h =
@@ -598,25 +598,25 @@ arrival_far_in n v (After (Accepted m w)) b h =
     by_test true e k = λ i. let l = ltb-true m 8 e in omega (arith, b, l, i)
     by_test false e k = absurd (omega (arith, k))
 
-arrival_far : (n : ℕ) (y : Pending) → 8 ≤ n → seat_of y < 22 → arrival_at n y ≡ None
-unfolding arrival_at seat_of
+arrival_far : (n : ℕ) (y : Pending) → 8 ≤ n → slot_of y < 22 → arrival_at n y ≡ None
+unfolding arrival_at slot_of
 arrival_far n y b h = arrival_far_in n y.unit y.phase b h
 
 -- nobody waits in a channel that isn't there
 pub arrival_beyond : (units places channels : List (Option Pending)) (n : ℕ) → IsRight units places channels → 8 ≤ n
-    → seek (arrival_at n) (in_order (seats units places channels)) ≡ None
+    → seek (arrival_at n) (in_order (slots units places channels)) ≡ None
 arrival_beyond units places channels n right b =
-    let os : List (Option Pending) = seats units places channels in
-    let all = all_seats units places channels right in
+    let os : List (Option Pending) = slots units places channels in
+    let all = all_slots units places channels right in
     found_nobody number_of (arrival_at n) os
-    (each_map (λ y. seat_of y < 22) (λ y. arrival_at n y ≡ None) (λ y k. arrival_far n y b k) (somes os)
-    (seats_below seat_of os 0 22 (omega (arith, all)) right.sits))
+    (each_map (λ y. slot_of y < 22) (λ y. arrival_at n y ≡ None) (λ y k. arrival_far n y b k) (somes os)
+    (slots_below slot_of os 0 22 (omega (arith, all)) right.stands))
 
 pub arrival_none : (units places channels : List (Option Pending)) (n : ℕ) → IsRight units places channels
-    → get_or channels n None ≡ None → seek (arrival_at n) (in_order (seats units places channels)) ≡ None
+    → get_or channels n None ≡ None → seek (arrival_at n) (in_order (slots units places channels)) ≡ None
 arrival_none units places channels n right h = by_test (ltb n 8) refl
   where
-    by_test : (b : Bool) → ltb n 8 ≡ b → seek (arrival_at n) (in_order (seats units places channels)) ≡ None
+    by_test : (b : Bool) → ltb n 8 ≡ b → seek (arrival_at n) (in_order (slots units places channels)) ≡ None
     by_test true e = arrival_nobody units places channels n right (ltb-true n 8 e) h
     by_test false e = arrival_beyond units places channels n right (ltb-false n 8 e)
 
@@ -626,13 +626,13 @@ channel_below units places channels n m right h = let w = within channels n m h 
 
 pub arrival_answer : (units places channels : List (Option Pending)) (n : ℕ) (m : Pending) (x : Arrival)
     → IsRight units places channels → n < 8 → get_or channels n None ≡ Some m → arrival_at n m ≡ Some x
-    → Some (record { pending = m; answer = x }) ≡ sought (seek (arrival_at n) (in_order (seats units places channels)))
-unfolding sought
+    → Some (record { pending = m; answer = x }) ≡ located (seek (arrival_at n) (in_order (slots units places channels)))
+unfolding located
 arrival_answer units places channels n m x right b h k =
     let f = arrival_found units places channels n m right b h in
     let q : Some x ≡ Some f.0 = sym k ∙ f.1 in
     let xe : x ≡ f.0 = cc in
-    ap (λ z. Some (record { pending = m; answer = z })) xe ∙ ap sought (sym f.2)
+    ap (λ z. Some (record { pending = m; answer = z })) xe ∙ ap located (sym f.2)
 
 pub arrival_must : (units places channels : List (Option Pending)) (n : ℕ) (m : Pending)
     → IsRight units places channels → n < 8 → get_or channels n None ≡ Some m → arrival_at n m ≡ None → ⊥
@@ -643,59 +643,59 @@ pub returned_right : (units places channels : List (Option Pending)) (n : ℕ) (
     → IsRight units places channels → get_or channels n None ≡ Some m → IsRight units places (set channels n None)
 unfolding places_with channels_with
 returned_right units places channels n m right h =
-    moved_right (seats units places channels) units places (set channels n None) (14 + n) m None right.sits right.own
-    (all_seats units places channels right)
-    (channel_seat units places channels n (Some m) right.all_units right.all_places h)
+    moved_right (slots units places channels) units places (set channels n None) (14 + n) m None right.stands right.own
+    (all_slots units places channels right)
+    (channel_slot units places channels n (Some m) right.all_units right.all_places h)
     (channels_without units places channels n right.all_units right.all_places) right.all_units right.all_places
     (length-set channels n None ∙ right.all_channels) tt
 
 pub returned_view : (units places channels : List (Option Pending)) (n : ℕ) (m : Pending)
     → IsRight units places channels → n < 8 → get_or channels n None ≡ Some m
-    → in_order (seats units places (set channels n None))
-    ≡ replaced (seek (arrival_at n) (in_order (seats units places channels)))
-    (in_order (seats units places channels)) (λ x. [])
+    → in_order (slots units places (set channels n None))
+    ≡ replaced (seek (arrival_at n) (in_order (slots units places channels)))
+    (in_order (slots units places channels)) (λ x. [])
 unfolding replaced put_back places_with channels_with kept
 returned_view units places channels n m right b h =
-    moved_order (seats units places channels) units places (set channels n None) (14 + n) m None right.sits right.own
-    (all_seats units places channels right)
-    (channel_seat units places channels n (Some m) right.all_units right.all_places h)
+    moved_order (slots units places channels) units places (set channels n None) (14 + n) m None right.stands right.own
+    (all_slots units places channels right)
+    (channel_slot units places channels n (Some m) right.all_units right.all_places h)
     (channels_without units places channels n right.all_units right.all_places) right.all_units right.all_places tt
-    ∙ ap (λ o. replaced o (in_order (seats units places channels)) (λ x. []))
+    ∙ ap (λ o. replaced o (in_order (slots units places channels)) (λ x. []))
     (sym (arrival_found units places channels n m right b h).2)
 
 pub nobody_returned : (g : Pending → List Pending) (units places channels : List (Option Pending)) (n : ℕ)
     → IsRight units places channels → n < 8 → get_or channels n None ≡ None
-    → in_order (seats units places channels)
-    ≡ replaced (seek (arrival_at n) (in_order (seats units places channels)))
-    (in_order (seats units places channels)) g
+    → in_order (slots units places channels)
+    ≡ replaced (seek (arrival_at n) (in_order (slots units places channels)))
+    (in_order (slots units places channels)) g
 unfolding replaced
 nobody_returned g units places channels n right b h =
-    ap (λ o. replaced o (in_order (seats units places channels)) g)
+    ap (λ o. replaced o (in_order (slots units places channels)) g)
     (sym (arrival_nobody units places channels n right b h))
 
 -- ---- a new one ----
 
-pub seat_free : (units places channels : List (Option Pending)) (u : FunctionalUnit) (i : ℕ)
+pub slot_free : (units places channels : List (Option Pending)) (u : FunctionalUnit) (i : ℕ)
     → IsRight units places channels → i ≡ unit_number u
-    → seek (stage_at u) (in_order (seats units places channels)) ≡ None → get_or units i None ≡ None
-seat_free units places channels u i right e h = by_seat (get_or units i None) refl
+    → seek (stage_at u) (in_order (slots units places channels)) ≡ None → get_or units i None ≡ None
+slot_free units places channels u i right e h = by_slot (get_or units i None) refl
   where
-    by_seat : (o : Option Pending) → get_or units i None ≡ o → o ≡ None
-    by_seat None k = refl
-    by_seat (Some m) k = let p = stage_found units places channels u i m right e k in absurd (some_none (sym h ∙ p.3))
+    by_slot : (o : Option Pending) → get_or units i None ≡ o → o ≡ None
+    by_slot None k = refl
+    by_slot (Some m) k = let p = stage_found units places channels u i m right e k in absurd (some_none (sym h ∙ p.3))
       where
         some_none : {K : Type 0} {x : K} → None ≡ Some x → ⊥
         some_none q = cc
 
-new_sits : (m : Pending) (t : Stage) → m.phase ≡ Before t → seat_of m ≡ unit_number m.unit
-unfolding seat_of seat_in
-new_sits m t h = ap (seat_in m.unit) h
+new_stands : (m : Pending) (t : Stage) → m.phase ≡ Before t → slot_of m ≡ unit_number m.unit
+unfolding slot_of slot_in
+new_stands m t h = ap (slot_in m.unit) h
 
 pub new_right : (units places channels : List (Option Pending)) (i : ℕ) (m : Pending) (t : Stage)
     → IsRight units places channels → i ≡ unit_number m.unit → m.phase ≡ Before t → get_or units i None ≡ None
-    → Each (λ x. x.number < m.number) (in_order (seats units places channels))
+    → Each (λ x. x.number < m.number) (in_order (slots units places channels))
     → IsRight (set units i (Some m)) places channels
-unfolding seats number_of
+unfolding slots number_of
 new_right units places channels i m t right e w h last =
     let os : List (Option Pending) = units ++ (places ++ channels) in
     let b = unit_below m.unit in
@@ -707,8 +707,8 @@ new_right units places channels i m t right e w h last =
       all_units = length-set units i (Some m) ∙ right.all_units;
       all_places = right.all_places;
       all_channels = right.all_channels;
-      sits = subst (IsSeated seat_of 0) front
-          (seated_fill seat_of os 0 i m (new_sits m t w ∙ omega (arith, e)) right.sits);
+      stands = subst (IsInSlots slot_of 0) front
+          (in_slots_fill slot_of os 0 i m (new_stands m t w ∙ omega (arith, e)) right.stands);
       own = subst Own front (own_put number_of os i m here (omega (arith, all, inside))
           (each_map (λ x. x.number < m.number) (λ x. number_of x ≢ number_of m) (λ x k. less_differs x m k) (somes os)
           (each_sorted number_of (λ x. x.number < m.number) (somes os) last)) right.own);
@@ -719,9 +719,9 @@ new_right units places channels i m t right e w h last =
 
 pub new_view : (units places channels : List (Option Pending)) (i : ℕ) (m : Pending) → IsRight units places channels
     → i ≡ unit_number m.unit → get_or units i None ≡ None
-    → Each (λ x. x.number < m.number) (in_order (seats units places channels))
-    → in_order (seats (set units i (Some m)) places channels) ≡ in_order (seats units places channels) ++ m ∷ []
-unfolding seats number_of
+    → Each (λ x. x.number < m.number) (in_order (slots units places channels))
+    → in_order (slots (set units i (Some m)) places channels) ≡ in_order (slots units places channels) ++ m ∷ []
+unfolding slots number_of
 new_view units places channels i m right e h last =
     let os : List (Option Pending) = units ++ (places ++ channels) in
     let b = unit_below m.unit in
@@ -756,8 +756,8 @@ all-append (Some x ∷ xs) ys = refl
 
 pub none_pending : (units places channels : List (Option Pending))
     → (list_all is_none units && (list_all is_none places && list_all is_none channels))
-    ≡ has_none (in_order (seats units places channels))
-unfolding seats
+    ≡ has_none (in_order (slots units places channels))
+unfolding slots
 none_pending units places channels =
     ap (λ b. list_all is_none units && b) (sym (all-append places channels))
     ∙ sym (all-append units (places ++ channels))

@@ -3,8 +3,8 @@
 
 use crate::fixtures::{Words, memory_of};
 use arrayvec::ArrayVec;
-use hopper::bank_of;
-use in_flight::{Arrival, HopperEntry, Outstanding, Pending, Phase, Stage};
+use hopper::{Reference, bank_of};
+use in_flight::{Arrival, Outstanding, Pending, Phase, Stage};
 use instruction_table::{Instr, Refusal, Reg, Unit, UnitKind, results, sources, unit_kind};
 use machine::{Answer, Done, Event, MOST_ISSUES, Machine, Note, Snapshot};
 use relocation::{Access, PACKAGE_WORDS, Storage, relocate};
@@ -36,7 +36,7 @@ fn kind(event: &Event) -> usize {
 
 /// The central processor and its memory.
 #[derive(Drop)]
-struct ScanningMachine {
+struct ListMachine {
     state: State,
     /// In issue order.
     pending: ArrayVec<Pending, 16>,
@@ -84,10 +84,10 @@ fn stage_in(pending: &Pending, unit: Unit) -> Option<Stage> {
 }
 
 /// Its reference, if it stands in the place of the hopper.
-fn entry_in(pending: &Pending, place: u8) -> Option<HopperEntry> {
+fn entry_in(pending: &Pending, place: u8) -> Option<Reference> {
     match pending.phase {
         Phase::After(Outstanding::Entered(taken, a, access)) => if taken == place {
-            Some(HopperEntry { a, access })
+            Some(Reference { address: a, access })
         } else {
             None
         },
@@ -108,10 +108,10 @@ fn arrival_in(pending: &Pending, given: u8) -> Option<Arrival> {
 }
 
 /// Whether a reference that entered later waits for it: both are to one absolute address, and one of them stores.
-fn holds_back(pending: &Pending, later: &HopperEntry) -> bool {
+fn holds_back(pending: &Pending, later: &Reference) -> bool {
     match (pending.phase, later.access) {
         (Phase::After(Outstanding::Entered(_, _, Access::Load(_))), Access::Load(_)) => false,
-        (Phase::After(Outstanding::Entered(_, address, _)), _) => address == later.a,
+        (Phase::After(Outstanding::Entered(_, address, _)), _) => address == later.address,
         _ => false,
     }
 }
@@ -225,7 +225,7 @@ fn find_stage(in_flight: &[Pending], unit: Unit) -> Option<(usize, Pending, Stag
 }
 
 /// The one in the place of the hopper, with its place in the list and its reference.
-fn find_entry(in_flight: &[Pending], place: u8) -> Option<(usize, HopperEntry)> {
+fn find_entry(in_flight: &[Pending], place: u8) -> Option<(usize, Reference)> {
     for index in 0..in_flight.len() {
         if let Some(entry) = entry_in(&in_flight[index], place) {
             return Some((index, entry));
@@ -255,10 +255,10 @@ fn word_of(memory: &Storage, address: u32) -> Option<Word60> {
 
 // ---- the events ----
 
-impl ScanningMachine {
+impl ListMachine {
     /// A machine that was just booted with a memory.
-    fn boot(memory: Storage, budget: u64) -> ScanningMachine {
-        ScanningMachine {
+    fn boot(memory: Storage, budget: u64) -> ListMachine {
+        ListMachine {
             state: State::boot(memory),
             pending: ArrayVec::new(),
             busy: [false; 32],
@@ -301,12 +301,12 @@ impl ScanningMachine {
 
     /// Whether the fetch waits: no word is held, P is in range, and a store may still change the word.
     fn fetch_waits(&self) -> bool {
-        if self.state.place.held.is_some() {
+        if self.state.position.held.is_some() {
             return false;
         }
         let area = self.state.area;
         match relocate(
-            self.state.place.p,
+            self.state.position.p,
             area.ra,
             area.fl,
             self.state.memory.size(),
@@ -337,7 +337,7 @@ impl ScanningMachine {
         {
             return Err(Refusal::BranchPending);
         }
-        if self.request.is_some() && self.state.place.held.is_none() {
+        if self.request.is_some() && self.state.position.held.is_none() {
             return Err(Refusal::ExchangeWaiting);
         }
         if self.fetch_waits() {
@@ -355,7 +355,7 @@ impl ScanningMachine {
         self.last = self.last.saturating_add(1);
         let pending = Pending {
             instr,
-            at: self.state.place.p,
+            at: self.state.position.p,
             number: self.last,
             unit,
             phase: Phase::Before(Stage::Waiting),
@@ -384,7 +384,7 @@ impl ScanningMachine {
                 Err(refusal) => return Err(refusal),
             },
         };
-        self.state.place = place;
+        self.state.position = place;
         self.issues = self.issues.saturating_add(1);
         Ok(Done::Issued(note))
     }
@@ -463,7 +463,7 @@ impl ScanningMachine {
     /// Third order, the hopper's room and the turn of references.
     fn judge_store(&self, index: usize, instr: &Instr, value: &UnitValue) -> Result<(), Refusal> {
         let earlier = before(self.pending.as_slice(), index);
-        if let Some(register) = first_to_be_read(earlier, instr.puts().as_slice()) {
+        if let Some(register) = first_to_be_read(earlier, instr.sets().as_slice()) {
             return Err(Refusal::ResultHeld(register));
         }
         if self.finds_no_place(instr, value) {
@@ -481,10 +481,10 @@ impl ScanningMachine {
 
     /// What a unit does at its store event to the registers, P and the fault flag.
     fn carry_out(&mut self, instr: &Instr, value: &UnitValue) {
-        for register in instr.puts() {
+        for register in instr.sets() {
             self.state.registers.set(register, number(value));
         }
-        self.state.place = self.state.place.after_jump(jump(instr, value));
+        self.state.position = self.state.position.after_jump(jump(instr, value));
         let size = self.state.memory.size();
         if faults(&self.state.area, size, &reference(instr, value)) {
             self.state.fault = true;
@@ -520,17 +520,17 @@ impl ScanningMachine {
     }
 
     /// Makes a reference in memory, and answers what is left of it.
-    fn perform(&mut self, entry: &HopperEntry) -> Option<Phase> {
-        if entry.a >= self.state.memory.size() {
+    fn perform(&mut self, entry: &Reference) -> Option<Phase> {
+        if entry.address >= self.state.memory.size() {
             return None;
         }
         match entry.access {
             Access::Load(n) => Some(Phase::After(Outstanding::Accepted(
                 n,
-                self.state.memory.load(entry.a),
+                self.state.memory.load(entry.address),
             ))),
             Access::Store(word) => {
-                self.state.memory.store(entry.a, word);
+                self.state.memory.store(entry.address, word);
                 None
             }
         }
@@ -540,7 +540,7 @@ impl ScanningMachine {
         let Some((index, entry)) = find_entry(self.pending.as_slice(), place) else {
             return Err(Refusal::Nothing);
         };
-        let bank = bank_of(entry.a);
+        let bank = bank_of(entry.address);
         if self.is_busy(bank) {
             return Err(Refusal::BankBusy(bank));
         }
@@ -604,7 +604,7 @@ impl ScanningMachine {
         if !self.pending.is_empty() {
             return Err(Refusal::NotDrained);
         }
-        if self.state.halt.is_none() && !self.state.fault && self.state.place.held.is_some() {
+        if self.state.halt.is_none() && !self.state.fault && self.state.position.held.is_some() {
             return Err(Refusal::MidWord);
         }
         self.state.exchange(at)?;
@@ -677,7 +677,7 @@ impl ScanningMachine {
         let state = snapshot.state();
         self.pending.is_empty()
             && self.state.registers == state.registers
-            && self.state.place == state.place
+            && self.state.position == state.position
             && self.state.area == state.area
             && self.state.halt == state.halt
             && self.state.fault == state.fault
@@ -755,46 +755,46 @@ fn event_of(number: u64, bank: u8) -> Event {
 }
 
 /// Whether both machines answer the same to an event.
-fn agree_on(machine: &mut Machine, scanning: &mut ScanningMachine, event: &Event) -> bool {
+fn agree_on(machine: &mut Machine, list_machine: &mut ListMachine, event: &Event) -> bool {
     let answer = machine.apply(*event);
-    scanning.apply(*event) == answer
+    list_machine.apply(*event) == answer
 }
 
 /// Whether they do to an exchange that is asked for and made at once.
-fn agree_on_exchange(machine: &mut Machine, scanning: &mut ScanningMachine, at: u32) -> bool {
-    agree_on(machine, scanning, &Event::Ask(at)) && agree_on(machine, scanning, &Event::Exchange)
+fn agree_on_exchange(machine: &mut Machine, list_machine: &mut ListMachine, at: u32) -> bool {
+    agree_on(machine, list_machine, &Event::Ask(at)) && agree_on(machine, list_machine, &Event::Exchange)
 }
 
 /// A word that no program has or refers to.
 const SPARE: u32 = 0o370;
 
 /// Whether they do to peripheral accesses: one of the program's words is read, and the spare one written and read.
-fn agree_on_accesses(machine: &mut Machine, scanning: &mut ScanningMachine, made: u32) -> bool {
+fn agree_on_accesses(machine: &mut Machine, list_machine: &mut ListMachine, made: u32) -> bool {
     let word = Word60::from_bits(u64::from(made));
-    agree_on(machine, scanning, &Event::PpRead(0o100 + made % 0o40))
-        && agree_on(machine, scanning, &Event::PpWrite(SPARE, word))
-        && agree_on(machine, scanning, &Event::PpRead(SPARE))
+    agree_on(machine, list_machine, &Event::PpRead(0o100 + made % 0o40))
+        && agree_on(machine, list_machine, &Event::PpWrite(SPARE, word))
+        && agree_on(machine, list_machine, &Event::PpRead(SPARE))
 }
 
 /// Whether they do to so many generated events. After each 13th come peripheral accesses, and after each 97th an
 /// exchange is asked for, where a package is given.
 fn agree_on_all(
     machine: &mut Machine,
-    scanning: &mut ScanningMachine,
+    list_machine: &mut ListMachine,
     package: Option<u32>,
     events: u32,
     drawing: &mut Drawing,
 ) -> bool {
     for made in 0..events {
-        let event = event_of(drawing.draw(), scanning.lowest_busy());
-        if !agree_on(machine, scanning, &event) {
+        let event = event_of(drawing.draw(), list_machine.lowest_busy());
+        if !agree_on(machine, list_machine, &event) {
             return false;
         }
-        if made % 13 == 12 && !agree_on_accesses(machine, scanning, made) {
+        if made % 13 == 12 && !agree_on_accesses(machine, list_machine, made) {
             return false;
         }
         if let Some(at) = package {
-            if made % 97 == 96 && !agree_on_exchange(machine, scanning, at) {
+            if made % 97 == 96 && !agree_on_exchange(machine, list_machine, at) {
                 return false;
             }
         }
@@ -803,40 +803,40 @@ fn agree_on_all(
 }
 
 /// Whether both answer the same to all that a unit may do.
-fn agree_on_unit(machine: &mut Machine, scanning: &mut ScanningMachine, unit: Unit) -> bool {
-    agree_on(machine, scanning, &Event::Read(unit))
-        && agree_on(machine, scanning, &Event::Finish(unit))
-        && agree_on(machine, scanning, &Event::Store(unit))
+fn agree_on_unit(machine: &mut Machine, list_machine: &mut ListMachine, unit: Unit) -> bool {
+    agree_on(machine, list_machine, &Event::Read(unit))
+        && agree_on(machine, list_machine, &Event::Finish(unit))
+        && agree_on(machine, list_machine, &Event::Store(unit))
 }
 
 /// Whether they do to an acceptance. The bank that it waits for is freed.
-fn agree_on_place(machine: &mut Machine, scanning: &mut ScanningMachine, place: u8) -> bool {
+fn agree_on_place(machine: &mut Machine, list_machine: &mut ListMachine, place: u8) -> bool {
     let answer = machine.apply(Event::Accept(place));
-    if scanning.apply(Event::Accept(place)) != answer {
+    if list_machine.apply(Event::Accept(place)) != answer {
         return false;
     }
     match answer {
-        Err(Refusal::BankBusy(bank)) => agree_on(machine, scanning, &Event::BankFree(bank)),
+        Err(Refusal::BankBusy(bank)) => agree_on(machine, list_machine, &Event::BankFree(bank)),
         _ => true,
     }
 }
 
 /// Whether they do to one turn through units, places and channels.
-fn agree_on_turn(machine: &mut Machine, scanning: &mut ScanningMachine) -> bool {
-    (0..10u64).all(|number| agree_on_unit(machine, scanning, unit_of(number)))
-        && (0..4u8).all(|place| agree_on_place(machine, scanning, place))
-        && (1..6u8).all(|channel| agree_on(machine, scanning, &Event::Return(channel)))
+fn agree_on_turn(machine: &mut Machine, list_machine: &mut ListMachine) -> bool {
+    (0..10u64).all(|number| agree_on_unit(machine, list_machine, unit_of(number)))
+        && (0..4u8).all(|place| agree_on_place(machine, list_machine, place))
+        && (1..6u8).all(|channel| agree_on(machine, list_machine, &Event::Return(channel)))
 }
 
 /// Whether both are drained by the same events, and leave the same.
-fn agree_at_the_end(machine: &mut Machine, scanning: &mut ScanningMachine) -> bool {
+fn agree_at_the_end(machine: &mut Machine, list_machine: &mut ListMachine) -> bool {
     for _ in 0..40u32 {
-        if !agree_on_turn(machine, scanning) {
+        if !agree_on_turn(machine, list_machine) {
             return false;
         }
     }
     match machine.snapshot() {
-        Ok(snapshot) => scanning.is_left_as(&snapshot),
+        Ok(snapshot) => list_machine.is_left_as(&snapshot),
         Err(_) => false,
     }
 }
@@ -844,35 +844,35 @@ fn agree_at_the_end(machine: &mut Machine, scanning: &mut ScanningMachine) -> bo
 /// Whether both answer the same to all of this, and leave the same.
 fn agree(
     machine: &mut Machine,
-    scanning: &mut ScanningMachine,
+    list_machine: &mut ListMachine,
     package: Option<u32>,
     events: u32,
     drawing: &mut Drawing,
 ) -> bool {
-    agree_on_exchange(machine, scanning, 0o40)
-        && agree_on_all(machine, scanning, package, events, drawing)
-        && agree_at_the_end(machine, scanning)
+    agree_on_exchange(machine, list_machine, 0o40)
+        && agree_on_all(machine, list_machine, package, events, drawing)
+        && agree_at_the_end(machine, list_machine)
 }
 
 /// The machine that was just booted with the program's words, and the one that is scanned.
-fn booted(alloc: Global, words: Words<'_>) -> Result<(Machine, ScanningMachine), Refusal> {
+fn booted(alloc: Global, words: Words<'_>) -> Result<(Machine, ListMachine), Refusal> {
     let scanned = memory_of(alloc, words)?;
     let memory = memory_of(alloc, words)?;
     let machine = Machine::boot(alloc, memory, MOST_ISSUES)?;
-    Ok((machine, ScanningMachine::boot(scanned, MOST_ISSUES)))
+    Ok((machine, ListMachine::boot(scanned, MOST_ISSUES)))
 }
 
 /// How many events of each kind are accepted in one round, none where the machines aren't the same.
 fn accepted_in_round(alloc: Global, program: &Program, drawing: &mut Drawing) -> Option<Accepted> {
-    let (mut machine, mut scanning) = booted(alloc, program.words).ok()?;
+    let (mut machine, mut list_machine) = booted(alloc, program.words).ok()?;
     if agree(
         &mut machine,
-        &mut scanning,
+        &mut list_machine,
         program.package,
         program.events,
         drawing,
     ) {
-        Some(scanning.accepted)
+        Some(list_machine.accepted)
     } else {
         None
     }

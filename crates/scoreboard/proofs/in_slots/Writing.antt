@@ -8,7 +8,7 @@ use Rattle.instructions.specs.declared.instr.Reg.{Reg}
 use Rattle.instructions.specs.declared.instr.Reg.TheVariants.{X, A, B}
 use Rattle.instructions.specs.declared.instr.Unit.{Unit as FunctionalUnit}
 use Rattle.instructions.specs.RegisterLists.{is_in}
-use Rattle.instructions.specs.Shape.{Shape, Puts, Loads, Stores, Jumps, Links, shape_of, puts_of, loads_of, results}
+use Rattle.instructions.specs.Shape.{Shape, Sets, Loads, Stores, Jumps, Links, shape_of, sets_of, loads_of, results}
 use Rattle.instructions.specs.Operands.{reg_eq}
 use Rattle.scoreboard.specs.declared.reservation.Progress.{Progress}
 use Rattle.scoreboard.specs.declared.reservation.Progress.TheVariants.{Reserved, Left}
@@ -20,7 +20,7 @@ use Rattle.scoreboard.specs.declared.writer.Writer.TheVariants.{OfUnit, OfChanne
 use Rattle.instructions.specs.Each.{Each}
 use Rattle.scoreboard.specs.Issued.{channel_of, written_by_channel, written_in, written_by, or_else, first_some}
 use Rattle.scoreboard.specs.Issued.{writer_of, if_earlier, writer_before}
-use Rattle.scoreboard.specs.inner.View.{AreProducers, seat_in, seat_of}
+use Rattle.scoreboard.specs.inner.View.{AreProducers, slot_in, slot_of}
 use Rattle.scoreboard.specs.Writers.{same_writer, forget}
 
 -- ---- the first answer ----
@@ -53,7 +53,7 @@ swap None p q h = refl
 swap (Some v) None q h = refl
 swap (Some v) (Some w) q h = cc
 
--- where others answer only if it does not, its place does not matter
+-- where others answer only if it does not, its position does not matter
 pub first_at : {M W : Type 0} (f : M → Option W) (bs : List M) (x : M) (as_ : List M) → Each (IsAlone f x) bs
     → first_some f (bs ++ x ∷ as_) ≡ or_else (f x) (first_some f (bs ++ as_))
 unfolding first_some
@@ -114,13 +114,13 @@ some_if false w = refl
 
 -- who writes a register for one reservation, and what the reservation has still to put
 unfoldable writing : Unit {0}
-unfolding written_in written_by_channel channel_of to_come_in results puts_of loads_of is_in returning_to
+unfolding written_in written_by_channel channel_of to_come_in results sets_of loads_of is_in returning_to
 writing = tt
 
 some_in : (r : Reg) (u : FunctionalUnit) (s : Shape) (p : Progress)
     → is_some (written_in r u s p) ≡ is_in (to_come_in s p) r
 unfolding writing
-some_in r u (Puts rs) (Reserved b) = some_if (is_in rs r) (OfUnit u) ∙ sym (in_nothing_more rs r)
+some_in r u (Sets rs) (Reserved b) = some_if (is_in rs r) (OfUnit u) ∙ sym (in_nothing_more rs r)
 some_in r u (Loads n) (Reserved b) = by_tests (reg_eq r (A n)) (reg_eq r (X n))
   where
     by_tests : (p q : Bool) → is_some (cond (p || false) (Some (OfUnit u)) (cond q (Some (OfChannel n)) None))
@@ -155,9 +155,9 @@ channel_no_unit u r (Some n) = by_test (reg_eq r (X n))
     by_test false = refl
 
 unit_kept_in : (u : FunctionalUnit) (r : Reg) (v : FunctionalUnit) (s : Shape) (p : Progress)
-    → (seat_in v p ≡ unit_number u → ⊥) → forget (OfUnit u) (written_in r v s p) ≡ written_in r v s p
-unfolding forget written_in same_writer same_unit seat_in
-unit_kept_in u r v s (Reserved has_read) h = by_test (is_in (puts_of s) r)
+    → (slot_in v p ≡ unit_number u → ⊥) → forget (OfUnit u) (written_in r v s p) ≡ written_in r v s p
+unfolding forget written_in same_writer same_unit slot_in
+unit_kept_in u r v s (Reserved has_read) h = by_test (is_in (sets_of s) r)
   where
     by_test : (b : Bool) → forget (OfUnit u) (cond b (Some (OfUnit v)) (written_by_channel r (channel_of s)))
         ≡ cond b (Some (OfUnit v)) (written_by_channel r (channel_of s))
@@ -165,10 +165,10 @@ unit_kept_in u r v s (Reserved has_read) h = by_test (is_in (puts_of s) r)
     by_test false = channel_no_unit u r (channel_of s)
 unit_kept_in u r v s (Left o) h = channel_no_unit u r o
 
--- one in another seat than the unit's is not written by the unit
-pub unit_kept : (u : FunctionalUnit) (r : Reg) (y : Issued) → (seat_of y ≡ unit_number u → ⊥)
+-- one in another slot than the unit's is not written by the unit
+pub unit_kept : (u : FunctionalUnit) (r : Reg) (y : Issued) → (slot_of y ≡ unit_number u → ⊥)
     → forget (OfUnit u) (written_by r y) ≡ written_by r y
-unfolding written_by seat_of
+unfolding written_by slot_of
 unit_kept u r y h = unit_kept_in u r y.reservation.unit (shape_of y.reservation.instr) y.reservation.progress h
 
 other_channel : (n m : ℕ) (r : Reg) → (eqb n m || false) ≡ false
@@ -186,7 +186,7 @@ other_channel n m r h = by_test (reg_eq r (X m))
 channel_kept_in : (n : ℕ) (r : Reg) (v : FunctionalUnit) (s : Shape) (p : Progress)
     → is_in (to_come_in s p) (X n) ≡ false → forget (OfChannel n) (written_in r v s p) ≡ written_in r v s p
 unfolding writing forget same_writer
-channel_kept_in n r v (Puts rs) (Reserved has_read) h = by_test (is_in rs r)
+channel_kept_in n r v (Sets rs) (Reserved has_read) h = by_test (is_in rs r)
   where
     by_test : (b : Bool) → forget (OfChannel n) (cond b (Some (OfUnit v)) None) ≡ cond b (Some (OfUnit v)) None
     by_test true = refl
@@ -215,8 +215,8 @@ channel_kept n r y h = channel_kept_in n r y.reservation.unit (shape_of y.reserv
 
 left_in : (u v : FunctionalUnit) (r : Reg) (s : Shape) (has_read : Bool) → same_unit v u ≡ true
     → written_by_channel r (channel_of s) ≡ forget (OfUnit u) (written_in r v s (Reserved has_read))
-unfolding forget written_in same_writer written_by_channel channel_of puts_of is_in
-left_in u v r (Puts rs) has_read h = by_test (is_in rs r)
+unfolding forget written_in same_writer written_by_channel channel_of sets_of is_in
+left_in u v r (Sets rs) has_read h = by_test (is_in rs r)
   where
     by_test : (b : Bool) → None ≡ forget (OfUnit u) (cond b (Some (OfUnit v)) None)
     by_test true = sym (ap (λ b. cond b None (Some (OfUnit v))) h)

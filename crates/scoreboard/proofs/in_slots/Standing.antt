@@ -1,4 +1,4 @@
--- What the seats hold, in the order of their numbers: who is found there, who is earlier, and what a change leaves.
+-- What the slots hold, in the order of their numbers: who is found there, who is earlier, and what a change leaves.
 use Rattle.std.proofs.Common.{◌≡◌, ◌≢◌, ◌<◌, ◌≤◌, ◌+◌, ℕ, zero, suc, Bool, true, false, cond, List, [], ◌∷◌, ◌++◌}
 use Rattle.std.proofs.Common.{Option, Some, None, refl, sym, ap, ◌∙◌, subst, ltb, get_or, set, length, arith}
 use Rattle.std.specs.Prelude.{is_some, ◌&&◌, ◌||◌, unwrap_or, find, Result, Ok, Err}
@@ -13,7 +13,7 @@ use Rattle.instructions.specs.declared.refusal.Refusal.{Refusal}
 use Rattle.instructions.specs.declared.refusal.Refusal.TheVariants.{OperandAwaited, ResultHeld}
 use Rattle.instructions.specs.declared.instr.Instr.{Instr}
 use Rattle.instructions.specs.Finding.{seek, replaced}
-use Rattle.instructions.specs.Shape.{shape_of, puts_of}
+use Rattle.instructions.specs.Shape.{shape_of, sets_of}
 use Rattle.instructions.specs.Operands.{sources_of}
 use Rattle.scoreboard.specs.declared.reservation.Progress.{Progress}
 use Rattle.scoreboard.specs.declared.reservation.Progress.TheVariants.{Reserved, Left}
@@ -26,30 +26,30 @@ use Rattle.scoreboard.specs.declared.writer.Writer.{Writer}
 use Rattle.scoreboard.specs.declared.writers.Writers.{Writers}
 use Rattle.scoreboard.specs.Answers.{held_in, returning_by, unless, read_answer, store_answer, return_answer}
 use Rattle.instructions.specs.Each.{Each, Pairs}
-use Rattle.scoreboard.specs.inner.Fields.{seat_reads}
+use Rattle.scoreboard.specs.inner.Fields.{slot_reads}
 use Rattle.scoreboard.specs.Issued.{reservation_of, number_of, written_by, if_earlier, writer_before}
-use Rattle.instructions.specs.Order.{sort_by, somes, IsSeated}
-use Rattle.scoreboard.specs.inner.View.{seated, IsOther, seat_in, seat_of, AreProducers, first_produced, IsRight}
+use Rattle.instructions.specs.Order.{sort_by, somes, IsInSlots}
+use Rattle.scoreboard.specs.inner.View.{in_slots, IsOther, slot_in, slot_of, AreProducers, first_produced, IsRight}
 use Rattle.instructions.proofs.Lists.{each_map, or_false, any_same}
 use Rattle.instructions.proofs.Sorted.{any_sort, any_earlier, any_somes, IsIncreasing, sort_increasing, sort_each}
-use Rattle.instructions.proofs.Seats.{taken_with, seated_others, seated_nobody, seated_here, before_seat, after_seat}
-use Rattle.instructions.proofs.Seats.{each_before, found_there, found_nobody}
+use Rattle.instructions.proofs.Slots.{taken_with, in_slots_others, in_slots_nobody, in_slots_here, before_slot, after_slot}
+use Rattle.instructions.proofs.Slots.{each_before, found_there, found_nobody}
 use Rattle.instructions.proofs.Finding.{replaced_around, replaced_nobody}
-use Rattle.scoreboard.proofs.seating.Writing.{some_any, earlier_some}
-use Rattle.scoreboard.proofs.seating.Seating.{get_back, own_keys, sits_holds, sits_not, sits_held, sits_not_held}
-use Rattle.scoreboard.proofs.seating.Seating.{sits_returns, sits_not_returning, unit_below}
+use Rattle.scoreboard.proofs.in_slots.Writing.{some_any, earlier_some}
+use Rattle.scoreboard.proofs.in_slots.InSlots.{get_back, own_keys, stands_holds, stands_not, stands_held, stands_not_held}
+use Rattle.scoreboard.proofs.in_slots.InSlots.{stands_returns, stands_not_returning, unit_below}
 
--- ---- the one in a seat, in order ----
+-- ---- the one in a slot, in order ----
 
--- with others in its place
+-- with others in its position
 pub changed : (f : Issued → Option Instr) (g : Issued → List Issued) (os : List (Option Issued)) (i : ℕ) (x : Issued)
     → get_or os i None ≡ Some x → Pairs IsOther (somes os) → f x ≡ Some x.reservation.instr
     → Each (λ y. f y ≡ None) (somes (set os i None))
-    → replaced (seek f (sort_by number_of (somes os))) (sort_by number_of (somes os)) g ≡ before_seat number_of os i x
-    ++ (g x ++ after_seat number_of os i x)
+    → replaced (seek f (sort_by number_of (somes os))) (sort_by number_of (somes os)) g ≡ before_slot number_of os i x
+    ++ (g x ++ after_slot number_of os i x)
 changed f g os i x h p e k =
     ap (λ l. replaced (seek f l) l g) (taken_with number_of os i x h (own_keys (somes os) p))
-    ∙ replaced_around f g (before_seat number_of os i x) x x.reservation.instr (after_seat number_of os i x)
+    ∙ replaced_around f g (before_slot number_of os i x) x x.reservation.instr (after_slot number_of os i x)
     (each_before number_of (λ y. f y ≡ None) os i x k) e
 
 pub nobody_changed : (f : Issued → Option Instr) (g : Issued → List Issued) (os : List (Option Issued))
@@ -58,23 +58,23 @@ pub nobody_changed : (f : Issued → Option Instr) (g : Issued → List Issued) 
 nobody_changed f g os k =
     replaced_nobody f g (sort_by number_of (somes os)) (sort_each number_of (λ y. f y ≡ None) (somes os) k)
 
--- a test of the earlier ones is a test of the seats with a lower number
+-- a test of the earlier ones is a test of the slots with a lower number
 pub earlier_any : (f : Issued → Bool) (os : List (Option Issued)) (i : ℕ) (x : Issued) → get_or os i None ≡ Some x
     → Pairs IsOther (somes os) → list_any (λ y. ltb (number_of y) (number_of x) && f y) (somes os)
-    ≡ list_any f (before_seat number_of os i x)
+    ≡ list_any f (before_slot number_of os i x)
 earlier_any f os i x h p =
     let t : Issued → Bool = λ y. ltb (number_of y) (number_of x) && f y in
     let order = taken_with number_of os i x h (own_keys (somes os) p) in
     sym (any_sort number_of t (somes os))
     ∙ ap (list_any t) order
-    ∙ any_earlier number_of f (before_seat number_of os i x) x (after_seat number_of os i x)
+    ∙ any_earlier number_of f (before_slot number_of os i x) x (after_slot number_of os i x)
     (subst (IsIncreasing number_of) order (sort_increasing number_of (somes os) (own_keys (somes os) p)))
 
--- ---- the seats of units and channels ----
+-- ---- the slots of units and channels ----
 
-pub no_seat : (o : Option Issued) → ((x : Issued) → o ≡ Some x → ⊥) → o ≡ None
-no_seat None h = refl
-no_seat (Some x) h = absurd (h x refl)
+pub no_slot : (o : Option Issued) → ((x : Issued) → o ≡ Some x → ⊥) → o ≡ None
+no_slot None h = refl
+no_slot (Some x) h = absurd (h x refl)
 
 pub list_read : {K : Type 0} (xs : List (List K)) (i : ℕ) (x : List K) → i < length xs → x ≡ get_or xs i x
     → x ≡ get_or xs i []
@@ -82,55 +82,55 @@ list_read [] i x h e = absurd (omega arith)
 list_read (y ∷ xs) zero x h e = e
 list_read (y ∷ xs) (suc i) x h e = list_read xs i x (omega arith) e
 
-pub unit_seat : (units channels : List (Option Issued)) (u : FunctionalUnit) (i : ℕ) (o : Option Issued)
+pub unit_slot : (units channels : List (Option Issued)) (u : FunctionalUnit) (i : ℕ) (o : Option Issued)
     → length units ≡ 10 → i ≡ unit_number u → get_or units i None ≡ o → get_or (units ++ channels) i None ≡ o
-unit_seat units channels u i o l e h =
+unit_slot units channels u i o l e h =
     let b : unit_number u < 10 = unit_below u in
     get_or_append_left units channels None i (omega (arith, b, e, l)) ∙ h
 
-pub channel_seat : (units channels : List (Option Issued)) (n : ℕ) (o : Option Issued) → length units ≡ 10
+pub channel_slot : (units channels : List (Option Issued)) (n : ℕ) (o : Option Issued) → length units ≡ 10
     → get_or channels n None ≡ o → get_or (units ++ channels) (10 + n) None ≡ o
-channel_seat units channels n o l h = get_back units channels n (10 + n) None (omega (arith, l)) ∙ h
+channel_slot units channels n o l h = get_back units channels n (10 + n) None (omega (arith, l)) ∙ h
 
 -- no other holds the unit
-pub others_free : (u : FunctionalUnit) (os : List (Option Issued)) (i : ℕ) → i ≡ unit_number u → IsSeated seat_of 0 os
+pub others_free : (u : FunctionalUnit) (os : List (Option Issued)) (i : ℕ) → i ≡ unit_number u → IsInSlots slot_of 0 os
     → Each (λ y. held_in u y ≡ None) (somes (set os i None))
-others_free u os i e s = each_map (λ y. seat_of y ≢ i) (λ y. held_in u y ≡ None)
-    (λ y k. sits_not_held u y (λ q. k (q ∙ sym e))) (somes (set os i None))
-    (seated_others seat_of os 0 i i (omega arith) s)
+others_free u os i e s = each_map (λ y. slot_of y ≢ i) (λ y. held_in u y ≡ None)
+    (λ y k. stands_not_held u y (λ q. k (q ∙ sym e))) (somes (set os i None))
+    (in_slots_others slot_of os 0 i i (omega arith) s)
 
 pub nobody_holds : (u : FunctionalUnit) (os : List (Option Issued)) (i : ℕ) → i ≡ unit_number u
-    → get_or os i None ≡ None → IsSeated seat_of 0 os → Each (λ y. holds u y.reservation ≡ false) (somes os)
-nobody_holds u os i e h s = each_map (λ y. seat_of y ≢ i) (λ y. holds u y.reservation ≡ false)
-    (λ y k. sits_not u y (λ q. k (q ∙ sym e))) (somes os) (seated_nobody seat_of os i h s)
+    → get_or os i None ≡ None → IsInSlots slot_of 0 os → Each (λ y. holds u y.reservation ≡ false) (somes os)
+nobody_holds u os i e h s = each_map (λ y. slot_of y ≢ i) (λ y. holds u y.reservation ≡ false)
+    (λ y k. stands_not u y (λ q. k (q ∙ sym e))) (somes os) (in_slots_nobody slot_of os i h s)
 
 pub nobody_held : (u : FunctionalUnit) (os : List (Option Issued)) (i : ℕ) → i ≡ unit_number u
-    → get_or os i None ≡ None → IsSeated seat_of 0 os → Each (λ y. held_in u y ≡ None) (somes os)
-nobody_held u os i e h s = each_map (λ y. seat_of y ≢ i) (λ y. held_in u y ≡ None)
-    (λ y k. sits_not_held u y (λ q. k (q ∙ sym e))) (somes os) (seated_nobody seat_of os i h s)
+    → get_or os i None ≡ None → IsInSlots slot_of 0 os → Each (λ y. held_in u y ≡ None) (somes os)
+nobody_held u os i e h s = each_map (λ y. slot_of y ≢ i) (λ y. held_in u y ≡ None)
+    (λ y k. stands_not_held u y (λ q. k (q ∙ sym e))) (somes os) (in_slots_nobody slot_of os i h s)
 
 pub here_holds : (u : FunctionalUnit) (os : List (Option Issued)) (i : ℕ) (x : Issued) → i ≡ unit_number u
-    → get_or os i None ≡ Some x → IsSeated seat_of 0 os → holds u x.reservation ≡ true
-here_holds u os i x e h s = let q = seated_here seat_of os 0 i x h s in sits_holds u x (q ∙ omega (arith, e))
+    → get_or os i None ≡ Some x → IsInSlots slot_of 0 os → holds u x.reservation ≡ true
+here_holds u os i x e h s = let q = in_slots_here slot_of os 0 i x h s in stands_holds u x (q ∙ omega (arith, e))
 
 pub here_held : (u : FunctionalUnit) (os : List (Option Issued)) (i : ℕ) (x : Issued) → i ≡ unit_number u
-    → get_or os i None ≡ Some x → IsSeated seat_of 0 os → held_in u x ≡ Some x.reservation.instr
-here_held u os i x e h s = let q = seated_here seat_of os 0 i x h s in sits_held u x (q ∙ omega (arith, e))
+    → get_or os i None ≡ Some x → IsInSlots slot_of 0 os → held_in u x ≡ Some x.reservation.instr
+here_held u os i x e h s = let q = in_slots_here slot_of os 0 i x h s in stands_held u x (q ∙ omega (arith, e))
 
-pub others_not_returning : (n : ℕ) (os : List (Option Issued)) → IsSeated seat_of 0 os
+pub others_not_returning : (n : ℕ) (os : List (Option Issued)) → IsInSlots slot_of 0 os
     → Each (λ y. returning_by n y ≡ None) (somes (set os (10 + n) None))
 others_not_returning n os s =
-    each_map (λ y. seat_of y ≢ 10 + n) (λ y. returning_by n y ≡ None) (λ y k. sits_not_returning n y k)
-    (somes (set os (10 + n) None)) (seated_others seat_of os 0 (10 + n) (10 + n) (omega arith) s)
+    each_map (λ y. slot_of y ≢ 10 + n) (λ y. returning_by n y ≡ None) (λ y k. stands_not_returning n y k)
+    (somes (set os (10 + n) None)) (in_slots_others slot_of os 0 (10 + n) (10 + n) (omega arith) s)
 
-pub nobody_returns : (n : ℕ) (os : List (Option Issued)) → get_or os (10 + n) None ≡ None → IsSeated seat_of 0 os
+pub nobody_returns : (n : ℕ) (os : List (Option Issued)) → get_or os (10 + n) None ≡ None → IsInSlots slot_of 0 os
     → Each (λ y. returning_by n y ≡ None) (somes os)
-nobody_returns n os h s = each_map (λ y. seat_of y ≢ 10 + n) (λ y. returning_by n y ≡ None)
-    (λ y k. sits_not_returning n y k) (somes os) (seated_nobody seat_of os (10 + n) h s)
+nobody_returns n os h s = each_map (λ y. slot_of y ≢ 10 + n) (λ y. returning_by n y ≡ None)
+    (λ y k. stands_not_returning n y k) (somes os) (in_slots_nobody slot_of os (10 + n) h s)
 
 pub here_returns : (n : ℕ) (os : List (Option Issued)) (x : Issued) → n < 8 → get_or os (10 + n) None ≡ Some x
-    → IsSeated seat_of 0 os → returning_by n x ≡ Some x.reservation.instr
-here_returns n os x b h s = let q = seated_here seat_of os 0 (10 + n) x h s in sits_returns n x b (q ∙ omega arith)
+    → IsInSlots slot_of 0 os → returning_by n x ≡ Some x.reservation.instr
+here_returns n os x b h s = let q = in_slots_here slot_of os 0 (10 + n) x h s in stands_returns n x b (q ∙ omega arith)
 
 -- ---- answers by the first register ----
 
@@ -175,7 +175,7 @@ produced_found f (r ∷ rs) (Some w ∷ ps) h = ap (λ o. cond (is_some o) (Some
 -- a source has a producer where it is a result still to come of an earlier one
 pub awaited_earlier : (r : Reg) (os : List (Option Issued)) (i : ℕ) (x : Issued) → get_or os i None ≡ Some x
     → Pairs IsOther (somes os) → is_some (writer_before x.number (somes os) r)
-    ≡ awaited reservation_of (before_seat number_of os i x) r
+    ≡ awaited reservation_of (before_slot number_of os i x) r
 unfolding writer_before awaited number_of reservation_of
 awaited_earlier r os i x h p =
     some_any (if_earlier x.number (written_by r)) (somes os)
@@ -188,43 +188,43 @@ pub read_answered : (units channels : List (Option Issued)) (producers : List (L
     (last : ℕ) (u : FunctionalUnit) (i : ℕ) (x : Issued) (rs : List Reg) (ps : List (Option Writer)) (o : Option Reg)
     → IsRight units channels producers ws last → i ≡ unit_number u → get_or units i None ≡ Some x
     → rs ≡ sources_of x.reservation.instr → ps ≡ get_or producers i [] → o ≡ first_produced rs ps
-    → from_found o OperandAwaited ≡ read_answer (seek (held_in u) (sort_by number_of (seated units channels)))
-unfolding seated read_answer
+    → from_found o OperandAwaited ≡ read_answer (seek (held_in u) (sort_by number_of (in_slots units channels)))
+unfolding in_slots read_answer
 read_answered units channels producers ws last u i x rs ps o right e h er ep eo =
     let os : List (Option Issued) = units ++ channels in
-    let here = unit_seat units channels u i (Some x) right.all_units e h in
+    let here = unit_slot units channels u i (Some x) right.all_units e h in
     let f : Reg → Option Writer = writer_before x.number (somes os) in
     let made : AreProducers f (sources_of x.reservation.instr) (get_or producers i []) = right.produced i x h in
     ap (λ q. from_found q OperandAwaited)
     (eo ∙ ap (λ l. first_produced l ps) er ∙ ap (first_produced (sources_of x.reservation.instr)) ep
     ∙ produced_found f (sources_of x.reservation.instr) (get_or producers i []) made
-    ∙ find_same (λ r. is_some (f r)) (awaited reservation_of (before_seat number_of os i x))
+    ∙ find_same (λ r. is_some (f r)) (awaited reservation_of (before_slot number_of os i x))
     (λ r. awaited_earlier r os i x here right.apart) (sources_of x.reservation.instr))
-    ∙ unless_found (awaited reservation_of (before_seat number_of os i x)) (sources_of x.reservation.instr)
+    ∙ unless_found (awaited reservation_of (before_slot number_of os i x)) (sources_of x.reservation.instr)
     OperandAwaited
     ∙ ap read_answer (sym (found_there number_of (held_in u) os i x x.reservation.instr here (own_keys (somes os)
     right.apart)
-    (here_held u os i x e here right.sits) (others_free u os i e right.sits)))
+    (here_held u os i x e here right.stands) (others_free u os i e right.stands)))
 
 pub nobody_answers : (units channels : List (Option Issued)) (producers : List (List (Option Writer))) (ws : Writers)
     (last : ℕ) (u : FunctionalUnit) (i : ℕ) → IsRight units channels producers ws last → i ≡ unit_number u
-    → get_or units i None ≡ None → seek (held_in u) (sort_by number_of (seated units channels)) ≡ None
-unfolding seated
+    → get_or units i None ≡ None → seek (held_in u) (sort_by number_of (in_slots units channels)) ≡ None
+unfolding in_slots
 nobody_answers units channels producers ws last u i right e h =
     found_nobody number_of (held_in u) (units ++ channels)
-    (nobody_held u (units ++ channels) i e (unit_seat units channels u i None right.all_units e h) right.sits)
+    (nobody_held u (units ++ channels) i e (unit_slot units channels u i None right.all_units e h) right.stands)
 
 -- ---- Third order, and the turn ----
 
-seated_back : (xs ys : List (Option Issued)) (k l : ℕ) → l ≡ k + length xs → IsSeated seat_of k (xs ++ ys)
-    → IsSeated seat_of l ys
-seated_back [] ys k l e s = let q : k ≡ l = omega (arith, e) in subst (λ m. IsSeated seat_of m ys) q s
-seated_back (None ∷ xs) ys k l e s = seated_back xs ys (suc k) l (omega (arith, e)) s
-seated_back (Some x ∷ xs) ys k l e s = seated_back xs ys (suc k) l (omega (arith, e)) s.1
+in_slots_back : (xs ys : List (Option Issued)) (k l : ℕ) → l ≡ k + length xs → IsInSlots slot_of k (xs ++ ys)
+    → IsInSlots slot_of l ys
+in_slots_back [] ys k l e s = let q : k ≡ l = omega (arith, e) in subst (λ m. IsInSlots slot_of m ys) q s
+in_slots_back (None ∷ xs) ys k l e s = in_slots_back xs ys (suc k) l (omega (arith, e)) s
+in_slots_back (Some x ∷ xs) ys k l e s = in_slots_back xs ys (suc k) l (omega (arith, e)) s.1
 
-left_from : (os : List (Option Issued)) (k : ℕ) → 10 ≤ k → IsSeated seat_of k os
+left_from : (os : List (Option Issued)) (k : ℕ) → 10 ≤ k → IsInSlots slot_of k os
     → Each (λ y. is_reserved y.reservation.progress ≡ false) (somes os)
-unfolding somes seat_in seat_of is_reserved
+unfolding somes slot_in slot_of is_reserved
 left_from [] k h s = tt
 left_from (None ∷ os) k h s = left_from os (suc k) (omega arith) s
 left_from (Some x ∷ os) k h s = (
@@ -233,7 +233,7 @@ left_from (Some x ∷ os) k h s = (
       arith) s.1,
 )
   where
-    by_progress : (u : FunctionalUnit) (p : Progress) → seat_in u p ≡ k → is_reserved p ≡ false
+    by_progress : (u : FunctionalUnit) (p : Progress) → slot_in u p ≡ k → is_reserved p ≡ false
     by_progress u (Reserved b) e = absurd (let q = unit_below u in omega (arith, e, q, h))
     by_progress u (Left o) e = refl
 
@@ -251,7 +251,7 @@ none_any t (y ∷ ys) h = ap (λ b. b || list_any t ys) h.0 ∙ none_any t ys h.
 pub units_any : (t : Issued → Bool) (g : Option Issued → Bool) → g None ≡ false → ((x : Issued) → g (Some x) ≡ t x)
     → ((y : Issued) → is_reserved y.reservation.progress ≡ false → t y ≡ false)
     → (units channels : List (Option Issued))
-    → length units ≡ 10 → IsSeated seat_of 0 (units ++ channels)
+    → length units ≡ 10 → IsInSlots slot_of 0 (units ++ channels)
     → list_any g units ≡ list_any t (somes (units ++ channels))
 units_any t g none some silent units channels l s =
     any_somes t g none some units
@@ -259,7 +259,7 @@ units_any t g none some silent units channels l s =
     ∙ ap (λ b. list_any t (somes units) || b)
     (sym (none_any t (somes channels)
     (each_map (λ y. is_reserved y.reservation.progress ≡ false) (λ y. t y ≡ false) silent (somes channels)
-    (left_from channels 10 (omega arith) (seated_back units channels 0 10 (omega (arith, l)) s)))))
+    (left_from channels 10 (omega arith) (in_slots_back units channels 0 10 (omega (arith, l)) s)))))
     ∙ sym (list_any-append t (somes units) (somes channels))
     ∙ ap (list_any t) (sym (somes-append units channels))
 
@@ -273,13 +273,13 @@ no_reads r y h = by_progress y.reservation.progress h
 
 -- a register has still to be read by a unit with a lower number where an earlier one has still to read it
 pub read_earlier : (r : Reg) (units channels : List (Option Issued)) (i : ℕ) (x : Issued) → length units ≡ 10
-    → IsSeated seat_of 0 (units ++ channels) → get_or (units ++ channels) i None ≡ Some x
+    → IsInSlots slot_of 0 (units ++ channels) → get_or (units ++ channels) i None ≡ Some x
     → Pairs IsOther (somes (units ++ channels))
-    → list_any (seat_reads x.number r) units ≡ to_be_read reservation_of (before_seat number_of (units ++ channels) i
+    → list_any (slot_reads x.number r) units ≡ to_be_read reservation_of (before_slot number_of (units ++ channels) i
     x) r
-unfolding to_be_read number_of reservation_of seat_reads
+unfolding to_be_read number_of reservation_of slot_reads
 read_earlier r units channels i x l s h p =
-    units_any (λ y. ltb y.number x.number && reads_it r y.reservation) (seat_reads x.number r) refl (λ y. refl)
+    units_any (λ y. ltb y.number x.number && reads_it r y.reservation) (slot_reads x.number r) refl (λ y. refl)
     (λ y k. ap (λ b. ltb y.number x.number && b) (no_reads r y k) ∙ and_right (ltb y.number x.number) false refl) units
     channels l s
     ∙ earlier_any (λ y. reads_it r y.reservation) (units ++ channels) i x h p
@@ -287,41 +287,41 @@ read_earlier r units channels i x l s h p =
 pub store_answered : (units channels : List (Option Issued)) (producers : List (List (Option Writer))) (ws : Writers)
     (last : ℕ) (u : FunctionalUnit) (i : ℕ) (x : Issued) (rs : List Reg) (o : Option Reg)
     → IsRight units channels producers ws last → i ≡ unit_number u → get_or units i None ≡ Some x
-    → rs ≡ puts_of (shape_of x.reservation.instr) → o ≡ find (λ r. list_any (seat_reads x.number r) units) rs
-    → from_found o ResultHeld ≡ store_answer (seek (held_in u) (sort_by number_of (seated units channels)))
-unfolding seated store_answer
+    → rs ≡ sets_of (shape_of x.reservation.instr) → o ≡ find (λ r. list_any (slot_reads x.number r) units) rs
+    → from_found o ResultHeld ≡ store_answer (seek (held_in u) (sort_by number_of (in_slots units channels)))
+unfolding in_slots store_answer
 store_answered units channels producers ws last u i x rs o right e h er eo =
     let os : List (Option Issued) = units ++ channels in
-    let here = unit_seat units channels u i (Some x) right.all_units e h in
-    let test : Reg → Bool = to_be_read reservation_of (before_seat number_of os i x) in
+    let here = unit_slot units channels u i (Some x) right.all_units e h in
+    let test : Reg → Bool = to_be_read reservation_of (before_slot number_of os i x) in
     ap (λ q. from_found q ResultHeld)
-    (eo ∙ ap (find (λ r. list_any (seat_reads x.number r) units)) er
-    ∙ find_same (λ r. list_any (seat_reads x.number r) units) test
-    (λ r. read_earlier r units channels i x right.all_units right.sits here right.apart)
-    (puts_of (shape_of x.reservation.instr)))
-    ∙ unless_found test (puts_of (shape_of x.reservation.instr)) ResultHeld
+    (eo ∙ ap (find (λ r. list_any (slot_reads x.number r) units)) er
+    ∙ find_same (λ r. list_any (slot_reads x.number r) units) test
+    (λ r. read_earlier r units channels i x right.all_units right.stands here right.apart)
+    (sets_of (shape_of x.reservation.instr)))
+    ∙ unless_found test (sets_of (shape_of x.reservation.instr)) ResultHeld
     ∙ ap store_answer (sym (found_there number_of (held_in u) os i x x.reservation.instr here (own_keys (somes os)
     right.apart)
-    (here_held u os i x e here right.sits) (others_free u os i e right.sits)))
+    (here_held u os i x e here right.stands) (others_free u os i e right.stands)))
 
 pub return_answered : (units channels : List (Option Issued)) (producers : List (List (Option Writer))) (ws : Writers)
     (last n : ℕ) (x : Issued) (b : Bool) → IsRight units channels producers ws last → n < 8
-    → get_or channels n None ≡ Some x → b ≡ list_any (seat_reads x.number (X n)) units
-    → unless b (ResultHeld (X n)) ≡ return_answer n (seek (returning_by n) (sort_by number_of (seated units channels)))
-unfolding seated return_answer
+    → get_or channels n None ≡ Some x → b ≡ list_any (slot_reads x.number (X n)) units
+    → unless b (ResultHeld (X n)) ≡ return_answer n (seek (returning_by n) (sort_by number_of (in_slots units channels)))
+unfolding in_slots return_answer
 return_answered units channels producers ws last n x b right below_8 h eb =
     let os : List (Option Issued) = units ++ channels in
-    let here = channel_seat units channels n (Some x) right.all_units h in
+    let here = channel_slot units channels n (Some x) right.all_units h in
     ap (λ q. unless q (ResultHeld (X n)))
-    (eb ∙ read_earlier (X n) units channels (10 + n) x right.all_units right.sits here right.apart)
+    (eb ∙ read_earlier (X n) units channels (10 + n) x right.all_units right.stands here right.apart)
     ∙ ap (return_answer n) (sym (found_there number_of (returning_by n) os (10 + n) x x.reservation.instr here
-    (own_keys (somes os) right.apart) (here_returns n os x below_8 here right.sits)
-    (others_not_returning n os right.sits)))
+    (own_keys (somes os) right.apart) (here_returns n os x below_8 here right.stands)
+    (others_not_returning n os right.stands)))
 
 pub nobody_returning : (units channels : List (Option Issued)) (producers : List (List (Option Writer))) (ws : Writers)
     (last n : ℕ) → IsRight units channels producers ws last → get_or channels n None ≡ None
-    → seek (returning_by n) (sort_by number_of (seated units channels)) ≡ None
-unfolding seated
+    → seek (returning_by n) (sort_by number_of (in_slots units channels)) ≡ None
+unfolding in_slots
 nobody_returning units channels producers ws last n right h =
     found_nobody number_of (returning_by n) (units ++ channels)
-    (nobody_returns n (units ++ channels) (channel_seat units channels n None right.all_units h) right.sits)
+    (nobody_returns n (units ++ channels) (channel_slot units channels n None right.all_units h) right.stands)

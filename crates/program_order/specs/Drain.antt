@@ -2,7 +2,7 @@
 use Rattle.std.specs.Prelude.{◌≡◌, ◌≤◌, ◌+◌, ◌==◌, ℕ, Bool, true, false, if◌then◌else◌, List, [], ◌∷◌, Option, Some}
 use Rattle.std.specs.Prelude.{None, is_some, length, slice_index_or}
 use Rattle.std.specs.List.{list_any}
-use Rattle.instructions.specs.Shape.{Shape, Puts, Loads, Stores, Jumps, Links, shape_of}
+use Rattle.instructions.specs.Shape.{Shape, Sets, Loads, Stores, Jumps, Links, shape_of}
 use Rattle.instructions.specs.declared.instr.Unit.{Unit as FunctionalUnit}
 use Rattle.relocation.specs.declared.area.Access.TheVariants.{Load as LoadInto, Store as StoreWord}
 use Rattle.hopper.specs.Hopper.{bank_of}
@@ -107,7 +107,7 @@ next_of (m ∷ ms) busy = Some (next_in m.unit m.phase busy)
 
 -- the most events after the store event: the release of a bank and an acceptance, and for a load its return
 unfoldable pub reference_cost : Shape → ℕ
-reference_cost (Puts rs) = 0
+reference_cost (Sets rs) = 0
 reference_cost (Loads n) = 3
 reference_cost (Stores n) = 2
 reference_cost Jumps = 0

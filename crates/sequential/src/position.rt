@@ -1,12 +1,12 @@
 ghost use Rattle.std.specs.Prelude.{◌≡◌, None};
-ghost use Rattle.sequential.specs.Place.{moved_on, gone};
+ghost use Rattle.sequential.specs.Position.{after_parcel, after_jump};
 
 use instructions::ParcelNumber;
 use word60::{Word18, Word60};
 
 /// Where the next instruction is.
 #[derive(Clone, Copy, Debug, Default, Drop, PartialEq, Eq)]
-pub struct Place {
+pub struct ProgramPosition {
     /// P: the address of the held word, or else of the word that is fetched next.
     pub p: Word18,
     /// The next parcel; 0 where no word is held.
@@ -15,45 +15,45 @@ pub struct Place {
     pub held: Option<Word60>,
 }
 
-impl Place {
+impl ProgramPosition {
     /// The beginning of the word at an address.
     #[inline(always)]
-    pub fn at(p: Word18) -> Place
+    pub fn at(p: Word18) -> ProgramPosition
         ensures { result ≡ record { p = p; parcel = 0; held = None } }
     {
-        Place {
+        ProgramPosition {
             p,
             parcel: ParcelNumber::default(),
             held: None,
         }
     }
 
-    /// The place after an instruction of the word at `p`: its parcel `next`, or from 4 on the beginning of
+    /// The position after an instruction of the word at `p`: its parcel `next`, or from 4 on the beginning of
     /// the next word. After the word at 777777 comes the one at 0.
-    #[tactic(auto, unfolding(crate::specs::Place::moved_on))]
+    #[tactic(auto, unfolding(crate::specs::Position::after_parcel))]
     #[inline(always)]
-    pub fn after(p: Word18, word: Word60, next: u8) -> Place
-        ensures { result ≡ moved_on p word next }
+    pub fn after_parcel(p: Word18, word: Word60, next: u8) -> ProgramPosition
+        ensures { result ≡ after_parcel p word next }
     {
         match ParcelNumber::new(next) {
-            Some(parcel) => Place {
+            Some(parcel) => ProgramPosition {
                 p,
                 parcel,
                 held: Some(word),
             },
-            None => Place::at(p.next()),
+            None => ProgramPosition::at(p.next()),
         }
     }
 
-    /// The place after a jump to this address, or the same place where there is none.
-    #[tactic(auto, unfolding(crate::specs::Place::gone))]
+    /// The position after a jump to this address, or the same position where there is none.
+    #[tactic(auto, unfolding(crate::specs::Position::after_jump))]
     #[inline(always)]
-    pub fn after_jump(self, to: Option<Word18>) -> Place
-        ensures { result ≡ gone self to }
+    pub fn after_jump(self, to: Option<Word18>) -> ProgramPosition
+        ensures { result ≡ after_jump self to }
     {
         match to {
             None => self,
-            Some(p) => Place::at(p),
+            Some(p) => ProgramPosition::at(p),
         }
     }
 }

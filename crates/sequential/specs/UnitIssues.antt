@@ -12,14 +12,14 @@ use Rattle.sequential.specs.Replay.{LogStep, Issued, Exchanged, ReadAt, Wrote, d
 
 -- the instruction that goes to a unit, if one was fetched
 unfoldable pub taken_by : Fetched → Option Instr
-taken_by (Halting halt place) = None
-taken_by (Passing place) = None
-taken_by (Taking instr place) = Some instr
+taken_by (Halting halt position) = None
+taken_by (Passing position) = None
+taken_by (Taking instr position) = Some instr
 
 -- the instruction that goes to a unit, unless the machine is halted
 unfoldable pub taken_unless : State → Option Halt → Option Instr
 taken_unless s (Some halt) = None
-taken_unless s None = taken_by (fetch (bounds_of s) s.memory s.place)
+taken_unless s None = taken_by (fetch (bounds_of s) s.memory s.position)
 
 -- the instruction that goes to a unit in the next step from a state, if one does
 unfoldable pub taken_in : State → Option Instr

@@ -1,9 +1,10 @@
 -- The instructions of a log that go to a unit are counted step by step.
+use Rattle.std.specs.Prelude.{option_and_then}
 use Rattle.std.proofs.Common.{◌≡◌, ◌+◌, List, [], ◌∷◌, ◌++◌, Option, Some, None, refl, ap, arith}
 use Rattle.std.proofs.lemmas.Option.{same_Some}
 use Rattle.sequential.specs.declared.state.State.{State}
-use Rattle.sequential.specs.Replay.{LogStep, do_log_step, replay, then_replay}
-use Rattle.sequential.specs.Taken.{taken_at, then_taken, taken}
+use Rattle.sequential.specs.Replay.{LogStep, do_log_step, replay}
+use Rattle.sequential.specs.UnitIssues.{taken_at, then_taken, taken}
 
 then_none : (o : Option State) → then_taken o (λ t. 0) ≡ 0
 unfolding then_taken
@@ -13,7 +14,7 @@ then_none (Some s) = refl
 -- one more step of a log whose replay came to a state
 pub taken-push : (s t : State) (xs : List LogStep) (x : LogStep) → replay s xs ≡ Some t
     → taken s (xs ++ x ∷ []) ≡ taken s xs + taken_at t x
-unfolding taken replay then_taken then_replay
+unfolding taken replay then_taken
 taken-push s t [] x h =
     let e : s ≡ t = same_Some s t h in
     let n = then_none (do_log_step s x) in
@@ -23,7 +24,7 @@ taken-push s t (y ∷ ys) x h = behind (do_log_step s y) (λ u. taken-push u t y
   where
     behind : (o : Option State)
         → ((u : State) → replay u ys ≡ Some t → taken u (ys ++ x ∷ []) ≡ taken u ys + taken_at t x)
-        → then_replay o (λ u. replay u ys) ≡ Some t
+        → option_and_then (λ u. replay u ys) o ≡ Some t
         → taken_at s y + then_taken o (λ u. taken u (ys ++ x ∷ []))
         ≡ taken_at s y + then_taken o (λ u. taken u ys) + taken_at t x
     behind None ih k = cc

@@ -2,7 +2,7 @@
 use Rattle.std.specs.Prelude.{◌≡◌, ◌≤◌, true, ℕ, Option, Some, None, length}
 use Rattle.relocation.specs.Relocation.{package_fits}
 use Rattle.instructions.specs.Each.{Pairs}
-use Rattle.sequential.specs.declared.place.Place.{Place}
+use Rattle.sequential.specs.declared.position.ProgramPosition.{ProgramPosition}
 use Rattle.sequential.specs.Log.{issued}
 use Rattle.program_order.specs.Processor.{Processor, completed, replayed}
 use Rattle.in_flight.specs.Apart.{IsApart}
@@ -18,8 +18,8 @@ pub record IsSound (w : Processor) : Type 0 where
   pub request_fits : Fits w.request (length w.state.memory)
 
 -- where no word is held, the next instruction is at the beginning of a word
-abbrev pub IsAtBeginning : Place → Type 0
-IsAtBeginning place = place.held ≡ None → place.parcel ≡ 0
+abbrev pub IsAtBeginning : ProgramPosition → Type 0
+IsAtBeginning position = position.held ≡ None → position.parcel ≡ 0
 
 -- the replay of the log is the state that the pending instructions come to
 abbrev pub IsReplay : Processor → Type 0

@@ -4,7 +4,7 @@ use Rattle.std.specs.Prelude.{length, slice_index_or, take}
 use Rattle.instructions.specs.declared.refusal.Refusal.{Refusal}
 use Rattle.sequential.specs.declared.state.State.{State}
 use Rattle.sequential.specs.Replay.{LogStep, Issued, boot, replay}
-use Rattle.sequential.specs.Taken.{taken}
+use Rattle.sequential.specs.UnitIssues.{taken}
 use Rattle.program_order.specs.Processor.{Processor}
 use Rattle.program_order.specs.declared.event.Done.{Done}
 use Rattle.program_order.specs.declared.event.Done.TheVariants.{Issued as DoneIssue, Word, Made}
@@ -22,7 +22,7 @@ booted_with memory budget = record { memory = memory; budget = budget }
 abbrev pub booted_by : Processor → Booted
 booted_by w = booted_with w.boot_memory w.budget
 
--- what the machine was booted with, the steps of its log that the caller has seen, from boot on, and the places among
+-- what the machine was booted with, the steps of its log that the caller has seen, from boot on, and the positions among
 -- them of the caller's own
 pub record Known : Type 0 where
   pub booted : Booted
@@ -36,16 +36,16 @@ known booted log mine = record { booted = booted; log = log; mine = mine }
 abbrev pub StartsWith : List LogStep → List LogStep → Type 0
 StartsWith steps front = (rest : List LogStep) × (steps ≡ front ++ rest)
 
--- the place is one of them
+-- the position is one of them
 abbrev pub is_in : ℕ → List ℕ → Bool
 is_in p [] = false
 is_in p (x ∷ xs) = (p == x) || is_in p xs
 
--- no place is in both
+-- no position is in both
 abbrev pub AreApart : List ℕ → List ℕ → Type 0
 AreApart xs ys = (p : ℕ) → is_in p xs ≡ true → is_in p ys ≡ true → ⊥
 
--- the caller made the step: it is the last of the steps seen, which begin with those seen before, and its place joins
+-- the caller made the step: it is the last of the steps seen, which begin with those seen before, and its position joins
 -- the caller's own
 abbrev pub IsMade : LogStep → Known → Known → Type 0
 IsMade x old new =
@@ -88,15 +88,15 @@ IsWordOf k at word =
 abbrev pub IsWhyOf : Known → Refusal → Type 0
 IsWhyOf k refusal = (s : State) × (replay (boot k.booted.memory) k.log ≡ Some s) × IsWhy s refusal
 
--- how many instructions up to this place go to a unit: the number of the reservation, where the instruction at this
--- place goes to one
+-- how many instructions up to this position go to a unit: the number of the reservation, where the instruction at this
+-- position goes to one
 abbrev pub number_at : List ℕ → List LogStep → ℕ → ℕ
-number_at boot_memory log place = taken (boot boot_memory) (take (suc place) log)
+number_at boot_memory log position = taken (boot boot_memory) (take (suc position) log)
 
--- the step at this place carries out an instruction that goes to a unit
+-- the step at this position carries out an instruction that goes to a unit
 abbrev pub IsTaken : List ℕ → List LogStep → ℕ → Type 0
-IsTaken boot_memory log place =
-    number_at boot_memory log place ≡ suc (taken (boot boot_memory) (take place log))
+IsTaken boot_memory log position =
+    number_at boot_memory log position ≡ suc (taken (boot boot_memory) (take position log))
 
 -- no reservation of the one's steps has the number of a reservation of the other's steps
 abbrev pub NumbersApart : Known → Known → Type 0
