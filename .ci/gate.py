@@ -8,7 +8,8 @@
 The parts, in their order:
 
 - small checks, which take no time: that docs/definitions.md names what is there, docs/safety.md each public call,
-  docs/threads.md its example, docs/crates.md the sizes and docs/CHANGING.md the checks of the gate;
+  docs/threads.md its example, docs/crates.md the sizes, docs/CHANGING.md the checks of the gate, and that a word with
+  one meaning is used for nothing else;
 - `rt ci`: every proof from nothing, every test, the wrong bodies of `must-fail`, and the program's stored run. It keeps
   beside the kit what it proved and tried, by the sums of all that it read, and so proves and tries again only what
   changed, and what stands above that; tests and the program are run each time;
@@ -35,7 +36,7 @@ from concurrent.futures import ThreadPoolExecutor
 from pathlib import Path
 
 ROOT = Path(__file__).resolve().parent.parent
-SMALL = (".ci/definitions", ".ci/safety", ".ci/examples", ".ci/sizes")
+SMALL = (".ci/definitions", ".ci/safety", ".ci/examples", ".ci/sizes", ".ci/words")
 BODIES = ("tools/wrong-bodies-test", "tools/wrong-bodies")
 CHECKS = ("decks", "pages", "schedules", "both-kinds", "large", "mutations", "failures", "allocations")
 DECKS = tuple(f"tools/checks/{name}" for name in CHECKS)

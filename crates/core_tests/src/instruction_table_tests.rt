@@ -166,7 +166,8 @@ const READINGS: [(&str, u64, u8, Reading); 11] = [
 fn is_decoded_so(number: u64, position: u8, reading: &Reading) -> bool {
     let (word, position) = (word(number), position % 4);
     let wanted = reading.decoded();
-    decode(word, position) == wanted && decode_as(word, position, first_digits(word, position)) == wanted
+    decode(word, position) == wanted
+        && decode_as(word, position, first_digits(word, position)) == wanted
 }
 
 /// Each position is decoded as the cases say.

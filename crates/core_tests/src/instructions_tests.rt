@@ -1,7 +1,7 @@
 //! What holds of an instruction by itself. Instructions are given as texts.
 
 use crate::fixtures::{Register, digit, instruction};
-use List::{Sets, Results, Sources};
+use List::{Results, Sets, Sources};
 use Register::{A, B, X};
 use instructions::{Digit, Reg, SixBits, UnitKind, operand_registers, results, sources, unit_kind};
 
@@ -39,7 +39,10 @@ fn has_list(text: &str, list: List, wanted: &[Register]) -> bool {
     match list {
         Sources => is_list(sources(&instr).as_slice(), wanted),
         Results => is_list(results(&instr).as_slice(), wanted),
-        Sets => is_list(instr.sets().as_slice(), wanted),
+        Sets => match instr.sets() {
+            Some(register) => is_list(&[register], wanted),
+            None => wanted.is_empty(),
+        },
     }
 }
 

@@ -6,8 +6,8 @@ use instructions::{Halt, ParcelNumber, Refusal};
 use registers::RegisterFile;
 use relocation::{Access, Area, Storage};
 use sequential::{
-    Entry, Fetched, Log, ProgramPosition, ProgramReference, State, faults, jump, number, operands, reference,
-    replay, step,
+    Entry, Fetched, Log, ProgramPosition, ProgramReference, State, faults, jump, number, operands,
+    reference, replay, step,
 };
 use std::alloc::Global;
 use std::test::Fail;

@@ -121,8 +121,10 @@ applied d (says.At a) =
     with_number (number_of 8 6 a)
     (λ n. refuse_if (nat_le (size d) n) faults.Range (goes_on (record d { next_address = n })))
 applied d (says.Word v) =
-    with_number (from_octal 20 v) (λ w. refuse_if (nat_le (size d) d.next_address) faults.Range (goes_on (with_word d w)))
-applied d (says.Code texts) = refuse_if (nat_le (size d) d.next_address) faults.Range (coded d (parcels_in (items_of texts)))
+    with_number (from_octal 20 v) (λ w. refuse_if (nat_le (size d) d.next_address) faults.Range
+    (goes_on (with_word d w)))
+applied d (says.Code texts) = refuse_if (nat_le (size d) d.next_address) faults.Range
+    (coded d (parcels_in (items_of texts)))
 applied d (says.Start a) =
     with_number (number_of 8 6 a)
     (λ n. refuse_if (is_some d.start) faults.Repeated

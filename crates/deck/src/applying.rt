@@ -110,7 +110,9 @@ fn code_line(mut draft: Draft, texts: &[u8]) -> Result<Step, LineError>
     if parcels.len() > PARCELS {
         return Err(LineError::Faulty(DeckFault::Full));
     }
-    draft.image.put(draft.next_address, word_of(parcels.as_slice()));
+    draft
+        .image
+        .put(draft.next_address, word_of(parcels.as_slice()));
     draft.next_address += 1;
     Ok(Step::Goes(draft))
 }

@@ -68,7 +68,7 @@ impl Image {
         self.placed.as_slice()[address as usize]
     }
 
-    /// Places a word at an absolute address, which is below the size.
+    /// Puts a word at an absolute address, which is below the size.
     pub fn put(&mut self, address: u32, word: Word60)
         requires { address < length self.old.memory }
         ensures { self.new ≡ placed_at self.old address word }

@@ -5,7 +5,7 @@ ghost use Rattle.deck.specs.inner.ParsedLine.{line_with_bytes};
 
 use device_text::{first_field, place_of};
 
-/// A line by its fields, which are slices of the line; definitions have lists of bytes in their place.
+/// A line by its fields, which are slices of the line; definitions have lists of bytes instead.
 #[derive(Clone, Copy)]
 pub enum Line<Field> {
     /// `core W`.

@@ -32,7 +32,7 @@ entered_right es busy p reference r h =
       apart = pairs_push (λ d e. d.place ≢ e.place) es (record { place = p; reference = reference }) r.apart k.1;
     }
 
--- ---- the one that is sought ----
+-- ---- the one that is looked for ----
 
 each_at : (P : Entered → Type 0) (es : List Entered) (d : Entered) → ((k : ℕ) → k < length es → P (get_or es k d))
     → Each P es

@@ -1,4 +1,4 @@
--- Which of the instructions in flight an event names, and what is put in its place. Source: ours.
+-- Which of the instructions in flight an event names, and what is put there instead. Source: ours.
 use Rattle.std.specs.Prelude.{ℕ, Bool, true, false, ◌==◌, if◌then◌else◌, List, [], ◌∷◌, Option, Some, None, is_some}
 use Rattle.std.specs.List.{list_any}
 use Rattle.instructions.specs.declared.instr.Unit.{Unit as FunctionalUnit}
@@ -27,7 +27,8 @@ stage_at unit m = if same_unit m.unit unit then stage_in m.phase else None
 -- the reference in that phase, if it waits in the place of this number
 unfoldable pub entry_in : ℕ → Phase → Option Reference
 entry_in p (Before t) = None
-entry_in p (After (Entered place a access)) = if place == p then Some (record { address = a; access = access }) else None
+entry_in p (After (Entered place a access)) = if place == p then Some
+    (record { address = a; access = access }) else None
 entry_in p (After (Accepted n word)) = None
 
 -- the reference in a hopper place
@@ -73,7 +74,7 @@ is_taken ms p = list_any (in_place p) ms
 unfoldable pub place_for : List Pending → Option ℕ
 place_for ms = free_place (is_taken ms)
 
--- ---- what is put in its place ----
+-- ---- what is put there instead ----
 
 -- the instruction has come to that phase
 unfoldable pub in_phase : Pending → Phase → Pending

@@ -9,11 +9,12 @@ ghost use Rattle.in_flight.specs.Lookup.{stage_at, entry_at, arrival_at, in_phas
 ghost use Rattle.in_flight.specs.inner.Slots.{HasRoom, places_with, channels_with, has_none, lower_of, lowest_of};
 
 use crate::{Arrival, Outstanding, Pending, Phase, Stage};
+use hopper::Reference;
 use instruction_table::Unit;
 use scoreboard::unit_number;
 use std::marker::Model;
 
-/// A pending instruction that was sought, with its answer to what was asked.
+/// A pending instruction that was located, with its answer to what was asked.
 #[derive(Clone, Copy, Drop)]
 pub struct Located<K> {
     pub pending: Pending,

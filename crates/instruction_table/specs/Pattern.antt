@@ -57,4 +57,5 @@ parcels_from word position (suc n) = parcel_at word position ∷ parcels_from wo
 abbrev pub IsByTable : ℕ → ℕ → Decoded → Type 0
 IsByTable word position (Legal instr next) = IsReadAs instr (parcels_from word position (next - position))
 IsByTable word position (Refused op) = (op ≡ op_at (parcel_at word position)) × IsNoCode op
-IsByTable word position Straddle = (position ≡ 3) × ((instr : Instr) × IsReadAs instr (parcel_at word position ∷ 0 ∷ []))
+IsByTable word position Straddle = (position ≡ 3) × ((instr : Instr)
+    × IsReadAs instr (parcel_at word position ∷ 0 ∷ []))

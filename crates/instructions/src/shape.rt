@@ -1,8 +1,7 @@
-ghost use Rattle.std.specs.Prelude.{◌≡◌};
+ghost use Rattle.std.specs.Prelude.{◌≡◌, option_to_list};
 ghost use Rattle.instructions.specs.Shape.{shape_of, sets_of, is_branch_shape, has_reference, has_store};
 
-use crate::{Instr, Reg, Target, results};
-use arrayvec::ArrayVec;
+use crate::{Instr, Reg, Target};
 
 impl Instr {
     /// Whether it is a branch: it jumps, or may jump.
@@ -53,22 +52,30 @@ impl Instr {
         }
     }
 
-    /// The registers that it writes at its store event: all its results except the X register of a load.
+    /// The register that it writes at its store event, if there is one: its result, except the X register of a load.
     #[tactic(auto, unfolding(crate::specs::Shape::shape_of, crate::specs::Shape::sets_of))]
-    pub fn sets(&self) -> ArrayVec<Reg, 2>
-        ensures { result.items ≡ sets_of (shape_of self.now) }
+    #[inline(always)]
+    pub fn sets(&self) -> Option<Reg>
+        ensures { sets_of (shape_of self.now) ≡ option_to_list result }
     {
         match *self {
-            Instr::Increment {
-                target: Target::A,
-                i,
-                ..
-            } => {
-                let mut registers = ArrayVec::new();
-                registers.push(Reg::A(i));
-                registers
-            }
-            _ => results(self),
+            Instr::Copy { i, .. }
+            | Instr::Invert { i, .. }
+            | Instr::Logical { i, .. }
+            | Instr::ShiftBy { i, .. }
+            | Instr::ShiftNominal { i, .. }
+            | Instr::LongAdd { i, .. }
+            | Instr::Mask { i, .. }
+            | Instr::CountOnes { i, .. } => Some(Reg::X(i)),
+            Instr::Increment { target, i, .. } => match target {
+                Target::X => Some(Reg::X(i)),
+                Target::A => Some(Reg::A(i)),
+                Target::B => match i.get() {
+                    0 => None,
+                    _ => Some(Reg::B(i)),
+                },
+            },
+            _ => None,
         }
     }
 }

@@ -22,7 +22,8 @@ use Rattle.program_order.proofs.keeping.Telling.{exchange_asked}
 use Rattle.program_order.proofs.theorem.Headline.{Books, books_after}
 use Rattle.program_order.proofs.theorem.Theorem.{made_allowed}
 use Rattle.atomic_table.specs.Table.{Me}
-use Rattle.machine_lock.specs.CallerKnowledge.{Known, known, StartsWith, IsMade, Learnt, note_in, word_in, IsNoteOf, IsWhyOf}
+use Rattle.machine_lock.specs.CallerKnowledge.{Known, known, StartsWith, IsMade, Learnt, note_in, word_in, IsNoteOf}
+use Rattle.machine_lock.specs.CallerKnowledge.{IsWhyOf}
 use Rattle.machine_lock.specs.CallerKnowledge.{Booted, booted_by, booted_with, HasReplay, IsWordOf}
 use Rattle.machine_lock.specs.inner.LockInvariant.{IsCurrent, access_step, is_access, is_of_memory}
 use Rattle.machine_lock.specs.inner.Rules.{History, Knowing, history, past, keeper, caller, Continues}

@@ -46,7 +46,8 @@ in_one p x e = grind (arith, nat_tests)
 abbrev pub give : (ℕ → ℕ) → List ℕ → ℕ → ℕ → ℕ
 give owner positions to p = if is_in p positions then to else owner p
 
-pub give_in : (owner : ℕ → ℕ) (positions : List ℕ) (to p : ℕ) → is_in p positions ≡ true → give owner positions to p ≡ to
+pub give_in : (owner : ℕ → ℕ) (positions : List ℕ) (to p : ℕ) → is_in p positions ≡ true → give owner positions to p
+    ≡ to
 give_in owner positions to p e = ap (λ (b : Bool). if b then to else owner p) e
 
 pub give_out : (owner : ℕ → ℕ) (positions : List ℕ) (to p : ℕ) → (is_in p positions ≡ true → ⊥)

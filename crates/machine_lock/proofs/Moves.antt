@@ -296,7 +296,8 @@ adds slots id me x is kn s h _ at _ =
     let theirs_of : BelongTo owner id now.log (v.theirs ++ length v.seen.log ∷ []) = λ p e.
     ⊎_elim (λ (a : is_in p v.theirs ≡ true). let t = mine.theirs p a in
     (let less = t.0 in omega arith, old p t.0 ∙ t.1))
-    (λ (b : is_in p (length v.seen.log ∷ []) ≡ true). let q : p ≡ position = in_one p (length v.seen.log) b ∙ at_place in
+    (λ (b : is_in p (length v.seen.log ∷ []) ≡ true). let q : p ≡ position = in_one p (length v.seen.log) b
+    ∙ at_place in
     (omega arith, give_in h.owner (position ∷ []) id p (ap (λ k. is_in p (k ∷ [])) (sym at_place) ∙ b)))
     (in_append p v.theirs (length v.seen.log ∷ []) e) in
     let apart_now : AreApart v.mine (v.theirs ++ length v.seen.log ∷ []) = λ p a e.

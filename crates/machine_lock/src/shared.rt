@@ -9,7 +9,8 @@ ghost use Rattle.program_order.specs.Refusals.{may_refuse, is_stranger, is_nothi
 ghost use Rattle.program_order.specs.Refusals.{is_store_refusal, is_accept_refusal, is_return_refusal, is_ask_refusal};
 ghost use Rattle.program_order.specs.Refusals.{is_exchange_refusal, is_access_refusal};
 ghost use Rattle.machine.specs.Tokens.{new_seats, one_more};
-ghost use Rattle.machine_lock.specs.CallerKnowledge.{booted_by, known, IsMade, Learnt, HasReplay, IsNoteOf, IsWhyOf, IsWordOf};
+ghost use Rattle.machine_lock.specs.CallerKnowledge.{booted_by, known, IsMade, Learnt, HasReplay, IsNoteOf, IsWhyOf};
+ghost use Rattle.machine_lock.specs.CallerKnowledge.{IsWordOf};
 ghost use Rattle.machine_lock.specs.CallerKnowledge.{word_in, AreApart, NumbersApart};
 ghost use Rattle.machine_lock.specs.inner.LockInvariant.{is_of_memory};
 

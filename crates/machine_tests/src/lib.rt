@@ -16,10 +16,10 @@ mod flight_calls;
 #[cfg(test)]
 mod flight_tests;
 #[cfg(test)]
-mod reached_tests;
-#[cfg(test)]
 mod list_machine;
 #[cfg(test)]
 mod list_machine_tests;
+#[cfg(test)]
+mod reached_tests;
 #[cfg(test)]
 mod token_tests;

@@ -156,17 +156,17 @@ fn first_awaited(in_flight: &[Pending], registers: &[Reg]) -> Option<Reg> {
     None
 }
 
-/// The first of the registers that one of them has still to read.
-fn first_to_be_read(in_flight: &[Pending], registers: &[Reg]) -> Option<Reg> {
-    for register in registers {
-        if in_flight
-            .iter()
-            .any(|pending| reservation(pending).has_to_read(register))
-        {
-            return Some(*register);
-        }
+/// The register, if there is one and one of them has still to read it.
+fn result_to_be_read(in_flight: &[Pending], register: Option<Reg>) -> Option<Reg> {
+    let register = register?;
+    if in_flight
+        .iter()
+        .any(|pending| reservation(pending).has_to_read(&register))
+    {
+        Some(register)
+    } else {
+        None
     }
-    None
 }
 
 /// Whether one of them holds the unit.
@@ -463,7 +463,7 @@ impl ListMachine {
     /// Third order, the hopper's room and the turn of references.
     fn judge_store(&self, index: usize, instr: &Instr, value: &UnitValue) -> Result<(), Refusal> {
         let earlier = before(self.pending.as_slice(), index);
-        if let Some(register) = first_to_be_read(earlier, instr.sets().as_slice()) {
+        if let Some(register) = result_to_be_read(earlier, instr.sets()) {
             return Err(Refusal::ResultHeld(register));
         }
         if self.finds_no_place(instr, value) {
@@ -481,7 +481,7 @@ impl ListMachine {
 
     /// What a unit does at its store event to the registers, P and the fault flag.
     fn carry_out(&mut self, instr: &Instr, value: &UnitValue) {
-        for register in instr.sets() {
+        if let Some(register) = instr.sets() {
             self.state.registers.set(register, number(value));
         }
         self.state.position = self.state.position.after_jump(jump(instr, value));
@@ -762,7 +762,8 @@ fn agree_on(machine: &mut Machine, list_machine: &mut ListMachine, event: &Event
 
 /// Whether they do to an exchange that is asked for and made at once.
 fn agree_on_exchange(machine: &mut Machine, list_machine: &mut ListMachine, at: u32) -> bool {
-    agree_on(machine, list_machine, &Event::Ask(at)) && agree_on(machine, list_machine, &Event::Exchange)
+    agree_on(machine, list_machine, &Event::Ask(at))
+        && agree_on(machine, list_machine, &Event::Exchange)
 }
 
 /// A word that no program has or refers to.

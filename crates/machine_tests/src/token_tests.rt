@@ -1,4 +1,5 @@
-//! Calls with tokens: what is refused, and what comes back.
+//! Calls with tokens: what is refused, and what comes back. `OFFERS` is the table of tokens that another machine is
+//! offered.
 
 use crate::fixtures::{
     MADE, drain, issued, make, meets, seat_of_increment1, shows, started, started_with, x,
@@ -8,6 +9,76 @@ use machine::{Answer, Computed, Event, Finished, Loaded, Machine, Note, Reserved
 use std::alloc::Global;
 use std::process::Abort;
 use std::test::Fail;
+
+/// Which call of a token is due.
+#[derive(Clone, Copy, Debug, Drop)]
+enum Due {
+    Read,
+    Finish,
+    Store,
+}
+
+/// A word whose second instruction is Increment1's, X2 before it, and the number of that reservation.
+#[derive(Clone, Copy, Drop)]
+struct Program<'a> {
+    code: &'a str,
+    x2: &'a str,
+    number: u64,
+}
+
+/// The call that is due for a token, the program of its machine, the program of the machine to which it is offered, and
+/// what the latter shows in X1 and X2 at the end.
+type Offer = (
+    Due,
+    Program<'static>,
+    Program<'static>,
+    &'static str,
+    &'static str,
+);
+
+/// NO and SX1 B0+5.
+const FIRST: Program<'static> = Program {
+    code: "46000711000000546000",
+    x2: "3",
+    number: 1,
+};
+
+/// LX3 1 and SX1 B0+5: another number.
+const SECOND: Program<'static> = Program {
+    code: "20301711000000546000",
+    x2: "3",
+    number: 2,
+};
+
+/// NO and SX2 B0+5: another instruction.
+const OTHER: Program<'static> = Program {
+    code: "46000712000000546000",
+    x2: "3",
+    number: 1,
+};
+
+/// NO and SX1 X2+B0.
+const THREE: Program<'static> = Program {
+    code: "46000731204600046000",
+    x2: "3",
+    number: 1,
+};
+
+/// The same, with another operand.
+const FOUR: Program<'static> = Program {
+    code: "46000731204600046000",
+    x2: "4",
+    number: 1,
+};
+
+/// Tokens of other machines, each offered to a machine whose own reservation in the unit is another.
+const OFFERS: [Offer; 5] = [
+    (Due::Read, FIRST, SECOND, "5", "3"),
+    (Due::Finish, FIRST, SECOND, "5", "3"),
+    (Due::Store, FIRST, SECOND, "5", "3"),
+    (Due::Finish, FIRST, OTHER, "0", "5"),
+    (Due::Finish, THREE, FOUR, "4", "4"),
+];
 
 /// SX1 B0+5 and SX1 B0+6, each with stops after it.
 const FIVE: &str = "71100000050000000000";
@@ -347,14 +418,6 @@ fn refused_stores(rt: HostRuntime) -> Result<(), Fail> {
 /// SX1 B0+5 twice.
 const FIVE_TWICE: &str = "71100000057110000005";
 
-/// Which call of a token is due.
-#[derive(Clone, Copy, Debug, Drop)]
-enum Due {
-    Read,
-    Finish,
-    Store,
-}
-
 /// A token at one of its calls.
 enum Token {
     Reserved(Reserved),
@@ -461,14 +524,6 @@ fn older_reservations(rt: HostRuntime) -> Result<(), Fail> {
     Ok(())
 }
 
-/// A word whose second instruction is Increment1's, X2 before it, and the number of that reservation.
-#[derive(Clone, Copy, Drop)]
-struct Program<'a> {
-    code: &'a str,
-    x2: &'a str,
-    number: u64,
-}
-
 impl Program<'_> {
     /// A machine in which that instruction is issued.
     fn issued(&self, alloc: Global) -> Option<Machine> {
@@ -495,16 +550,6 @@ fn is_refused_by(machine: &mut Machine, token: Token, due: Due) -> bool {
     is_there && is_refused && goes_on(machine, due)
 }
 
-/// The call that is due for a token, the program of its machine, the program of the machine to which it is offered, and
-/// what the latter shows in X1 and X2 at the end.
-type Offer = (
-    Due,
-    Program<'static>,
-    Program<'static>,
-    &'static str,
-    &'static str,
-);
-
 /// Whether the token is refused, and the machine shows those words. None where there is no such token or machine.
 fn is_refused_offer((due, one, other, x1, x2): &Offer, alloc: Global) -> Option<bool> {
     let mut machine = other.issued(alloc)?;
@@ -513,49 +558,6 @@ fn is_refused_offer((due, one, other, x1, x2): &Offer, alloc: Global) -> Option<
     let _ = drain(&mut machine);
     Some(is_refused && shows(&machine, x1, x2, 2))
 }
-
-/// NO and SX1 B0+5.
-const FIRST: Program<'static> = Program {
-    code: "46000711000000546000",
-    x2: "3",
-    number: 1,
-};
-
-/// LX3 1 and SX1 B0+5: another number.
-const SECOND: Program<'static> = Program {
-    code: "20301711000000546000",
-    x2: "3",
-    number: 2,
-};
-
-/// NO and SX2 B0+5: another instruction.
-const OTHER: Program<'static> = Program {
-    code: "46000712000000546000",
-    x2: "3",
-    number: 1,
-};
-
-/// NO and SX1 X2+B0.
-const THREE: Program<'static> = Program {
-    code: "46000731204600046000",
-    x2: "3",
-    number: 1,
-};
-
-/// The same, with another operand.
-const FOUR: Program<'static> = Program {
-    code: "46000731204600046000",
-    x2: "4",
-    number: 1,
-};
-
-const OFFERS: [Offer; 5] = [
-    (Due::Read, FIRST, SECOND, "5", "3"),
-    (Due::Finish, FIRST, SECOND, "5", "3"),
-    (Due::Store, FIRST, SECOND, "5", "3"),
-    (Due::Finish, FIRST, OTHER, "0", "5"),
-    (Due::Finish, THREE, FOUR, "4", "4"),
-];
 
 /// A token of another machine is a stranger's where it differs in number, and at its finish where it differs in
 /// instruction or operands alone. The machine's own reservation goes on as if there had been none.

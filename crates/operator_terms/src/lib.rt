@@ -1,4 +1,4 @@
-//! What passes between the program and its operator: the budget that the command line may name, the
+//! What the program and its operator tell each other: the budget that the command line may name, the
 //! faults that it tells, and its exit statuses. All of this is this project's choice;
 //! docs/formats.md has the texts and the numbers.
 //!

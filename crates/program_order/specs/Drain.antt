@@ -44,17 +44,13 @@ waits_for bank m = waits_for_in bank m.phase
 -- load in a channel, or on a bank for which a reference waits. An issue, an exchange, a request for one and a
 -- peripheral access don't
 unfoldable pub works_on : List Pending → Event → Bool
-works_on ms Issue = false
 works_on ms (Read u) = list_any (holds_unit u) ms
 works_on ms (Finish u) = list_any (holds_unit u) ms
 works_on ms (Store u) = list_any (holds_unit u) ms
 works_on ms (Accept p) = is_taken ms p
 works_on ms (Return c) = list_any (in_channel c) ms
 works_on ms (BankFree k) = list_any (waits_for k) ms
-works_on ms (Ask n) = false
-works_on ms Exchange = false
-works_on ms (PpRead a) = false
-works_on ms (PpWrite a v) = false
+works_on ms _ = false
 
 -- the events are accepted one after another, and each works on what is then pending
 abbrev pub Accepts : Processor → List Event → Type 0

@@ -1,4 +1,4 @@
--- References that may pass each other. Source: ours.
+-- References that may be made in either order. Source: ours.
 use Rattle.std.specs.Prelude.{Bool, false, ◌==◌}
 use Rattle.relocation.specs.declared.area.Access.{Access}
 use Rattle.relocation.specs.declared.area.Access.TheVariants.{Load, Store}

@@ -54,7 +54,8 @@ after w Issue = after_issue w (fetch (bounds_of w.state) w.state.memory w.state.
 after w (Read u) = after_found w (seek (stage_at u) w.pending) (after_read w)
 after w (Finish u) = after_found w (seek (stage_at u) w.pending) (after_finish w)
 after w (Store u) = after_found w (seek (stage_at u) w.pending) (λ f. after_store w f f.answer)
-after w (Accept p) = after_found w (seek (entry_at p) w.pending) (λ f. after_accept w f f.answer.address f.answer.access)
+after w (Accept p) = after_found w (seek (entry_at p) w.pending)
+    (λ f. after_accept w f f.answer.address f.answer.access)
 after w (Return c) = after_found w (seek (arrival_at c) w.pending) (after_return w)
 after w (BankFree k) = record w { busy = slice_set w.busy k false }
 after w (Ask n) = record w { request = Some n; asked = suc w.asked }

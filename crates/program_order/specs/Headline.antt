@@ -96,16 +96,7 @@ pub record IsFaultedRun (log : List LogStep) (memory : List ℕ) (s : State) : T
 -- the event is an exchange
 unfoldable pub is_exchange : Event → Bool
 is_exchange Exchange = true
-is_exchange Issue = false
-is_exchange (Read u) = false
-is_exchange (Finish u) = false
-is_exchange (Store u) = false
-is_exchange (Accept p) = false
-is_exchange (Return c) = false
-is_exchange (BankFree k) = false
-is_exchange (Ask n) = false
-is_exchange (PpRead a) = false
-is_exchange (PpWrite a v) = false
+is_exchange _ = false
 
 -- the event is an exchange, and was made
 unfoldable pub exchanges : Event → Result Done Refusal → Bool
@@ -120,10 +111,9 @@ makes_no_exchange (e ∷ events) (a ∷ answers) = not (exchanges e a) && makes_
 
 -- the step is a peripheral access
 unfoldable pub is_access : LogStep → Bool
-is_access Issued = false
-is_access (Exchanged n) = false
 is_access (ReadAt a) = true
 is_access (Wrote a w) = true
+is_access _ = false
 
 -- the one log is the other and then peripheral accesses, and nothing else
 pub record GainsAccesses (old new : List LogStep) : Type 0 where

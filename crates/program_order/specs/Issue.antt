@@ -50,7 +50,11 @@ issue_tests state pending request budget count =
 
 -- the machine halts, or the position moves on; the log gains an instruction, and one with a unit becomes pending
 unfoldable pub after_issue : Processor → Fetched → Processor
-after_issue w (Halting h position) = record w { state = halt_by (move_to w.state position) h; log = w.log ++ Issued ∷ [] }
+after_issue w (Halting h position) = record w {
+  state = halt_by
+      (move_to w.state position) h;
+  log = w.log ++ Issued ∷ [];
+}
 after_issue w (Passing position) = record w { state = move_to w.state position; log = w.log ++ Issued ∷ [] }
 after_issue w (Taking i position) = record w {
   state = move_to w.state position;

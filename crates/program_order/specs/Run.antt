@@ -55,14 +55,7 @@ unfoldable pub makes_room : Event → Bool
 makes_room (Ask n) = true
 makes_room (PpRead a) = true
 makes_room (PpWrite a v) = true
-makes_room Issue = false
-makes_room (Read u) = false
-makes_room (Finish u) = false
-makes_room (Store u) = false
-makes_room (Accept p) = false
-makes_room (Return c) = false
-makes_room (BankFree k) = false
-makes_room Exchange = false
+makes_room _ = false
 
 -- E21, out of memory: the event is allowed, and the log could not grow for it
 pub record IsRefusedGrowth (w : Processor) (e : Event) (answer : Result Done Refusal) : Type 0 where

@@ -41,7 +41,7 @@ pub fn a_fault_stops_the_program()
         → GainsAccesses w.log v.log × (v.state.fault ≡ true) }
 {}
 
-/// References that needn't keep their order may pass each other: made in either order they leave the same state. Those
+/// References that needn't keep their order may be made in either order: they then leave the same state. Those
 /// that wait load into different registers, since a register that is to be loaded is reserved.
 pub fn references_that_pass_commute()
     ensures { (s : SomeState) → (address : ℕ) → (access : SomeAccess) → (other_address : ℕ)

@@ -379,7 +379,7 @@ pub const SCHEDULES: [Schedule; 14] = [
         memory: &[(0o100, "51000000054600046000")],
     },
     Schedule {
-        name: "a rotation by 63 places is one by 3",
+        name: "a rotation by 63 bits is one by 3",
         deck: "\
             core 256\n\
             at 41\n\

@@ -38,7 +38,7 @@ unfoldable pub unit_for : {M : Type 0} → (M → Reservation) → List M → Op
 unit_for reservation_of issued None = None
 unit_for reservation_of issued (Some kind) = free_unit reservation_of issued kind
 
--- the first of the registers that passes a test, B0 if none does: the register that a refusal names
+-- the first of the registers that meets a test, B0 if none does: the register that a refusal names
 abbrev pub first_such : (Reg → Bool) → List Reg → Reg
 first_such test registers = unwrap_or (find test registers) (B 0)
 

@@ -12,8 +12,8 @@ ghost use Rattle.scoreboard.specs.Answers.{held_in, returning_by, read_answer, s
 ghost use Rattle.scoreboard.specs.Answers.{turn_answer, reserve_answer, reserved, read, left, gone, with_issued};
 
 use crate::fields::{
-    any_reference, any_store, any_turn, any_writer, expect, first_produced, first_to_be_read,
-    first_unit, forget_in_taken, free_unit_for, is_taken, is_to_be_read, put_left,
+    any_reference, any_store, any_turn, any_writer, expect, first_produced, first_unit,
+    forget_in_taken, free_unit_for, is_taken, is_to_be_read, put_left, result_to_be_read,
 };
 use crate::{Issued, Progress, Writer, Writers, unit_number};
 use instructions::{Digit, Instr, Refusal, Reg, Unit, results, sources};
@@ -165,7 +165,7 @@ impl Board {
             return Ok(());
         };
         let written = issued.reservation.instr.sets();
-        match first_to_be_read(&self.units, issued.number, written.as_slice()) {
+        match result_to_be_read(&self.units, issued.number, written) {
             Some(register) => Err(Refusal::ResultHeld(register)),
             None => Ok(()),
         }
@@ -262,7 +262,7 @@ impl Board {
         self.units[index] = None;
         put_left(&mut self.channels, &issued);
         // The unit is entered as the writer of these registers alone.
-        self.writers.set_each(written.as_slice(), &None);
+        self.writers.set_any(written, &None);
         // Nobody was issued after the last one, so nobody waits for it.
         if issued.number != self.last {
             forget_in_taken(&self.units, &mut self.producers, &Writer::OfUnit(unit));

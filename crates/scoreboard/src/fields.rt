@@ -1,6 +1,7 @@
 //! Questions to the fields of a board, and how an issue and a store event change the fields. A slot is the field of one
 //! unit.
 
+ghost use Rattle.std.specs.Prelude.{option_to_list};
 ghost use Rattle.std.specs.Prelude.{IfSome, ◌≡◌, ◌≤◌, ◌<◌, ◌||◌, ◌∷◌, [], length, find, is_some};
 ghost use Rattle.std.specs.List.{list_any};
 ghost use Rattle.instructions.specs.declared.instr.Unit.TheVariants.{Branch};
@@ -8,7 +9,7 @@ ghost use Rattle.instructions.specs.Operands.{uses};
 ghost use Rattle.scoreboard.specs.Conflicts.{first_free};
 ghost use Rattle.scoreboard.specs.Units.{units_of, first_unit};
 ghost use Rattle.scoreboard.specs.Reservations.{has_turn, has_store_turn};
-ghost use Rattle.scoreboard.specs.inner.Fields.{slot_at, in_increment, is_taken, slot_is, slot_waits, slot_reads};
+ghost use Rattle.scoreboard.specs.inner.Fields.{slot_at, in_increment, is_taken, slot_is, slot_reads};
 ghost use Rattle.scoreboard.specs.inner.Fields.{slot_has_turn, free_for, channels_with, writers_with, forget_in_taken};
 ghost use Rattle.instructions.specs.Shape.{shape_of, sets_of};
 ghost use Rattle.instructions.specs.Each.{Each};
@@ -41,24 +42,6 @@ pub(crate) fn first_produced(registers: &[Reg], producers: &[Option<Writer>]) ->
     None
 }
 
-/// Whether the slot's instruction has a lower number and has still to read its operands.
-#[tactic(auto, unfolding(crate::specs::inner::Fields::slot_waits))]
-fn slot_waits(slot: &Option<Issued>, number: u64) -> bool
-    ensures { result ≡ slot_waits number slot.now }
-{
-    match slot {
-        None => false,
-        Some(issued) => issued.number < number && issued.reservation.is_unread(),
-    }
-}
-
-/// Whether an instruction of a lower number has still to read its operands.
-fn is_any_unread(slots: &[Option<Issued>], number: u64) -> bool
-    ensures { result ≡ list_any (slot_waits number) slots.now }
-{
-    slots.iter().any(|slot| slot_waits(slot, number))
-}
-
 /// Whether the slot's instruction has a lower number and has still to read the register.
 #[tactic(auto, unfolding(crate::specs::inner::Fields::slot_reads))]
 fn slot_reads(slot: &Option<Issued>, number: u64, register: &Reg) -> bool
@@ -77,24 +60,18 @@ pub(crate) fn is_to_be_read(slots: &[Option<Issued>], number: u64, register: &Re
     slots.iter().any(|slot| slot_reads(slot, number, register))
 }
 
-/// The first of the registers that an instruction of a lower number has still to read.
-pub(crate) fn first_to_be_read(
+/// The register, if there is one and an instruction of a lower number has still to read it.
+pub(crate) fn result_to_be_read(
     slots: &[Option<Issued>],
     number: u64,
-    registers: &[Reg],
+    register: Option<Reg>,
 ) -> Option<Reg>
-    ensures { result ≡ find (λ r. list_any (slot_reads number r) slots.now) registers.now }
+    ensures { result ≡ find (λ r. list_any (slot_reads number r) slots.now) (option_to_list register) }
 {
-    // Mostly none has anything left to read, and then there is no need to look for a register.
-    if registers.is_empty() || !is_any_unread(slots, number) {
-        return None;
+    match register {
+        Some(register) if is_to_be_read(slots, number, &register) => Some(register),
+        _ => None,
     }
-    for register in registers {
-        if is_to_be_read(slots, number, register) {
-            return Some(*register);
-        }
-    }
-    None
 }
 
 /// Whether the unit's instruction has a lower number and a reference that hasn't come to its store event.
@@ -258,8 +235,7 @@ pub(crate) fn expect(writers: &mut Writers, instr: &Instr, unit: Unit)
     if let Some(n) = channel(instr) {
         writers.set(Reg::X(n), Some(Writer::OfChannel(n)));
     }
-    let written = instr.sets();
-    writers.set_each(written.as_slice(), &Some(Writer::OfUnit(unit)));
+    writers.set_any(instr.sets(), &Some(Writer::OfUnit(unit)));
 }
 
 /// No instruction in a unit waits for the writer any longer, for it has written. The producers of a free unit are

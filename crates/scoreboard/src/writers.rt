@@ -1,3 +1,4 @@
+ghost use Rattle.std.specs.Prelude.{option_to_list};
 ghost use Rattle.std.specs.Prelude.{◌≡◌, ◌≤◌, None, length, slice_get, IfSome, replicate};
 ghost use Rattle.scoreboard.specs.Writers.{IsRegister, writer_at, set_writer, writer_if, set_each};
 ghost use Rattle.instructions.specs.Each.{Each};
@@ -80,13 +81,13 @@ impl Writers {
         ]
     }
 
-    /// Sets who is to write each of the registers.
-    pub(crate) fn set_each(&mut self, registers: &[Reg], writer: &Option<Writer>)
-        ensures value { self.new ≡ set_each self.old registers.now writer.now }
-        ensures registers { Each IsRegister registers.now }
+    /// Sets who is to write the register, if there is one.
+    pub(crate) fn set_any(&mut self, register: Option<Reg>, writer: &Option<Writer>)
+        ensures value { self.new ≡ set_each self.old (option_to_list register) writer.now }
+        ensures registers { Each IsRegister (option_to_list register) }
     {
-        for register in registers {
-            self.set(*register, *writer);
+        if let Some(register) = register {
+            self.set(register, *writer);
         }
     }
 }

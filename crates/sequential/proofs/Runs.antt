@@ -108,7 +108,8 @@ replay-append s [] ys = refl
 replay-append s (x ∷ xs) ys = after (do_log_step s x) (λ t. replay-append t xs ys)
   where
     after : (o : Option State) → ((t : State) → replay t (xs ++ ys) ≡ option_and_then (λ u. replay u ys) (replay t xs))
-        → option_and_then (λ t. replay t (xs ++ ys)) o ≡ option_and_then (λ u. replay u ys) (option_and_then (λ t. replay t xs) o)
+        → option_and_then (λ t. replay t (xs ++ ys)) o ≡ option_and_then (λ u. replay u ys)
+        (option_and_then (λ t. replay t xs) o)
     after None h = refl
     after (Some t) h = h t
 

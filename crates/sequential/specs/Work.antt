@@ -51,9 +51,9 @@ address_in (Store a w) = a
 address_in (Jump to) = 0
 address_in (Link at back) = at
 
--- the link word of RJ: 0400, the return address and thirty zeros
+-- the link word of RJ: 0400 (octal), the return address and thirty zeros
 unfoldable pub link_word : ℕ → ℕ
-link_word back = 256 * 2 ^ 48 + back * 2 ^ 30
+link_word back = 0o400 * 2 ^ 48 + back * 2 ^ 30
 
 -- the word that a value stores, +0 where it stores none
 unfoldable pub word_in : UnitValue → ℕ
@@ -102,11 +102,6 @@ work_of shape v = record {
 unfoldable pub fault_of : Bounds → Option ProgramReference → Bool
 fault_of b None = false
 fault_of b (Some r) = stops_at_fault b && is_none (absolute b r.address)
-
--- the registers of an instruction that writes one or none, as a list
-abbrev pub listed : Option Reg → List Reg
-listed None = []
-listed (Some r) = r ∷ []
 
 -- the registers after a write to one of them, if there is one
 abbrev pub put_any : RegisterFile → Option Reg → ℕ → RegisterFile

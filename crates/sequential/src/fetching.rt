@@ -42,7 +42,11 @@ pub fn fetched_by(position: ProgramPosition, word: Word60, reading: Decoded) -> 
         ..position
     };
     match reading {
-        Decoded::Legal(instr, next) => classify(at_instruction, ProgramPosition::after_parcel(position.p, word, next), &instr),
+        Decoded::Legal(instr, next) => classify(
+            at_instruction,
+            ProgramPosition::after_parcel(position.p, word, next),
+            &instr,
+        ),
         Decoded::Refused(op) => Fetched::Halting(Halt::Illegal(op), at_instruction),
         Decoded::Straddle => Fetched::Halting(Halt::Straddle, at_instruction),
     }
@@ -57,7 +61,12 @@ impl State {
     {
         match self.position.held {
             Some(word) => Some(word),
-            None => match relocate(self.position.p, self.area.ra, self.area.fl, self.memory.size()) {
+            None => match relocate(
+                self.position.p,
+                self.area.ra,
+                self.area.fl,
+                self.memory.size(),
+            ) {
                 Some(address) => Some(self.memory.load(address)),
                 None => None,
             },
@@ -71,7 +80,11 @@ impl State {
         ensures { result ≡ fetch (bounds_of self.now) self.now.memory self.now.position }
     {
         match self.word_here() {
-            Some(word) => fetched_by(self.position, word, decode(word, self.position.parcel.get())),
+            Some(word) => fetched_by(
+                self.position,
+                word,
+                decode(word, self.position.parcel.get()),
+            ),
             None => Fetched::Halting(Halt::FetchRange, ProgramPosition::at(self.position.p)),
         }
     }

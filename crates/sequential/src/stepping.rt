@@ -4,11 +4,12 @@ ghost use Rattle.unit_ops.specs.Values.{value_of};
 ghost use Rattle.sequential.specs.State.{bounds_of};
 ghost use Rattle.instruction_table.specs.Decoding.{digits_at, reading_at};
 ghost use Rattle.sequential.specs.Step.{do_fetched, do_instruction, fetched_by, step};
-ghost use Rattle.sequential.specs.Work.{listed, put_any, refer_at, refer};
+ghost use Rattle.sequential.specs.Work.{put_any, refer_at, refer};
 
 use crate::fetching::fetched_by;
 use crate::{
-    Fetched, ProgramPosition, ProgramReference, State, fault_after, jump, number, operands, reference,
+    Fetched, ProgramPosition, ProgramReference, State, fault_after, jump, number, operands,
+    reference,
 };
 use instruction_table::{Halt, Instr, Reg, Target, decode_as, first_digits};
 use registers::RegisterFile;
@@ -24,33 +25,6 @@ fn computed(instr: &Instr, operands: &Operands) -> UnitValue
     match *instr {
         Instr::Stop | Instr::Pass => UnitValue::Index(Word18::default()),
         _ => value(instr, operands),
-    }
-}
-
-/// The register that an instruction writes besides the X register of a load, if there is one.
-#[tactic(auto, unfolding(instructions::specs::Shape::shape_of, instructions::specs::Shape::sets_of))]
-#[inline(always)]
-fn written(instr: &Instr) -> Option<Reg>
-    ensures { sets_of (shape_of instr.now) ≡ listed result }
-{
-    match *instr {
-        Instr::Copy { i, .. }
-        | Instr::Invert { i, .. }
-        | Instr::Logical { i, .. }
-        | Instr::ShiftBy { i, .. }
-        | Instr::ShiftNominal { i, .. }
-        | Instr::LongAdd { i, .. }
-        | Instr::Mask { i, .. }
-        | Instr::CountOnes { i, .. } => Some(Reg::X(i)),
-        Instr::Increment { target, i, .. } => match target {
-            Target::X => Some(Reg::X(i)),
-            Target::A => Some(Reg::A(i)),
-            Target::B => match i.get() {
-                0 => None,
-                _ => Some(Reg::B(i)),
-            },
-        },
-        _ => None,
     }
 }
 
@@ -112,7 +86,7 @@ impl State {
         let value = computed(instr, &operands(instr, at, &self.registers));
         let reference = reference(instr, &value);
         let fault = fault_after(self.fault, &self.area, self.memory.size(), &reference);
-        write_any(&mut self.registers, written(instr), number(&value));
+        write_any(&mut self.registers, instr.sets(), number(&value));
         self.position = self.position.after_jump(jump(instr, &value));
         self.fault = fault;
         self.refer(&reference);

@@ -21,7 +21,7 @@ fn word_at_2(read: Result<Deck, Refusal>) -> u64 {
     }
 }
 
-/// The word that a `code` line of these texts places at 2.
+/// The word that a `code` line of these texts puts at 2.
 fn expect_coded(rt: &(impl Abort + AllocGlobal), texts: &str, word: u64) -> Result<(), Fail> {
     let deck = joined(
         rt.alloc(),

@@ -36,11 +36,11 @@ upper x = x / 2 ^ 48
 
 -- out of range: the upper twelve bits are 3777 or 4000 (octal)
 abbrev pub is_out_of_range : ℕ → Bool
-is_out_of_range x = (upper x == 2047) || (upper x == 2048)
+is_out_of_range x = (upper x == 0o3777) || (upper x == 0o4000)
 
 -- indefinite: the upper twelve bits are 1777 or 6000 (octal)
 abbrev pub is_indefinite : ℕ → Bool
-is_indefinite x = (upper x == 1023) || (upper x == 3072)
+is_indefinite x = (upper x == 0o1777) || (upper x == 0o6000)
 
 -- the word is +0 or -0
 abbrev pub is_zero : ℕ → Bool
@@ -57,7 +57,7 @@ x_holds OutOfRange x = is_out_of_range x
 x_holds Definite x = not (is_indefinite x)
 x_holds Indefinite x = is_indefinite x
 
--- the position of a pattern of 18 bits in the order of two's complement
+-- where an 18-bit pattern stands from the most negative on, with -0 (777777) just below +0
 abbrev pub rank : ℕ → ℕ
 rank b = (b + 2 ^ 17) % 2 ^ 18
 
@@ -138,14 +138,14 @@ abbrev pub branch_to : Bool → ℕ → UnitValue
 branch_to taken K = Jump (if taken then Some K else None)
 
 -- the address after another; 0 comes after 777777
-abbrev pub next_place : ℕ → ℕ
-next_place place = (place + 1) % 2 ^ 18
+abbrev pub next_address : ℕ → ℕ
+next_address address = (address + 1) % 2 ^ 18
 
 -- the value of a row; a pass and a stop have none, and +0 stands here for it
 abbrev pub value_of : Instr → Operands → UnitValue
 value_of Stop o = Index 0
 value_of Pass o = Index 0
-value_of (ReturnJump K) o = Link K (next_place o.place)
+value_of (ReturnJump K) o = Link K (next_address o.place)
 value_of (JumpTo i K) o = Jump (Some (sum 18 (low18 o.first) K))
 value_of (BranchX test j K) o = branch_to (x_holds test o.first) K
 value_of (BranchB test i j K) o = branch_to (b_holds test (low18 o.first) (low18 o.second)) K
@@ -166,7 +166,7 @@ destination (Index b) = None
 destination (Load a) = None
 destination (Store a x) = None
 destination (Jump to) = to
-destination (Link at back) = Some (next_place at)
+destination (Link at back) = Some (next_address at)
 
 -- where a branch that is taken goes; None is for one that isn't, and for every other instruction
 abbrev pub branch_of : Instr → Operands → Option ℕ

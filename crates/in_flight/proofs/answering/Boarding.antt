@@ -167,7 +167,7 @@ after_on m (Some f) h = ap (λ l. Some
       later = on_board f.later;
     })) (kept_here (reservation_of m).progress (on_board f.earlier) (issued_of m) h)
 
--- the one that is sought by its reservation is the one that is sought among the pending
+-- the one that is looked for by its reservation is the one that is looked for among the pending
 board_seek : {K : Type 0} (f : Pending → Option K) (g : Issued → Option Instr)
     → ((m : Pending) (k : K) → f m ≡ Some k → g (issued_of m) ≡ Some m.instr)
     → ((m : Pending) → f m ≡ None → g (issued_of m) ≡ None)

@@ -177,9 +177,11 @@ some_answer : (busy : List Bool) (p : ℕ) (f : Found Pending Reference)
     → refusal_of (accept_tests busy f.earlier f.answer) ≡ refusal_in (accept_answer busy (Some (in_queue p f)))
 unfolding accept_tests accept_answer
 some_answer busy p f =
-    tests_answer (get_or busy (bank_of f.answer.address) false) (list_any (holds_back f.answer.address f.answer.access) f.earlier)
+    tests_answer (get_or busy (bank_of f.answer.address) false)
+    (list_any (holds_back f.answer.address f.answer.access) f.earlier)
     (BankBusy (bank_of f.answer.address)) OlderAtAddress f.answer
-    ∙ ap (λ y. refusal_in (cond (get_or busy (bank_of f.answer.address) false) (Err (BankBusy (bank_of f.answer.address)))
+    ∙ ap (λ y. refusal_in (cond (get_or busy (bank_of f.answer.address) false)
+    (Err (BankBusy (bank_of f.answer.address)))
     (cond y (Err OlderAtAddress) (Ok f.answer)))) (sym (back_waits f.answer f.earlier))
 
 nothing_taken : (busy : List Bool) (r : Reference) → accept_answer busy None ≡ Ok r → ⊥

@@ -31,7 +31,7 @@ pub not_nothing : refusal_of nothing ≡ None → ⊥
 unfolding refusal_of nothing
 not_nothing h = cc
 
--- the instruction that was sought is the one that was found
+-- the instruction that was located is the one that was found
 pub sought_pending : {K : Type 0} (f : Found Pending K) (s : Located K) → located (Some f) ≡ Some s → f.item ≡ s.pending
 unfolding located
 sought_pending {K} f s h = ap (λ (x : Located K). x.pending) (same_Some _ s h)

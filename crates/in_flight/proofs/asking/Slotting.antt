@@ -185,7 +185,8 @@ other_place : (p q a : ℕ) (access : Access)
     → eqb q p ≡ false
 other_place p q a access h = by_test (eqb q p) h
   where
-    by_test : (b : Bool) → is_some {T = Reference} (cond b (Some (record { address = a; access = access })) None) ≡ false
+    by_test : (b : Bool) → is_some {T = Reference} (cond b (Some (record { address = a; access = access })) None)
+        ≡ false
         → b ≡ false
     by_test true k = cc
     by_test false k = refl

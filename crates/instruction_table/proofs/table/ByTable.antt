@@ -273,12 +273,14 @@ by_table word position l =
         → IsReadAs instr (parcel_at word position ∷ cond b (parcel_at word (position + 1)) 0 ∷ [])
         → IsByTable word position (cond b (Legal instr (position + 2)) Straddle)
     by_length instr true t a =
-        subst (λ n. IsReadAs instr (parcels_from word position n)) (let d : 2 ≡ position + 2 - position = omega arith in d) a
+        subst (λ n. IsReadAs instr (parcels_from word position n)) (let d : 2
+        ≡ position + 2 - position = omega arith in d) a
     by_length instr false t a = let f = ltb-false position 3 t in (omega (arith, l, f), (instr, a))
 
     by_entry : (e : TableEntry) → entry_of (parcel_at word position) (following_at word position) ≡ e
         → Agrees (parcel_at word position) (following_at word position) e → IsByTable word position (settled e position)
     by_entry (Short instr) h a =
-        subst (λ n. IsReadAs instr (parcels_from word position n)) (let d : 1 ≡ position + 1 - position = omega arith in d) a
+        subst (λ n. IsReadAs instr (parcels_from word position n)) (let d : 1
+        ≡ position + 1 - position = omega arith in d) a
     by_entry (Long instr) h a = by_length instr (nat_lt position 3) refl a
     by_entry (Refused op) h a = (a, no_code (parcel_at word position) (following_at word position) op h a)

@@ -222,7 +222,8 @@ long_here instr word position below h =
     let test : nat_lt position 3 ≡ true = grind (arith, nat_tests) in
     rw (test, h, test) refl
 
-short_here : (instr : Instr) (word position : ℕ) → entry_of (parcel_at word position) (following_at word position) ≡ Short instr
+short_here : (instr : Instr) (word position : ℕ) → entry_of (parcel_at word position) (following_at word position)
+    ≡ Short instr
     → reading_at word position ≡ Legal instr (position + 1)
 unfolding reading_at
 short_here instr word position h = rw h refl

@@ -24,8 +24,10 @@ use Rattle.sequential.specs.declared.position.ProgramPosition.{ProgramPosition}
 use Rattle.sequential.specs.declared.state.State.{State}
 use Rattle.sequential.specs.declared.work.ProgramReference.{ProgramReference}
 use Rattle.sequential.specs.Position.{after_jump}
-use Rattle.sequential.specs.State.{Bounds, bounds_of, write, write_all, jump_to, or_fault, store_word, access_at, move_to, halt_by}
-use Rattle.sequential.specs.Work.{operands, each_set_to, fault_of, jump_for, reference_for, number_in, work_of, write_and_jump}
+use Rattle.sequential.specs.State.{Bounds, bounds_of, write, write_all, jump_to, or_fault, store_word, access_at}
+use Rattle.sequential.specs.State.{move_to, halt_by}
+use Rattle.sequential.specs.Work.{operands, each_set_to, fault_of, jump_for, reference_for, number_in, work_of}
+use Rattle.sequential.specs.Work.{write_and_jump}
 use Rattle.sequential.specs.Step.{fetch}
 use Rattle.sequential.specs.Swap.{swap}
 use Rattle.sequential.specs.Replay.{LogStep, Issued, Exchanged, ReadAt, Wrote, boot, replay}
@@ -315,7 +317,8 @@ accept_made w p r s g a h es e = ap (with_flight (record w { state = s })) e
     found (Some f) k i =
         by_access w f r.address r.access ∙ ap (λ (y : Reference). after_accept w f y.address y.access) (sym i)
 
-pub store_made : (w : Processor) (u : FunctionalUnit) (m : Pending) (v : UnitValue) (s : State) (position : ProgramPosition)
+pub store_made : (w : Processor) (u : FunctionalUnit) (m : Pending) (v : UnitValue) (s : State)
+    (position : ProgramPosition)
     (fault : Bool) (left : Option Outstanding) (g : Flight)
     → located (seek (stage_at u) w.pending) ≡ Some (record { pending = m; answer = Finished v })
     → s ≡ write_all w.state (each_set_to (number_in v) (sets_of (shape_of m.instr)))
@@ -416,7 +419,10 @@ pub record IsIssued (w : Processor) (before : Logged) (g : Fetched) (v : Process
   pub numbered : v.last ≤ suc w.last
 
 pub issued_halting : (w : Processor) (log : Logged) (halt : Halt) (position : ProgramPosition)
-    → IsIssued w log (Halting halt position) (record w { state = record w.state { position = position; halt = Some halt } }) log
+    → IsIssued w log (Halting halt position) (record w {
+      state = record w.state
+          { position = position; halt = Some halt };
+    }) log
     None
 unfolding refusal_of reservation_tests after_issue move_to halt_by note_by
 issued_halting w log halt position =
@@ -443,10 +449,12 @@ issued_passing w log position = record {
   numbered = omega arith;
 }
 
-pub issued_taking : (w : Processor) (log : Logged) (i : Instr) (position : ProgramPosition) (unit : FunctionalUnit) (number : ℕ)
+pub issued_taking : (w : Processor) (log : Logged) (i : Instr) (position : ProgramPosition) (unit : FunctionalUnit)
+    (number : ℕ)
     (f : Flight) → refusal_of (reservation_tests w.pending (Taking i position)) ≡ None → unit ≡ unit_taken (flight w) i
     → number ≡ suc w.last → f ≡ reserved_in (flight w) i w.state.position.p
-    → IsIssued w log (Taking i position) (with_flight (record w { state = record w.state { position = position } }) f) log
+    → IsIssued w log (Taking i position) (with_flight (record w { state = record w.state { position = position } }) f)
+    log
     (Some (record { unit = unit; number = number }))
 unfolding after_issue move_to note_by
 issued_taking w log i position unit number f a eu en ef = record {
@@ -531,7 +539,8 @@ unfolding bounds_of
 bounds_at w size e = ap (λ n. record { area = w.state.area; size = n }) e
 
 pub store_parts : (w : Processor) (u : FunctionalUnit) (size : ℕ) (m : Pending) (v : UnitValue)
-    (q : Option ProgramReference) (written rs : List Reg) (number : ℕ) (jump : Option ℕ) (s : State) (position : ProgramPosition)
+    (q : Option ProgramReference) (written rs : List Reg) (number : ℕ) (jump : Option ℕ) (s : State)
+    (position : ProgramPosition)
     (fault : Bool) (rest : Option Rest) (g : Flight)
     → located (seek (stage_at u) w.pending) ≡ Some (record { pending = m; answer = Finished v })
     → size ≡ length w.state.memory

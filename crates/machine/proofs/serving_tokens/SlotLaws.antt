@@ -26,7 +26,8 @@ use Rattle.in_flight.specs.declared.slots.Located.{Located}
 use Rattle.in_flight.specs.Flight.{Flight, with_pending}
 use Rattle.in_flight.specs.Lookup.{located, in_phase, stage_at, stage_in}
 use Rattle.instructions.specs.Finding.{replaced, Found, put_back, seek}
-use Rattle.machine.specs.Tokens.{Computation, Reading, ServedReservation, Seating, IsValueAt, IsValueIn, finished_in, read_of}
+use Rattle.machine.specs.Tokens.{Computation, Reading, ServedReservation, Seating, IsValueAt, IsValueIn, finished_in}
+use Rattle.machine.specs.Tokens.{read_of}
 use Rattle.machine.specs.Tokens.{reading_at, reading_in, refusal_to, slot, waits_in}
 use Rattle.program_order.specs.Processor.{Processor}
 use Rattle.program_order.specs.Events.{after, allowed, tests_of}
@@ -107,7 +108,8 @@ one_number m n (Some f) h k = by_test (is_waiting f.answer) h k
     by_test false i j = cc
 
 -- a token whose number waits is loaded with its own number
-pub loaded_as : (w v : Processor) (t : ServedReservation) (k : Note) (m : Pending) (os : Operands) (pending : List Pending)
+pub loaded_as : (w v : Processor) (t : ServedReservation) (k : Note) (m : Pending) (os : Operands)
+    (pending : List Pending)
     (b : Bool) → k ≡ record { unit = t.seat.unit; number = t.number } → pending ≡ w.pending
     → b ≡ waits_in k.number (seek (stage_at k.unit) pending) → b ≡ true
     → waits_in m.number (slot w k.unit) ≡ true
@@ -203,7 +205,8 @@ pub store_refused : (w : Processor) (t : ServedReservation) (n : Note) (pending 
 unfolding answer_of
 store_refused w t n pending b k en em eb et h = store_asks w t n pending b (Some k) en em eb et (answered_err _ _ k h)
 
-pub store_allowed : (w : Processor) (t : ServedReservation) (n : Note) (pending : List Pending) (b : Bool) (given : Done)
+pub store_allowed : (w : Processor) (t : ServedReservation) (n : Note) (pending : List Pending) (b : Bool)
+    (given : Done)
     → n ≡ record { unit = t.seat.unit; number = t.number } → pending ≡ w.pending
     → b ≡ finished_in n.number (seek (stage_at n.unit) pending) → b ≡ true → Ok given ≡ answer_of w (StoreResult n.unit)
     → refusal_to (finished_in t.number (slot w t.seat.unit)) (allowed w (StoreResult t.seat.unit)) ≡ None
@@ -223,7 +226,7 @@ is_same c number instr operands true en eo h k =
     ∙ ap (λ (x : Operands). record { seat = c.seat; number = number; instr = instr; operands = x }) eo
 is_same c number instr operands false en eo h k = λ e. search (rules, k (ap (λ (r : Reading). r.instr) e))
 
--- ---- what the instruction that was sought says of its slot ----
+-- ---- what the instruction that was located says of its slot ----
 
 pub waits_then : (n : ℕ) (o : Option (Found Pending Stage)) (r : Option (Located Stage)) (s : Located Stage) (b : Bool)
     → r ≡ located o → r ≡ Some s → b ≡ is_waiting s.answer → b ≡ true → eqb s.pending.number n ≡ waits_in n o

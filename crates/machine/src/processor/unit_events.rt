@@ -6,7 +6,7 @@ ghost use Rattle.in_flight.specs.Tests.{refusal_in};
 ghost use Rattle.machine.specs.Tokens.{Seating, IsValueIn, slot, waits_in, reading_in};
 ghost use Rattle.program_order.specs.Events.{allowed, after};
 
-use crate::changing::{rest_of, write_registers};
+use crate::changing::{rest_of, write_register};
 use crate::judging::{judge_finish, judge_store};
 use crate::{Answer, Done, Machine};
 use in_flight::Pending;
@@ -81,8 +81,7 @@ impl Machine {
         };
         let instr = pending.instr;
         let reference = reference(&instr, &value);
-        let written = instr.sets();
-        write_registers(&mut self.state, written.as_slice(), number(&value));
+        write_register(&mut self.state, instr.sets(), number(&value));
         self.state.position = self.state.position.after_jump(jump(&instr, &value));
         self.state.fault = fault_after(self.state.fault, &area, size, &reference);
         self.in_flight

@@ -44,7 +44,7 @@ use Rattle.program_order.proofs.Opened.{results_to_come}
 use Rattle.program_order.proofs.draining.Pigeons.{listed_bound}
 use Rattle.in_flight.proofs.asking.Slotting.{all_slots, coming, loads_channel}
 
--- ---- those that pass a test ----
+-- ---- those that meet a test ----
 
 unfoldable picked : {K : Type 0} → (K → Bool) → List K → List K
 picked f [] = []
@@ -88,7 +88,7 @@ count_picked f (m ∷ ms) = by_test (f m) (count_picked f ms)
     by_test true e = omega (arith, e)
     by_test false e = omega (arith, e)
 
--- those that pass are no more than the numbers that they can have
+-- those that meet it are no more than the numbers that they can have
 count_bound : (f : Pending → Bool) (key : Pending → ℕ) (ns : List ℕ) (R : Pending → Pending → Type 0)
     (P : Pending → Type 0) (ms : List Pending) → ((a b : Pending) → f a ≡ true → f b ≡ true → R a b → key a ≢ key b)
     → ((m : Pending) → f m ≡ true → P m → list_any (eqb (key m)) ns ≡ true) → Pairs R ms → Each P ms

@@ -73,7 +73,8 @@ pub entry_first : (m : Pending) (place a : ℕ) (access : Access) → m.phase �
     → entry_at place m ≡ Some (record { address = a; access = access })
 unfolding entry_at entry_in
 entry_first m place a access e =
-    ap (entry_in place) e ∙ ap (λ b. cond b (Some (record { address = a; access = access })) None) (eq-eqb place place refl)
+    ap (entry_in place) e ∙ ap (λ b. cond b (Some (record { address = a; access = access })) None)
+    (eq-eqb place place refl)
 
 pub arrival_first : (m : Pending) (n word : ℕ) → m.phase ≡ After (Accepted n word)
     → arrival_at n m ≡ Some (record { channel = n; word = word })

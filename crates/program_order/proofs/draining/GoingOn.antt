@@ -168,7 +168,8 @@ nothing_delays (Some a) = refl
 fetch_goes : (b : Bounds) (position : ProgramPosition) → fetch_waits b position [] ≡ false
 unfolding fetch_waits
 fetch_goes b position =
-    ap (λ x. is_none position.held && x) (nothing_delays (absolute b position.p)) ∙ and_right (is_none position.held) false refl
+    ap (λ x. is_none position.held && x) (nothing_delays (absolute b position.p))
+    ∙ and_right (is_none position.held) false refl
 
 held_or_unasked : (r h : Option ℕ) → (is_none r || is_some h) ≡ true → (is_some r && is_none h) ≡ false
 held_or_unasked None h e = refl

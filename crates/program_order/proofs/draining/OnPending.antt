@@ -43,7 +43,7 @@ on_pending ms Exchange h = cc
 on_pending ms (PpRead a) h = cc
 on_pending ms (PpWrite a v) h = cc
 
--- the first of them passes
+-- the first of them meets the test
 first_any : (f : Pending → Bool) (m : Pending) (ms : List Pending) → f m ≡ true → list_any f (m ∷ ms) ≡ true
 first_any f m ms h = ap (λ b. b || list_any f ms) h
 

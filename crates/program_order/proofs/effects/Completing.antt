@@ -8,8 +8,11 @@ use Rattle.in_flight.proofs.asking.Phases.{may_store}
 use Rattle.std.proofs.Common.{◌≡◌, ℕ, false, List, [], ◌∷◌, ◌++◌, Option, Some, None, refl, ap, ◌∙◌, get_or}
 use Rattle.std.proofs.lemmas.Bool.{or_parts}
 use Rattle.std.specs.List.{list_any}
-use Rattle.program_order.proofs.effects.OnePending.{finish_effects-write, finish_effects-move, finish_effects-halt, finish_effects-or_fault, touches, finish_effects-store_word, finish_effects-get}
-use Rattle.program_order.proofs.effects.OnePending.{finish_effects-word, finish_effects-halted, finish_effects-bounds, finish_effects-position}
+use Rattle.program_order.proofs.effects.OnePending.{finish_effects-write, finish_effects-move, finish_effects-halt}
+use Rattle.program_order.proofs.effects.OnePending.{finish_effects-or_fault, touches, finish_effects-store_word}
+use Rattle.program_order.proofs.effects.OnePending.{finish_effects-get}
+use Rattle.program_order.proofs.effects.OnePending.{finish_effects-word, finish_effects-halted, finish_effects-bounds}
+use Rattle.program_order.proofs.effects.OnePending.{finish_effects-position}
 use Rattle.instructions.specs.RegisterLists.{is_in}
 use Rattle.instructions.specs.Shape.{Shape, sets_of}
 use Rattle.instructions.specs.declared.instr.Reg.{Reg}
@@ -133,7 +136,8 @@ pub complete-now : (b d : Bounds) (s : State) (ms : List Pending) (h : Shape) (x
     → complete b (write_and_jump d s (work_of h x)) ms ≡ write_and_jump d (complete b s ms) (work_of h x)
 unfolding write_and_jump work_of
 complete-now b d s ms h x nb free =
-    complete-change b (λ y. or_fault y (fault_of d (reference_for h x))) ms (each_all _ (λ m y. finish_effects-or_fault b y m _) ms) _
+    complete-change b (λ y. or_fault y (fault_of d (reference_for h x))) ms
+    (each_all _ (λ m y. finish_effects-or_fault b y m _) ms) _
     ∙ ap (λ y. or_fault y (fault_of d (reference_for h x)))
     (complete-jump_to b _ ms (jump_for h x) nb
     ∙ ap (λ y. jump_to y (jump_for h x)) (complete-write_all b s ms _ (sets_of h) free))

@@ -24,9 +24,11 @@ use Rattle.in_flight.specs.declared.pending.Outstanding.TheVariants.{Accepted, E
 use Rattle.registers.specs.Registers.{get}
 use Rattle.relocation.specs.declared.area.Access.{Access}
 use Rattle.relocation.specs.declared.area.Access.TheVariants.{Load as LoadInto, Store as StoreWord}
-use Rattle.sequential.specs.State.{Bounds, absolute, access_at, bounds_of, jump_to, halt_by, or_fault, move_to, store_word, write}
+use Rattle.sequential.specs.State.{Bounds, absolute, access_at, bounds_of, jump_to, halt_by, or_fault, move_to}
+use Rattle.sequential.specs.State.{store_word, write}
 use Rattle.sequential.specs.State.{write_all}
-use Rattle.sequential.specs.Work.{Work, write_and_jump, fault_of, jump_for, reference_for, each_set_to, work_of, do_work, refer}
+use Rattle.sequential.specs.Work.{Work, write_and_jump, fault_of, jump_for, reference_for, each_set_to, work_of}
+use Rattle.sequential.specs.Work.{do_work, refer}
 use Rattle.sequential.specs.Work.{refer_at}
 use Rattle.sequential.specs.declared.position.ProgramPosition.{ProgramPosition}
 use Rattle.sequential.specs.declared.state.State.{State}
@@ -99,11 +101,13 @@ rest_targets b slot (Stores n) v = entering_nothing slot _ (absolute b _)
 rest_targets b slot Jumps v = refl
 rest_targets b slot Links v = entering_nothing slot _ (absolute b _)
 
-pub write_and_jump-write : (b : Bounds) (s : State) (h : Shape) (x : UnitValue) (r : Reg) (v : ℕ) → is_in (sets_of h) r ≡ false
+pub write_and_jump-write : (b : Bounds) (s : State) (h : Shape) (x : UnitValue) (r : Reg) (v : ℕ) → is_in (sets_of h) r
+    ≡ false
     → write_and_jump b (write s r v) (work_of h x) ≡ write (write_and_jump b s (work_of h x)) r v
 unfolding write_and_jump work_of
 write_and_jump-write b s h x r v p =
-    ap (λ y. or_fault (jump_to y (jump_for h x)) (fault_of b (reference_for h x))) (write_all-write s _ (sets_of h) r v p)
+    ap (λ y. or_fault (jump_to y (jump_for h x)) (fault_of b (reference_for h x)))
+    (write_all-write s _ (sets_of h) r v p)
     ∙ ap (λ y. or_fault y (fault_of b (reference_for h x))) (jump_to-write _ (jump_for h x) r v)
     ∙ or_fault-write _ _ r v
 
@@ -117,7 +121,8 @@ do_parts-write b s h x r v p q =
 
 -- ---- a move of the place ----
 
-write_all-move : (s : State) (es : List (Reg × ℕ)) (p : ProgramPosition) → write_all (move_to s p) es ≡ move_to (write_all s es) p
+write_all-move : (s : State) (es : List (Reg × ℕ)) (p : ProgramPosition) → write_all (move_to s p) es
+    ≡ move_to (write_all s es) p
 unfolding write_all write move_to
 write_all-move s [] p = refl
 write_all-move s (e ∷ es) p = write_all-move (write s e.0 e.1) es p
@@ -148,7 +153,8 @@ jump_to-none : (s : State) (j : Option ℕ) → j ≡ None → jump_to s j ≡ s
 unfolding jump_to after_jump
 jump_to-none s j e = rw e refl
 
-pub write_and_jump-move : (b : Bounds) (s : State) (h : Shape) (x : UnitValue) (p : ProgramPosition) → is_branch_shape h ≡ false
+pub write_and_jump-move : (b : Bounds) (s : State) (h : Shape) (x : UnitValue) (p : ProgramPosition)
+    → is_branch_shape h ≡ false
     → write_and_jump b (move_to s p) (work_of h x) ≡ move_to (write_and_jump b s (work_of h x)) p
 unfolding write_and_jump work_of
 write_and_jump-move b s h x p e =
@@ -157,7 +163,8 @@ write_and_jump-move b s h x p e =
     ∙ sym (ap (λ y. move_to y p) (jump_to-none _ (jump_for h x) (no_jump h x e))))
     ∙ or_fault-move _ _ p
 
-pub do_parts-move : (b : Bounds) (s : State) (h : Shape) (x : UnitValue) (p : ProgramPosition) → is_branch_shape h ≡ false
+pub do_parts-move : (b : Bounds) (s : State) (h : Shape) (x : UnitValue) (p : ProgramPosition) → is_branch_shape h
+    ≡ false
     → do_parts b (move_to s p) (work_of h x) ≡ move_to (do_parts b s (work_of h x)) p
 unfolding do_parts work_of
 do_parts-move b s h x p e =
@@ -204,7 +211,8 @@ do_parts-halt b s w k =
 
 -- ---- a fault ----
 
-write_all-or_fault : (s : State) (es : List (Reg × ℕ)) (f : Bool) → write_all (or_fault s f) es ≡ or_fault (write_all s es) f
+write_all-or_fault : (s : State) (es : List (Reg × ℕ)) (f : Bool) → write_all (or_fault s f) es
+    ≡ or_fault (write_all s es) f
 unfolding write_all write or_fault
 write_all-or_fault s [] f = refl
 write_all-or_fault s (e ∷ es) f = write_all-or_fault (write s e.0 e.1) es f
@@ -232,12 +240,14 @@ do_outstanding-or_fault s (Entered slot a (LoadInto n)) f = refl
 do_outstanding-or_fault s (Entered slot a (StoreWord w)) f = refl
 do_outstanding-or_fault s (Accepted n w) f = refl
 
-do_option-or_fault : (s : State) (o : Option Outstanding) (f : Bool) → do_option (or_fault s f) o ≡ or_fault (do_option s o) f
+do_option-or_fault : (s : State) (o : Option Outstanding) (f : Bool) → do_option (or_fault s f) o
+    ≡ or_fault (do_option s o) f
 unfolding do_option
 do_option-or_fault s None f = refl
 do_option-or_fault s (Some l) f = do_outstanding-or_fault s l f
 
-pub do_parts-or_fault : (b : Bounds) (s : State) (w : Work) (f : Bool) → do_parts b (or_fault s f) w ≡ or_fault (do_parts b s w) f
+pub do_parts-or_fault : (b : Bounds) (s : State) (w : Work) (f : Bool) → do_parts b (or_fault s f) w
+    ≡ or_fault (do_parts b s w) f
 unfolding do_parts write_and_jump
 do_parts-or_fault b s w f =
     ap (λ y. do_option (or_fault (jump_to y w.jump) (fault_of b w.reference)) (rest_of b 0 w.reference))
@@ -248,7 +258,8 @@ do_parts-or_fault b s w f =
 
 -- ---- a memory write ----
 
-write_all-store_word : (s : State) (es : List (Reg × ℕ)) (a w : ℕ) → write_all (store_word s a w) es ≡ store_word (write_all s es) a w
+write_all-store_word : (s : State) (es : List (Reg × ℕ)) (a w : ℕ) → write_all (store_word s a w) es
+    ≡ store_word (write_all s es) a w
 unfolding write_all write store_word
 write_all-store_word s [] a w = refl
 write_all-store_word s (e ∷ es) a w = write_all-store_word (write s e.0 e.1) es a w
@@ -305,7 +316,8 @@ do_parts-now b s h x e = no_rest b _ (reference_for h x) (no_reference h x e)
 pub do_parts-store_word : (b : Bounds) (s : State) (h : Shape) (x : UnitValue) (a w : ℕ) → has_reference h ≡ false
     → do_parts b (store_word s a w) (work_of h x) ≡ store_word (do_parts b s (work_of h x)) a w
 do_parts-store_word b s h x a w e =
-    do_parts-now b (store_word s a w) h x e ∙ write_and_jump-store_word b s h x a w ∙ ap (λ y. store_word y a w) (sym (do_parts-now b s h x e))
+    do_parts-now b (store_word s a w) h x e ∙ write_and_jump-store_word b s h x a w
+    ∙ ap (λ y. store_word y a w) (sym (do_parts-now b s h x e))
 
 -- ---- what stays ----
 
@@ -477,7 +489,8 @@ pub do_work-write : (b : Bounds) (s : State) (h : Shape) (x : UnitValue) (r : Re
     → do_work b (write s r v) (work_of h x) ≡ write (do_work b s (work_of h x)) r v
 do_work-write b s h x r v p q = by_parts b s (work_of h x) (λ y. write y r v) (do_parts-write b s h x r v p q)
 
-pub do_work-move : (b : Bounds) (s : State) (h : Shape) (x : UnitValue) (p : ProgramPosition) → is_branch_shape h ≡ false
+pub do_work-move : (b : Bounds) (s : State) (h : Shape) (x : UnitValue) (p : ProgramPosition) → is_branch_shape h
+    ≡ false
     → do_work b (move_to s p) (work_of h x) ≡ move_to (do_work b s (work_of h x)) p
 do_work-move b s h x p e = by_parts b s (work_of h x) (λ y. move_to y p) (do_parts-move b s h x p e)
 
@@ -485,12 +498,14 @@ pub do_work-halt : (b : Bounds) (s : State) (w : Work) (k : Halt)
     → do_work b (halt_by s k) w ≡ halt_by (do_work b s w) k
 do_work-halt b s w k = by_parts b s w (λ y. halt_by y k) (do_parts-halt b s w k)
 
-pub do_work-or_fault : (b : Bounds) (s : State) (w : Work) (f : Bool) → do_work b (or_fault s f) w ≡ or_fault (do_work b s w) f
+pub do_work-or_fault : (b : Bounds) (s : State) (w : Work) (f : Bool) → do_work b (or_fault s f) w
+    ≡ or_fault (do_work b s w) f
 do_work-or_fault b s w f = by_parts b s w (λ y. or_fault y f) (do_parts-or_fault b s w f)
 
 pub do_work-store_word : (b : Bounds) (s : State) (h : Shape) (x : UnitValue) (a w : ℕ) → has_reference h ≡ false
     → do_work b (store_word s a w) (work_of h x) ≡ store_word (do_work b s (work_of h x)) a w
-do_work-store_word b s h x a w e = by_parts b s (work_of h x) (λ y. store_word y a w) (do_parts-store_word b s h x a w e)
+do_work-store_word b s h x a w e = by_parts b s (work_of h x) (λ y. store_word y a w)
+    (do_parts-store_word b s h x a w e)
 
 pub do_work-get : (b : Bounds) (s : State) (h : Shape) (x : UnitValue) (r : Reg) → is_in (sets_of h) r ≡ false
     → is_in (loads_of h) r ≡ false → get (do_work b s (work_of h x)).registers r ≡ get s.registers r

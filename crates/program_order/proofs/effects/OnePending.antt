@@ -14,7 +14,8 @@ use Rattle.registers.proofs.RegisterLaws.{get-put_other, same_reg_flip}
 use Rattle.program_order.proofs.Opened.{operands_to_read, results_to_come}
 use Rattle.program_order.proofs.effects.Effects.{later_touches, later_stores, do_outstanding-write, do_work-write}
 use Rattle.program_order.proofs.effects.Effects.{do_outstanding-move, do_work-move, do_outstanding-halt, do_work-halt}
-use Rattle.program_order.proofs.effects.Effects.{do_outstanding-or_fault, do_work-or_fault, do_outstanding-store_word, do_work-store_word}
+use Rattle.program_order.proofs.effects.Effects.{do_outstanding-or_fault, do_work-or_fault, do_outstanding-store_word}
+use Rattle.program_order.proofs.effects.Effects.{do_work-store_word}
 use Rattle.program_order.proofs.effects.Effects.{do_outstanding-get, do_work-get, do_outstanding-word, do_work-word}
 use Rattle.program_order.proofs.effects.Effects.{do_outstanding-halted, do_work-halted, do_outstanding-bounds}
 use Rattle.program_order.proofs.effects.Effects.{do_work-bounds, do_outstanding-position, do_work-position}
@@ -197,11 +198,13 @@ pub finish_effects-move : (b : Bounds) (s : State) (m : Pending) (k : ProgramPos
 unfolding finish_effects is_branch board.is_branch reservation_of before_and is_reserved progress_of
 finish_effects-move b s m k e = phase-move b s m.instr m.at m.phase k e
 
-pub finish_effects-halt : (b : Bounds) (s : State) (m : Pending) (k : Halt) → finish_effects b (halt_by s k) m ≡ halt_by (finish_effects b s m) k
+pub finish_effects-halt : (b : Bounds) (s : State) (m : Pending) (k : Halt) → finish_effects b (halt_by s k) m
+    ≡ halt_by (finish_effects b s m) k
 unfolding finish_effects
 finish_effects-halt b s m k = phase-halt b s m.instr m.at m.phase k
 
-pub finish_effects-or_fault : (b : Bounds) (s : State) (m : Pending) (f : Bool) → finish_effects b (or_fault s f) m ≡ or_fault (finish_effects b s m) f
+pub finish_effects-or_fault : (b : Bounds) (s : State) (m : Pending) (f : Bool) → finish_effects b (or_fault s f) m
+    ≡ or_fault (finish_effects b s m) f
 unfolding finish_effects
 finish_effects-or_fault b s m f = phase-or_fault b s m.instr m.at m.phase f
 
@@ -232,6 +235,7 @@ pub finish_effects-bounds : (b : Bounds) (s : State) (m : Pending) → bounds_of
 unfolding finish_effects
 finish_effects-bounds b s m = phase-bounds b s m.instr m.at m.phase
 
-pub finish_effects-position : (b : Bounds) (s : State) (m : Pending) → is_branch m ≡ false → (finish_effects b s m).position ≡ s.position
+pub finish_effects-position : (b : Bounds) (s : State) (m : Pending) → is_branch m ≡ false
+    → (finish_effects b s m).position ≡ s.position
 unfolding finish_effects is_branch board.is_branch reservation_of before_and is_reserved progress_of
 finish_effects-position b s m e = phase-position b s m.instr m.at m.phase e

@@ -182,7 +182,8 @@ Begins (Halting halt place) = IsAtBeginning place
 Begins (Passing place) = IsAtBeginning place
 Begins (Taking i place) = IsAtBeginning place
 
-begins_met : (position next : ProgramPosition) (i : Instr) → IsAtBeginning position → IsAtBeginning next → Begins (classify position next i)
+begins_met : (position next : ProgramPosition) (i : Instr) → IsAtBeginning position → IsAtBeginning next
+    → Begins (classify position next i)
 unfolding classify
 begins_met position next Stop h k = h
 begins_met position next Pass h k = k
@@ -237,7 +238,8 @@ unfolding write_all write
 written_position s [] = refl
 written_position s (e ∷ es) = written_position (write s e.0 e.1) es
 
-starts_gone : (position : ProgramPosition) (to : Option ℕ) → IsAtBeginning position → IsAtBeginning (after_jump position to)
+starts_gone : (position : ProgramPosition) (to : Option ℕ) → IsAtBeginning position
+    → IsAtBeginning (after_jump position to)
 unfolding after_jump
 starts_gone position None h = h
 starts_gone position (Some to) h = λ e. refl

@@ -109,7 +109,8 @@ issued_count w g r t =
 numbers_issue : (w : Processor) (g : Fetched) → IsReplay w → IsNumbered w → taken_in (completed w) ≡ taken_by g
     → IsNumbered (after_issue w g)
 unfolding after_issue taken_by one_for
-numbers_issue w (Halting halt position) r h t = let e = issued_count w (Halting halt position) r t in omega (arith, e, h)
+numbers_issue w (Halting halt position) r h t = let e = issued_count w (Halting halt position) r t in omega
+    (arith, e, h)
 numbers_issue w (Passing position) r h t = let e = issued_count w (Passing position) r t in omega (arith, e, h)
 numbers_issue w (Taking i position) r h t = let e = issued_count w (Taking i position) r t in omega (arith, e, h)
 
@@ -179,7 +180,8 @@ log_issue w (Passing position) = (refl, refl)
 log_issue w (Taking i position) = (refl, refl)
 
 issue_reservations : (w : Processor) → allowed w Issue ≡ None
-    → Each (λ t. t.fails ≡ false) (reservation_tests w.pending (fetch (bounds_of w.state) w.state.memory w.state.position))
+    → Each (λ t. t.fails ≡ false) (reservation_tests w.pending
+    (fetch (bounds_of w.state) w.state.memory w.state.position))
 unfolding allowed tests_of issue_tests
 issue_reservations w h = (refusal_none _ h).1.1.1.1.1.1
 

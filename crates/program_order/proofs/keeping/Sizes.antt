@@ -26,7 +26,8 @@ fetched_size : (b : Bounds) (s : State) (at : ℕ) (g : Fetched) → length (do_
 unfolding do_fetched do_instruction halt_by move_to bounds_of
 fetched_size b s at (Halting h position) = refl
 fetched_size b s at (Passing position) = refl
-fetched_size b s at (Taking i position) = ap (λ (d : Bounds). d.size) (do_work-bounds b (record s { position = position }) _)
+fetched_size b s at (Taking i position) = ap (λ (d : Bounds). d.size)
+    (do_work-bounds b (record s { position = position }) _)
 
 step_size : (s : State) → length (step s).memory ≡ length s.memory
 unfolding step step_unless

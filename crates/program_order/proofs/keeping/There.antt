@@ -52,7 +52,8 @@ entry_within w place r a h s = found (seek (entry_at place) w.pending) refl a h
   where
     found : (q : Option (Found Pending Reference)) → seek (entry_at place) w.pending ≡ q
         → refusal_of (tests_found q (λ f. accept_tests w.busy f.earlier f.answer)) ≡ None
-        → IfSome q (λ f. f.answer ≡ record { address = r.address; access = r.access }) → r.address < length w.state.memory
+        → IfSome q (λ f. f.answer ≡ record { address = r.address; access = r.access })
+        → r.address < length w.state.memory
     found None e k i = absurd (not_nothing k)
     found (Some f) e k i =
         let p = entry_found place f.item f.answer (seek_splits (entry_at place) w.pending f e).1 in

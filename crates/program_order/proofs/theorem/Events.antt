@@ -10,7 +10,8 @@ use Rattle.in_flight.proofs.asking.Phases.{targets_left}
 use Rattle.program_order.proofs.effects.OnePending.{operands-agree}
 use Rattle.program_order.proofs.effects.Completing.{complete-get, complete-now, complete-word, complete-store_word}
 use Rattle.program_order.proofs.effects.Completing.{complete-write, each_all}
-use Rattle.program_order.proofs.theorem.Moves.{complete-put_back, finish_effects-read, finish_effects-finish, finish_effects-store, finish_effects-accept_load}
+use Rattle.program_order.proofs.theorem.Moves.{complete-put_back, finish_effects-read, finish_effects-finish}
+use Rattle.program_order.proofs.theorem.Moves.{finish_effects-store, finish_effects-accept_load}
 use Rattle.program_order.proofs.theorem.Moves.{finish_effects-accept_store, finish_effects-return}
 use Rattle.program_order.proofs.theorem.Apart.{not_awaited, free_to_put, free_to_return, turns_past, untouched}
 use Rattle.program_order.proofs.theorem.Apart.{unstored, no_branches, pairs_less, less_before, less_after}

@@ -49,12 +49,15 @@ word_seen-same b s ms p (Some w) nb h = refl
 word_seen-same b s ms p None nb h = word_at-same b s ms (absolute b p) nb h
 
 -- where the fetch need not wait, all pending instructions leave the fetched word as it is
-pub fetch-same : (b : Bounds) (s : State) (ms : List Pending) (position : ProgramPosition) → list_any is_branch ms ≡ false
+pub fetch-same : (b : Bounds) (s : State) (ms : List Pending) (position : ProgramPosition) → list_any is_branch ms
+    ≡ false
     → fetch_waits b position ms ≡ false → fetch b (complete b s ms).memory position ≡ fetch b s.memory position
 unfolding fetch fetch_waits
-fetch-same b s ms position nb h = ap (fetched_from position.p position.parcel) (word_seen-same b s ms position.p position.held nb h)
+fetch-same b s ms position nb h = ap (fetched_from position.p position.parcel)
+    (word_seen-same b s ms position.p position.held nb h)
 
-step_from : (s : State) (b : Bounds) (position : ProgramPosition) → s.halt ≡ None → bounds_of s ≡ b → s.position ≡ position
+step_from : (s : State) (b : Bounds) (position : ProgramPosition) → s.halt ≡ None → bounds_of s ≡ b → s.position
+    ≡ position
     → step s ≡ do_fetched b s position.p (fetch b s.memory position)
 unfolding step step_unless
 step_from s b position h e f =
@@ -71,17 +74,20 @@ step-complete s ms h nb w =
     step_from (complete (bounds_of s) s ms) (bounds_of s) s.position
     (complete-halted (bounds_of s) s ms ∙ h) (complete-bounds (bounds_of s) s ms)
     (complete-position (bounds_of s) s ms (each_no_branch ms nb))
-    ∙ ap (do_fetched (bounds_of s) (complete (bounds_of s) s ms) s.position.p) (fetch-same (bounds_of s) s ms s.position nb w)
+    ∙ ap (do_fetched (bounds_of s) (complete (bounds_of s) s ms) s.position.p)
+    (fetch-same (bounds_of s) s ms s.position nb w)
 
 pub issue_halting : (b : Bounds) (s : State) (ms : List Pending) (position : ProgramPosition) (k : Halt)
     → list_any is_branch ms ≡ false
     → complete b (halt_by (move_to s position) k) ms ≡ halt_by (move_to (complete b s ms) position) k
 issue_halting b s ms position k nb =
-    complete-halt b (move_to s position) ms k ∙ ap (λ x. halt_by x k) (complete-move b s ms position (each_no_branch ms nb))
+    complete-halt b (move_to s position) ms k ∙ ap (λ x. halt_by x k)
+    (complete-move b s ms position (each_no_branch ms nb))
 
 pub issue_taking : (b : Bounds) (s : State) (ms : List Pending) (position : ProgramPosition) (m : Pending)
     → m.phase ≡ Before Waiting → list_any is_branch ms ≡ false
-    → complete b (move_to s position) (ms ++ m ∷ []) ≡ do_instruction b (move_to (complete b s ms) position) m.instr m.at
+    → complete b (move_to s position) (ms ++ m ∷ []) ≡ do_instruction b
+    (move_to (complete b s ms) position) m.instr m.at
 unfolding complete finish_effects run_phase value_at do_instruction
 issue_taking b s ms position m e nb =
     complete-append b (move_to s position) ms (m ∷ [])
@@ -116,7 +122,8 @@ replay-push s [] x = and_then-Some (do_log_step s x)
 replay-push s (y ∷ xs) x = after (do_log_step s y) (λ t. replay-push t xs x)
   where
     after : (o : Option State) → ((t : State)
-        → replay t (xs ++ x ∷ []) ≡ option_and_then (λ u. do_log_step u x) (replay t xs)) → option_and_then (λ t. replay t
+        → replay t (xs ++ x ∷ []) ≡ option_and_then (λ u. do_log_step u x) (replay t xs))
+        → option_and_then (λ t. replay t
         (xs ++ x ∷ [])) o ≡ option_and_then (λ t. do_log_step t x) (option_and_then (λ t. replay t xs) o)
     after None ih = refl
     after (Some t) ih = ih t

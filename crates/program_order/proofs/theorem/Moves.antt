@@ -36,7 +36,8 @@ complete-put_back b s c es ns m ls h =
     ∙ ap (λ x. complete b x ls) h
     ∙ sym (complete-append b s es (m ∷ ls))
 
-pub run_in : (b : Bounds) (s : State) (m : Pending) (p : Phase) → m.phase ≡ p → finish_effects b s m ≡ run_phase b s m.instr m.at p
+pub run_in : (b : Bounds) (s : State) (m : Pending) (p : Phase) → m.phase ≡ p → finish_effects b s m
+    ≡ run_phase b s m.instr m.at p
 unfolding finish_effects
 run_in b s m p e = ap (run_phase b s m.instr m.at) e
 
@@ -88,7 +89,8 @@ unfolding complete kept do_option finish_effects run_phase in_phase
 complete-kept b s m None = refl
 complete-kept b s m (Some l) = refl
 
-pub finish_effects-store : (b : Bounds) (s : State) (m : Pending) (v : UnitValue) (slot : ℕ) → m.phase ≡ Before (Finished v)
+pub finish_effects-store : (b : Bounds) (s : State) (m : Pending) (v : UnitValue) (slot : ℕ) → m.phase
+    ≡ Before (Finished v)
     → complete b (write_and_jump b s (work_of (shape_of m.instr) v))
     (kept m (rest_of b slot (work_of (shape_of m.instr) v).reference)) ≡ finish_effects b s m
 unfolding run_phase do_parts value_at

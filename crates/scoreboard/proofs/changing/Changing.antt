@@ -20,7 +20,8 @@ use Rattle.scoreboard.specs.inner.View.{standing_of, in_slots, slot_of, IsRight}
 use Rattle.instructions.proofs.Slots.{within, moved_with, taken_without, in_slots_here, before_slot, after_slot}
 use Rattle.scoreboard.proofs.in_slots.InSlots.{set_back, own_keys, stands_reserved}
 use Rattle.scoreboard.proofs.in_slots.Standing.{changed, nobody_changed, nobody_held, nobody_returns, unit_slot}
-use Rattle.scoreboard.proofs.in_slots.Standing.{channel_slot, others_free, here_held, others_not_returning, here_returns}
+use Rattle.scoreboard.proofs.in_slots.Standing.{channel_slot, others_free, here_held, others_not_returning}
+use Rattle.scoreboard.proofs.in_slots.Standing.{here_returns}
 use Rattle.scoreboard.proofs.changing.Right.{channel_empty}
 
 with_same : (s : Standing) (xs : List Issued) → xs ≡ s.issued → with_issued s xs ≡ s

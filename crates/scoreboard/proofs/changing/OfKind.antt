@@ -433,7 +433,8 @@ reference_found units channels producers ws last right =
     let t : Issued → Bool = λ y. has_turn y.reservation in
     sym (any_sort number_of t (somes (units ++ channels))
     ∙ slots_any t (slot_is has_turn) refl (λ y. refl)
-    (unit_number Branch ∷ unit_number Increment1 ∷ unit_number Increment2 ∷ []) IsOfKind (units ++ channels) right.stands
+    (unit_number Branch ∷ unit_number Increment1 ∷ unit_number Increment2 ∷ []) IsOfKind
+    (units ++ channels) right.stands
     right.kinds (λ y k l. turn_silent y k l.0 l.1.0 l.1.1.0)
     ∙ ap (λ o. slot_is has_turn o || list_any (λ i. slot_is has_turn (get_or (units ++ channels) i None))
     (unit_number Increment1 ∷ unit_number Increment2 ∷ [])) (slot_same units channels Branch right.all_units)

@@ -105,7 +105,7 @@ first_awaited units channels producers ws last rs ps o right h v e =
     ∙ find_valid (λ r. is_some (writer_at ws r)) (awaited reservation_of (sort_by number_of (in_slots units channels)))
     (λ r k. awaited_field units channels producers ws last right r k) rs v
 
--- where none passes, each fails
+-- where none meets the test, each fails it
 found_none : (test : Reg → Bool) (rs : List Reg) → find test rs ≡ None → (r : Reg) → is_in rs r ≡ true → test r ≡ false
 unfolding is_in
 found_none test [] h r k = cc

@@ -120,7 +120,8 @@ marked_right units channels producers ws last u i x right e h =
     right_again (set units i (Some y)) channels (set os i (Some y)) producers ws last
     (set-append_left units channels i (Some y) (within units i x h))
     (length-set units i (Some y) ∙ right.all_units) right.all_channels right.all_producers right.all_writers
-    (in_slots_fill slot_of os 0 i y (marked_slot x reserved.0 reserved.1 ∙ in_slots_here slot_of os 0 i x here right.stands)
+    (in_slots_fill slot_of os 0 i y (marked_slot x reserved.0 reserved.1
+    ∙ in_slots_here slot_of os 0 i x here right.stands)
     right.stands)
     (subst (λ m. Pairs IsOther (somes m)) again
     (pairs_put (set os i None) i y empty room others (pairs_taken os i x here right.apart)))
@@ -432,7 +433,8 @@ returned_last units channels producers ws last n x right below_8 h k =
 
     returning : x.reservation.progress ≡ Left (Some n)
     returning =
-        stands_returning n x below_8 (in_slots_here slot_of (units ++ channels) 0 (10 + n) x here right.stands ∙ omega arith)
+        stands_returning n x below_8 (in_slots_here slot_of (units ++ channels) 0 (10 + n) x here right.stands
+        ∙ omega arith)
 
 -- and for that of another they wait no longer
 pub returned_others : (units channels : List (Option Issued)) (producers : List (List (Option Writer))) (ws : Writers)
@@ -560,7 +562,8 @@ pub released_last : (units channels : List (Option Issued)) (producers : List (L
 released_last units channels producers ws last u i x right e h k =
     last_forgotten (OfUnit u) units channels (set units i None) producers ws last i x right
     (unit_slot units channels u i (Some x) right.all_units e h)
-    (others_elsewhere u (units ++ channels) i e right.stands) k (λ j z q. not_emptied units i j z (within units i x h) q)
+    (others_elsewhere u (units ++ channels) i e right.stands) k
+    (λ j z q. not_emptied units i j z (within units i x h) q)
 
 -- and for those of another they wait no longer
 pub released_others : (units channels : List (Option Issued)) (producers : List (List (Option Writer))) (ws : Writers)

@@ -1,19 +1,14 @@
 -- Lists of registers and of writers, one element at a time.
-use Rattle.std.proofs.Common.{◌≡◌, ◌<◌, ◌≤◌, ◌+◌, ℕ, zero, suc, Bool, true, false, cond, ltb, List, [], ◌∷◌, ◌++◌}
+use Rattle.std.proofs.Common.{◌≡◌, ◌<◌, ◌≤◌, ◌+◌, ℕ, zero, suc, true, false, cond, List, [], ◌∷◌, ◌++◌}
 use Rattle.std.proofs.Common.{Option, Some, None, length, get_or, set, map, take, drop, refl, sym, ap, ◌∙◌, arith}
-use Rattle.std.specs.Prelude.{◌&&◌, ◌||◌, find, is_some, slice_get, IfSome}
+use Rattle.std.specs.Prelude.{is_some, slice_get, IfSome}
 use Rattle.std.specs.List.{list_any}
 use Rattle.std.proofs.lemmas.List.{set-get_or}
 use Rattle.instructions.specs.declared.instr.Reg.{Reg}
 use Rattle.scoreboard.specs.declared.writer.Writer.{Writer}
 use Rattle.scoreboard.specs.declared.issued.Issued.{Issued}
 use Rattle.instructions.specs.Each.{Each}
-use Rattle.instructions.specs.RegisterLists.{is_in}
-use Rattle.instructions.specs.Operands.{sources_of}
-use Rattle.scoreboard.specs.declared.reservation.Progress.{Progress}
-use Rattle.scoreboard.specs.declared.reservation.Progress.TheVariants.{Reserved, Left}
-use Rattle.scoreboard.specs.inner.Fields.{forget_in_taken, slot_waits, slot_reads}
-use Rattle.scoreboard.specs.Reservations.{is_unread, reads, reads_in, reads_it}
+use Rattle.scoreboard.specs.inner.Fields.{forget_in_taken}
 use Rattle.scoreboard.specs.inner.View.{AreProducers, first_produced}
 use Rattle.scoreboard.specs.Writers.{IsRegister, writer_if, is_expected, forget}
 
@@ -164,41 +159,3 @@ three_registers (r ∷ []) h e g k = (e, tt)
 three_registers (r ∷ s ∷ []) h e g k = (e, (g, tt))
 three_registers (r ∷ s ∷ t ∷ []) h e g k = (e, (g, (k, tt)))
 three_registers (r ∷ s ∷ t ∷ u ∷ rs) h e g k = absurd (omega arith)
-
--- ---- nothing is to be read ----
-
-no_source : (n : ℕ) (r : Reg) (o : Option Issued) → slot_waits n o ≡ false → slot_reads n r o ≡ false
-unfolding slot_waits slot_reads reads_it reads is_unread reads_in is_in
-no_source n r None h = refl
-no_source n r (Some x) h = by_test (ltb x.number n) x.reservation.progress h
-  where
-    by_test : (b : Bool) (p : Progress) → (b && is_unread p) ≡ false
-        → (b && is_in (reads_in (sources_of x.reservation.instr) p) r) ≡ false
-    by_test false p k = refl
-    by_test true (Reserved false) k = cc
-    by_test true (Reserved true) k = refl
-    by_test true (Left returning) k = refl
-
-no_sources : (n : ℕ) (r : Reg) (os : List (Option Issued)) → list_any (slot_waits n) os ≡ false
-    → list_any (slot_reads n r) os ≡ false
-no_sources n r [] h = refl
-no_sources n r (o ∷ os) h =
-    let both = neither (slot_waits n o) (list_any (slot_waits n) os) h in
-    ap (λ b. b || list_any (slot_reads n r) os) (no_source n r o both.0) ∙ no_sources n r os both.1
-  where
-    neither : (a b : Bool) → (a || b) ≡ false → (a ≡ false) × (b ≡ false)
-    neither false b k = (refl, k)
-    neither true b k = cc
-
--- in no register none is found
-pub none_in_nothing : (f : Reg → Bool) (rs : List Reg) → length rs ≡ 0 → find f rs ≡ None
-none_in_nothing f [] h = refl
-none_in_nothing f (r ∷ rs) h = absurd (omega (arith, h))
-
--- where nobody has still to read, no register is found
-pub none_to_be_read : (n : ℕ) (os : List (Option Issued)) (rs : List Reg) → list_any (slot_waits n) os ≡ false
-    → find (λ r. list_any (slot_reads n r) os) rs ≡ None
-none_to_be_read n os [] h = refl
-none_to_be_read n os (r ∷ rs) h =
-    ap (λ b. cond b (Some r) (find (λ v. list_any (slot_reads n v) os) rs)) (no_sources n r os h)
-    ∙ none_to_be_read n os rs h

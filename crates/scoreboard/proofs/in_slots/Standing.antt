@@ -32,11 +32,13 @@ use Rattle.instructions.specs.Order.{sort_by, somes, IsInSlots}
 use Rattle.scoreboard.specs.inner.View.{in_slots, IsOther, slot_in, slot_of, AreProducers, first_produced, IsRight}
 use Rattle.instructions.proofs.Lists.{each_map, or_false, any_same}
 use Rattle.instructions.proofs.Sorted.{any_sort, any_earlier, any_somes, IsIncreasing, sort_increasing, sort_each}
-use Rattle.instructions.proofs.Slots.{taken_with, in_slots_others, in_slots_nobody, in_slots_here, before_slot, after_slot}
+use Rattle.instructions.proofs.Slots.{taken_with, in_slots_others, in_slots_nobody, in_slots_here, before_slot}
+use Rattle.instructions.proofs.Slots.{after_slot}
 use Rattle.instructions.proofs.Slots.{each_before, found_there, found_nobody}
 use Rattle.instructions.proofs.Finding.{replaced_around, replaced_nobody}
 use Rattle.scoreboard.proofs.in_slots.Writing.{some_any, earlier_some}
-use Rattle.scoreboard.proofs.in_slots.InSlots.{get_back, own_keys, stands_holds, stands_not, stands_held, stands_not_held}
+use Rattle.scoreboard.proofs.in_slots.InSlots.{get_back, own_keys, stands_holds, stands_not, stands_held}
+use Rattle.scoreboard.proofs.in_slots.InSlots.{stands_not_held}
 use Rattle.scoreboard.proofs.in_slots.InSlots.{stands_returns, stands_not_returning, unit_below}
 
 -- ---- the one in a slot, in order ----
@@ -307,7 +309,8 @@ store_answered units channels producers ws last u i x rs o right e h er eo =
 pub return_answered : (units channels : List (Option Issued)) (producers : List (List (Option Writer))) (ws : Writers)
     (last n : ℕ) (x : Issued) (b : Bool) → IsRight units channels producers ws last → n < 8
     → get_or channels n None ≡ Some x → b ≡ list_any (slot_reads x.number (X n)) units
-    → unless b (ResultHeld (X n)) ≡ return_answer n (seek (returning_by n) (sort_by number_of (in_slots units channels)))
+    → unless b (ResultHeld (X n)) ≡ return_answer n (seek (returning_by n)
+    (sort_by number_of (in_slots units channels)))
 unfolding in_slots return_answer
 return_answered units channels producers ws last n x b right below_8 h eb =
     let os : List (Option Issued) = units ++ channels in

@@ -17,18 +17,13 @@ use Rattle.scoreboard.specs.Answers.{in_progress}
 use Rattle.scoreboard.specs.Writers.{set_each, set_writer, forget}
 use Rattle.instructions.specs.declared.instr.Reg.{Reg}
 use Rattle.instructions.specs.declared.instr.Unit.{Unit as FunctionalUnit}
-use Rattle.scoreboard.specs.Reservations.{is_unread, reads_it, has_turn}
+use Rattle.scoreboard.specs.Reservations.{reads_it, has_turn}
 use Rattle.scoreboard.specs.declared.issued.Issued.{Issued}
 
--- an instruction stands there, and it passes the test
+-- an instruction stands there, and it meets the test
 unfoldable pub slot_is : (Reservation → Bool) → Option Issued → Bool
 slot_is test None = false
 slot_is test (Some x) = test x.reservation
-
--- its instruction has a lower number and has not come to its read event
-unfoldable pub slot_waits : ℕ → Option Issued → Bool
-slot_waits n None = false
-slot_waits n (Some x) = nat_lt x.number n && is_unread x.reservation.progress
 
 -- its instruction has a lower number and has still to read the register
 unfoldable pub slot_reads : ℕ → Reg → Option Issued → Bool
@@ -48,7 +43,7 @@ slot_at units unit = slice_index_or units (unit_number unit) None
 abbrev pub is_taken : List (Option Issued) → FunctionalUnit → Bool
 is_taken units unit = is_some (slot_at units unit)
 
--- the slot of an Increment unit passes the test
+-- the slot of an Increment unit meets the test
 abbrev pub in_increment : (Option Issued → Bool) → List (Option Issued) → Bool
 in_increment test units = test (slot_at units Increment1) || test (slot_at units Increment2)
 

@@ -55,12 +55,14 @@ invariant_of-self-2 c =
 pub returns-clause-answer : goal.returns-clause-answer
 unfolding done_by word_read
 returns-clause-answer c =
-    inl (ok_answer (the_view c.self.inside) c.args.self.now (PpRead c.args.at) (Word c.load-word.result) c.self.view_is (made_allowed c)
+    inl (ok_answer (the_view c.self.inside) c.args.self.now (PpRead c.args.at) (Word c.load-word.result) c.self.view_is
+    (made_allowed c)
     (ap Word c.load-word.ensures))
 
 pub returns-clause-after : goal.returns-clause-after
 returns-clause-after c =
-    ok_after (the_view c.self.inside) c.args.self.now _ (PpRead c.args.at) (Word c.load-word.result) c.self.view_is (new_processor c)
+    ok_after (the_view c.self.inside) c.args.self.now _ (PpRead c.args.at) (Word c.load-word.result) c.self.view_is
+    (new_processor c)
 
 pub returns-in-Err-reserve-clause-answer : goal.returns-in-Err-reserve-clause-answer
 unfolding makes_room allowed tests_of

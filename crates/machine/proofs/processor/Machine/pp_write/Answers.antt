@@ -20,7 +20,8 @@ use Rattle.machine.proofs.processor.Machine.pp_write.Goals as goal
 pub returns-in-Err-clause-answer : goal.returns-in-Err-clause-answer
 unfolding allowed tests_of
 returns-in-Err-clause-answer c =
-    inl (err_answer (the_view c.self.inside) c.args.self.now (PpWrite c.args.at c.args.word) c.in-Err.refusal c.self.view_is
+    inl (err_answer (the_view c.self.inside) c.args.self.now
+    (PpWrite c.args.at c.args.word) c.in-Err.refusal c.self.view_is
     (access_judged (the_view c.self.inside) c.args.at c.size-size.result c.judge_access.result _
     c.size-size.ensures.value c.judge_access.ensures.answer (ap refusal_in c.in-Err.is)))
 
@@ -33,7 +34,8 @@ made_allowed c = access_judged (the_view c.self.inside) c.args.at c.size-size.re
     c.size-size.ensures.value c.judge_access.ensures.answer (ap refusal_in c.in_default.is)
 
 logged_after : (c : After-self-1) → c.wrote.new.self.steps ≡ c.self.inside.log.steps ++ Wrote c.args.at c.args.word ∷ []
-logged_after c = c.wrote.ensures.steps ∙ ap (λ (l : List LogStep). l ++ Wrote c.args.at c.args.word ∷ []) c.reserve.ensures.steps
+logged_after c = c.wrote.ensures.steps ∙ ap (λ (l : List LogStep). l ++ Wrote c.args.at c.args.word ∷ [])
+    c.reserve.ensures.steps
 
 new_processor : (c : After-self-1)
     → record (the_view c.self.inside) {
@@ -57,7 +59,8 @@ unfolding issued
 invariant_of-self-2 c =
     let made = c.in_default-reserve.ensures.room in
     let spent = c.wrote.ensures.room in
-    still_kept (the_view c.self.inside) _ (PpWrite c.args.at c.args.word) c.self.inside.log c.wrote.new.self (made_allowed c)
+    still_kept (the_view c.self.inside) _ (PpWrite c.args.at c.args.word) c.self.inside.log c.wrote.new.self
+    (made_allowed c)
     (new_processor c) c.self.invariant
     (owed_at_most (ends_issuing c.wrote.new.self.steps) c.self.inside.request c.wrote.new.self.room
     (omega (arith, made, spent)))
@@ -67,12 +70,14 @@ invariant_of-self-2 c =
 pub returns-clause-answer : goal.returns-clause-answer
 unfolding done_by word_read
 returns-clause-answer c =
-    inl (ok_answer (the_view c.self.inside) c.args.self.now (PpWrite c.args.at c.args.word) (Made) c.self.view_is (made_allowed c)
+    inl (ok_answer (the_view c.self.inside) c.args.self.now (PpWrite c.args.at c.args.word) (Made) c.self.view_is
+    (made_allowed c)
     refl)
 
 pub returns-clause-after : goal.returns-clause-after
 returns-clause-after c =
-    ok_after (the_view c.self.inside) c.args.self.now _ (PpWrite c.args.at c.args.word) (Made) c.self.view_is (new_processor c)
+    ok_after (the_view c.self.inside) c.args.self.now _ (PpWrite c.args.at c.args.word) (Made) c.self.view_is
+    (new_processor c)
 
 pub returns-in-Err-reserve-clause-answer : goal.returns-in-Err-reserve-clause-answer
 unfolding makes_room allowed tests_of

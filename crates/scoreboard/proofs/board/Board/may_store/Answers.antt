@@ -1,4 +1,5 @@
 -- Third order at a store event: the units with a lower number, as the list says it.
+use Rattle.std.specs.Prelude.{option_to_list}
 use Rattle.std.proofs.Common.{ap, sym, ◌∙◌, get_or, arith}
 use Rattle.instructions.specs.Finding.{seek}
 use Rattle.scoreboard.specs.Answers.{Standing, store_answer, held_in}
@@ -19,16 +20,16 @@ returns-in_default c =
     c.in_default.not-Some)))
     ∙ ap (λ (s : Standing). store_answer (seek (held_in c.args.unit) s.issued)) c.self.view_is
 
-pub returns-in-Some-first_to_be_read : goal.returns-in-Some-first_to_be_read
+pub returns-in-Some-result_to_be_read : goal.returns-in-Some-result_to_be_read
 unfolding from_found
-returns-in-Some-first_to_be_read c =
-    ap (λ o. from_found o ResultHeld) (sym c.in-Some-first_to_be_read.is)
+returns-in-Some-result_to_be_read c =
+    ap (λ o. from_found o ResultHeld) (sym c.in-Some-result_to_be_read.is)
     ∙ store_answered c.self.inside.units c.self.inside.channels c.self.inside.producers c.self.inside.writers
-    c.self.inside.last c.args.unit c.index_of-index.result c.in-Some.issued c.as_slice.result.now
-    c.first_to_be_read.result c.self.invariant c.index_of-index.ensures.value
+    c.self.inside.last c.args.unit c.index_of-index.result c.in-Some.issued (option_to_list c.sets-written.result)
+    c.result_to_be_read.result c.self.invariant c.index_of-index.ensures.value
     (slot_any c.self.inside.units c.index_of-index.result c.index-self-index.result
     (omega (arith, c.index_of-index.ensures.range, c.self.invariant.all_units))
-    ∙ c.in-Some.is) (c.as_slice.ensures.value ∙ c.sets-written.ensures) c.first_to_be_read.ensures
+    ∙ c.in-Some.is) (sym c.sets-written.ensures) c.result_to_be_read.ensures
     ∙ ap (λ (s : Standing). store_answer (seek (held_in c.args.unit) s.issued)) c.self.view_is
 
 pub returns-in-None : goal.returns-in-None
@@ -36,9 +37,9 @@ unfolding from_found
 returns-in-None c =
     ap (λ o. from_found o ResultHeld) (sym c.in-None.is)
     ∙ store_answered c.self.inside.units c.self.inside.channels c.self.inside.producers c.self.inside.writers
-    c.self.inside.last c.args.unit c.index_of-index.result c.in-Some.issued c.as_slice.result.now
-    c.first_to_be_read.result c.self.invariant c.index_of-index.ensures.value
+    c.self.inside.last c.args.unit c.index_of-index.result c.in-Some.issued (option_to_list c.sets-written.result)
+    c.result_to_be_read.result c.self.invariant c.index_of-index.ensures.value
     (slot_any c.self.inside.units c.index_of-index.result c.index-self-index.result
     (omega (arith, c.index_of-index.ensures.range, c.self.invariant.all_units))
-    ∙ c.in-Some.is) (c.as_slice.ensures.value ∙ c.sets-written.ensures) c.first_to_be_read.ensures
+    ∙ c.in-Some.is) (sym c.sets-written.ensures) c.result_to_be_read.ensures
     ∙ ap (λ (s : Standing). store_answer (seek (held_in c.args.unit) s.issued)) c.self.view_is

@@ -12,16 +12,19 @@ invariant_of-self c =
     record {
       count = i.count;
       run = i.run;
-      shortest = shortest_after_single (Wrote c.args.at c.args.word) (PpWrite c.args.at c.args.word) (a_write c.args.at c.args.word)
+      shortest = shortest_after_single (Wrote c.args.at c.args.word) (PpWrite c.args.at c.args.word)
+          (a_write c.args.at c.args.word)
           c.self.inside.entries.items _ c.self.invariant.shortest c.push_reserved.ensures.items;
     }
 
 pub returns-clause-steps : goal.returns-clause-steps
 returns-clause-steps c = ap steps_of c.push_reserved.ensures.items
-    ∙ single_added (Wrote c.args.at c.args.word) (PpWrite c.args.at c.args.word) (a_write c.args.at c.args.word) c.self.inside.entries.items
+    ∙ single_added (Wrote c.args.at c.args.word) (PpWrite c.args.at c.args.word)
+    (a_write c.args.at c.args.word) c.self.inside.entries.items
     ∙ ap (λ (l : Logged). l.steps ++ Wrote c.args.at c.args.word ∷ []) c.self.view_is
 
 pub returns-clause-issuing : goal.returns-clause-issuing
 returns-clause-issuing c =
     ap ends_issuing (returns-clause-steps c)
-    ∙ issuing_no_more (Wrote c.args.at c.args.word) (PpWrite c.args.at c.args.word) (a_write c.args.at c.args.word) c.args.self.now.steps
+    ∙ issuing_no_more (Wrote c.args.at c.args.word) (PpWrite c.args.at c.args.word)
+    (a_write c.args.at c.args.word) c.args.self.now.steps

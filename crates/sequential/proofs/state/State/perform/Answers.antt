@@ -12,7 +12,7 @@ returns c =
     || fault_of (record { area = c.args.self.now.area; size = n })
     c.reference-reference.result) c.size.ensures.value in
     instruction_done (bounds_of c.args.self.now) c.args.self.now _ c.args.instr.now c.args.at c.operands.result
-    c.computed-value.result c.reference-reference.result c.fault_after-fault.result c.written.result
+    c.computed-value.result c.reference-reference.result c.fault_after-fault.result c.sets.result
     c.number.result _ c.jump.result _ c.operands.ensures c.computed-value.ensures c.reference-reference.ensures
-    fault c.written.ensures c.number.ensures c.write_any.ensures c.jump.ensures c.after_jump-self.ensures
+    fault c.sets.ensures c.number.ensures c.write_any.ensures c.jump.ensures c.after_jump-self.ensures
     c.refer.ensures
