@@ -1,16 +1,17 @@
 //! A board's answers, by lists of calls with the answer of each.
 
 use crate::fixtures::Register;
-use Answer::{Awaited, Busy, Fine, Held, Number, OutOfTurn, Reserved, Taken, Truth};
+use Answer::{Awaited, Busy, Fine, Held, OutOfTurn, Reserved, Taken, Truth};
 use Call::{
-    HasStoreToCome, InTurn, IsBranchHeld, Last, MarkRead, MayRead, MayReturn, MayStore, Release,
-    Reserve, Returned,
+    HasStoreToCome, InTurn, IsBranchHeld, MarkRead, MayRead, MayReturn, MayStore, Release, Reserve,
+    Returned,
 };
 use Register::{A, B, X};
 use Unit::{Boolean, Branch, Increment1, Increment2, LongAdd, Shift};
 use instruction_table::read_text;
 use instructions::{Refusal, Unit, unit_kind};
 use scoreboard::Board;
+use std::marker::Model;
 
 /// A call to a board. Instructions are given as texts.
 #[derive(Clone, Copy, Drop)]
@@ -25,7 +26,6 @@ enum Call {
     Returned(u8),
     IsBranchHeld,
     HasStoreToCome,
-    Last,
 }
 
 /// What a call answers.
@@ -43,7 +43,6 @@ enum Answer {
     /// A refusal that no board gives.
     OtherRefusal,
     Truth(bool),
-    Number(u64),
     /// The text is no instruction that takes a unit.
     NoUnit,
 }
@@ -67,44 +66,75 @@ fn judged(judgement: Result<(), Refusal>) -> Answer {
     }
 }
 
-/// Asks for a unit for the instruction of that text.
-fn reserve(board: &mut Board, text: &str) -> Answer {
-    let Some(instr) = read_text(text) else {
-        return Answer::NoUnit;
-    };
-    if unit_kind(&instr).is_none() || board.last() == u64::MAX {
-        return Answer::NoUnit;
-    }
-    match board.try_reserve(&instr) {
-        Ok((unit, number)) => Reserved(unit, number),
-        Err(refusal) => refused(refusal),
-    }
+/// A board with the number of its last reservation, 0 before the first.
+#[derive(Drop)]
+struct Counted {
+    board: Board,
+    last: u64,
 }
 
-/// Makes the call. Channels are taken modulo 8.
-fn make(board: &mut Board, call: Call) -> Answer {
-    match call {
-        Reserve(text) => return reserve(board, text),
-        MayRead(unit) => return judged(board.may_read(unit)),
-        MayStore(unit) => return judged(board.may_store(unit)),
-        MayReturn(channel) => return judged(board.may_return(channel % 8)),
-        InTurn(unit) => return judged(board.in_turn(unit)),
-        IsBranchHeld => return Truth(board.is_branch_held()),
-        HasStoreToCome => return Truth(board.has_store_to_come()),
-        Last => return Number(board.last()),
-        MarkRead(unit) => board.mark_read(unit),
-        Release(unit) => board.release(unit),
-        Returned(channel) => board.returned(channel % 8),
+impl Model for Counted {
+    ghost use Rattle.std.specs.Prelude.{◌≤◌};
+    ghost use Rattle.scoreboard.specs.Answers.{Standing};
+
+    ghost Value = { Standing };
+
+    ghost view = { λ c. c.board };
+
+    ghost invariant = { λ c. c.board.last ≤ c.last };
+}
+
+impl Counted {
+    fn new() -> Counted {
+        Counted {
+            board: Board::new(),
+            last: 0,
+        }
     }
-    Fine
+
+    /// Asks for a unit for the instruction of that text.
+    #[tactic(auto, unfolding(scoreboard::specs::Answers::reserved))]
+    fn reserve(&mut self, text: &str) -> Answer {
+        let Some(instr) = read_text(text) else {
+            return Answer::NoUnit;
+        };
+        if unit_kind(&instr).is_none() || self.last >= 1000 {
+            return Answer::NoUnit;
+        }
+        match self.board.try_reserve(&instr) {
+            Ok((unit, number)) => {
+                self.last = number;
+                Reserved(unit, number)
+            }
+            Err(refusal) => refused(refusal),
+        }
+    }
+
+    /// Makes the call. Channels are taken modulo 8.
+    #[tactic(auto, unfolding(scoreboard::specs::Answers::with_issued))]
+    fn make(&mut self, call: Call) -> Answer {
+        match call {
+            Reserve(text) => return self.reserve(text),
+            MayRead(unit) => return judged(self.board.may_read(unit)),
+            MayStore(unit) => return judged(self.board.may_store(unit)),
+            MayReturn(channel) => return judged(self.board.may_return(channel % 8)),
+            InTurn(unit) => return judged(self.board.in_turn(unit)),
+            IsBranchHeld => return Truth(self.board.is_branch_held()),
+            HasStoreToCome => return Truth(self.board.has_store_to_come()),
+            MarkRead(unit) => self.board.mark_read(unit),
+            Release(unit) => self.board.release(unit),
+            Returned(channel) => self.board.returned(channel % 8),
+        }
+        Fine
+    }
 }
 
 /// The position of the first call to a new board that isn't answered so, None if all are.
 fn first_wrong(calls: &[(Call, Answer)]) -> Option<usize> {
-    let mut board = Board::new();
+    let mut counted = Counted::new();
     for index in 0..calls.len() {
         let (call, wanted) = calls[index];
-        if make(&mut board, call) != wanted {
+        if counted.make(call) != wanted {
             return Some(index);
         }
     }
@@ -112,11 +142,9 @@ fn first_wrong(calls: &[(Call, Answer)]) -> Option<usize> {
 }
 
 /// The lower-numbered free unit of the kind; where both Increment units are taken, the first is named.
-const RESERVES_A_FREE_UNIT: [(Call, Answer); 12] = [
-    (Last, Number(0)),
+const RESERVES_A_FREE_UNIT: [(Call, Answer); 9] = [
     (Reserve("IX1 X0+X0"), Reserved(LongAdd, 1)),
     (Reserve("IX2 X0+X0"), Busy(LongAdd)),
-    (Last, Number(1)),
     (Reserve("SX2 B0+B0"), Reserved(Increment1, 2)),
     (Reserve("SX3 B0+B0"), Reserved(Increment2, 3)),
     (Reserve("SX4 B0+B0"), Busy(Increment1)),
@@ -124,7 +152,6 @@ const RESERVES_A_FREE_UNIT: [(Call, Answer); 12] = [
     (Reserve("SX4 B0+B0"), Reserved(Increment1, 4)),
     (Release(Increment2), Fine),
     (Reserve("SX5 B0+B0"), Reserved(Increment2, 5)),
-    (Last, Number(5)),
 ];
 
 /// A load reserves A and X, and names A first. A is free from its store event on, X from its return.
@@ -257,7 +284,7 @@ const KEEPS_THE_TURN: [(Call, Answer); 18] = [
 ];
 
 /// A free unit and an empty channel have no conflict, and a call for them changes nothing.
-const LEAVES_FREE_UNITS_ALONE: [(Call, Answer); 11] = [
+const LEAVES_FREE_UNITS_ALONE: [(Call, Answer); 10] = [
     (Reserve("SX1 B0+B0"), Reserved(Increment1, 1)),
     (MayRead(LongAdd), Fine),
     (MayStore(Shift), Fine),
@@ -266,7 +293,6 @@ const LEAVES_FREE_UNITS_ALONE: [(Call, Answer); 11] = [
     (MarkRead(LongAdd), Fine),
     (Release(LongAdd), Fine),
     (Returned(1), Fine),
-    (Last, Number(1)),
     (Reserve("SX1 B0+B0"), Taken(X(1))),
     (Reserve("SX2 B0+B0"), Reserved(Increment2, 2)),
 ];

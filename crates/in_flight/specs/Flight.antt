@@ -1,7 +1,7 @@
 -- The instructions in flight: the pending instructions beside the board and the hopper that answer for them.
 -- Source: ours.
 use Rattle.std.specs.Prelude.{◌≡◌, ℕ, suc, Bool, true, List, [], ◌∷◌, ◌++◌, Option, Some, None, unwrap_or}
-use Rattle.std.specs.Prelude.{slice_index_or}
+use Rattle.std.specs.Prelude.{◌&&◌, false, is_none, slice_index_or}
 use Rattle.instructions.specs.declared.instr.Instr.{Instr}
 use Rattle.instructions.specs.declared.instr.Unit.{Unit as FunctionalUnit}
 use Rattle.instructions.specs.declared.instr.Unit.TheVariants.{Branch}
@@ -12,15 +12,13 @@ use Rattle.relocation.specs.declared.area.Access.TheVariants.{Load, Store}
 use Rattle.scoreboard.specs.Answers.{Standing}
 use Rattle.scoreboard.specs.Issued.{channel_of}
 use Rattle.hopper.specs.Queue.{Queue}
-use Rattle.hopper.specs.declared.entered.Entered.{Entered}
-use Rattle.hopper.specs.declared.reference.Reference.{Reference}
-use Rattle.in_flight.specs.declared.flight.Rest.{Rest}
-use Rattle.in_flight.specs.declared.flight.Rest.TheVariants.{Enters, Arrives}
+use Rattle.sequential.specs.declared.work.ProgramReference.{ProgramReference}
+use Rattle.sequential.specs.State.{Bounds, absolute, stops_at_fault}
+use Rattle.in_flight.specs.declared.referring.Relocated.{Relocated}
 use Rattle.in_flight.specs.declared.pending.Outstanding.{Outstanding}
-use Rattle.in_flight.specs.declared.pending.Outstanding.TheVariants.{Entered as HasEntered, Accepted}
+use Rattle.in_flight.specs.declared.pending.Outstanding.TheVariants.{Entered, Accepted}
 use Rattle.in_flight.specs.declared.pending.Pending.{Pending}
-use Rattle.in_flight.specs.declared.pending.Phase.{Phase}
-use Rattle.in_flight.specs.declared.pending.Phase.TheVariants.{Before, After}
+use Rattle.in_flight.specs.declared.pending.Phase.TheVariants.{Before}
 use Rattle.in_flight.specs.declared.pending.Stage.TheVariants.{Waiting}
 use Rattle.in_flight.specs.Pending.{left_to_return}
 use Rattle.in_flight.specs.Tests.{unit_for}
@@ -39,51 +37,31 @@ pub record Flight : Type 0 where
 abbrev pub flight_of : List Pending → Queue → Standing → Flight
 flight_of ms queue standing = record { pending = ms; busy = queue.busy; last = standing.last }
 
--- the reference of an instruction in that phase, if it waits in the hopper
-unfoldable pub waiting_in : Phase → List Entered
-waiting_in (Before t) = []
-waiting_in (After (HasEntered place a access)) =
-    record { place = place; reference = record { address = a; access = access } } ∷ []
-waiting_in (After (Accepted n word)) = []
-
--- the references of the pending instructions that wait in the hopper
-unfoldable pub waiting : List Pending → List Entered
-waiting [] = []
-waiting (m ∷ ms) = waiting_in m.phase ++ waiting ms
-
 -- ---- what is left of a unit's instruction after its store event ----
 
--- a reference enters a place of the hopper; a load out of range has +0 in its channel
-unfoldable pub outstanding_of : ℕ → Option Rest → Option Outstanding
+-- a reference in range enters a place; out of range a load has +0 in its channel, and a store is gone
+unfoldable pub entering : ℕ → Option ℕ → Access → Option Outstanding
+entering place (Some a) access = Some (Entered place a access)
+entering place None (Load n) = Some (Accepted n 0)
+entering place None (Store word) = None
+
+-- a reference by its absolute address, if there is one
+unfoldable pub relocated : Bounds → Option ProgramReference → Option Relocated
+relocated b None = None
+relocated b (Some r) = Some (record { address = absolute b r.address; access = r.access })
+
+-- it sets the fault flag: it is out of range, and the exit mode says so
+unfoldable pub faults_at : Bounds → Option Relocated → Bool
+faults_at b None = false
+faults_at b (Some r) = stops_at_fault b && is_none r.address
+
+-- what is left of an instruction, by its reference, if it makes one
+unfoldable pub outstanding_of : ℕ → Option Relocated → Option Outstanding
 outstanding_of place None = None
-outstanding_of place (Some (Enters reference)) = Some (HasEntered place reference.address reference.access)
-outstanding_of place (Some (Arrives n)) = Some (Accepted n 0)
+outstanding_of place (Some r) = entering place r.address r.access
 
--- a reference where it waits: in a free place, if there is one
-unfoldable pub entered_at : Option ℕ → Reference → Option Outstanding
-entered_at None reference = None
-entered_at (Some place) reference = Some (HasEntered place reference.address reference.access)
-
--- what is left after a store event: a reference in a free place, if there is one, or a load in its channel
-unfoldable pub rest_at : Option ℕ → Option Rest → Option Outstanding
-rest_at free None = None
-rest_at free (Some (Enters reference)) = entered_at free reference
-rest_at free (Some (Arrives n)) = Some (Accepted n 0)
-
--- the hopper when the reference has entered a free place
-unfoldable pub queue_with : Queue → Option ℕ → Reference → Queue
-queue_with queue None reference = queue
-queue_with queue (Some place) reference =
-    record queue { entered = queue.entered ++ record { place = place; reference = reference } ∷ [] }
-
--- the hopper after the store event of an instruction that leaves this
-unfoldable pub queue_after : Queue → Option ℕ → Option Rest → Queue
-queue_after queue free None = queue
-queue_after queue free (Some (Enters reference)) = queue_with queue free reference
-queue_after queue free (Some (Arrives n)) = queue
-
--- it is what an instruction of that shape may leave
-pub record IsRestOf (shape : Shape) (rest : Option Rest) : Type 0 where
+-- it is the reference of an instruction of that shape
+pub record IsRestOf (shape : Shape) (rest : Option Relocated) : Type 0 where
   -- what has still to return is a load, through the channel of its X register
   pub returns : left_to_return (outstanding_of 0 rest) ≡ channel_of shape
   -- only an instruction with a reference leaves one that enters the hopper

@@ -1,9 +1,10 @@
 -- Which of the instructions in flight an event names, and what is put there instead. Source: ours.
-use Rattle.std.specs.Prelude.{ℕ, Bool, true, false, ◌==◌, if◌then◌else◌, List, [], ◌∷◌, Option, Some, None, is_some}
-use Rattle.std.specs.List.{list_any}
+use Rattle.std.specs.Prelude.{ℕ, Bool, true, false, ◌==◌, if◌then◌else◌, List, [], ◌∷◌, ◌++◌, Option, Some, None}
+use Rattle.std.specs.Prelude.{is_some}
 use Rattle.instructions.specs.declared.instr.Unit.{Unit as FunctionalUnit}
 use Rattle.instructions.specs.Finding.{Found}
-use Rattle.hopper.specs.Hopper.{free_place}
+use Rattle.hopper.specs.Queue.{place_for as free_in}
+use Rattle.hopper.specs.declared.entered.Entered.{Entered as HasEntered}
 use Rattle.scoreboard.specs.Units.{same_unit}
 use Rattle.in_flight.specs.declared.pending.Arrival.{Arrival}
 use Rattle.hopper.specs.declared.reference.Reference.{Reference}
@@ -66,13 +67,21 @@ is_pending (m ∷ ms) = true
 unfoldable pub in_place : ℕ → Pending → Bool
 in_place p m = is_some (entry_at p m)
 
--- a reference waits in the hopper place
-abbrev pub is_taken : List Pending → ℕ → Bool
-is_taken ms p = list_any (in_place p) ms
+-- the reference of an instruction in that phase, if it waits in the hopper
+unfoldable pub waiting_in : Phase → List HasEntered
+waiting_in (Before t) = []
+waiting_in (After (Entered place a access)) =
+    record { place = place; reference = record { address = a; access = access } } ∷ []
+waiting_in (After (Accepted n word)) = []
+
+-- the references of the pending instructions that wait in the hopper
+unfoldable pub waiting : List Pending → List HasEntered
+waiting [] = []
+waiting (m ∷ ms) = waiting_in m.phase ++ waiting ms
 
 -- the lowest-numbered free one of the four hopper places
 unfoldable pub place_for : List Pending → Option ℕ
-place_for ms = free_place (is_taken ms)
+place_for ms = free_in (waiting ms)
 
 -- ---- what is put there instead ----
 

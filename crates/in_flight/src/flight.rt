@@ -15,7 +15,7 @@ ghost use Rattle.in_flight.specs.Tests.{refusal_in, store_conflicts, refusal_of,
 ghost use Rattle.in_flight.specs.Tests.{reservation_tests, read_tests};
 ghost use Rattle.in_flight.specs.Tests.{accept_tests, return_tests, free_tests};
 ghost use Rattle.in_flight.specs.Flight.{left_by, outstanding_of, IsRestOf, unit_taken, reserved_in, with_pending};
-ghost use Rattle.in_flight.specs.Flight.{entered_at, rest_at, queue_with, queue_after};
+ghost use Rattle.in_flight.specs.inner.Board.{queue_with};
 ghost use Rattle.in_flight.specs.Pending.{has_read, is_branch, delays_fetch, delays_access};
 ghost use Rattle.in_flight.specs.Lookup.{first_of, located, stage_at, entry_at, arrival_at, in_phase, kept, enters};
 ghost use Rattle.in_flight.specs.Lookup.{place_for, is_pending};
@@ -24,24 +24,16 @@ ghost use Rattle.in_flight.specs.inner.OwnSlots.{HasOwnSlots};
 ghost use Rattle.in_flight.specs.Apart.{IsApart};
 
 use crate::slots::Slots;
-use crate::{Arrival, Located, Outstanding, Pending, Phase, Stage};
+use crate::{Arrival, Outstanding, Pending, Phase, Relocated, Located, Stage};
 use hopper::{Hopper, Reference};
-use instruction_table::{Digit, Instr, Refusal, Unit, unit_kind};
+use instruction_table::{Instr, Refusal, Unit, unit_kind};
 use registers::RegisterFile;
 use relocation::{Access, Storage};
 use scoreboard::Board;
+use sequential::operands;
 use std::marker::Model;
 use unit_ops::{Operands, UnitValue};
 use word60::{Word18, Word60};
-
-/// What is left of an instruction after its store event, before it has its place.
-#[derive(Clone, Copy, Debug, Drop, PartialEq, Eq)]
-pub enum Rest {
-    /// A reference that enters the hopper.
-    Enters(Reference),
-    /// A load out of range, which has +0 in the channel of this number.
-    Arrives(Digit),
-}
 
 /// The instructions with an effect still to come, by the unit, place or channel that each has, beside the
 /// scoreboard and the hopper, which answer for them.
@@ -63,30 +55,40 @@ impl Model for InFlight {
     ghost invariant = { λ f. IsTied f.slots f.hopper f.board };
 }
 
-/// The reference in the lowest-numbered free place of the hopper.
-#[tactic(auto, unfolding(crate::proofs::Opened::entering))]
-fn entered(hopper: &mut Hopper, reference: &Reference) -> Option<Outstanding>
-    ensures answer { result ≡ entered_at (free_in hopper.old.entered) reference.now }
-    ensures after { hopper.new ≡ queue_with hopper.old (free_in hopper.old.entered) reference.now }
-{
-    let address = reference.address;
-    let access = reference.access;
-    match hopper.enter(*reference) {
-        Ok(place) => Some(Outstanding::Entered(place, address, access)),
-        Err(_) => None,
-    }
-}
-
-/// What is left of an instruction, where it waits: a reference enters the hopper.
-#[tactic(auto, unfolding(crate::specs::Flight::rest_at, crate::specs::Flight::queue_after))]
-fn waiting_rest(hopper: &mut Hopper, rest: &Option<Rest>) -> Option<Outstanding>
-    ensures answer { result ≡ rest_at (free_in hopper.old.entered) rest.now }
-    ensures after { hopper.new ≡ queue_after hopper.old (free_in hopper.old.entered) rest.now }
+/// What is left of an instruction, where it waits: a reference in range enters the lowest-numbered free place of the
+/// hopper, and out of range a load has +0 in its channel.
+#[tactic(auto, unfolding(crate::proofs::Opened::entering_hopper))]
+fn waiting_rest(hopper: &mut Hopper, rest: &Option<Relocated>) -> Option<Outstanding>
+    requires { enters (outstanding_of 0 rest.now) ≡ true → is_none (free_in hopper.old.entered) ≡ false }
+    ensures answer { result ≡ outstanding_of (unwrap_or (free_in hopper.old.entered) 0) rest.now }
+    ensures after { hopper.new ≡ queue_with hopper.old result }
 {
     match rest {
         None => None,
-        Some(Rest::Enters(reference)) => entered(hopper, reference),
-        Some(Rest::Arrives(n)) => Some(Outstanding::Accepted(*n, Word60::default())),
+        Some(
+            Relocated {
+                address: Some(address),
+                access,
+            },
+        ) => match hopper.enter(Reference {
+            address: *address,
+            access: *access,
+        }) {
+            Ok(place) => Some(Outstanding::Entered(place, *address, *access)),
+            Err(_) => None,
+        },
+        Some(
+            Relocated {
+                address: None,
+                access: Access::Load(n),
+            },
+        ) => Some(Outstanding::Accepted(*n, Word60::default())),
+        Some(
+            Relocated {
+                address: None,
+                access: Access::Store(_),
+            },
+        ) => None,
     }
 }
 
@@ -95,7 +97,8 @@ fn reading(pending: &Pending, registers: &RegisterFile) -> (Pending, Operands)
     ensures pending { result.0 ≡ pending.now }
     ensures operands { result.1 ≡ operands pending.now.instr pending.now.at registers.now }
 {
-    (*pending, pending.operands(registers))
+    let read = operands(&pending.instr, pending.at, registers);
+    (*pending, read)
 }
 
 /// What is left of a reference that its bank took.
@@ -265,7 +268,7 @@ impl InFlight {
     }
 
     /// The unit's instruction leaves it; what is left of it enters the hopper or waits in its channel.
-    pub fn leave(&mut self, unit: Unit, rest: &Option<Rest>)
+    pub fn leave(&mut self, unit: Unit, rest: &Option<Relocated>)
         requires apart { Pairs IsApart self.old.pending }
         requires rest { IfSome (located (seek (stage_at unit) self.old.pending))
             (λ s. IsRestOf (shape_of s.pending.instr) rest.now) }

@@ -10,8 +10,10 @@
 
 mod flight;
 mod pending;
+mod referring;
 mod slots;
 
-pub use flight::{InFlight, Rest};
+pub use flight::InFlight;
 pub use pending::{Arrival, Outstanding, Pending, Phase, Stage};
+pub use referring::{Relocated, enters_hopper, fault_after};
 pub use slots::Located;

@@ -1,14 +1,10 @@
 ghost use Rattle.std.specs.Prelude.{◌≡◌};
-ghost use Rattle.sequential.specs.Work.{operands};
 ghost use Rattle.in_flight.specs.Pending.{is_waiting, is_finished};
-ghost use Rattle.in_flight.specs.Lookup.{stage_at, entry_at, arrival_at};
+ghost use Rattle.in_flight.specs.Lookup.{stage_at, arrival_at};
 
-use hopper::Reference;
 use instruction_table::{Digit, Instr, Unit};
-use registers::RegisterFile;
 use relocation::Access;
 use scoreboard::is_same_unit;
-use sequential::operands;
 use unit_ops::{Operands, UnitValue};
 use word60::{Word18, Word60};
 
@@ -101,13 +97,6 @@ impl Default for Pending {
 }
 
 impl Pending {
-    /// What its unit reads, as the registers are.
-    pub(crate) fn operands(&self, registers: &RegisterFile) -> Operands
-        ensures { result ≡ operands self.now.instr self.now.at registers.now }
-    {
-        operands(&self.instr, self.at, registers)
-    }
-
     /// Its stage, if it holds the unit.
     #[tactic(auto, unfolding(crate::specs::Lookup::stage_at, crate::specs::Lookup::stage_in))]
     pub(crate) fn stage_in(&self, unit: Unit) -> Option<Stage>
@@ -119,22 +108,6 @@ impl Pending {
         match self.phase {
             Phase::Before(stage) => Some(stage),
             Phase::After(_) => None,
-        }
-    }
-
-    /// Its reference, if it stands in the place of the hopper.
-    #[tactic(auto, unfolding(crate::specs::Lookup::entry_at, crate::specs::Lookup::entry_in))]
-    pub(crate) fn entry_in(&self, place: u8) -> Option<Reference>
-        ensures { result ≡ entry_at place self.now }
-    {
-        match self.phase {
-            Phase::Before(_) => None,
-            Phase::After(Outstanding::Entered(taken, a, access)) => if taken == place {
-                Some(Reference { address: a, access })
-            } else {
-                None
-            },
-            Phase::After(Outstanding::Accepted(_, _)) => None,
         }
     }
 

@@ -208,21 +208,6 @@ impl Slots {
         put_rest(&mut self.places, &mut self.channels, &pending, later);
     }
 
-    /// The instruction that stands in a place of the hopper, with its reference.
-    pub fn find_entry(&self, place: u8) -> Option<Located<Reference>>
-        requires { place < 4 }
-        ensures { result ≡ located (seek (entry_at place) self.now) }
-    {
-        let slot = self.places[usize::from(place)];
-        let Some(pending) = slot else {
-            return None;
-        };
-        match pending.entry_in(place) {
-            Some(answer) => Some(Located { pending, answer }),
-            None => None,
-        }
-    }
-
     /// The instruction in the place leaves it; what is left of it goes to its channel.
     pub fn accept(&mut self, place: u8, later: &Option<Outstanding>)
         requires place { place < 4 }

@@ -3,3 +3,4 @@ pub mod Steps
 pub mod Saving
 pub mod Making
 pub mod Leaving
+pub mod Told

@@ -75,7 +75,7 @@ impl<K: Naming> Locked<K> {
             (λ done. IsMade Issued seen.old seen.new × IsNoteOf seen.new (note_in done))
             (λ refusal. Learnt seen.old seen.new × IsWhyOf seen.new refusal) }
     {
-        match self.machine.apply(Event::Issue) {
+        match self.machine.issue() {
             Ok(done) => {
                 word.record::<Brand>(&mut self.pass, &mut seen.pass, &self.machine);
                 self.machine.keeps_replay();
@@ -100,7 +100,7 @@ impl<K: Naming> Locked<K> {
         ensures replayed { HasReplay seen.new }
         ensures seen { Learnt seen.old seen.new }
     {
-        let answer = self.machine.apply(Event::Ask(at));
+        let answer = self.machine.ask(at);
         self.machine.keeps_replay();
         word.compare(&mut self.pass, &mut seen.pass);
         answer
@@ -120,7 +120,7 @@ impl<K: Naming> Locked<K> {
             (λ done. (n : ℕ) × (self.old.processor.request ≡ Some n) × IsMade (Exchanged n) seen.old seen.new)
             (λ refusal. Learnt seen.old seen.new × IsWhyOf seen.new refusal) }
     {
-        match self.machine.apply(Event::Exchange) {
+        match self.machine.exchange() {
             Ok(done) => {
                 word.record::<Brand>(&mut self.pass, &mut seen.pass, &self.machine);
                 self.machine.keeps_replay();

@@ -9,16 +9,16 @@ use Rattle.instructions.specs.declared.instr.Unit.{Unit as FunctionalUnit}
 use Rattle.instructions.specs.Finding.{seek, found_here, found_further}
 use Rattle.instructions.specs.Shape.{shape_of, has_reference}
 use Rattle.hopper.specs.Hopper.{free_place, first_place}
+use Rattle.hopper.specs.Queue.{stands_at, is_taken as taken_in, place_for as free_in}
 use Rattle.relocation.specs.declared.area.Access.TheVariants.{Store}
 use Rattle.scoreboard.specs.Issued.{channel_of}
-use Rattle.in_flight.specs.declared.flight.Rest.{Rest}
-use Rattle.in_flight.specs.declared.flight.Rest.TheVariants.{Enters}
+use Rattle.in_flight.specs.declared.referring.Relocated.{Relocated}
 use Rattle.in_flight.specs.Pending.{left_to_return}
 use Rattle.in_flight.specs.Pending.{returning}
 use Rattle.in_flight.specs.declared.pending.Pending.{Pending}
 use Rattle.in_flight.specs.declared.pending.Stage.{Stage}
-use Rattle.in_flight.specs.Flight.{Flight, IsRestOf, reserved_in, outstanding_of}
-use Rattle.in_flight.specs.Lookup.{located, stage_at, enters, place_for, entry_at, entry_in, in_place}
+use Rattle.in_flight.specs.Flight.{Flight, IsRestOf, reserved_in, entering, outstanding_of}
+use Rattle.in_flight.specs.Lookup.{located, stage_at, enters, place_for, waiting, waiting_in}
 
 abbrev pub boot : Flight
 boot = record { pending = []; busy = replicate 32 false; last = 0 }
@@ -28,17 +28,17 @@ reserved f g i at p q = q ∙ ap (λ (x : Flight). reserved_in x i at) p
 
 pub alone_room : (f g : Flight) (i : Instr) (at : ℕ) → f ≡ boot → g ≡ reserved_in f i at
     → is_none (place_for g.pending) ≡ false
-unfolding place_for free_place first_place in_place entry_at entry_in
+unfolding place_for free_in taken_in stands_at free_place first_place waiting waiting_in
 alone_room f g i at p q =
     subst (λ (x : Flight). is_none (place_for x.pending) ≡ false) (sym (reserved f g i at p q)) refl
 
-one_rest : (o : Option Stage) (m : Pending) (rest : Option Rest) → IsRestOf (shape_of m.instr) rest
+one_rest : (o : Option Stage) (m : Pending) (rest : Option Relocated) → IsRestOf (shape_of m.instr) rest
     → IfSome (located (found_here o m [] None)) (λ s. IsRestOf (shape_of s.pending.instr) rest)
 unfolding located found_here found_further
 one_rest None m rest h = tt
 one_rest (Some t) m rest h = h
 
-pub alone_rest : (f g : Flight) (i : Instr) (at : ℕ) (u : FunctionalUnit) (rest : Option Rest) → f ≡ boot
+pub alone_rest : (f g : Flight) (i : Instr) (at : ℕ) (u : FunctionalUnit) (rest : Option Relocated) → f ≡ boot
     → g ≡ reserved_in f i at → IsRestOf (shape_of i) rest
     → IfSome (located (seek (stage_at u) g.pending)) (λ s. IsRestOf (shape_of s.pending.instr) rest)
 unfolding seek
@@ -48,14 +48,14 @@ alone_rest f g i at u rest p q h =
     (stage_at u (record { instr = i; at = at; number = 1; unit = _; phase = _ })) _ rest h)
 
 pub sum_rest : (n : ℕ) (addends : Addends) → IsRestOf (shape_of (Increment TargetX n addends)) None
-unfolding shape_of has_reference channel_of left_to_return outstanding_of enters
+unfolding shape_of has_reference channel_of left_to_return outstanding_of entering enters
 sum_rest n addends = record { returns = refl; refers = λ e. e }
 
 pub store_rest : (n : ℕ) (addends : Addends) (address word : ℕ) → n ≡ 6
     → IsRestOf (shape_of (Increment TargetA n addends))
-    (Some (Enters (record { address = address; access = Store word })))
-unfolding shape_of has_reference channel_of left_to_return outstanding_of returning enters
+    (Some (record { address = Some address; access = Store word }))
+unfolding shape_of has_reference channel_of left_to_return outstanding_of entering returning enters
 store_rest n addends address word h =
     subst (λ x. IsRestOf (shape_of (Increment TargetA x addends))
-    (Some (Enters (record { address = address; access = Store word })))) (sym
+    (Some (record { address = Some address; access = Store word }))) (sym
     h) (record { returns = refl; refers = λ e. e })

@@ -5,7 +5,7 @@ ghost use Rattle.instructions.specs.Shape.{shape_of};
 ghost use Rattle.in_flight.specs.Flight.{IsRestOf};
 
 use hopper::Reference;
-use in_flight::{Arrival, InFlight, Pending, Phase, Rest, Stage};
+use in_flight::{Arrival, InFlight, Pending, Phase, Relocated, Stage};
 use instruction_table::{Addends, Digit, Instr, Pair, Refusal, Reg, Unit, read_text};
 use registers::RegisterFile;
 use relocation::Storage;
@@ -119,7 +119,7 @@ pub fn is_empty_after_leave(unit: Unit) -> bool {
 }
 
 /// What is in flight after an instruction alone came to its store event and left this.
-pub fn left_alone(instr: &Instr, rest: &Option<Rest>) -> Option<InFlight>
+pub fn left_alone(instr: &Instr, rest: &Option<Relocated>) -> Option<InFlight>
     requires { IsRestOf (shape_of instr.now) rest.now }
 {
     let mut flight = InFlight::new();

@@ -3,8 +3,7 @@ use crate::flight_calls::{
     is_empty_after_leave, left_alone, no_addends, refused, registers, reserves, return_at_boot,
     three_and_four, x,
 };
-use hopper::Reference;
-use in_flight::{InFlight, Rest, Stage};
+use in_flight::{InFlight, Relocated, Stage};
 use instruction_table::{Digit, Instr, Refusal, Target, Unit, read_text};
 use relocation::{Access, Storage};
 use std::test::Fail;
@@ -202,11 +201,10 @@ fn a_store_waits_in_the_hopper(rt: HostRuntime) -> Result<(), Fail> {
         i: Digit::low(6),
         addends: no_addends(),
     };
-    let reference = Reference {
-        address: 0o47,
+    let rest = Some(Relocated {
+        address: Some(0o47),
         access: Access::Store(Word60::default()),
-    };
-    let rest = Some(Rest::Enters(reference));
+    });
     let flight = left_alone(&instr, &rest).ok_or("reserve")?;
     assert!(rt; !flight.is_empty());
     assert!(rt; flight.find(Unit::Increment1).is_none());

@@ -16,7 +16,7 @@ use Rattle.in_flight.specs.declared.pending.Outstanding.TheVariants.{Entered, Ac
 use Rattle.in_flight.specs.declared.pending.Phase.{Phase}
 use Rattle.in_flight.specs.declared.pending.Phase.TheVariants.{Before, After}
 use Rattle.in_flight.specs.declared.pending.Pending.{Pending}
-use Rattle.in_flight.specs.Lookup.{arrival_at, is_taken, stage_at}
+use Rattle.in_flight.specs.Lookup.{arrival_at, in_place, stage_at}
 use Rattle.program_order.specs.Processor.{Processor}
 use Rattle.program_order.specs.Events.{allowed, after}
 
@@ -47,7 +47,7 @@ unfoldable pub works_on : List Pending → Event → Bool
 works_on ms (Read u) = list_any (holds_unit u) ms
 works_on ms (Finish u) = list_any (holds_unit u) ms
 works_on ms (Store u) = list_any (holds_unit u) ms
-works_on ms (Accept p) = is_taken ms p
+works_on ms (Accept p) = list_any (in_place p) ms
 works_on ms (Return c) = list_any (in_channel c) ms
 works_on ms (BankFree k) = list_any (waits_for k) ms
 works_on ms _ = false

@@ -1,23 +1,21 @@
 -- The events of a unit: read, finish and store.
 -- Source: Thornton, scoreboard; 60100000, unit and register conflicts. The turn of references is ours. What a read is
 -- refused for stands in in_flight/specs/Tests.antt.
-use Rattle.std.specs.Prelude.{ℕ, List, [], ◌∷◌, Option, Some, None, unwrap_or}
+use Rattle.std.specs.Prelude.{ℕ, List, [], ◌∷◌, Option, unwrap_or}
 use Rattle.instructions.specs.declared.instr.Instr.{Instr}
 use Rattle.instructions.specs.Finding.{Found, put_back}
 use Rattle.instructions.specs.Shape.{shape_of}
 use Rattle.registers.specs.declared.file.RegisterFile.{RegisterFile}
-use Rattle.relocation.specs.declared.area.Access.{Access}
-use Rattle.relocation.specs.declared.area.Access.TheVariants.{Load, Store as StoreWord}
 use Rattle.unit_ops.specs.Values.{value_of}
 use Rattle.sequential.specs.declared.work.ProgramReference.{ProgramReference}
-use Rattle.sequential.specs.State.{Bounds, bounds_of, absolute}
+use Rattle.sequential.specs.State.{Bounds, bounds_of}
 use Rattle.sequential.specs.Work.{operands, Work, work_of, write_and_jump}
 use Rattle.in_flight.specs.declared.pending.Stage.{Stage}
 use Rattle.in_flight.specs.declared.pending.Stage.TheVariants.{Waiting, Read as HasRead, Finished}
 use Rattle.in_flight.specs.declared.pending.Outstanding.{Outstanding}
-use Rattle.in_flight.specs.declared.pending.Outstanding.TheVariants.{Entered, Accepted}
 use Rattle.in_flight.specs.declared.pending.Phase.TheVariants.{Before}
 use Rattle.in_flight.specs.declared.pending.Pending.{Pending}
+use Rattle.in_flight.specs.Flight.{outstanding_of, relocated}
 use Rattle.in_flight.specs.Tests.{store_conflicts, Test, nothing}
 use Rattle.in_flight.specs.Lookup.{in_phase, kept, place_for, enters}
 use Rattle.program_order.specs.Processor.{Processor}
@@ -30,16 +28,9 @@ finish_tests Waiting = nothing
 finish_tests (HasRead os) = []
 finish_tests (Finished v) = nothing
 
--- a reference in range enters a place; out of range a load has +0 in its channel, and a store is gone
-unfoldable pub entering : ℕ → Option ℕ → Access → Option Outstanding
-entering place (Some a) access = Some (Entered place a access)
-entering place None (Load n) = Some (Accepted n 0)
-entering place None (StoreWord word) = None
-
 -- what is left after the store event
-unfoldable pub rest_of : Bounds → ℕ → Option ProgramReference → Option Outstanding
-rest_of b place None = None
-rest_of b place (Some r) = entering place (absolute b r.address) r.access
+abbrev pub rest_of : Bounds → ℕ → Option ProgramReference → Option Outstanding
+rest_of b place r = outstanding_of place (relocated b r)
 
 -- E15, nothing, where the unit has not finished; then E10, result held, E11, hopper full, and E12, out of turn
 unfoldable pub store_tests : Bounds → List Pending → Stage → List Pending → Instr → List Test

@@ -36,7 +36,7 @@ pub struct Board {
     channels: [Option<Issued>; 8],
     /// By register: who is to write it.
     writers: Writers,
-    /// The number of the last reservation, 0 before the first.
+    /// The number of the last reservation, 0 before the first. Numbers are never given twice.
     last: u64,
 }
 
@@ -83,13 +83,6 @@ impl Board {
             writers: Writers::new(),
             last: 0,
         }
-    }
-
-    /// The number of the last reservation, 0 before the first. Numbers are never given twice.
-    pub fn last(&self) -> u64
-        ensures { result ≡ self.now.last }
-    {
-        self.last
     }
 
     /// First order: reserves the lower-numbered free unit of the instruction's kind, and answers it with the

@@ -23,4 +23,4 @@ pub use position::ProgramPosition;
 pub use replaying::replay;
 pub use state::State;
 pub use stepping::step;
-pub use work::{ProgramReference, fault_after, faults, jump, number, operands, reference};
+pub use work::{ProgramReference, faults, jump, number, operands, reference, stops_at_fault};

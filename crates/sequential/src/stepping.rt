@@ -7,10 +7,8 @@ ghost use Rattle.sequential.specs.Step.{do_fetched, do_instruction, fetched_by, 
 ghost use Rattle.sequential.specs.Work.{put_any, refer_at, refer};
 
 use crate::fetching::fetched_by;
-use crate::{
-    Fetched, ProgramPosition, ProgramReference, State, fault_after, jump, number, operands,
-    reference,
-};
+use crate::work::fault_after;
+use crate::{Fetched, ProgramPosition, ProgramReference, State, jump, number, operands, reference};
 use instruction_table::{Halt, Instr, Reg, Target, decode_as, first_digits};
 use registers::RegisterFile;
 use relocation::{Access, Area};

@@ -1,5 +1,5 @@
-ghost use Rattle.std.specs.Prelude.{◌≡◌, ◌<◌, ◌||◌, IfSome};
-ghost use Rattle.sequential.specs.State.{absolute};
+ghost use Rattle.std.specs.Prelude.{◌≡◌, ◌<◌, ◌||◌, ℕ, IfSome};
+ghost use Rattle.sequential.specs.State.{absolute, stops_at_fault};
 ghost use Rattle.instructions.specs.Shape.{shape_of};
 ghost use Rattle.sequential.specs.Work.{operand_at, operands, number_in, address_in, link_word, word_in, jump_for};
 ghost use Rattle.sequential.specs.Work.{reference_for, fault_of};
@@ -157,23 +157,30 @@ impl ProgramReference {
     }
 }
 
-/// Whether a reference sets the fault flag: it is out of range, and the exit mode has bit 010000 (octal).
-#[tactic(auto, unfolding(crate::specs::Work::fault_of, crate::specs::State::stops_at_fault))]
+/// Whether the exit mode sets the fault flag at an address out of range: it has bit 010000 (octal).
+#[tactic(auto, unfolding(crate::specs::State::stops_at_fault))]
+#[inline(always)]
+pub fn stops_at_fault(area: &Area) -> bool
+    ensures { (size : ℕ) → result ≡ stops_at_fault (record { area = area.now; size = size }) }
+{
+    (area.mode.get() >> 12) % 2 == 1
+}
+
+/// Whether a reference sets the fault flag: it is out of range, and the exit mode says so.
+#[tactic(auto, unfolding(crate::specs::Work::fault_of))]
 #[inline(always)]
 pub fn faults(area: &Area, size: u32, reference: &Option<ProgramReference>) -> bool
     ensures { result ≡ fault_of (record { area = area.now; size = size }) reference.now }
 {
     match *reference {
         None => false,
-        Some(reference) => {
-            (area.mode.get() >> 12) % 2 == 1 && reference.absolute(area, size).is_none()
-        }
+        Some(reference) => stops_at_fault(area) && reference.absolute(area, size).is_none(),
     }
 }
 
 /// The fault flag after a reference; it stays once it is set.
 #[inline(always)]
-pub fn fault_after(
+pub(crate) fn fault_after(
     fault: bool,
     area: &Area,
     size: u32,

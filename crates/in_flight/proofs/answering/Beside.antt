@@ -20,7 +20,7 @@ use Rattle.instructions.specs.RegisterLists.{is_in, overlap}
 use Rattle.instructions.specs.Shape.{shape_of, results, is_branch_shape, has_store}
 use Rattle.instructions.proofs.Lists.{each_left, each_right, each_append, each_map, each_of_any, pairs_before, or_false}
 use Rattle.instructions.proofs.Lists.{any_same}
-use Rattle.hopper.specs.Hopper.{free_place, stores_to}
+use Rattle.hopper.specs.Hopper.{first_place, free_place, stores_to}
 use Rattle.hopper.specs.Queue.{Queue, stands_at, is_for, stores_here, place_for as free_in, is_taken as taken_in}
 use Rattle.hopper.specs.Queue.{free_answer}
 use Rattle.hopper.specs.declared.entered.Entered.{Entered}
@@ -53,7 +53,8 @@ use Rattle.in_flight.specs.declared.slots.Located.{Located}
 use Rattle.in_flight.specs.inner.Board.{on_board}
 use Rattle.in_flight.specs.Tests.{refusal_in, store_conflicts, Test, refusal_of, nothing, tests_found, read_tests}
 use Rattle.in_flight.specs.Tests.{return_tests, free_tests, reservation_tests, unit_for}
-use Rattle.in_flight.specs.Flight.{Flight, flight_of, waiting_in, waiting, reserved_in, with_pending}
+use Rattle.in_flight.specs.Flight.{Flight, flight_of, reserved_in, with_pending}
+use Rattle.in_flight.specs.Lookup.{waiting_in, waiting}
 use Rattle.in_flight.specs.inner.Board.{IsTied}
 use Rattle.in_flight.specs.Pending.{has_read, reservation_of, progress_of, to_come, awaited, is_branch}
 use Rattle.in_flight.specs.Pending.{has_turn}
@@ -61,7 +62,7 @@ use Rattle.in_flight.specs.Pending.{stores_in, waits_in, delays_fetch, delays_ac
 use Rattle.in_flight.proofs.asking.PendingReservations.{comes}
 use Rattle.in_flight.proofs.Opened.{coming}
 use Rattle.in_flight.specs.Lookup.{located, stage_at, stage_in, arrival_at, arrival_in, entry_at, entry_in, in_place}
-use Rattle.in_flight.specs.Lookup.{is_taken, place_for, is_pending, in_phase}
+use Rattle.in_flight.specs.Lookup.{place_for, is_pending, in_phase}
 use Rattle.instructions.specs.Finding.{replaced, Found, seek, put_back}
 use Rattle.in_flight.specs.inner.Slots.{has_none}
 use Rattle.in_flight.specs.Apart.{IsApart}
@@ -267,9 +268,26 @@ place_taken p (m ∷ ms) = any-append (stands_at p) (waiting_in m.phase) (waitin
     in_phase_of : (y : Pending) → list_any (stands_at p) (waiting_in y.phase) ≡ in_place p y
     in_phase_of y = in_it y.phase
 
-pub same_place : (ms : List Pending) → free_in (waiting ms) ≡ place_for ms
+pub same_place : (ms : List Pending) → place_for ms ≡ free_place (λ p. list_any (in_place p) ms)
 unfolding free_in place_for free_place taken_in
-same_place ms = first_same (taken_in (waiting ms)) (is_taken ms) (λ p. place_taken p ms) (0 ∷ 1 ∷ 2 ∷ 3 ∷ [])
+same_place ms =
+    first_same (taken_in (waiting ms)) (λ p. list_any (in_place p) ms) (λ p. place_taken p ms) (0 ∷ 1 ∷ 2 ∷ 3 ∷ [])
+
+first_place_found : (taken : ℕ → Bool) (ps : List ℕ) (p : ℕ) → Each (λ q. q < 4) ps → first_place taken ps ≡ Some p
+    → (taken p ≡ false) × (p < 4)
+unfolding first_place
+first_place_found taken [] p h e = cc
+first_place_found taken (q ∷ ps) p h e = by_test (taken q) refl e (first_place_found taken ps p h.1)
+  where
+    by_test : (t : Bool) → taken q ≡ t → cond t (first_place taken ps) (Some q) ≡ Some p
+        → (first_place taken ps ≡ Some p → (taken p ≡ false) × (p < 4)) → (taken p ≡ false) × (p < 4)
+    by_test true i k rest = rest k
+    by_test false i k rest = let g : q ≡ p = cc in (ap taken (sym g) ∙ i, let l : q < 4 = h.0 in omega (arith, l, g))
+
+pub place_found : (ms : List Pending) (p : ℕ) → place_for ms ≡ Some p → (list_any (in_place p) ms ≡ false) × (p < 4)
+unfolding free_place
+place_found ms p e = first_place_found (λ q. list_any (in_place q) ms) (0 ∷ 1 ∷ 2 ∷ 3 ∷ []) p
+    (omega arith, (omega arith, (omega arith, (omega arith, tt)))) (sym (same_place ms) ∙ e)
 
 -- ---- a store event ----
 
@@ -461,7 +479,8 @@ free_answered busy bank = by_test tt (get_or busy bank false)
 
 pub full_is : (ms : List Pending) (queue : Queue) (b : Standing) → IsTied ms queue b
     → is_none (free_in queue.entered) ≡ is_none (place_for ms)
-full_is ms queue b tied = ap (λ es. is_none (free_in es)) tied.entered ∙ ap is_none (same_place ms)
+unfolding place_for
+full_is ms queue b tied = ap (λ es. is_none (free_in es)) tied.entered
 
 -- ---- a load that returns, as the board answers ----
 

@@ -32,8 +32,7 @@ use Rattle.scoreboard.specs.Issued.{channel_of}
 use Rattle.scoreboard.specs.Answers.{Standing, held_in, left, with_issued}
 use Rattle.scoreboard.specs.Units.{unit_number}
 use Rattle.scoreboard.proofs.in_slots.InSlots.{unit_below}
-use Rattle.in_flight.specs.declared.flight.Rest.{Rest}
-use Rattle.in_flight.specs.declared.flight.Rest.TheVariants.{Enters, Arrives}
+use Rattle.in_flight.specs.declared.referring.Relocated.{Relocated}
 use Rattle.in_flight.specs.declared.pending.Outstanding.{Outstanding}
 use Rattle.in_flight.specs.declared.pending.Outstanding.TheVariants.{Entered as HasEntered, Accepted}
 use Rattle.in_flight.specs.declared.pending.Pending.{Pending}
@@ -43,9 +42,11 @@ use Rattle.in_flight.specs.declared.pending.Stage.{Stage}
 use Rattle.in_flight.specs.inner.Board.{on_board}
 use Rattle.in_flight.specs.Pending.{left_to_return}
 use Rattle.in_flight.specs.Tests.{refusal_in, refusal_of, nothing, tests_found, accept_tests}
-use Rattle.in_flight.specs.Flight.{left_by, Flight, flight_of, waiting_in, waiting, IsRestOf, outstanding_of}
+use Rattle.in_flight.specs.Flight.{left_by, Flight, flight_of, IsRestOf, entering, outstanding_of}
 use Rattle.in_flight.specs.inner.Board.{IsTied}
-use Rattle.in_flight.specs.Flight.{entered_at, rest_at, queue_with, queue_after, with_pending}
+use Rattle.in_flight.specs.inner.Board.{queue_with}
+use Rattle.in_flight.specs.Flight.{with_pending}
+use Rattle.in_flight.specs.Lookup.{waiting_in, waiting}
 use Rattle.in_flight.specs.Pending.{reservation_of, progress_of, returning, to_come, has_turn, is_entered, entered_in}
 use Rattle.in_flight.specs.Pending.{holds_back}
 use Rattle.in_flight.specs.Pending.{holds_back_in}
@@ -54,12 +55,12 @@ use Rattle.in_flight.specs.inner.Slots.{slot_in, slot_of, AreElsewhere, HasRoom}
 use Rattle.in_flight.specs.Lookup.{located, stage_at, entry_at, entry_in, in_place, place_for, enters, in_phase, kept}
 use Rattle.in_flight.specs.Apart.{IsApart}
 use Rattle.in_flight.proofs.answering.Beside.{any-append, waiting_put, waiting_around, waiting_one}
-use Rattle.in_flight.proofs.answering.Beside.{each_put, same_place, arrival_phase}
+use Rattle.in_flight.proofs.answering.Beside.{each_put, place_found, arrival_phase}
 use Rattle.instructions.proofs.Finding.{seek_splits, seek_around, seek_nobody}
 use Rattle.in_flight.proofs.asking.Finding.{stage_found}
 use Rattle.in_flight.proofs.answering.Boarding.{store_follows, load_follows, stored_follows}
 use Rattle.in_flight.proofs.in_slots.Moving.{arrival_is, entry_is}
-use Rattle.in_flight.proofs.asking.Slotting.{place_found, loads_channel, proper_there, placed_in}
+use Rattle.in_flight.proofs.asking.Slotting.{loads_channel, proper_there, placed_in}
 
 -- ---- a reference in its place ----
 
@@ -405,30 +406,24 @@ accept_flight memory p ms ns queue after b f r l now ev tied h e el en eq =
 
 -- ---- what a unit's instruction leaves ----
 
-later_by : (o : Option ℕ) (rest : Option Rest) → (enters (outstanding_of 0 rest) ≡ true → is_none o ≡ false)
-    → rest_at o rest ≡ outstanding_of (unwrap_or o 0) rest
-unfolding outstanding_of rest_at entered_at enters
-later_by o None h = refl
-later_by o (Some (Arrives n)) h = refl
-later_by None (Some (Enters r)) h = let q : true ≡ false = h refl in cc
-later_by (Some p) (Some (Enters r)) h = refl
+-- where it waits, the hopper's lowest free place is that of the list
+pub later_is : (ms : List Pending) (queue : Queue) (rest : Option Relocated) (l : Option Outstanding)
+    → queue.entered ≡ waiting ms → l ≡ outstanding_of (unwrap_or (free_in queue.entered) 0) rest
+    → l ≡ outstanding_of (unwrap_or (place_for ms) 0) rest
+unfolding place_for
+later_is ms queue rest l e el = el ∙ ap (λ es. outstanding_of (unwrap_or (free_in es) 0) rest) e
 
-pub later_is : (ms : List Pending) (queue : Queue) (rest : Option Rest) (l : Option Outstanding)
-    → queue.entered ≡ waiting ms → (enters (outstanding_of 0 rest) ≡ true → is_none (place_for ms) ≡ false)
-    → l ≡ rest_at (free_in queue.entered) rest → l ≡ outstanding_of (unwrap_or (place_for ms) 0) rest
-later_is ms queue rest l e h el =
-    el ∙ ap (λ o. rest_at o rest) (ap free_in e ∙ same_place ms) ∙ later_by (place_for ms) rest h
-
-returns_alike : (place : ℕ) (rest : Option Rest)
+returns_alike : (place : ℕ) (rest : Option Relocated)
     → left_to_return (outstanding_of place rest) ≡ left_to_return (outstanding_of 0 rest)
-unfolding left_to_return outstanding_of returning
+unfolding left_to_return outstanding_of entering returning
 returns_alike place None = refl
-returns_alike place (Some (Arrives n)) = refl
-returns_alike place (Some (Enters r)) = by_access r.access
+returns_alike place (Some r) = by_parts r.address r.access
   where
-    by_access : (x : Access) → returning (HasEntered place r.address x) ≡ returning (HasEntered 0 r.address x)
-    by_access (Load n) = refl
-    by_access (Store w) = refl
+    by_parts : (o : Option ℕ) (x : Access) → left_to_return (entering place o x) ≡ left_to_return (entering 0 o x)
+    by_parts (Some a) (Load n) = refl
+    by_parts (Some a) (Store w) = refl
+    by_parts None (Load n) = refl
+    by_parts None (Store w) = refl
 
 loads_through : (h : Shape) (n : ℕ) → Some n ≡ channel_of h → h ≡ Loads n
 unfolding channel_of
@@ -452,19 +447,24 @@ place_away : (p : ℕ) (y : Pending) → p < 4 → in_place p y ≡ false → sl
 unfolding in_place
 place_away p y b h k = let q = entry_is p y b k in let r : true ≡ false = sym (ap is_some q.1) ∙ h in cc
 
-room_left : (u : FunctionalUnit) (ms : List Pending) (f : Found Pending Stage) (rest : Option Rest) (o : Option ℕ)
-    → Pairs IsApart ms → seek (stage_at u) ms ≡ Some f → IsRestOf (shape_of f.item.instr) rest → place_for ms ≡ o
-    → HasRoom (rest_at o rest) ms
-unfolding rest_at entered_at left_to_return outstanding_of returning
-room_left u ms f None o apart h is e = tt
-room_left u ms f (Some (Enters r)) None apart h is e = tt
-room_left u ms f (Some (Enters r)) (Some p) apart h is e =
-    let q = place_found ms p e in
-    (q.1, each_of_any (in_place p) (λ y. slot_of y ≢ 10 + p) (λ y k. place_away p y q.1 k) ms q.0)
-room_left u ms f (Some (Arrives n)) o apart h is e =
+room_entering : (u : FunctionalUnit) (ms : List Pending) (f : Found Pending Stage) (o : Option ℕ) (x : Access)
+    → Pairs IsApart ms → seek (stage_at u) ms ≡ Some f
+    → left_to_return (entering 0 o x) ≡ channel_of (shape_of f.item.instr)
+    → (enters (entering 0 o x) ≡ true → is_none (place_for ms) ≡ false)
+    → HasRoom (entering (unwrap_or (place_for ms) 0) o x) ms
+unfolding entering left_to_return returning enters
+room_entering u ms f (Some a) x apart h returns room = by_place (place_for ms) refl (room refl)
+  where
+    by_place : (q : Option ℕ) → place_for ms ≡ q → is_none q ≡ false → HasRoom (Some (HasEntered (unwrap_or q 0) a x)) ms
+    by_place None e k = cc
+    by_place (Some p) e k =
+        let q = place_found ms p e in
+        (q.1, each_of_any (in_place p) (λ y. slot_of y ≢ 10 + p) (λ y k. place_away p y q.1 k) ms q.0)
+room_entering u ms f None (Store w) apart h returns room = tt
+room_entering u ms f None (Load n) apart h returns room =
     let q = seek_splits (stage_at u) ms f h in
     let t = stage_found u f.item f.answer q.1 in
-    let k = loads_through (shape_of f.item.instr) n is.returns in
+    let k = loads_through (shape_of f.item.instr) n returns in
     let c : IsChannel n = loads_channel f.item.instr n k in
     let b : n < 8 = (let l : n < 6 = c.1 in omega (arith, l)) in (
       b,
@@ -473,7 +473,15 @@ room_left u ms f (Some (Arrives n)) o apart h is e =
           (load_comes f.item f.answer n t k) b (unit_away f.item f.answer n t)),
     )
 
-rest_of_found : (u : FunctionalUnit) (ms : List Pending) (f : Found Pending Stage) (rest : Option Rest)
+room_left : (u : FunctionalUnit) (ms : List Pending) (f : Found Pending Stage) (rest : Option Relocated)
+    → Pairs IsApart ms → seek (stage_at u) ms ≡ Some f → IsRestOf (shape_of f.item.instr) rest
+    → (enters (outstanding_of 0 rest) ≡ true → is_none (place_for ms) ≡ false)
+    → HasRoom (outstanding_of (unwrap_or (place_for ms) 0) rest) ms
+unfolding outstanding_of
+room_left u ms f None apart h is room = tt
+room_left u ms f (Some r) apart h is room = room_entering u ms f r.address r.access apart h is.returns room
+
+rest_of_found : (u : FunctionalUnit) (ms : List Pending) (f : Found Pending Stage) (rest : Option Relocated)
     → seek (stage_at u) ms ≡ Some f
     → IfSome (located (seek (stage_at u) ms)) (λ s. IsRestOf (shape_of s.pending.instr) rest)
     → IsRestOf (shape_of f.item.instr) rest
@@ -488,13 +496,21 @@ around u ms f h = waiting_around (stage_at u) ms f h
     (stage_found u f.item f.answer (seek_splits (stage_at u) ms f h).1)
 
 pub room_for_rest : (u : FunctionalUnit) (ms : List Pending) (queue : Queue) (f : Found Pending Stage)
-    (rest : Option Rest) (l : Option Outstanding) → queue.entered ≡ waiting ms → Pairs IsApart ms
+    (rest : Option Relocated) (l : Option Outstanding) → queue.entered ≡ waiting ms → Pairs IsApart ms
     → seek (stage_at u) ms ≡ Some f
     → IfSome (located (seek (stage_at u) ms)) (λ s. IsRestOf (shape_of s.pending.instr) rest)
-    → l ≡ rest_at (free_in queue.entered) rest → HasRoom l ms
-room_for_rest u ms queue f rest l e apart h is el =
-    subst (λ z. HasRoom z ms) (sym (el ∙ ap (λ o. rest_at o rest) (ap free_in e ∙ same_place ms)))
-    (room_left u ms f rest (place_for ms) apart h (rest_of_found u ms f rest h is) refl)
+    → (enters (outstanding_of 0 rest) ≡ true → is_none (place_for ms) ≡ false)
+    → l ≡ outstanding_of (unwrap_or (free_in queue.entered) 0) rest → HasRoom l ms
+room_for_rest u ms queue f rest l e apart h is room el =
+    subst (λ z. HasRoom z ms) (sym (later_is ms queue rest l e el))
+    (room_left u ms f rest apart h (rest_of_found u ms f rest h is) room)
+
+-- where a reference enters, the hopper has room for it
+pub room_in_queue : (ms : List Pending) (queue : Queue) (rest : Option Relocated) → queue.entered ≡ waiting ms
+    → (enters (outstanding_of 0 rest) ≡ true → is_none (place_for ms) ≡ false)
+    → enters (outstanding_of 0 rest) ≡ true → is_none (free_in queue.entered) ≡ false
+unfolding place_for
+room_in_queue ms queue rest e room k = ap (λ es. is_none (free_in es)) e ∙ room k
 
 -- ---- the references in the order in which they entered ----
 
@@ -521,88 +537,93 @@ pub turn_there : (m : Pending) (t : Stage) → m.phase ≡ Before t → has_refe
 unfolding has_turn board.has_turn reservation_of is_reserved progress_of
 turn_there m t h e = ap (λ p. is_reserved (progress_of p) && has_reference (shape_of m.instr)) h ∙ e
 
-queue_left : (u : FunctionalUnit) (ms : List Pending) (queue : Queue) (f : Found Pending Stage) (rest : Option Rest)
-    (o : Option ℕ) → Pairs IsApart ms → seek (stage_at u) ms ≡ Some f → IsRestOf (shape_of f.item.instr) rest
-    → queue.entered ≡ waiting ms → (queue_after queue o rest).entered
-    ≡ waiting (put_back f (kept f.item (rest_at o rest)))
-unfolding queue_after queue_with rest_at entered_at kept waiting_in in_phase outstanding_of enters waiting
-queue_left u ms queue f None o apart h is e =
-    e ∙ around u ms f h ∙ sym (waiting_put f [])
-queue_left u ms queue f (Some (Arrives n)) o apart h is e =
-    e ∙ around u ms f h ∙ sym (waiting_put f (in_phase f.item (After (Accepted n 0)) ∷ [])
+queue_entering : (u : FunctionalUnit) (ms : List Pending) (queue : Queue) (f : Found Pending Stage) (place : ℕ)
+    (o : Option ℕ) (x : Access) → Pairs IsApart ms → seek (stage_at u) ms ≡ Some f
+    → (enters (entering 0 o x) ≡ true → has_reference (shape_of f.item.instr) ≡ true) → queue.entered ≡ waiting ms
+    → (queue_with queue (entering place o x)).entered ≡ waiting (put_back f (kept f.item (entering place o x)))
+unfolding queue_with entering kept waiting_in in_phase enters waiting
+queue_entering u ms queue f place None (Store w) apart h refers e = e ∙ around u ms f h ∙ sym (waiting_put f [])
+queue_entering u ms queue f place None (Load n) apart h refers e =
+    append-nil queue.entered ∙ e ∙ around u ms f h ∙ sym (waiting_put f (in_phase f.item (After (Accepted n 0)) ∷ [])
     ∙ ap (λ w. waiting f.earlier ++ (w ++ waiting f.later))
     (waiting_one (in_phase f.item (After (Accepted n 0)))))
-queue_left u ms queue f (Some (Enters r)) None apart h is e =
-    e ∙ around u ms f h ∙ sym (waiting_put f [])
-queue_left u ms queue f (Some (Enters r)) (Some p) apart h is e =
+queue_entering u ms queue f place (Some a) x apart h refers e =
     let q = seek_splits (stage_at u) ms f h in
-    let m : Pending = in_phase f.item (After (HasEntered p r.address r.access)) in
+    let m : Pending = in_phase f.item (After (HasEntered place a x)) in
     let none : waiting f.later ≡ [] =
     none_entered f.item f.later
-    (turn_there f.item f.answer (stage_found u f.item f.answer q.1) (is.refers refl))
+    (turn_there f.item f.answer (stage_found u f.item f.answer q.1) (refers refl))
     (pairs_right IsApart f.earlier (f.item ∷ f.later) (subst (Pairs IsApart) q.0 apart)).0 in
-    let x : Entered = record { place = p; reference = r } in
-    ap (λ es. es ++ x ∷ []) (e ∙ around u ms f h ∙ ap (λ w. waiting f.earlier ++ w) none
+    let r : Entered = record { place = place; reference = record { address = a; access = x } } in
+    ap (λ es. es ++ r ∷ []) (e ∙ around u ms f h ∙ ap (λ w. waiting f.earlier ++ w) none
     ∙ append-nil (waiting f.earlier))
     ∙ sym (waiting_put f (m ∷ []) ∙ ap (λ w. waiting f.earlier ++ (w ++ waiting f.later)) (waiting_one m)
-    ∙ ap (λ w. waiting f.earlier ++ (x ∷ w)) none)
+    ∙ ap (λ w. waiting f.earlier ++ (r ∷ w)) none)
 
-queue_busy : (queue : Queue) (o : Option ℕ) (rest : Option Rest) → (queue_after queue o rest).busy ≡ queue.busy
-unfolding queue_after queue_with
-queue_busy queue o None = refl
-queue_busy queue o (Some (Arrives n)) = refl
-queue_busy queue None (Some (Enters r)) = refl
-queue_busy queue (Some p) (Some (Enters r)) = refl
+queue_left : (u : FunctionalUnit) (ms : List Pending) (queue : Queue) (f : Found Pending Stage) (place : ℕ)
+    (rest : Option Relocated) → Pairs IsApart ms → seek (stage_at u) ms ≡ Some f
+    → IsRestOf (shape_of f.item.instr) rest → queue.entered ≡ waiting ms
+    → (queue_with queue (outstanding_of place rest)).entered
+    ≡ waiting (put_back f (kept f.item (outstanding_of place rest)))
+unfolding queue_with outstanding_of kept waiting
+queue_left u ms queue f place None apart h is e = e ∙ around u ms f h ∙ sym (waiting_put f [])
+queue_left u ms queue f place (Some r) apart h is e =
+    queue_entering u ms queue f place r.address r.access apart h is.refers e
+
+queue_busy : (queue : Queue) (l : Option Outstanding) → (queue_with queue l).busy ≡ queue.busy
+unfolding queue_with
+queue_busy queue None = refl
+queue_busy queue (Some l) = refl
 
 pub leave_tied : (u : FunctionalUnit) (ms ns : List Pending) (queue after : Queue) (b c : Standing)
-    (f : Found Pending Stage) (rest : Option Rest) (l : Option Outstanding) → IsTied ms queue b → Pairs IsApart ms
+    (f : Found Pending Stage) (rest : Option Relocated) (l : Option Outstanding) → IsTied ms queue b → Pairs IsApart ms
     → seek (stage_at u) ms ≡ Some f
     → IfSome (located (seek (stage_at u) ms)) (λ s. IsRestOf (shape_of s.pending.instr) rest)
-    → (enters (outstanding_of 0 rest) ≡ true → is_none (place_for ms) ≡ false)
-    → l ≡ rest_at (free_in queue.entered) rest → ns ≡ replaced (seek (stage_at u) ms) ms (λ m. kept m l)
-    → after ≡ queue_after queue (free_in queue.entered) rest
+    → l ≡ outstanding_of (unwrap_or (free_in queue.entered) 0) rest → ns ≡ replaced (seek (stage_at u) ms) ms (λ m. kept m l)
+    → after ≡ queue_with queue l
     → c ≡ with_issued b (replaced (seek (held_in u) b.issued) b.issued left) → IsTied ns after c
 unfolding replaced with_issued
-leave_tied u ms ns queue after b c f rest l tied apart h is room el en eq ec =
+leave_tied u ms ns queue after b c f rest l tied apart h is el en eq ec =
+    let place = unwrap_or (place_for ms) 0 in
+    let where_it_waits = later_is ms queue rest l tied.entered el in
     let of = rest_of_found u ms f rest h is in
     let made : ns ≡ put_back f (kept f.item l) = en ∙ ap (λ o. replaced o ms (λ m. kept m l)) h in
     let returns : left_to_return l ≡ channel_of (shape_of f.item.instr) =
-    ap left_to_return (later_is ms queue rest l tied.entered room el)
-    ∙ returns_alike (unwrap_or (place_for ms) 0) rest ∙ of.returns in
+    ap left_to_return where_it_waits ∙ returns_alike place rest ∙ of.returns in
     record {
       boarded = ap (λ (x : Standing). x.issued) ec ∙ ap (λ l. replaced (seek (held_in u) l) l left) tied.boarded
           ∙ sym (store_follows u ms f l h returns) ∙ ap on_board (sym made);
       entered = ap (λ (q : Queue). q.entered) eq
-          ∙ queue_left u ms queue f rest (free_in queue.entered) apart h of tied.entered
-          ∙ sym (ap (λ z. waiting (put_back f (kept f.item z))) el) ∙ ap waiting (sym made);
+          ∙ ap (λ z. (queue_with queue z).entered) where_it_waits
+          ∙ queue_left u ms queue f place rest apart h of tied.entered
+          ∙ sym (ap (λ z. waiting (put_back f (kept f.item z))) where_it_waits) ∙ ap waiting (sym made);
       counted = subst (λ k. Each (λ m. m.number ≤ k) ns) (sym (ap (λ (x : Standing). x.last) ec))
           (subst (Each (λ m. m.number ≤ b.last)) (sym made)
           (each_put (λ m. m.number ≤ b.last) (stage_at u) ms f (kept f.item l) h (λ k. each_kept b.last f.item l k)
           tied.counted));
     }
 
-abbrev pub left_from : FunctionalUnit → Option Rest → List Pending → List Pending
+abbrev pub left_from : FunctionalUnit → Option Relocated → List Pending → List Pending
 left_from u rest ms =
     replaced (seek (stage_at u) ms) ms (λ m. kept m (outstanding_of (unwrap_or (place_for ms) 0) rest))
 
 pub leave_flight : (u : FunctionalUnit) (ms ns : List Pending) (queue after : Queue) (b c : Standing)
-    (rest : Option Rest) (l : Option Outstanding) (now : Flight) → flight_of ms queue b ≡ now → IsTied ms queue b
-    → (enters (outstanding_of 0 rest) ≡ true → is_none (place_for ms) ≡ false)
-    → l ≡ rest_at (free_in queue.entered) rest → ns ≡ replaced (seek (stage_at u) ms) ms (λ m. kept m l)
-    → after ≡ queue_after queue (free_in queue.entered) rest
+    (rest : Option Relocated) (l : Option Outstanding) (now : Flight) → flight_of ms queue b ≡ now → IsTied ms queue b
+    → l ≡ outstanding_of (unwrap_or (free_in queue.entered) 0) rest → ns ≡ replaced (seek (stage_at u) ms) ms (λ m. kept m l)
+    → after ≡ queue_with queue l
     → c ≡ with_issued b (replaced (seek (held_in u) b.issued) b.issued left)
     → flight_of ns after c ≡ with_pending now (left_from u rest now.pending)
 unfolding with_issued
-leave_flight u ms ns queue after b c rest l now ev tied room el en eq ec =
+leave_flight u ms ns queue after b c rest l now ev tied el en eq ec =
     ap (λ k. flight_of k after c)
     (en ∙ ap (λ z. replaced (seek (stage_at u) ms) ms (λ m. kept m z))
-    (later_is ms queue rest l tied.entered room el))
+    (later_is ms queue rest l tied.entered el))
     ∙ ap (λ k. record { pending = left_from u rest ms; busy = k; last = c.last })
-    (ap (λ (q : Queue). q.busy) eq ∙ queue_busy queue (free_in queue.entered) rest)
+    (ap (λ (q : Queue). q.busy) eq ∙ queue_busy queue l)
     ∙ ap (λ (x : Standing). record { pending = left_from u rest ms; busy = queue.busy; last = x.last }) ec
     ∙ ap (λ (x : Flight). with_pending x (left_from u rest x.pending)) ev
 
-pub leave_nobody : (u : FunctionalUnit) (rest : Option Rest) (now : Flight) → seek (stage_at u) now.pending ≡ None
+pub leave_nobody : (u : FunctionalUnit) (rest : Option Relocated) (now : Flight) → seek (stage_at u) now.pending ≡ None
     → now ≡ with_pending now (left_from u rest now.pending)
 unfolding replaced
 leave_nobody u rest now h = ap

@@ -32,12 +32,11 @@ use Rattle.instructions.specs.declared.instr.Instr.TheVariants.{Invert, Logical,
 use Rattle.instructions.specs.declared.instr.Instr.TheVariants.{LongAdd as LongSum, Mask, CountOnes, Increment}
 use Rattle.instructions.specs.declared.instr.Target.TheVariants.{A as TargetA, B as TargetB, X as TargetX}
 use Rattle.relocation.specs.declared.area.Access.{Access}
-use Rattle.hopper.specs.Hopper.{first_place, free_place}
 use Rattle.scoreboard.specs.Reservations as board
 use Rattle.hopper.specs.declared.reference.Reference.{Reference}
 use Rattle.in_flight.specs.declared.pending.Outstanding.{Outstanding}
 use Rattle.in_flight.specs.declared.pending.Stage.{Stage}
-use Rattle.in_flight.specs.Lookup.{entry_at, entry_in, in_place, is_taken, place_for, in_phase}
+use Rattle.in_flight.specs.Lookup.{entry_at, entry_in, in_place, in_phase}
 
 -- ---- numbers of slots ----
 
@@ -282,19 +281,3 @@ loads_channel (Increment TargetA i a) n e = by_zero (eqb i 0) refl e
         → IsChannel n
     by_zero true j k = cc
     by_zero false j k = by_five (nat_le i 5) refl j k
-
-first_place_found : (taken : ℕ → Bool) (ps : List ℕ) (p : ℕ) → Each (λ q. q < 4) ps → first_place taken ps ≡ Some p
-    → (taken p ≡ false) × (p < 4)
-unfolding first_place
-first_place_found taken [] p h e = cc
-first_place_found taken (q ∷ ps) p h e = by_test (taken q) refl e (first_place_found taken ps p h.1)
-  where
-    by_test : (t : Bool) → taken q ≡ t → cond t (first_place taken ps) (Some q) ≡ Some p
-        → (first_place taken ps ≡ Some p → (taken p ≡ false) × (p < 4)) → (taken p ≡ false) × (p < 4)
-    by_test true i k rest = rest k
-    by_test false i k rest = let g : q ≡ p = cc in (ap taken (sym g) ∙ i, let l : q < 4 = h.0 in omega (arith, l, g))
-
-pub place_found : (ms : List Pending) (p : ℕ) → place_for ms ≡ Some p → (list_any (in_place p) ms ≡ false) × (p < 4)
-unfolding place_for free_place
-place_found ms p e = first_place_found (is_taken ms) (0 ∷ 1 ∷ 2 ∷ 3 ∷ []) p
-    (omega arith, (omega arith, (omega arith, (omega arith, tt)))) e

@@ -8,21 +8,20 @@ use Rattle.relocation.specs.declared.area.Access.TheVariants.{Load as LoadInto, 
 use Rattle.scoreboard.specs.Issued.{channel_of}
 use Rattle.sequential.specs.State.{Bounds, bounds_of, absolute}
 use Rattle.sequential.specs.Work.{address_in, word_in, reference_for, work_of}
-use Rattle.sequential.specs.declared.work.ProgramReference.{ProgramReference}
 use Rattle.unit_ops.specs.declared.UnitValue.{UnitValue}
 use Rattle.program_order.specs.declared.event.Event.TheVariants.{Store as StoreResult}
-use Rattle.in_flight.specs.declared.flight.Rest.{Rest}
+use Rattle.in_flight.specs.declared.referring.Relocated.{Relocated}
 use Rattle.in_flight.specs.declared.pending.Pending.{Pending}
 use Rattle.in_flight.specs.declared.pending.Stage.{Stage}
 use Rattle.in_flight.specs.declared.pending.Stage.TheVariants.{Finished}
 use Rattle.in_flight.specs.Pending.{left_to_return}
-use Rattle.in_flight.specs.Flight.{outstanding_of, IsRestOf}
+use Rattle.in_flight.specs.Flight.{entering, outstanding_of, relocated, IsRestOf}
 use Rattle.in_flight.specs.Pending.{returning}
 use Rattle.in_flight.specs.Lookup.{located, enters, place_for, stage_at}
 use Rattle.instructions.specs.Finding.{Found, seek}
 use Rattle.program_order.specs.Processor.{Processor}
 use Rattle.program_order.specs.Events.{allowed, tests_of}
-use Rattle.program_order.specs.Units.{entering, rest_of, store_tests}
+use Rattle.program_order.specs.Units.{rest_of, store_tests}
 use Rattle.in_flight.specs.Tests.{refusal_of, tests_found}
 use Rattle.in_flight.proofs.asking.Finding.{no_sought, refusal_none, sought_pending, sought_what}
 use Rattle.machine.proofs.making.Making.{bounds_at}
@@ -40,7 +39,7 @@ store_returns (Some a) word = refl
 -- what is left returns to the channel of its shape
 rest_returns : (b : Bounds) (h : Shape) (v : UnitValue)
     → left_to_return (rest_of b 0 (reference_for h v)) ≡ channel_of h
-unfolding reference_for rest_of left_to_return channel_of
+unfolding reference_for relocated outstanding_of left_to_return channel_of
 rest_returns b (Sets rs) v = refl
 rest_returns b (Loads n) v = load_returns (absolute b (address_in v)) n
 rest_returns b (Stores n) v = store_returns (absolute b (address_in v)) (word_in v)
@@ -50,14 +49,14 @@ rest_returns b Links v = store_returns (absolute b (address_in v)) (word_in v)
 -- only an instruction with a reference leaves one
 rest_refers : (b : Bounds) (h : Shape) (v : UnitValue) → enters (rest_of b 0 (reference_for h v)) ≡ true
     → has_reference h ≡ true
-unfolding reference_for rest_of enters has_reference
+unfolding reference_for relocated outstanding_of enters has_reference
 rest_refers b (Sets rs) v e = cc
 rest_refers b (Loads n) v e = refl
 rest_refers b (Stores n) v e = refl
 rest_refers b Jumps v e = cc
 rest_refers b Links v e = refl
 
-is_rest : (b : Bounds) (h : Shape) (v : UnitValue) (rest : Option Rest)
+is_rest : (b : Bounds) (h : Shape) (v : UnitValue) (rest : Option Relocated)
     → outstanding_of 0 rest ≡ rest_of b 0 (reference_for h v) → IsRestOf h rest
 is_rest b h v rest e = record {
   returns = ap left_to_return e ∙ rest_returns b h v;
@@ -66,27 +65,28 @@ is_rest b h v rest e = record {
 
 -- what is left is what an instruction of that shape may leave
 pub store_rest : (w : Processor) (u : FunctionalUnit) (m : Pending) (v : UnitValue) (b : Bounds)
-    (q : Option ProgramReference) (rest : Option Rest)
-    → located (seek (stage_at u) w.pending) ≡ Some (record { pending = m; answer = Finished v })
-    → q ≡ reference_for (shape_of m.instr) v → ((p : ℕ) → outstanding_of p rest ≡ rest_of b p q)
+    (rest : Option Relocated) → located (seek (stage_at u) w.pending) ≡ Some (record { pending = m; answer = Finished v })
+    → rest ≡ relocated b (reference_for (shape_of m.instr) v)
     → IfSome (located (seek (stage_at u) w.pending)) (λ s. IsRestOf (shape_of s.pending.instr) rest)
-store_rest w u m v b q rest h eq el =
+store_rest w u m v b rest h er =
     subst (λ o. IfSome o (λ s. IsRestOf (shape_of s.pending.instr) rest)) (sym h)
-    (is_rest b (shape_of m.instr) v rest (el 0 ∙ ap (rest_of b 0) eq))
+    (is_rest b (shape_of m.instr) v rest
+    (ap (outstanding_of 0) er))
 
 -- where what is left enters the hopper, there is a place
 pub store_room : (w : Processor) (u : FunctionalUnit) (size : ℕ) (m : Pending) (v : UnitValue)
-    (q : Option ProgramReference) (rest : Option Rest) → allowed w (StoreResult u) ≡ None
+    (rest : Option Relocated) → allowed w (StoreResult u) ≡ None
     → located (seek (stage_at u) w.pending) ≡ Some (record { pending = m; answer = Finished v })
-    → size ≡ length w.state.memory → q ≡ reference_for (shape_of m.instr) v
-    → ((p : ℕ) → outstanding_of p rest ≡ rest_of (record { area = w.state.area; size = size }) p q)
+    → size ≡ length w.state.memory
+    → rest ≡ relocated (record { area = w.state.area; size = size }) (reference_for (shape_of m.instr) v)
     → enters (outstanding_of 0 rest) ≡ true → is_none (place_for w.pending) ≡ false
 unfolding allowed tests_of tests_found store_tests work_of
-store_room w u size m v q rest a h ez eq el e = found (seek (stage_at u) w.pending) a h
+store_room w u size m v rest a h ez er e = found (seek (stage_at u) w.pending) a h
   where
     is_left : enters (rest_of (bounds_of w.state) 0 (reference_for (shape_of m.instr) v)) ≡ true
-    is_left = ap (λ x. enters (rest_of (bounds_of w.state) 0 x)) (sym eq)
-        ∙ ap (λ b. enters (rest_of b 0 q)) (sym (bounds_at w size ez)) ∙ ap enters (sym (el 0)) ∙ e
+    is_left = let q = reference_for (shape_of m.instr) v in
+        ap (λ b. enters (rest_of b 0 q)) (sym (bounds_at w size ez))
+        ∙ ap enters (sym (ap (outstanding_of 0) er)) ∙ e
 
     other : (x y : Bool) → (x && y) ≡ false → x ≡ true → y ≡ false
     other true y k i = k

@@ -32,7 +32,7 @@ use Rattle.sequential.specs.Step.{fetch}
 use Rattle.sequential.specs.Swap.{swap}
 use Rattle.sequential.specs.Replay.{LogStep, Issued, Exchanged, ReadAt, Wrote, boot, replay}
 use Rattle.sequential.specs.Log.{Logged, ends_issuing, issued}
-use Rattle.in_flight.specs.declared.flight.Rest.{Rest}
+use Rattle.in_flight.specs.declared.referring.Relocated.{Relocated}
 use Rattle.program_order.specs.declared.event.Note.{Note}
 use Rattle.hopper.specs.declared.reference.Reference.{Reference}
 use Rattle.in_flight.proofs.asking.Finding.{not_nothing, no_sought, sought_pending, sought_what}
@@ -55,6 +55,7 @@ use Rattle.in_flight.specs.Lookup.{located, stage_at, entry_at, arrival_at, plac
 use Rattle.instructions.specs.Finding.{replaced, Found, seek, put_back}
 use Rattle.machine.specs.inner.View.{owed, IsKept, processor_of}
 use Rattle.program_order.specs.Processor.{Processor, boot_processor, completed, replayed}
+use Rattle.in_flight.specs.Flight.{relocated, faults_at}
 use Rattle.program_order.specs.Units.{finish_tests, store_tests, rest_of, stage_after_read, stage_after_finish}
 use Rattle.program_order.specs.Units.{after_read, after_finish, after_work, after_store}
 use Rattle.program_order.specs.Exchange.{ask_tests, exchange_tests, after_exchange}
@@ -538,32 +539,36 @@ pub bounds_at : (w : Processor) (size : ℕ) → size ≡ length w.state.memory
 unfolding bounds_of
 bounds_at w size e = ap (λ n. record { area = w.state.area; size = n }) e
 
-pub store_parts : (w : Processor) (u : FunctionalUnit) (size : ℕ) (m : Pending) (v : UnitValue)
-    (q : Option ProgramReference) (written rs : List Reg) (number : ℕ) (jump : Option ℕ) (s : State)
-    (position : ProgramPosition)
-    (fault : Bool) (rest : Option Rest) (g : Flight)
+-- a reference sets the fault flag, by its absolute address
+pub relocated_fault : (b : Bounds) (q : Option ProgramReference) → faults_at b (relocated b q) ≡ fault_of b q
+unfolding relocated faults_at fault_of
+relocated_fault b None = refl
+relocated_fault b (Some r) = refl
+
+pub store_parts : (w : Processor) (u : FunctionalUnit) (size : ℕ) (m : Pending) (v : UnitValue) (written rs : List Reg)
+    (number : ℕ) (jump : Option ℕ) (s : State) (position : ProgramPosition) (fault : Bool) (rest : Option Relocated) (g : Flight)
     → located (seek (stage_at u) w.pending) ≡ Some (record { pending = m; answer = Finished v })
     → size ≡ length w.state.memory
-    → q ≡ reference_for (shape_of m.instr) v
-    → ((p : ℕ) → outstanding_of p rest ≡ rest_of (record { area = w.state.area; size = size }) p q)
+    → rest ≡ relocated (record { area = w.state.area; size = size }) (reference_for (shape_of m.instr) v)
     → written ≡ sets_of (shape_of m.instr) → rs ≡ written → number ≡ number_in v
     → s ≡ write_all w.state (each_set_to number rs)
     → jump ≡ jump_for (shape_of m.instr) v → position ≡ after_jump s.position jump
-    → fault ≡ (s.fault || fault_of (record { area = w.state.area; size = size }) q)
+    → fault ≡ (s.fault || faults_at (record { area = w.state.area; size = size }) rest)
     → g ≡ with_pending (flight w)
     (replaced (seek (stage_at u) w.pending) w.pending
     (λ x. kept x (outstanding_of (unwrap_or (place_for w.pending) 0) rest)))
     → with_flight (record w { state = record s { position = position; fault = fault } }) g ≡ after w (StoreResult u)
-store_parts w u size m v q written rs number jump s position fault rest g p ez eq el ew er en es ej ep ef em =
-    store_made w u m v s position fault (outstanding_of (unwrap_or (place_for w.pending) 0) rest) g p
+store_parts w u size m v written rs number jump s position fault rest g p ez el ew er en es ej ep ef em =
+    let b : Bounds = record { area = w.state.area; size = size } in
+    let q : Option ProgramReference = reference_for (shape_of m.instr) v in
+    let free : ℕ = unwrap_or (place_for w.pending) 0 in
+    store_made w u m v s position fault (outstanding_of free rest) g p
     (es ∙ ap (λ l. write_all w.state (each_set_to number l)) (er ∙ ew)
     ∙ ap (λ n. write_all w.state (each_set_to n (sets_of (shape_of m.instr)))) en)
     (ep ∙ ap (after_jump s.position) ej)
-    (ef ∙ ap (λ b. s.fault || fault_of b q) (bounds_at w size ez)
-    ∙ ap (λ x. s.fault || fault_of (bounds_of w.state) x) eq)
-    (el (unwrap_or (place_for w.pending) 0)
-    ∙ ap (λ b. rest_of b (unwrap_or (place_for w.pending) 0) q) (bounds_at w size ez)
-    ∙ ap (rest_of (bounds_of w.state) (unwrap_or (place_for w.pending) 0)) eq)
+    (ef ∙ ap (λ x. s.fault || faults_at b x) el ∙ ap (λ x. s.fault || x) (relocated_fault b q)
+    ∙ ap (λ x. s.fault || fault_of x q) (bounds_at w size ez))
+    (ap (outstanding_of free) el ∙ ap (λ x. rest_of x free q) (bounds_at w size ez))
     em
 
 -- ---- boot ----

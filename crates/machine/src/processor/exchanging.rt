@@ -1,6 +1,10 @@
-ghost use Rattle.std.specs.Prelude.{◌≡◌};
+ghost use Rattle.std.specs.Prelude.{◌≡◌, true, [], ◌∷◌, IfErr};
 ghost use Rattle.program_order.specs.declared.event.Event.TheVariants.{Ask, Exchange};
+ghost use Rattle.program_order.specs.Processor.{completed};
+ghost use Rattle.program_order.specs.Reached.{GoesOn};
+ghost use Rattle.program_order.specs.Refusals.{may_refuse};
 ghost use Rattle.program_order.specs.Run.{IsAnswer, answer_of, settled};
+ghost use Rattle.program_order.specs.Telling.{IsWhy};
 
 use crate::changing::exchange;
 use crate::judging::{judge_ask, judge_exchange};
@@ -8,10 +12,19 @@ use crate::{Answer, Done, Machine};
 use relocation::PACKAGE_WORDS;
 
 impl Machine {
-    /// An exchange is asked for. The log gets room for three entries, so that issues and exchanges take no memory.
-    pub(crate) fn ask(&mut self, at: u32) -> Answer
+    /// An exchange is asked for: the event `Ask`. The log gets room for three entries, so that issues and exchanges
+    /// take no memory.
+    ///
+    /// # Errors
+    /// `Budget`, `ExchangeBusy`, `PackageRange`, `OutOfMemory`: the first that applies. The machine is then as it was.
+    pub fn ask(&mut self, at: u32) -> Answer
         ensures answer { IsAnswer self.old (Ask at) result }
         ensures after { self.new ≡ settled self.old (Ask at) result }
+        ensures named { IfErr result (λ refusal. may_refuse (Ask at) refusal ≡ true) }
+        ensures reached { GoesOn self.old (Ask at ∷ []) (result ∷ []) self.new }
+
+        // What a refusal tells about the state to which the log led.
+        ensures why { IfErr result (λ refusal. IsWhy (completed self.old) refusal) }
     {
         let size = self.state.memory.size();
         if let Err(refusal) = judge_ask(self.asked, &self.request, size, at) {
@@ -25,10 +38,18 @@ impl Machine {
         Ok(Done::Made)
     }
 
-    /// The exchange that was asked for is made.
-    pub(crate) fn exchange(&mut self) -> Answer
+    /// The exchange that was asked for is made: the event `Exchange`.
+    ///
+    /// # Errors
+    /// `Nothing`, `NotDrained`, `MidWord`: the first that applies. The machine is then as it was.
+    pub fn exchange(&mut self) -> Answer
         ensures answer { result ≡ answer_of self.old Exchange }
         ensures after { self.new ≡ settled self.old Exchange result }
+        ensures named { IfErr result (λ refusal. may_refuse Exchange refusal ≡ true) }
+        ensures reached { GoesOn self.old (Exchange ∷ []) (result ∷ []) self.new }
+
+        // What a refusal tells about the state to which the log led.
+        ensures why { IfErr result (λ refusal. IsWhy (completed self.old) refusal) }
     {
         let judged = judge_exchange(&self.request, &self.in_flight, &self.state);
         let at = match judged {

@@ -6,12 +6,12 @@ ghost use Rattle.in_flight.specs.Tests.{refusal_in};
 ghost use Rattle.machine.specs.Tokens.{Seating, IsValueIn, slot, waits_in, reading_in};
 ghost use Rattle.program_order.specs.Events.{allowed, after};
 
-use crate::changing::{rest_of, write_register};
+use crate::changing::write_register;
 use crate::judging::{judge_finish, judge_store};
 use crate::{Answer, Done, Machine};
-use in_flight::Pending;
+use in_flight::{Pending, fault_after};
 use instruction_table::{Refusal, Unit};
-use sequential::{fault_after, jump, number, reference};
+use sequential::{jump, number};
 use unit_ops::{Operands, UnitValue, value};
 
 impl Machine {
@@ -75,17 +75,15 @@ impl Machine {
     {
         let area = self.state.area;
         let size = self.state.memory.size();
-        let (pending, value) = match judge_store(&self.in_flight, &area, size, unit) {
-            Ok(found) => found,
+        let event = match judge_store(&self.in_flight, &area, size, unit) {
+            Ok(event) => event,
             Err(refusal) => return Err(refusal),
         };
-        let instr = pending.instr;
-        let reference = reference(&instr, &value);
-        write_register(&mut self.state, instr.sets(), number(&value));
-        self.state.position = self.state.position.after_jump(jump(&instr, &value));
-        self.state.fault = fault_after(self.state.fault, &area, size, &reference);
-        self.in_flight
-            .leave(unit, &rest_of(&area, size, &reference));
+        let instr = event.pending.instr;
+        write_register(&mut self.state, instr.sets(), number(&event.value));
+        self.state.position = self.state.position.after_jump(jump(&instr, &event.value));
+        self.state.fault = fault_after(self.state.fault, &area, &event.reference);
+        self.in_flight.leave(unit, &event.reference);
         Ok(Done::Made)
     }
 }

@@ -33,13 +33,15 @@ use Rattle.in_flight.specs.Apart.{IsApart}
 use Rattle.program_order.specs.Invariant.{IsSound}
 use Rattle.instructions.specs.Finding.{Found, seek, put_back}
 use Rattle.program_order.specs.Processor.{Processor}
-use Rattle.program_order.specs.Units.{finish_tests, entering, rest_of, store_tests, stage_after_read}
+use Rattle.program_order.specs.Units.{finish_tests, rest_of, store_tests, stage_after_read}
 use Rattle.program_order.specs.Units.{stage_after_finish, after_read, after_finish, after_work, after_store}
 use Rattle.program_order.specs.Events.{tests_of, allowed, after_found, after}
 use Rattle.program_order.specs.Memory.{after_accept, after_return}
 use Rattle.in_flight.specs.Tests.{Test, refusal_of, tests_found, read_tests, accept_tests, return_tests, free_tests}
 use Rattle.in_flight.specs.Lookup.{stage_in, stage_at, entry_in, entry_at, arrival_in, arrival_at, enters, in_place}
-use Rattle.in_flight.specs.Lookup.{is_taken, place_for, is_pending, in_phase, kept}
+use Rattle.in_flight.specs.Flight.{entering, outstanding_of, relocated}
+use Rattle.in_flight.specs.Lookup.{place_for, is_pending, in_phase, kept}
+use Rattle.in_flight.proofs.answering.Beside.{same_place}
 use Rattle.in_flight.proofs.answering.Referring.{turn_there}
 use Rattle.program_order.specs.Drain.{next_in, next_of, reference_cost, stage_cost, outstanding_cost}
 use Rattle.program_order.specs.Drain.{phase_cost, cost, work_left}
@@ -112,15 +114,16 @@ none_entered m (l ∷ ls) e h =
 
 place_is_free : (m : Pending) (ms ls : List Pending) (t : Stage) → ms ≡ m ∷ ls → m.phase ≡ Before t → has_turn m ≡ true
     → Each (IsApart m) ls → is_none (place_for ms) ≡ false
-unfolding place_for free_place first_place in_place entry_at entered_in
+unfolding free_place first_place in_place entry_at entered_in
 place_is_free m ms ls t e p k h =
     ap (λ l. is_none (place_for l)) e
-    ∙ ap (λ b. is_none (cond b (first_place (is_taken (m ∷ ls)) (1 ∷ 2 ∷ 3 ∷ [])) (Some 0)))
+    ∙ ap is_none (same_place (m ∷ ls))
+    ∙ ap (λ b. is_none (cond b (first_place (λ q. list_any (in_place q) (m ∷ ls)) (1 ∷ 2 ∷ 3 ∷ [])) (Some 0)))
     (or_from (in_place 0 m) (list_any (in_place 0) ls) (no_place 0 m.phase (ap entered_in p)) (none_entered m ls k h))
 
 enters_nothing : (b : Bounds) (h : Shape) (v : UnitValue) → has_reference h ≡ false
     → enters (rest_of b 0 (reference_for h v)) ≡ false
-unfolding rest_of enters
+unfolding relocated outstanding_of enters
 enters_nothing b h v e = ap (λ r. enters (rest_of b 0 r)) (no_reference h v e)
 
 hopper_has_room : (b : Bounds) (m : Pending) (ms ls : List Pending) (v : UnitValue) (f : Bool)
@@ -218,7 +221,7 @@ entering_store place word (Some a) = omega arith
 
 rest_cost : (b : Bounds) (place : ℕ) (h : Shape) (v : UnitValue)
     → left_cost (rest_of b place (reference_for h v)) ≤ reference_cost h
-unfolding left_cost rest_of reference_for reference_cost
+unfolding left_cost relocated outstanding_of reference_for reference_cost
 rest_cost b place (Sets rs) v = omega arith
 rest_cost b place (Loads n) v = entering_load place n (absolute b _)
 rest_cost b place (Stores n) v = entering_store place _ (absolute b _)

@@ -18,7 +18,8 @@ use Rattle.instructions.specs.declared.instr.Reg.TheVariants.{X}
 use Rattle.instructions.specs.declared.refusal.Halt.{Halt}
 use Rattle.in_flight.proofs.asking.Phases.{target_of, targets_left}
 use Rattle.program_order.specs.Complete.{do_outstanding}
-use Rattle.program_order.specs.Units.{entering, rest_of}
+use Rattle.in_flight.specs.Flight.{entering, outstanding_of, relocated}
+use Rattle.program_order.specs.Units.{rest_of}
 use Rattle.in_flight.specs.declared.pending.Outstanding.{Outstanding}
 use Rattle.in_flight.specs.declared.pending.Outstanding.TheVariants.{Accepted, Entered}
 use Rattle.registers.specs.Registers.{get}
@@ -94,7 +95,7 @@ entering_nothing slot w (Some a) = refl
 
 pub rest_targets : (b : Bounds) (slot : ℕ) (h : Shape) (v : UnitValue)
     → targets_left (rest_of b slot (reference_for h v)) ≡ loads_of h
-unfolding rest_of reference_for loads_of targets_left
+unfolding relocated outstanding_of reference_for loads_of targets_left
 rest_targets b slot (Sets rs) v = refl
 rest_targets b slot (Loads n) v = entering_targets slot n (absolute b _)
 rest_targets b slot (Stores n) v = entering_nothing slot _ (absolute b _)
@@ -304,7 +305,7 @@ write_and_jump-store_word b s h x a w =
     ∙ or_fault-store_word _ _ a w
 
 no_rest : (b : Bounds) (s : State) (r : Option ProgramReference) → r ≡ None → do_option s (rest_of b 0 r) ≡ s
-unfolding do_option rest_of
+unfolding do_option relocated outstanding_of
 no_rest b s r e = rw e refl
 
 -- a reservation without a reference is done at the store event
@@ -398,7 +399,7 @@ entering_stores_not s slot n a (Some k) = refl
 
 rest_stores_not : (b : Bounds) (s : State) (slot a : ℕ) (h : Shape) (x : UnitValue) → has_store h ≡ false
     → get_or (do_option s (rest_of b slot (reference_for h x))).memory a 0 ≡ get_or s.memory a 0
-unfolding rest_of reference_for has_store do_option
+unfolding relocated outstanding_of reference_for has_store do_option
 rest_stores_not b s slot a (Sets rs) x e = refl
 rest_stores_not b s slot a (Loads n) x e = entering_stores_not s slot n a _
 rest_stores_not b s slot a (Stores n) x e = cc
@@ -472,7 +473,7 @@ refer_at-is s None (LoadInto n) = refl
 refer_at-is s None (StoreWord w) = refl
 
 refer-is : (b : Bounds) (s : State) (r : Option ProgramReference) → refer b s r ≡ do_option s (rest_of b 0 r)
-unfolding refer rest_of do_option
+unfolding refer relocated outstanding_of do_option
 refer-is b s None = refl
 refer-is b s (Some r) = refer_at-is s (absolute b r.address) r.access
 

@@ -1,8 +1,8 @@
 -- No more instructions are issued than the budget: only an issue adds one to the log, and it is refused at the budget.
-use Rattle.std.proofs.Common.{◌≡◌, ◌≤◌, ◌+◌, ℕ, false, List, [], ◌∷◌, Option, Some, None, refl, ap, ◌∙◌, arith, leb}
+use Rattle.std.proofs.Common.{◌≡◌, ◌≤◌, ◌+◌, ℕ, false, List, Option, Some, None, refl, ap, ◌∙◌, arith, leb}
 use Rattle.std.proofs.lemmas.Bool.{leb-false}
 use Rattle.sequential.specs.Log.{issued}
-use Rattle.sequential.specs.Replay.{LogStep, Exchanged, Issued, ReadAt, Wrote}
+use Rattle.sequential.specs.Replay.{LogStep}
 use Rattle.sequential.proofs.Entries.{issued-append}
 use Rattle.in_flight.proofs.asking.Finding.{refusal_none}
 use Rattle.program_order.specs.declared.event.Event.{Event}

@@ -47,7 +47,7 @@ use Rattle.in_flight.specs.inner.OwnSlots.{IsProper, HasOwnSlots}
 use Rattle.instructions.specs.Finding.{Found, seek, put_back}
 use Rattle.program_order.specs.Processor.{Processor}
 use Rattle.program_order.specs.Issue.{issue_tests, after_issue}
-use Rattle.program_order.specs.Units.{store_tests, entering, rest_of, after_read, after_finish, after_work, after_store}
+use Rattle.program_order.specs.Units.{store_tests, rest_of, after_read, after_finish, after_work, after_store}
 use Rattle.program_order.specs.Exchange.{exchange_tests, after_exchange}
 use Rattle.program_order.specs.Events.{tests_of, allowed, after_found, after}
 use Rattle.program_order.specs.Memory.{after_accept, after_return}
@@ -58,7 +58,9 @@ use Rattle.in_flight.proofs.asking.Finding.{refusal_none, stage_found, entry_fou
 use Rattle.instructions.proofs.Finding.{seek_splits}
 use Rattle.instructions.proofs.Lists.{each_of_any, each_append, each_both, pairs_push}
 use Rattle.in_flight.proofs.asking.Slotting.{other_slot, slotted_without, proper_there, placed_in, loads_channel}
-use Rattle.in_flight.proofs.asking.Slotting.{place_found, slotted_after, slotted_stage, taken_by, accepted_free}
+use Rattle.in_flight.specs.Flight.{entering, outstanding_of, relocated}
+use Rattle.in_flight.proofs.answering.Beside.{place_found}
+use Rattle.in_flight.proofs.asking.Slotting.{slotted_after, slotted_stage, taken_by, accepted_free}
 use Rattle.in_flight.proofs.asking.Slotting.{entered_free}
 use Rattle.program_order.proofs.theorem.Theorem.{not_pending}
 
@@ -112,7 +114,7 @@ entering_placed size u p None (StoreWord w) l f g h e = cc
 rest_placed : (b : Bounds) (u : FunctionalUnit) (p : ℕ) (r : Option ProgramReference) (l : Outstanding)
     → ((x : ProgramReference) → r ≡ Some x → IsLoadable x.access) → (enters (rest_of b 0 r) ≡ true → p < 4)
     → rest_of b p r ≡ Some l → IsPlaced b.size u (After l)
-unfolding rest_of
+unfolding relocated outstanding_of
 rest_placed b u p None l f h e = cc
 rest_placed b u p (Some r) l f h e =
     entering_placed b.size u p (absolute b r.address) r.access l (λ a k. absolute_below b r.address a k) (f r refl) h e
@@ -136,7 +138,7 @@ entering_free p None (StoreWord w) l ms h e = cc
 rest_free : (b : Bounds) (p : ℕ) (r : Option ProgramReference) (l : Outstanding) (ms : List Pending)
     → (enters (rest_of b 0 r) ≡ true → list_any (in_place p) ms ≡ false) → rest_of b p r ≡ Some l
     → Each (λ x. taken_by l x ≡ false) ms
-unfolding rest_of
+unfolding relocated outstanding_of
 rest_free b p None l ms h e = cc
 rest_free b p (Some r) l ms h e = entering_free p (absolute b r.address) r.access l ms h e
 

@@ -26,6 +26,7 @@ use Rattle.instructions.specs.declared.instr.Reg.TheVariants.{X}
 use Rattle.instructions.specs.Each.{Each, Pairs}
 use Rattle.in_flight.specs.Apart.{IsApart}
 use Rattle.in_flight.specs.Lookup.{in_phase}
+use Rattle.in_flight.specs.Flight.{outstanding_of, relocated}
 use Rattle.program_order.specs.Units.{rest_of}
 use Rattle.in_flight.specs.declared.pending.Outstanding.{Outstanding}
 use Rattle.in_flight.specs.declared.pending.Outstanding.TheVariants.{Accepted, Entered}
@@ -285,7 +286,7 @@ less_accepted m slot a n w e = record {
 -- a reservation of which something is left after its store event has a reference
 left_has_reference : (b : Bounds) (slot : ℕ) (h : Shape) (v : UnitValue) (l : Outstanding) (f : Bool)
     → has_reference h ≡ f → rest_of b slot (reference_for h v) ≡ Some l → f ≡ true
-unfolding rest_of
+unfolding relocated outstanding_of
 left_has_reference b slot h v l true e k = refl
 left_has_reference b slot h v l false e k = none_left (reference_for h v) (no_reference h v e) k
   where

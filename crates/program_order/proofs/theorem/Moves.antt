@@ -6,7 +6,8 @@ use Rattle.instructions.specs.Shape.{shape_of}
 use Rattle.instructions.specs.declared.instr.Instr.{Instr}
 use Rattle.instructions.specs.declared.instr.Reg.TheVariants.{X}
 use Rattle.program_order.specs.Complete.{complete, do_outstanding, finish_effects, run_phase, value_at}
-use Rattle.program_order.specs.Units.{entering, rest_of, stage_after_finish, stage_after_read}
+use Rattle.in_flight.specs.Flight.{entering, outstanding_of, relocated}
+use Rattle.program_order.specs.Units.{rest_of, stage_after_finish, stage_after_read}
 use Rattle.in_flight.specs.Lookup.{in_phase, kept}
 use Rattle.in_flight.specs.declared.pending.Outstanding.{Outstanding}
 use Rattle.in_flight.specs.declared.pending.Outstanding.TheVariants.{Accepted, Entered}
@@ -79,7 +80,7 @@ entering-slot s p q None (StoreWord w) = refl
 
 rest-slot : (b : Bounds) (s : State) (p q : ℕ) (r : Option ProgramReference)
     → do_option s (rest_of b p r) ≡ do_option s (rest_of b q r)
-unfolding rest_of
+unfolding relocated outstanding_of
 rest-slot b s p q None = refl
 rest-slot b s p q (Some r) = entering-slot s p q (absolute b r.address) r.access
 

@@ -7,7 +7,7 @@ use Rattle.in_flight.specs.Lookup.{located, stage_at, place_for, enters}
 use Rattle.in_flight.specs.Apart.{IsApart}
 use Rattle.instructions.specs.Finding.{seek}
 use Rattle.in_flight.proofs.answering.Beside.{some_from, nobody_from}
-use Rattle.in_flight.proofs.answering.Referring.{room_for_rest, leave_tied, leave_flight, leave_nobody}
+use Rattle.in_flight.proofs.answering.Referring.{room_for_rest, room_in_queue, leave_tied, leave_flight, leave_nobody}
 use Rattle.in_flight.proofs.flight.InFlight.leave.Goals as goal
 
 pub returns-then-is_none : goal.returns-then-is_none
@@ -25,7 +25,16 @@ leave-requires c =
     c.self.invariant.entered (subst (λ (x : Flight). Pairs IsApart x.pending) (sym c.self.view_is)
     c.requires.apart) p.1 (subst (λ (x : Flight). IfSome (located (seek (stage_at c.args.unit) x.pending))
     (λ s. IsRestOf (shape_of s.pending.instr) c.args.rest.now)) (sym
-    c.self.view_is) c.requires.rest) c.waiting_rest-later.ensures.answer
+    c.self.view_is) c.requires.rest) (subst (λ (x : Flight). enters (outstanding_of 0 c.args.rest.now) ≡ true
+    → is_none (place_for x.pending)
+    ≡ false) (sym c.self.view_is) c.requires.room) c.waiting_rest-later.ensures.answer
+
+pub waiting_rest-later-requires : goal.waiting_rest-later-requires
+waiting_rest-later-requires c =
+    room_in_queue c.self.inside.slots c.self.inside.hopper c.args.rest.now c.self.invariant.entered
+    (subst (λ (x : Flight). enters (outstanding_of 0 c.args.rest.now) ≡ true
+    → is_none (place_for x.pending)
+    ≡ false) (sym c.self.view_is) c.requires.room)
 
 pub invariant_of-self : goal.invariant_of-self
 invariant_of-self c =
@@ -36,9 +45,7 @@ invariant_of-self c =
     (subst (λ (x : Flight). Pairs IsApart x.pending) (sym c.self.view_is) c.requires.apart) p.1
     (subst (λ (x : Flight). IfSome (located (seek (stage_at c.args.unit) x.pending))
     (λ s. IsRestOf (shape_of s.pending.instr) c.args.rest.now)) (sym
-    c.self.view_is) c.requires.rest) (subst (λ (x : Flight). enters (outstanding_of 0 c.args.rest.now) ≡ true
-    → is_none (place_for x.pending)
-    ≡ false) (sym c.self.view_is) c.requires.room) c.waiting_rest-later.ensures.answer c.leave.ensures
+    c.self.view_is) c.requires.rest) c.waiting_rest-later.ensures.answer c.leave.ensures
     c.waiting_rest-later.ensures.after c.release.ensures
 
 pub returns : goal.returns
@@ -46,7 +53,5 @@ returns c =
     leave_flight c.args.unit c.self.inside.slots c.leave.new.self c.self.inside.hopper c.waiting_rest-later.new.hopper
     c.self.inside.board c.release.new.self c.args.rest.now c.waiting_rest-later.result c.args.self.now
     c.self.view_is c.self.invariant
-    (subst (λ (x : Flight). enters (outstanding_of 0 c.args.rest.now) ≡ true
-    → is_none (place_for x.pending)
-    ≡ false) (sym c.self.view_is) c.requires.room) c.waiting_rest-later.ensures.answer c.leave.ensures
+    c.waiting_rest-later.ensures.answer c.leave.ensures
     c.waiting_rest-later.ensures.after c.release.ensures

@@ -6,14 +6,14 @@ use Rattle.machine_lock.proofs.locked.Locked.ask.Given as given
 use Rattle.machine_lock.proofs.locked.Locked.ask.Goals as goal
 use Rattle.machine_lock.proofs.locked.Locked.ask.Goals.{After-compare}
 
-same : (g : given.Over) (c : After-compare g) → past c.apply-answer.new.self ≡ past c.self.inside.machine
-same g c = quiet_settled c.self.inside.machine c.apply-answer.new.self (Ask c.args.at) c.apply-answer.result refl
-    c.apply-answer.ensures.after
+same : (g : given.Over) (c : After-compare g) → past c.ask-answer.new.self ≡ past c.self.inside.machine
+same g c = quiet_settled c.self.inside.machine c.ask-answer.new.self (Ask c.args.at) c.ask-answer.result refl
+    c.ask-answer.ensures.after
 
 learnt : (g : given.Over) (c : After-compare g)
-    → Compared c.self.inside.machine c.apply-answer.new.self c.args.seen.now c.compare.new.me.me
+    → Compared c.self.inside.machine c.ask-answer.new.self c.args.seen.now c.compare.new.me.me
 learnt g c =
-    compared c.self.inside.machine c.apply-answer.new.self c.self.inside.pass.me c.seen.inside.pass.me
+    compared c.self.inside.machine c.ask-answer.new.self c.self.inside.pass.me c.seen.inside.pass.me
     c.compare.new.me.me c.args.seen.now c.self.invariant.seen.1 c.seen.view_is (same g c) c.compare.ensures.me.1
     c.compare.ensures.begins
 
@@ -22,7 +22,7 @@ invariant_of-self g c = record {
   replay = c.keeps_replay.ensures.replay;
   seen = (
     c.compare.ensures.pass.0,
-    kept_same c.self.inside.machine c.apply-answer.new.self c.self.inside.pass.me c.compare.new.pass.me
+    kept_same c.self.inside.machine c.ask-answer.new.self c.self.inside.pass.me c.compare.new.pass.me
         c.self.invariant.seen.1 (same g c) c.compare.ensures.pass.1,
   );
 }
@@ -33,4 +33,4 @@ returns-clause-current g c =
 
 pub returns-clause-replayed : goal.returns-clause-replayed
 returns-clause-replayed g c =
-    replay_by c.apply-answer.new.self c.compare.new.me.me c.keeps_replay.ensures.replay (learnt g c).present
+    replay_by c.ask-answer.new.self c.compare.new.me.me c.keeps_replay.ensures.replay (learnt g c).present

@@ -1,4 +1,4 @@
-use Rattle.std.proofs.Common.{◌∙◌, sym, ap, subst}
+use Rattle.std.proofs.Common.{◌∙◌, sym, ap, subst, inl}
 use Rattle.std.specs.Prelude.{IfErr}
 use Rattle.machine_lock.specs.CallerKnowledge.{IsMade}
 use Rattle.machine_lock.specs.inner.Rules.{History}
@@ -14,16 +14,16 @@ use Rattle.machine_lock.proofs.locked.Locked.exchange.Given as given
 use Rattle.machine_lock.proofs.locked.Locked.exchange.Goals as goal
 use Rattle.machine_lock.proofs.locked.Locked.exchange.Goals.{After-keeps_replay, After-compare}
 
-last : (g : given.Over) (c : After-keeps_replay g) → LastExchange c.self.inside.machine c.apply.new.self
+last : (g : given.Over) (c : After-keeps_replay g) → LastExchange c.self.inside.machine c.exchange.new.self
 last g c =
-    last_exchange c.self.inside.machine c.apply.new.self c.apply.result c.in-Ok.done c.apply.ensures.answer
-    c.apply.ensures.after c.in-Ok.is
+    last_exchange c.self.inside.machine c.exchange.new.self c.exchange.result c.in-Ok.done (inl c.exchange.ensures.answer)
+    c.exchange.ensures.after c.in-Ok.is
 
 made : (g : given.Over) (c : After-keeps_replay g)
-    → Recorded c.self.inside.machine c.apply.new.self (last_step c.apply.new.self.log) c.args.seen.now
+    → Recorded c.self.inside.machine c.exchange.new.self (last_step c.exchange.new.self.log) c.args.seen.now
     c.record.new.me.me
 made g c =
-    recorded c.self.inside.machine c.apply.new.self (last_step c.apply.new.self.log) c.self.inside.pass.me
+    recorded c.self.inside.machine c.exchange.new.self (last_step c.exchange.new.self.log) c.self.inside.pass.me
     c.seen.inside.pass.me
     c.record.new.me.me c.args.seen.now c.self.invariant.seen.1 c.seen.view_is (last g c).longer
     c.record.ensures.me.1 c.record.ensures.begins
@@ -33,7 +33,7 @@ invariant_of-self g c = record {
   replay = c.keeps_replay.ensures.replay;
   seen = (
     c.record.ensures.pass.0,
-    kept_longer c.self.inside.machine c.apply.new.self (last_step c.apply.new.self.log) c.self.inside.pass.me
+    kept_longer c.self.inside.machine c.exchange.new.self (last_step c.exchange.new.self.log) c.self.inside.pass.me
         c.record.new.pass.me
         c.self.invariant.seen.1 (last g c).longer c.record.ensures.pass.1,
   );
@@ -53,31 +53,31 @@ returns-in-Ok-clause-seen g c =
 
 pub returns-in-Ok-clause-replayed : goal.returns-in-Ok-clause-replayed
 returns-in-Ok-clause-replayed g c =
-    replay_by c.apply.new.self c.record.new.me.me c.keeps_replay.ensures.replay (made g c).present
+    replay_by c.exchange.new.self c.record.new.me.me c.keeps_replay.ensures.replay (made g c).present
 
 -- ---- refused ----
 
 refused : (g : given.Over) (c : After-compare g)
-    → Compared c.self.inside.machine c.apply.new.self c.args.seen.now c.compare.new.me.me
+    → Compared c.self.inside.machine c.exchange.new.self c.args.seen.now c.compare.new.me.me
 refused g c =
-    compared c.self.inside.machine c.apply.new.self c.self.inside.pass.me c.seen.inside.pass.me c.compare.new.me.me
+    compared c.self.inside.machine c.exchange.new.self c.self.inside.pass.me c.seen.inside.pass.me c.compare.new.me.me
     c.args.seen.now c.self.invariant.seen.1 c.seen.view_is
-    (refused_past c.self.inside.machine c.apply.new.self Exchange c.apply.result c.in-Err.refusal c.apply.ensures.after
+    (refused_past c.self.inside.machine c.exchange.new.self Exchange c.exchange.result c.in-Err.refusal c.exchange.ensures.after
     c.in-Err.is)
     c.compare.ensures.me.1 c.compare.ensures.begins
 
 pub invariant_of-self-in-Err : goal.invariant_of-self-in-Err
 invariant_of-self-in-Err g c = record {
   replay = subst IsReplay
-      (sym (refused_same c.self.inside.machine c.apply.new.self Exchange c.apply.result c.in-Err.refusal
-      c.apply.ensures.after c.in-Err.is))
+      (sym (refused_same c.self.inside.machine c.exchange.new.self Exchange c.exchange.result c.in-Err.refusal
+      c.exchange.ensures.after c.in-Err.is))
       c.self.invariant.replay;
   seen = (
     c.compare.ensures.pass.0,
-    kept_same c.self.inside.machine c.apply.new.self c.self.inside.pass.me c.compare.new.pass.me
+    kept_same c.self.inside.machine c.exchange.new.self c.self.inside.pass.me c.compare.new.pass.me
         c.self.invariant.seen.1
-        (refused_past c.self.inside.machine c.apply.new.self Exchange c.apply.result c.in-Err.refusal
-        c.apply.ensures.after c.in-Err.is)
+        (refused_past c.self.inside.machine c.exchange.new.self Exchange c.exchange.result c.in-Err.refusal
+        c.exchange.ensures.after c.in-Err.is)
         c.compare.ensures.pass.1,
   );
 }
@@ -95,5 +95,5 @@ returns-in-Err-clause-seen g c =
     let r = refused g c in (
       r.learnt,
       why_of c.self.inside.machine (known_by c.compare.new.me.me) c.in-Err.refusal c.self.invariant.replay r.before
-          (subst (λ a. IfErr a (λ k. IsWhy (completed c.self.inside.machine) k)) c.in-Err.is c.apply.ensures.why),
+          (subst (λ a. IfErr a (λ k. IsWhy (completed c.self.inside.machine) k)) c.in-Err.is c.exchange.ensures.why),
     )

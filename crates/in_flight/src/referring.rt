@@ -1,0 +1,55 @@
+ghost use Rattle.std.specs.Prelude.{◌≡◌, ◌||◌, ℕ};
+ghost use Rattle.in_flight.specs.Flight.{faults_at, outstanding_of, relocated};
+ghost use Rattle.in_flight.specs.Lookup.{enters};
+
+use relocation::{Access, Area};
+use sequential::{ProgramReference, stops_at_fault};
+
+/// A reference by absolute address, before it has its place.
+#[derive(Clone, Copy, Debug, Drop, PartialEq, Eq)]
+pub struct Relocated {
+    /// The absolute address, None where it is out of range.
+    pub address: Option<u32>,
+    /// What it does to the word there.
+    pub access: Access,
+}
+
+impl Relocated {
+    /// A reference by its absolute address in a memory of `size` words, if there is one.
+    #[tactic(auto, unfolding(crate::specs::Flight::relocated))]
+    pub fn of(area: &Area, size: u32, reference: &Option<ProgramReference>) -> Option<Relocated>
+        ensures { result ≡ relocated (record { area = area.now; size = size }) reference.now }
+    {
+        match reference {
+            None => None,
+            Some(reference) => Some(Relocated {
+                address: reference.absolute(area, size),
+                access: reference.access,
+            }),
+        }
+    }
+}
+
+/// Whether a reference enters the hopper: it is in range.
+#[tactic(auto, unfolding(crate::proofs::Opened::entering_reference))]
+pub fn enters_hopper(reference: &Option<Relocated>) -> bool
+    ensures { (place : ℕ) → result ≡ enters (outstanding_of place reference.now) }
+{
+    match reference {
+        None => false,
+        Some(reference) => reference.address.is_some(),
+    }
+}
+
+/// The fault flag after a reference: it stays once it is set, and a reference out of range sets it where the exit mode
+/// says so.
+#[tactic(auto, unfolding(crate::specs::Flight::faults_at))]
+pub fn fault_after(fault: bool, area: &Area, reference: &Option<Relocated>) -> bool
+    ensures { (size : ℕ)
+        → result ≡ (fault || faults_at (record { area = area.now; size = size }) reference.now) }
+{
+    match reference {
+        None => fault,
+        Some(reference) => fault || (stops_at_fault(area) && reference.address.is_none()),
+    }
+}
