@@ -82,6 +82,18 @@ impl Requests {
         Some(*next)
     }
 
+    /// The request that is due: none is while one waits for its exchange.
+    pub fn due(&self) -> Option<Ask>
+        ensures due { self.now.is_waiting ≡ false → IsDue self.now.asks self.now.issued result }
+        ensures none { self.now.is_waiting ≡ true → result ≡ None }
+        ensures first { StartsWithAny self.now.asks result }
+    {
+        if self.is_waiting {
+            return None;
+        }
+        self.next_due()
+    }
+
     /// Takes the request that is due, if one is; it waits for its exchange from then on.
     pub fn take_due(&mut self) -> Option<Ask>
         ensures due { self.old.is_waiting ≡ false → IsDue self.old.asks self.old.issued result }
@@ -90,10 +102,7 @@ impl Requests {
         ensures is_waiting { self.new.is_waiting ≡ (self.old.is_waiting || is_some result) }
         ensures issued { self.new.issued ≡ self.old.issued }
     {
-        if self.is_waiting {
-            return None;
-        }
-        self.next_due()?;
+        self.due()?;
         self.is_waiting = true;
         self.left.pop_front()
     }

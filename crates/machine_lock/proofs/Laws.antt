@@ -3,7 +3,7 @@ use Rattle.std.proofs.Common.{◌≡◌, ℕ, length, Bool, true, false, List, [
 use Rattle.std.proofs.Common.{sym, ap}
 use Rattle.std.proofs.Common.{◌∙◌, subst, get_or, inl, inr}
 use Rattle.std.proofs.lemmas.List.{append-nil}
-use Rattle.std.specs.Prelude.{Result, Ok, Err, MatchResult}
+use Rattle.std.specs.Prelude.{Result, Ok, Err, IfErr, IfOk, MatchResult}
 use Rattle.instructions.specs.declared.refusal.Refusal.{Refusal}
 use Rattle.sequential.specs.Replay.{LogStep, Issued, Exchanged, boot, replay}
 use Rattle.sequential.specs.UnitIssues.{taken}
@@ -25,9 +25,9 @@ use Rattle.atomic_table.specs.Table.{Me}
 use Rattle.machine_lock.specs.CallerKnowledge.{Known, known, StartsWith, IsMade, Learnt, note_in, word_in, IsNoteOf}
 use Rattle.machine_lock.specs.CallerKnowledge.{IsWhyOf}
 use Rattle.machine_lock.specs.CallerKnowledge.{Booted, booted_by, booted_with, HasReplay, IsWordOf}
-use Rattle.machine_lock.specs.inner.LockInvariant.{IsCurrent, access_step, is_access, is_of_memory}
+use Rattle.machine_lock.specs.inner.LockInvariant.{IsCurrent, IsLogged, access_step, is_access, is_of_memory, last_step}
 use Rattle.machine_lock.specs.inner.Rules.{History, Knowing, history, past, keeper, caller, Continues}
-use Rattle.machine_lock.proofs.Lists.{last_step, last_step-push}
+use Rattle.machine_lock.proofs.Lists.{last_step-push}
 
 -- ---- what an event leaves ----
 
@@ -100,6 +100,39 @@ unfolding settled
 quiet_settled w v e (Ok d) q s = quiet w v e q s
 quiet_settled w v e (Err k) q s = ap past s
 
+-- ---- the last step of the log ----
+
+pub record LastStep (w v : Processor) (x : LogStep) : Type 0 where
+  pub last : last_step v.log ≡ x
+  pub longer : past v ≡ history (booted_by w) (w.log ++ last_step v.log ∷ [])
+
+last_is : (w v : Processor) (x : LogStep) → past v ≡ history (booted_by w) (w.log ++ x ∷ []) → LastStep w v x
+last_is w v x p =
+    let l : last_step v.log ≡ x = ap (λ (h : History). last_step h.log) p ∙ last_step-push w.log x in
+    record { last = l; longer = p ∙ ap (λ y. history (booted_by w) (w.log ++ y ∷ [])) (sym l) }
+
+seen_of : (w : Processor) (p : Me ℕ Knowing) → p ≡ (keeper (past w), []) → p.0.seen ≡ past w
+seen_of w p e = ap (λ (y : Me ℕ Knowing). y.0.seen) e
+
+-- what the machine's pass knew grew by that step
+logged : (w v : Processor) (x : LogStep) (p : Me ℕ Knowing) → p ≡ (keeper (past w), []) → LastStep w v x
+    → past v ≡ history p.0.seen.booted (p.0.seen.log ++ last_step v.log ∷ [])
+logged w v x p e l =
+    l.longer ∙ ap (λ (h : History). history h.booted (h.log ++ last_step v.log ∷ [])) (sym (seen_of w p e))
+
+-- ... or didn't
+unlogged : (w v : Processor) (e : Event) (k : Refusal) (p : Me ℕ Knowing) → p ≡ (keeper (past w), [])
+    → v ≡ settled w e (Err k) → past v ≡ p.0.seen
+unlogged w v e k p ep s = refused_past w v e (Err k) k s refl ∙ sym (seen_of w p ep)
+
+pub logged_one_more : (h : History) (v : Processor) (a : Result Done Refusal) (d : Done) → a ≡ Ok d → IsLogged a h v
+    → past v ≡ history h.booted (h.log ++ last_step v.log ∷ [])
+logged_one_more h v a d o l = subst (λ (x : Result Done Refusal). IsLogged x h v) o l
+
+-- what a caller that has seen the whole log knows of the machine
+at_present : (v : Processor) (k : Known) → IsCurrent v k → history k.booted k.log ≡ past v
+at_present v k c i = history (c.0 i) (c.1 i)
+
 -- ---- an issue ----
 
 pub issued_past : (w v : Processor) (a : Result Done Refusal) (d : Done) → v ≡ settled w Issue a → a ≡ Ok d
@@ -150,6 +183,27 @@ unfolding replayed
 why_of w k refusal r h y =
     (completed w, ap (λ (x : History). replay (boot x.booted.memory) x.log) h ∙ r, y)
 
+pub issue_logged : (w v : Processor) (a : Result Done Refusal) (p : Me ℕ Knowing) → p ≡ (keeper (past w), [])
+    → v ≡ settled w Issue a → IsLogged a p.0.seen v
+issue_logged w v (Ok d) p ep s =
+    logged w v Issued p ep (last_is w v Issued (issued_past w v (Ok d) d s refl))
+issue_logged w v (Err k) p ep s = unlogged w v Issue k p ep s
+
+-- what its caller has seen then
+pub issue_seen : (w v : Processor) (a : Result Done Refusal) (old new : Known) → replayed w ≡ Some (completed w)
+    → IsAnswer w Issue a → v ≡ settled w Issue a
+    → ((n : Option Note) → a ≡ Ok (DoneIssue n) → IsNoted (completed w) (taken (boot v.boot_memory) v.log) n)
+    → IfErr a (λ k. IsWhy (completed w) k) → IsCurrent v new
+    → MatchResult a (λ d. IsMade (last_step v.log) old new) (λ k. Learnt old new)
+    → MatchResult a (λ d. IsMade Issued old new × IsNoteOf new (note_in d)) (λ k. Learnt old new × IsWhyOf new k)
+issue_seen w v (Ok d) old new r i s n y c m =
+    let p = issued_past w v (Ok d) d s refl in (
+      subst (λ x. IsMade x old new) (last_is w v Issued p).last m,
+      note_of w v (Ok d) d new r i s refl n (at_present v new c ∙ p),
+    )
+issue_seen w v (Err k) old new r i s n y c m =
+    (m, why_of w new k r (at_present v new c ∙ refused_past w v Issue (Err k) k s refl) y)
+
 -- ---- an exchange ----
 
 exchanged_past : (w v : Processor) (a : Result Done Refusal) (d : Done) (n : ℕ) → w.request ≡ Some n
@@ -163,25 +217,37 @@ exchanged_past w v a d n q s o =
     ∙ ap (history (booted_by w)) (b.log ∙ ap (λ r. w.log ++ exchange_step r) q)
 
 -- the last step of the log is the exchange that was asked for
-pub record LastExchange (w v : Processor) : Type 0 where
+record LastExchange (w v : Processor) : Type 0 where
   pub n : ℕ
   pub request : w.request ≡ Some n
-  pub last : last_step v.log ≡ Exchanged n
-  pub longer : past v ≡ history (booted_by w) (w.log ++ last_step v.log ∷ [])
+  pub step : LastStep w v (Exchanged n)
 
-pub last_exchange : (w v : Processor) (a : Result Done Refusal) (d : Done) → IsAnswer w Exchange a
-    → v ≡ settled w Exchange a → a ≡ Ok d → LastExchange w v
-last_exchange w v a d i s o =
-    let r = exchange_asked w (made_allowed w Exchange d (subst (IsAnswer w Exchange) o i)) in
-    let p = exchanged_past w v a d r.0 r.1 s o in
-    let l : last_step v.log ≡ Exchanged r.0 =
-    ap (λ (h : History). last_step h.log) p ∙ last_step-push w.log (Exchanged r.0) in
+last_exchange : (w v : Processor) (d : Done) → IsAnswer w Exchange (Ok d) → v ≡ settled w Exchange (Ok d)
+    → LastExchange w v
+last_exchange w v d i s =
+    let r = exchange_asked w (made_allowed w Exchange d i) in
     record {
       n = r.0;
       request = r.1;
-      last = l;
-      longer = p ∙ ap (λ x. history (booted_by w) (w.log ++ x ∷ [])) (sym l);
+      step = last_is w v (Exchanged r.0) (exchanged_past w v (Ok d) d r.0 r.1 s refl);
     }
+
+pub exchange_logged : (w v : Processor) (a : Result Done Refusal) (p : Me ℕ Knowing) → p ≡ (keeper (past w), [])
+    → IsAnswer w Exchange a → v ≡ settled w Exchange a → IsLogged a p.0.seen v
+exchange_logged w v (Ok d) p ep i s = let l = last_exchange w v d i s in logged w v (Exchanged l.n) p ep l.step
+exchange_logged w v (Err k) p ep i s = unlogged w v Exchange k p ep s
+
+-- what its caller has seen then
+pub exchange_seen : (w v : Processor) (asked : Option ℕ) (a : Result Done Refusal) (old new : Known)
+    → asked ≡ w.request → replayed w ≡ Some (completed w) → IsAnswer w Exchange a → v ≡ settled w Exchange a
+    → IfErr a (λ k. IsWhy (completed w) k) → IsCurrent v new
+    → MatchResult a (λ d. IsMade (last_step v.log) old new) (λ k. Learnt old new)
+    → MatchResult a (λ d. (n : ℕ) × (asked ≡ Some n) × IsMade (Exchanged n) old new)
+    (λ k. Learnt old new × IsWhyOf new k)
+exchange_seen w v asked (Ok d) old new q r i s y c m =
+    let l = last_exchange w v d i s in (l.n, q ∙ l.request, subst (λ x. IsMade x old new) l.step.last m)
+exchange_seen w v asked (Err k) old new q r i s y c m =
+    (m, why_of w new k r (at_present v new c ∙ refused_past w v Exchange (Err k) k s refl) y)
 
 -- ---- a peripheral access ----
 
@@ -208,30 +274,34 @@ accessed_past w v e a d q s o =
     ∙ ap (λ m. history m (after w e).log) (booted_as w (after w e) b)
     ∙ ap (history (booted_by w)) (b.log ∙ ap (λ l. w.log ++ l) (access_steps w.request e q))
 
--- the last step of the log is the access
-pub record LastAccess (w v : Processor) (e : Event) : Type 0 where
-  pub last : last_step v.log ≡ access_step e
-  pub longer : past v ≡ history (booted_by w) (w.log ++ last_step v.log ∷ [])
+last_access : (w v : Processor) (e : Event) (d : Done) → is_access e ≡ true → v ≡ settled w e (Ok d)
+    → LastStep w v (access_step e)
+last_access w v e d q s = last_is w v (access_step e) (accessed_past w v e (Ok d) d q s refl)
 
-pub last_access : (w v : Processor) (e : Event) (a : Result Done Refusal) (d : Done) → is_access e ≡ true
-    → v ≡ settled w e a → a ≡ Ok d → LastAccess w v e
-last_access w v e a d q s o =
-    let p = accessed_past w v e a d q s o in
-    let l : last_step v.log ≡ access_step e =
-    ap (λ (h : History). last_step h.log) p ∙ last_step-push w.log (access_step e) in
-    record { last = l; longer = p ∙ ap (λ x. history (booted_by w) (w.log ++ x ∷ [])) (sym l) }
+pub access_logged : (w v : Processor) (e : Event) (a : Result Done Refusal) (p : Me ℕ Knowing)
+    → p ≡ (keeper (past w), []) → is_access e ≡ true → v ≡ settled w e a → IsLogged a p.0.seen v
+access_logged w v e (Ok d) p ep q s = logged w v (access_step e) p ep (last_access w v e d q s)
+access_logged w v e (Err k) p ep q s = unlogged w v e k p ep s
+
+-- what its caller has seen then
+pub access_seen : (w v : Processor) (e : Event) (a : Result Done Refusal) (old new : Known) → is_access e ≡ true
+    → v ≡ settled w e a → MatchResult a (λ d. IsMade (last_step v.log) old new) (λ k. Learnt old new)
+    → MatchResult a (λ d. IsMade (access_step e) old new) (λ k. Learnt old new)
+access_seen w v e (Ok d) old new q s m = subst (λ x. IsMade x old new) (last_access w v e d q s).last m
+access_seen w v e (Err k) old new q s m = m
 
 -- the word that was read is that of the replay
-pub word_of : (v : Processor) (k : Known) (e : Event) (r : Result Done Refusal) (d : Done)
-    → replayed v ≡ Some (completed v) → history k.booted k.log ≡ past v → r ≡ Ok d
+pub word_of : (v : Processor) (k : Known) (e : Event) (r : Result Done Refusal)
+    → replayed v ≡ Some (completed v) → IsCurrent v k
     → ((a : ℕ) → e ≡ PpRead a → (done : Done) → r ≡ Ok done → done ≡ Word (get_or (completed v).memory a 0))
-    → (a : ℕ) → e ≡ PpRead a → IsWordOf k a (word_in d)
+    → IfOk r (λ d. (a : ℕ) → e ≡ PpRead a → IsWordOf k a (word_in d))
 unfolding replayed
-word_of v k e r d h p o told a is = (
+word_of v k e (Ok d) h c told = λ a is. (
   completed v,
-  ap (λ (x : History). replay (boot x.booted.memory) x.log) p ∙ h,
-  ap word_in (told a is d o),
+  ap (λ (x : History). replay (boot x.booted.memory) x.log) (at_present v k c) ∙ h,
+  ap word_in (told a is d refl),
 )
+word_of v k e (Err x) h c told = tt
 
 -- ---- what the caller's pass has then ----
 
@@ -242,63 +312,42 @@ abbrev pub past_by : Me ℕ Knowing → History
 past_by m = history m.0.seen.booted m.0.seen.log
 
 -- a step was recorded
-pub record Recorded (w v : Processor) (x : LogStep) (old : Known) (n : Me ℕ Knowing) : Type 0 where
+pub record Recorded (v : Processor) (x : LogStep) (old : Known) (n : Me ℕ Knowing) : Type 0 where
   pub present : past_by n ≡ past v
-  pub longer : past_by n ≡ history (booted_by w) (w.log ++ x ∷ [])
   pub made : IsMade x old (known_by n)
 
-seen_of : (w : Processor) (p : Me ℕ Knowing) → p ≡ (keeper (past w), []) → p.0.seen ≡ past w
-seen_of w p e = ap (λ (y : Me ℕ Knowing). y.0.seen) e
-
-pub recorded : (w v : Processor) (x : LogStep) (p m n : Me ℕ Knowing) (old : Known) → p ≡ (keeper (past w), [])
-    → known_by m ≡ old → past v ≡ history (booted_by w) (w.log ++ x ∷ [])
-    → n ≡ (caller (history p.0.seen.booted (p.0.seen.log ++ x ∷ [])) (m.0.mine ++ length p.0.seen.log ∷ []), [])
-    → Continues p.0.seen m.0.seen → Recorded w v x old n
-recorded w v x p m n old ep em ev en begins =
-    let s = seen_of w p ep in
-    let g : Continues (past w) m.0.seen = subst (λ h. Continues h m.0.seen) s begins in
-    let longer : past_by n ≡ history (booted_by w) (w.log ++ x ∷ []) =
-    ap past_by en ∙ ap (λ (h : History). history h.booted (h.log ++ x ∷ [])) s in
+pub recorded : (h : History) (v : Processor) (x : LogStep) (m n : Me ℕ Knowing) (old : Known) → known_by m ≡ old
+    → past v ≡ history h.booted (h.log ++ x ∷ [])
+    → n ≡ (caller (history h.booted (h.log ++ x ∷ [])) (m.0.mine ++ length h.log ∷ []), [])
+    → Continues h m.0.seen → Recorded v x old n
+recorded h v x m n old em ev en begins =
     record {
-      present = longer ∙ sym ev;
-      longer = longer;
+      present = ap past_by en ∙ sym ev;
       made = (
-        w.log,
-        subst (λ (k : Known). StartsWith w.log k.log) em g.1,
+        h.log,
+        subst (λ (k : Known). StartsWith h.log k.log) em begins.1,
         ap known_by en
-            ∙ ap (λ (h : History). known h.booted (h.log ++ x ∷ []) (m.0.mine ++ length h.log ∷ [])) s
-            ∙ ap (λ b. known b (w.log ++ x ∷ []) (m.0.mine ++ length w.log ∷ [])) (sym g.0)
-            ∙ ap (λ (k : Known). known k.booted (w.log ++ x ∷ []) (k.mine ++ length w.log ∷ [])) em,
+            ∙ ap (λ b. known b (h.log ++ x ∷ []) (m.0.mine ++ length h.log ∷ [])) (sym begins.0)
+            ∙ ap (λ (k : Known). known k.booted (h.log ++ x ∷ []) (k.mine ++ length h.log ∷ [])) em,
       );
     }
 
--- the machine's pass has it too
-pub kept_longer : (w v : Processor) (x : LogStep) (p q : Me ℕ Knowing) → p ≡ (keeper (past w), [])
-    → past v ≡ history (booted_by w) (w.log ++ x ∷ [])
-    → q ≡ (keeper (history p.0.seen.booted (p.0.seen.log ++ x ∷ [])), []) → q ≡ (keeper (past v), [])
-kept_longer w v x p q ep ev eq =
-    eq
-    ∙ ap (λ (h : History). (keeper (history h.booted (h.log ++ x ∷ [])), [])) (seen_of w p ep)
-    ∙ ap (λ h. (keeper h, [])) (sym ev)
-
 -- the log was compared
-pub record Compared (w v : Processor) (old : Known) (n : Me ℕ Knowing) : Type 0 where
+pub record Compared (v : Processor) (old : Known) (n : Me ℕ Knowing) : Type 0 where
   pub present : past_by n ≡ past v
-  pub before : past_by n ≡ past w
   pub learnt : Learnt old (known_by n)
 
-pub compared : (w v : Processor) (p m n : Me ℕ Knowing) (old : Known) → p ≡ (keeper (past w), []) → known_by m ≡ old
-    → past v ≡ past w → n ≡ (caller p.0.seen m.0.mine, []) → Continues p.0.seen m.0.seen → Compared w v old n
-compared w v p m n old ep em ev en begins =
-    let s = seen_of w p ep in
-    let g : Continues (past w) m.0.seen = subst (λ h. Continues h m.0.seen) s begins in
-    let same : past_by n ≡ past w = ap past_by en ∙ s in
+pub compared : (v : Processor) (p m n : Me ℕ Knowing) (old : Known) → p ≡ (keeper (past v), []) → known_by m ≡ old
+    → n ≡ (caller p.0.seen m.0.mine, []) → Continues p.0.seen m.0.seen → Compared v old n
+compared v p m n old ep em en begins =
+    let s = seen_of v p ep in
+    let g : Continues (past v) m.0.seen = subst (λ h. Continues h m.0.seen) s begins in
+    let same : past_by n ≡ past v = ap past_by en ∙ s in
     record {
-      present = same ∙ sym ev;
-      before = same;
+      present = same;
       learnt = (
         subst (λ (l : List LogStep). StartsWith l old.log) (sym (ap (λ (h : History). h.log) same))
-            (subst (λ (k : Known). StartsWith w.log k.log) em g.1),
+            (subst (λ (k : Known). StartsWith v.log k.log) em g.1),
         ap (λ b. known b n.0.seen.log n.0.mine)
             (ap (λ (h : History). h.booted) same ∙ sym g.0 ∙ ap (λ (k : Known). k.booted) em)
             ∙ ap (λ l. known old.booted n.0.seen.log l)

@@ -13,6 +13,7 @@ use Rattle.sequential.specs.declared.log.Entry.{Entry}
 use Rattle.sequential.specs.declared.log.Entry.TheVariants.{Issued as Count, Exchange, PpRead, PpWrite}
 use Rattle.sequential.proofs.Runs.{taken_steps}
 use Rattle.machine_lock.specs.CallerKnowledge.{StartsWith, is_in}
+use Rattle.machine_lock.specs.inner.LockInvariant.{last_step}
 use Rattle.machine_lock.specs.inner.Rules.{Knowing}
 
 pub starts_all : (xs : List LogStep) → StartsWith xs xs
@@ -66,12 +67,6 @@ replicate-more (suc n) x = ap (λ l. x ∷ l) (replicate-more n x)
 pub one_more : {A : Type 0} (xs : List A) (n : ℕ) (x : A) → (xs ++ replicate n x) ++ x ∷ [] ≡ xs ++ replicate (n + 1) x
 one_more xs n x = append_assoc xs (replicate n x) (x ∷ []) ∙ ap (λ l. xs ++ l) (replicate-more n x)
     ∙ ap (λ k. xs ++ replicate k x) (let e : suc n ≡ n + 1 = omega arith in e)
-
--- the last of these steps
-abbrev pub last_step : List LogStep → LogStep
-last_step [] = Issued
-last_step (x ∷ []) = x
-last_step (x ∷ y ∷ ys) = last_step (y ∷ ys)
 
 pub last_step-push : (xs : List LogStep) (x : LogStep) → last_step (xs ++ x ∷ []) ≡ x
 last_step-push [] x = refl

@@ -23,26 +23,26 @@ goes_on_self : (h : History) → Continues h h
 goes_on_self h = (refl, starts_all h.log)
 
 -- the view at one number is replaced
-fits_set : (seat : ℕ) (begun : Bool) (h : History) (owner : ℕ → ℕ) (views : List Knowing) (by : ℕ) (w : Knowing)
-    → Fits seat begun h owner by w
-    → ((j : ℕ) (u : Knowing) → j ≢ by → get_elem? views j ≡ some u → Fits seat begun h owner j u)
-    → (j : ℕ) (u : Knowing) → get_elem? (set views by w) j ≡ some u → Fits seat begun h owner j u
-fits_set seat begun h owner views by w mine others j u e =
+fits_set : (keeper_at : ℕ) (begun : Bool) (h : History) (owner : ℕ → ℕ) (views : List Knowing) (by : ℕ) (w : Knowing)
+    → Fits keeper_at begun h owner by w
+    → ((j : ℕ) (u : Knowing) → j ≢ by → get_elem? views j ≡ some u → Fits keeper_at begun h owner j u)
+    → (j : ℕ) (u : Knowing) → get_elem? (set views by w) j ≡ some u → Fits keeper_at begun h owner j u
+fits_set keeper_at begun h owner views by w mine others j u e =
     ⊎_elim
-    (λ (x : (j ≡ by) × (w ≡ u)). subst (λ (y : ℕ × Knowing). Fits seat begun h owner y.0 y.1) (λ i. (sym x.0 i, x.1 i))
+    (λ (x : (j ≡ by) × (w ≡ u)). subst (λ (y : ℕ × Knowing). Fits keeper_at begun h owner y.0 y.1) (λ i. (sym x.0 i, x.1 i))
     mine)
     (λ (x : (j ≢ by) × (get_elem? views j ≡ some u)). others j u x.0 x.1)
     (at_set views by j w u e)
 
 -- a view is put behind the others
-fits_snoc : (seat : ℕ) (begun : Bool) (h : History) (owner : ℕ → ℕ) (views : List Knowing) (w : Knowing)
-    → Fits seat begun h owner (length views) w
-    → ((j : ℕ) (u : Knowing) → get_elem? views j ≡ some u → Fits seat begun h owner j u) → (j : ℕ) (u : Knowing)
-    → get_elem? (views ++ w ∷ []) j ≡ some u → Fits seat begun h owner j u
-fits_snoc seat begun h owner views w mine others j u e =
+fits_snoc : (keeper_at : ℕ) (begun : Bool) (h : History) (owner : ℕ → ℕ) (views : List Knowing) (w : Knowing)
+    → Fits keeper_at begun h owner (length views) w
+    → ((j : ℕ) (u : Knowing) → get_elem? views j ≡ some u → Fits keeper_at begun h owner j u) → (j : ℕ) (u : Knowing)
+    → get_elem? (views ++ w ∷ []) j ≡ some u → Fits keeper_at begun h owner j u
+fits_snoc keeper_at begun h owner views w mine others j u e =
     ⊎_elim
     (λ (x : get_elem? views j ≡ some u). others j u x)
-    (λ (x : (j ≡ length views) × (w ≡ u)). subst (λ (y : ℕ × Knowing). Fits seat begun h owner y.0 y.1)
+    (λ (x : (j ≡ length views) × (w ≡ u)). subst (λ (y : ℕ × Knowing). Fits keeper_at begun h owner y.0 y.1)
     (λ i. (sym x.0 i, x.1 i)) mine)
     (at_snoc views w u j e)
 
@@ -51,8 +51,8 @@ none_of : (owner : ℕ → ℕ) (by : ℕ) (log : List LogStep) → BelongTo own
 none_of owner by log p e = absurd (off e)
 
 -- a pass that knows nothing
-blank : (seat : ℕ) (begun : Bool) (h : History) (owner : ℕ → ℕ) (by : ℕ) → Fits seat begun h owner by spent
-blank seat begun h owner by = record {
+blank : (keeper_at : ℕ) (begun : Bool) (h : History) (owner : ℕ → ℕ) (by : ℕ) → Fits keeper_at begun h owner by spent
+blank keeper_at begun h owner by = record {
   keeps = λ e. absurd (off e);
   knows = λ e. absurd (off e);
   mine = none_of owner by h.log;
@@ -61,10 +61,10 @@ blank seat begun h owner by = record {
 }
 
 -- what the others know stays true where positions of one pass change hands
-kept_by_others : (seat : ℕ) (begun : Bool) (k : History) (owner : ℕ → ℕ) (positions : List ℕ) (from to j : ℕ)
-    (u : Knowing) → ((p : ℕ) → is_in p positions ≡ true → owner p ≡ from) → j ≢ from → Fits seat begun k owner j u
-    → Fits seat begun k (give owner positions to) j u
-kept_by_others seat begun k owner positions from to j u of apart h = record {
+kept_by_others : (keeper_at : ℕ) (begun : Bool) (k : History) (owner : ℕ → ℕ) (positions : List ℕ) (from to j : ℕ)
+    (u : Knowing) → ((p : ℕ) → is_in p positions ≡ true → owner p ≡ from) → j ≢ from → Fits keeper_at begun k owner j u
+    → Fits keeper_at begun k (give owner positions to) j u
+kept_by_others keeper_at begun k owner positions from to j u of apart h = record {
   keeps = h.keeps;
   knows = h.knows;
   mine = λ p e. (
@@ -82,7 +82,7 @@ kept_by_others seat begun k owner positions from to j u of apart h = record {
 
 pub begins : IsCounted (opening (0 ∷ []) [] fresh)
 begins = record {
-  seat = 0;
+  keeper_at = 0;
   begun = false;
   h = nothing;
   owner = λ p. 0;
@@ -110,13 +110,13 @@ shares id v s h at =
     let same : vs ≡ s.views = set_again s.views id v at in
     let mine = h.fits id v at in
     record {
-      seat = h.seat;
+      keeper_at = h.keeper_at;
       begun = h.begun;
       h = h.h;
       owner = h.owner;
       word = h.word;
       empty = h.empty;
-      fits = fits_snoc h.seat h.begun h.h h.owner vs (shared_out v)
+      fits = fits_snoc h.keeper_at h.begun h.h h.owner vs (shared_out v)
           (record {
             keeps = λ e. absurd (off e);
             knows = λ k. let m = mine.knows k in (m.0, m.1, m.1);
@@ -136,13 +136,13 @@ hands_over id k positions s h at =
     let mine = h.fits id v at in
     let owner = give h.owner positions n in
     record {
-      seat = h.seat;
+      keeper_at = h.keeper_at;
       begun = h.begun;
       h = h.h;
       owner = owner;
       word = h.word;
       empty = h.empty;
-      fits = fits_snoc h.seat h.begun h.h owner vs v
+      fits = fits_snoc h.keeper_at h.begun h.h owner vs v
           (record {
             keeps = λ e. absurd (off e);
             knows = mine.knows;
@@ -150,8 +150,8 @@ hands_over id k positions s h at =
             theirs = none_of owner n h.h.log;
             apart = λ p a b. off b;
           })
-          (fits_set h.seat h.begun h.h owner s.views id spent (blank h.seat h.begun h.h owner id)
-          (λ j u apart e. kept_by_others h.seat h.begun h.h h.owner positions id n j u (λ p i. (mine.mine p i).1) apart
+          (fits_set h.keeper_at h.begun h.h owner s.views id spent (blank h.keeper_at h.begun h.h owner id)
+          (λ j u apart e. kept_by_others h.keeper_at h.begun h.h h.owner positions id n j u (λ p i. (mine.mine p i).1) apart
           (h.fits j u e)));
     }
 
@@ -164,13 +164,13 @@ hands_back id v s h at =
     let mine = h.fits id v at in
     let owner = give h.owner v.theirs n in
     record {
-      seat = h.seat;
+      keeper_at = h.keeper_at;
       begun = h.begun;
       h = h.h;
       owner = owner;
       word = h.word;
       empty = h.empty;
-      fits = fits_snoc h.seat h.begun h.h owner vs right
+      fits = fits_snoc h.keeper_at h.begun h.h owner vs right
           (record {
             keeps = λ e. absurd (off e);
             knows = λ k. let m = mine.knows k in (m.0, m.1, m.1);
@@ -178,7 +178,7 @@ hands_back id v s h at =
             theirs = none_of owner n h.h.log;
             apart = λ p a b. off b;
           })
-          (fits_set h.seat h.begun h.h owner s.views id left
+          (fits_set h.keeper_at h.begun h.h owner s.views id left
           (record {
             keeps = mine.keeps;
             knows = λ k. let m = mine.knows k in (m.0, m.1, m.1);
@@ -188,7 +188,7 @@ hands_back id v s h at =
                 none_of owner id h.h.log;
             apart = λ p a b. off b;
           })
-          (λ j u apart e. kept_by_others h.seat h.begun h.h h.owner v.theirs id n j u (λ p i. (mine.theirs p i).1)
+          (λ j u apart e. kept_by_others h.keeper_at h.begun h.h h.owner v.theirs id n j u (λ p i. (mine.theirs p i).1)
           apart (h.fits j u e)));
     }
 
@@ -204,14 +204,14 @@ takes_in id v other w is s h at two at' =
     let owner = give h.owner w.mine id in
     let apart : AreApart v.mine w.mine = λ p a b. two (sym (theirs.mine p b).1 ∙ (mine.mine p a).1) in
     record {
-      seat = h.seat;
+      keeper_at = h.keeper_at;
       begun = h.begun;
       h = h.h;
       owner = owner;
       word = h.word;
       empty = h.empty;
-      fits = fits_set h.seat h.begun h.h owner vs other spent (blank h.seat h.begun h.h owner other)
-          (λ j u apart_other e. fits_but h.seat h.begun h.h owner s.views id both other
+      fits = fits_set h.keeper_at h.begun h.h owner vs other spent (blank h.keeper_at h.begun h.h owner other)
+          (λ j u apart_other e. fits_but h.keeper_at h.begun h.h owner s.views id both other
           (record {
             keeps = mine.keeps;
             knows = λ k. let m = mine.knows k in (m.0, m.1, (theirs.knows is).1);
@@ -221,18 +221,18 @@ takes_in id v other w is s h at two at' =
                 λ p b. ((theirs.mine p b).0, give_in h.owner w.mine id p b);
             apart = apart;
           })
-          (λ j u _ apart_other e. kept_by_others h.seat h.begun h.h h.owner w.mine other id j u
+          (λ j u _ apart_other e. kept_by_others h.keeper_at h.begun h.h h.owner w.mine other id j u
           (λ p i. (theirs.mine p i).1) apart_other (h.fits j u e))
           j u apart_other e);
     }
   where
-    fits_but : (seat : ℕ) (begun : Bool) (h : History) (owner : ℕ → ℕ) (views : List Knowing) (by : ℕ) (x : Knowing)
-        (but : ℕ) → Fits seat begun h owner by x
-        → ((j : ℕ) (u : Knowing) → j ≢ by → j ≢ but → get_elem? views j ≡ some u → Fits seat begun h owner j u)
-        → (j : ℕ) (u : Knowing) → j ≢ but → get_elem? (set views by x) j ≡ some u → Fits seat begun h owner j u
-    fits_but seat begun h owner views by x but mine others j u apart e =
+    fits_but : (keeper_at : ℕ) (begun : Bool) (h : History) (owner : ℕ → ℕ) (views : List Knowing) (by : ℕ) (x : Knowing)
+        (but : ℕ) → Fits keeper_at begun h owner by x
+        → ((j : ℕ) (u : Knowing) → j ≢ by → j ≢ but → get_elem? views j ≡ some u → Fits keeper_at begun h owner j u)
+        → (j : ℕ) (u : Knowing) → j ≢ but → get_elem? (set views by x) j ≡ some u → Fits keeper_at begun h owner j u
+    fits_but keeper_at begun h owner views by x but mine others j u apart e =
         ⊎_elim
-        (λ (t : (j ≡ by) × (x ≡ u)). subst (λ (y : ℕ × Knowing). Fits seat begun h owner y.0 y.1)
+        (λ (t : (j ≡ by) × (x ≡ u)). subst (λ (y : ℕ × Knowing). Fits keeper_at begun h owner y.0 y.1)
         (λ i. (sym t.0 i, t.1 i)) mine)
         (λ (t : (j ≢ by) × (get_elem? views j ≡ some u)). others j u t.0 apart t.1)
         (at_set views by j x u e)
@@ -256,13 +256,13 @@ looks slots id me is s h _ at _ =
       keeps,
       tt,
       record {
-        seat = h.seat;
+        keeper_at = h.keeper_at;
         begun = h.begun;
         h = h.h;
         owner = h.owner;
         word = same_word s.words _ h.word;
         empty = h.empty;
-        fits = fits_set h.seat h.begun h.h h.owner s.views id w
+        fits = fits_set h.keeper_at h.begun h.h h.owner s.views id w
             (record {
               keeps = λ k. ((mine.keeps k).0, (mine.keeps k).1, λ _. refl);
               knows = λ _. (m.0, goes_on_self h.h, m.2);
@@ -309,13 +309,13 @@ adds slots id me x is kn s h _ at _ =
       keeps,
       tt,
       record {
-        seat = h.seat;
+        keeper_at = h.keeper_at;
         begun = h.begun;
         h = now;
         owner = owner;
         word = more_word s.words _ 1 h.word ∙ ap (λ n. n ∷ []) (let l = longer in omega arith);
         empty = λ e. absurd (true≢false (sym m.0 ∙ e));
-        fits = fits_set h.seat h.begun now owner s.views id w
+        fits = fits_set h.keeper_at h.begun now owner s.views id w
             (record {
               keeps = λ k. (
                 (mine.keeps k).0,
@@ -362,13 +362,13 @@ starts slots id boot s h _ at _ =
       keeps,
       tt,
       record {
-        seat = h.seat;
+        keeper_at = h.keeper_at;
         begun = true;
         h = k;
         owner = h.owner;
         word = same_word s.words _ h.word ∙ ap (λ m. (m % 2 ^ 64) ∷ []) empty;
         empty = λ _. refl;
-        fits = fits_set h.seat true k h.owner s.views id w
+        fits = fits_set h.keeper_at true k h.owner s.views id w
             (record {
               keeps = λ _. (me.0, refl, λ _. refl);
               knows = λ _. (refl, goes_on_self k, goes_on_self k);

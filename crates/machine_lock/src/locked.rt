@@ -9,12 +9,13 @@ ghost use Rattle.program_order.specs.Headline.{IsFaultedRun};
 ghost use Rattle.program_order.specs.Refusals.{may_refuse, is_stranger, is_read_refusal, is_store_refusal};
 ghost use Rattle.program_order.specs.Refusals.{is_ask_refusal};
 ghost use Rattle.program_order.specs.Run.{IsAnswer, settled};
+ghost use Rattle.program_order.specs.Invariant.{IsReplay};
 ghost use Rattle.machine.specs.Tokens.{one_more};
 ghost use Rattle.program_order.specs.Events.{after};
 ghost use Rattle.machine_lock.specs.CallerKnowledge.{IsMade, Learnt, HasReplay, IsNoteOf, IsWhyOf, IsWordOf, note_in};
 ghost use Rattle.machine_lock.specs.CallerKnowledge.{word_in};
 ghost use Rattle.machine_lock.specs.inner.LockInvariant.{IsAsked, IsCurrent, access_step, is_access, is_of_memory};
-ghost use Rattle.machine_lock.specs.inner.LockInvariant.{next_after, with_processor};
+ghost use Rattle.machine_lock.specs.inner.LockInvariant.{IsLogged, last_step, next_after, with_processor};
 ghost use Rattle.machine_lock.specs.inner.Rules.{IsKeeper, past};
 
 use crate::Seen;
@@ -46,6 +47,45 @@ impl<K: Naming> Model for Locked<K> {
     ghost invariant = { λ l. IsLocked K.table l.machine l.pass };
 }
 
+/// The caller learns the log of the machine.
+fn compare<K: Naming>(word: &Word<K>, pass: &mut Pass, seen: &mut Seen<K>, machine: &Machine)
+    requires { IsKeeper K.table (past machine.now) pass.old }
+    ensures pass { IsKeeper K.table (past machine.now) pass.new }
+    ensures replay { IsReplay machine.now }
+    ensures current { IsCurrent machine.now seen.new }
+    ensures replayed { HasReplay seen.new }
+    ensures seen { Learnt seen.old seen.new }
+{
+    machine.keeps_replay();
+    word.compare(pass, &mut seen.pass);
+}
+
+/// After an event that is logged: where it was made the caller has made the log's last step; else it learns the log.
+fn record_or_compare<K: Naming>(
+    word: &Word<K>,
+    pass: &mut Pass,
+    seen: &mut Seen<K>,
+    machine: &Machine,
+    answer: &Answer,
+)
+    requires pass { IsKeeper K.table pass.old.me.0.seen pass.old }
+    requires logged { IsLogged answer.now pass.old.me.0.seen machine.now }
+    ensures pass { IsKeeper K.table (past machine.now) pass.new }
+    ensures replay { IsReplay machine.now }
+    ensures current { IsCurrent machine.now seen.new }
+    ensures replayed { HasReplay seen.new }
+    ensures seen { MatchResult answer.now (λ done. IsMade (last_step machine.now.log) seen.old seen.new)
+        (λ refusal. Learnt seen.old seen.new) }
+{
+    match answer {
+        Ok(_) => {
+            machine.keeps_replay();
+            word.record::<Brand>(pass, &mut seen.pass, machine);
+        }
+        Err(_) => compare(word, pass, seen, machine),
+    }
+}
+
 impl<K: Naming> Locked<K> {
     /// A machine whose users weren't told to end, with the pass that knows its log.
     pub(crate) fn new(machine: Machine, pass: Pass) -> Locked<K>
@@ -75,17 +115,9 @@ impl<K: Naming> Locked<K> {
             (λ done. IsMade Issued seen.old seen.new × IsNoteOf seen.new (note_in done))
             (λ refusal. Learnt seen.old seen.new × IsWhyOf seen.new refusal) }
     {
-        match self.machine.issue() {
-            Ok(done) => {
-                word.record::<Brand>(&mut self.pass, &mut seen.pass, &self.machine);
-                self.machine.keeps_replay();
-                Ok(done)
-            }
-            Err(refusal) => {
-                word.compare(&mut self.pass, &mut seen.pass);
-                Err(refusal)
-            }
-        }
+        let answer = self.machine.issue();
+        record_or_compare(word, &mut self.pass, seen, &self.machine, &answer);
+        answer
     }
 
     /// The event `Ask`. Its caller has then seen the log.
@@ -101,8 +133,7 @@ impl<K: Naming> Locked<K> {
         ensures seen { Learnt seen.old seen.new }
     {
         let answer = self.machine.ask(at);
-        self.machine.keeps_replay();
-        word.compare(&mut self.pass, &mut seen.pass);
+        compare(word, &mut self.pass, seen, &self.machine);
         answer
     }
 
@@ -120,17 +151,9 @@ impl<K: Naming> Locked<K> {
             (λ done. (n : ℕ) × (self.old.processor.request ≡ Some n) × IsMade (Exchanged n) seen.old seen.new)
             (λ refusal. Learnt seen.old seen.new × IsWhyOf seen.new refusal) }
     {
-        match self.machine.exchange() {
-            Ok(done) => {
-                word.record::<Brand>(&mut self.pass, &mut seen.pass, &self.machine);
-                self.machine.keeps_replay();
-                Ok(done)
-            }
-            Err(refusal) => {
-                word.compare(&mut self.pass, &mut seen.pass);
-                Err(refusal)
-            }
-        }
+        let answer = self.machine.exchange();
+        record_or_compare(word, &mut self.pass, seen, &self.machine, &answer);
+        answer
     }
 
     /// The event `Ask` for this package, if there is one, where all of the log was seen: there is nothing to learn.
@@ -199,17 +222,9 @@ impl<K: Naming> Locked<K> {
             (λ refusal. Learnt seen.old seen.new) }
         ensures word { IfOk result (λ done. (a : ℕ) → event ≡ PpRead a → IsWordOf seen.new a (word_in done)) }
     {
-        match self.machine.apply(event) {
-            Ok(done) => {
-                word.record::<Brand>(&mut self.pass, &mut seen.pass, &self.machine);
-                self.machine.keeps_replay();
-                Ok(done)
-            }
-            Err(refusal) => {
-                word.compare(&mut self.pass, &mut seen.pass);
-                Err(refusal)
-            }
-        }
+        let accessed = self.machine.apply(event);
+        record_or_compare(word, &mut self.pass, seen, &self.machine, &accessed);
+        accessed
     }
 
     /// Makes an event of memory, or refuses it: it logs nothing.
@@ -315,8 +330,7 @@ impl<K: Naming> Locked<K> {
             → IsFaultedRun snapshot.log snapshot.boot_memory snapshot.state) }
         ensures named { IfErr result (λ refusal. (refusal ≡ NotDrained) ⊎ (refusal ≡ OutOfMemory)) }
     {
-        word.compare(&mut self.pass, &mut seen.pass);
-        self.machine.keeps_replay();
+        compare(word, &mut self.pass, seen, &self.machine);
         self.machine.snapshot()
     }
 

@@ -23,6 +23,7 @@ use instruction_table::Refusal;
 use machine::{
     Answer, Computed, Done, Event, Finished, Loaded, Machine, Note, Reserved, Seat, Snapshot,
 };
+use per_unit::PerUnit;
 use std::alloc::Global;
 use std::marker::Model;
 use std::sync::{Arc, Mutex, Wait};
@@ -88,22 +89,7 @@ fn unless_refused(answer: Option<Answer>) -> Result<(), Refusal>
 
 /// Leaves all seats.
 fn leave_all(seats: [Seat; 7]) {
-    let [
-        branch,
-        boolean,
-        shift,
-        long_add,
-        divide,
-        increment1,
-        increment2,
-    ] = seats;
-    branch.leave();
-    boolean.leave();
-    shift.leave();
-    long_add.leave();
-    divide.leave();
-    increment1.leave();
-    increment2.leave();
+    let _ = PerUnit::from_array(seats).map(|seat| seat.leave());
 }
 
 /// A machine that several threads drive, beside its progress word: each call makes one event while it holds the lock.

@@ -3,6 +3,7 @@
 
 use crossbeam_utils::CachePadded;
 use instruction_table::Unit;
+use per_unit::PerUnit;
 use std::sync::Wait;
 use std::sync::atomic::{AtomicU64, Ordering};
 use std::time::Duration;
@@ -54,13 +55,7 @@ pub struct Signals {
     pub changes: Signal,
     /// A unit has stored whose instructions may make references: what the worker for memory waits for.
     pub references: Signal,
-    branch: Signal,
-    boolean: Signal,
-    shift: Signal,
-    long_add: Signal,
-    divide: Signal,
-    increment1: Signal,
-    increment2: Signal,
+    sent: PerUnit<Signal>,
 }
 
 impl Signals {
@@ -68,27 +63,13 @@ impl Signals {
         Signals {
             changes: Signal::new(),
             references: Signal::new(),
-            branch: Signal::new(),
-            boolean: Signal::new(),
-            shift: Signal::new(),
-            long_add: Signal::new(),
-            divide: Signal::new(),
-            increment1: Signal::new(),
-            increment2: Signal::new(),
+            sent: PerUnit::units().map(|_| Signal::new()),
         }
     }
 
     /// A reservation was sent to the worker of this unit. Units that are never reserved share that of Branch.
     pub fn sent(&self, unit: Unit) -> &Signal {
-        match unit {
-            Unit::Boolean => &self.boolean,
-            Unit::Shift => &self.shift,
-            Unit::LongAdd => &self.long_add,
-            Unit::Divide => &self.divide,
-            Unit::Increment1 => &self.increment1,
-            Unit::Increment2 => &self.increment2,
-            Unit::Branch | Unit::Add | Unit::Multiply1 | Unit::Multiply2 => &self.branch,
-        }
+        self.sent.get(unit).unwrap_or(&self.sent.branch)
     }
 
     /// A unit has stored.
@@ -103,12 +84,6 @@ impl Signals {
     pub(crate) fn raise_all(&self) {
         self.changes.raise();
         self.references.raise();
-        self.branch.raise();
-        self.boolean.raise();
-        self.shift.raise();
-        self.long_add.raise();
-        self.divide.raise();
-        self.increment1.raise();
-        self.increment2.raise();
+        let _ = self.sent.each().map(|signal| signal.raise());
     }
 }

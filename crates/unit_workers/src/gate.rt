@@ -1,6 +1,7 @@
 //! What a worker calls at two moments of each reservation.
 
 use instruction_table::Unit;
+use per_unit::PerUnit;
 
 /// What the worker of a unit calls at two moments of each reservation: before it computes, and after it stored. It
 /// holds no lock then, so a gate may wait for others. Both calls tell the reservation's unit and number.
@@ -32,4 +33,19 @@ pub struct Gates<G: Gate> {
     pub divide: G,
     pub increment1: G,
     pub increment2: G,
+}
+
+impl<G: Gate> Gates<G> {
+    /// The gates by their units.
+    pub(crate) fn into_each(self) -> PerUnit<G> {
+        PerUnit {
+            branch: self.branch,
+            boolean: self.boolean,
+            shift: self.shift,
+            long_add: self.long_add,
+            divide: self.divide,
+            increment1: self.increment1,
+            increment2: self.increment2,
+        }
+    }
 }

@@ -4,23 +4,22 @@
 //!
 //! Callers rely on `run_threads`: it ends with a snapshot of the machine that it was given, with
 //! that machine's boot memory and budget, whose log begins with that machine's and keeps to the
-//! budget. Nothing promises that a run ends. Begin with `run_threads` in `running`; `conducting`
-//! issues, `working` and `serving` are a unit's worker, `storing` memory's.
+//! budget. Nothing promises that a run ends. Begin with `run_threads` in `threaded_run`; `issuing`
+//! issues, `working` and `serving` are a unit's worker, `memory_worker` memory's.
 #![tactic(auto)]
 
 mod asking;
-mod conducting;
-mod crew;
 mod gate;
-mod lines;
-mod running;
+mod issuing;
+mod memory_worker;
 mod serving;
-mod storing;
+mod threaded_run;
 mod waiting;
+mod worker_lanes;
 mod working;
 
 pub use gate::{Gate, Gates, Open};
-pub use running::{Ended, Orders, run_threads};
+pub use memory_worker::storage_worker;
 pub use serving::serve;
-pub use storing::storage_worker;
+pub use threaded_run::{Ended, Orders, run_threads};
 pub use working::{Tally, worker};

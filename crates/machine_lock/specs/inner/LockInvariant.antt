@@ -1,5 +1,5 @@
 -- What the lock keeps. Source: ours.
-use Rattle.std.specs.Prelude.{◌≡◌, ℕ, Bool, true, false, Option, Some, None, Result, Ok, Err}
+use Rattle.std.specs.Prelude.{◌≡◌, ℕ, Bool, true, false, List, [], ◌∷◌, ◌++◌, Option, Some, None, Result, Ok, Err}
 use Rattle.instructions.specs.declared.refusal.Refusal.{Refusal}
 use Rattle.atomic_table.specs.Seated.{TableId}
 use Rattle.atomic_table.specs.declared.shared.Seat.{Seat}
@@ -11,7 +11,7 @@ use Rattle.program_order.specs.Processor.{Processor}
 use Rattle.program_order.specs.Run.{IsAnswer, settled}
 use Rattle.program_order.specs.Invariant.{IsReplay}
 use Rattle.machine_lock.specs.CallerKnowledge.{Known, booted_by}
-use Rattle.machine_lock.specs.inner.Rules.{Knowing, IsKeeper, past}
+use Rattle.machine_lock.specs.inner.Rules.{History, Knowing, IsKeeper, history, past}
 
 -- the machine under the lock, and whether its users were told to end
 pub record Kept : Type 0 where
@@ -61,3 +61,14 @@ IsAsked w None None v = v ≡ w
 IsAsked w None (Some answer) v = ⊥
 IsAsked w (Some at) None v = ⊥
 IsAsked w (Some at) (Some answer) v = IsAnswer w (Ask at) answer × (v ≡ settled w (Ask at) answer)
+
+-- the last of these steps
+abbrev pub last_step : List LogStep → LogStep
+last_step [] = Issued
+last_step (x ∷ []) = x
+last_step (x ∷ y ∷ ys) = last_step (y ∷ ys)
+
+-- the machine's log after an event that is logged: one step longer than that one where the event was made, else the same
+abbrev pub IsLogged : Result Done Refusal → History → Processor → Type 0
+IsLogged (Ok done) h w = past w ≡ history h.booted (h.log ++ last_step w.log ∷ [])
+IsLogged (Err refusal) h w = past w ≡ h

@@ -87,8 +87,8 @@ abbrev pub BelongTo : (ℕ → ℕ) → ℕ → List LogStep → List ℕ → Ty
 BelongTo owner by log positions = (p : ℕ) → is_in p positions ≡ true → (p < length log) × (owner p ≡ by)
 
 -- what the rule says of one pass, by its number
-pub record Fits (seat : ℕ) (begun : Bool) (h : History) (owner : ℕ → ℕ) (by : ℕ) (v : Knowing) : Type 0 where
-  pub keeps : v.keeps ≡ true → (by ≡ seat) × (v.knows ≡ begun) × (begun ≡ true → v.seen ≡ h)
+pub record Fits (keeper_at : ℕ) (begun : Bool) (h : History) (owner : ℕ → ℕ) (by : ℕ) (v : Knowing) : Type 0 where
+  pub keeps : v.keeps ≡ true → (by ≡ keeper_at) × (v.knows ≡ begun) × (begun ≡ true → v.seen ≡ h)
   pub knows : v.knows ≡ true → (begun ≡ true) × Continues h v.seen × Continues h v.told
   pub mine : BelongTo owner by h.log v.mine
   pub theirs : BelongTo owner by h.log v.theirs
@@ -97,13 +97,13 @@ pub record Fits (seat : ℕ) (begun : Bool) (h : History) (owner : ℕ → ℕ) 
 -- the rule: there is one history, and once a machine stands beside the word, the word is its length. The machine's
 -- pass knows it whole, every other a beginning of it or nothing, and each position in it has one owner
 pub record IsCounted (s : State ℕ Knowing) : Type 0 where
-  pub seat : ℕ
+  pub keeper_at : ℕ
   pub begun : Bool
   pub h : History
   pub owner : ℕ → ℕ
   pub word : s.words ≡ (length h.log % 2 ^ 64) ∷ []
   pub empty : begun ≡ false → h.log ≡ []
-  pub fits : (by : ℕ) → (v : Knowing) → get_elem? s.views by ≡ some v → Fits seat begun h owner by v
+  pub fits : (by : ℕ) → (v : Knowing) → get_elem? s.views by ≡ some v → Fits keeper_at begun h owner by v
 
 -- the machine's pass added a step for the one that it took in
 abbrev pub Added : LogStep → Knowing → Knowing → Type 0

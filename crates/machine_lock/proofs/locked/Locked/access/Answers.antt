@@ -1,90 +1,17 @@
-use Rattle.std.proofs.Common.{sym, ap, subst}
-use Rattle.machine_lock.specs.CallerKnowledge.{IsMade}
-use Rattle.machine_lock.specs.inner.Rules.{History}
-use Rattle.machine_lock.proofs.Lists.{last_step}
-use Rattle.machine_lock.proofs.Laws.{Recorded, Compared, LastAccess, known_by, refused_same, refused_past}
-use Rattle.machine_lock.proofs.Laws.{last_access, word_of, recorded, kept_longer, compared, kept_same, replay_by}
-use Rattle.program_order.specs.Invariant.{IsReplay}
-use Rattle.machine_lock.proofs.locked.Locked.access.Given as given
+use Rattle.machine_lock.proofs.Laws.{access_logged, access_seen, word_of}
 use Rattle.machine_lock.proofs.locked.Locked.access.Goals as goal
-use Rattle.machine_lock.proofs.locked.Locked.access.Goals.{After-keeps_replay, After-compare}
 
-last : (g : given.Over) (c : After-keeps_replay g) → LastAccess c.self.inside.machine c.apply.new.self c.args.event
-last g c =
-    last_access c.self.inside.machine c.apply.new.self c.args.event c.apply.result c.in-Ok.done c.requires
-    c.apply.ensures.after c.in-Ok.is
+pub record_or_compare-requires-clause-logged : goal.record_or_compare-requires-clause-logged
+record_or_compare-requires-clause-logged g c =
+    access_logged c.self.inside.machine c.apply-accessed.new.self c.args.event c.apply-accessed.result
+    c.self.inside.pass.me c.self.invariant.seen.1 c.requires c.apply-accessed.ensures.after
 
-made : (g : given.Over) (c : After-keeps_replay g)
-    → Recorded c.self.inside.machine c.apply.new.self (last_step c.apply.new.self.log) c.args.seen.now
-    c.record.new.me.me
-made g c =
-    recorded c.self.inside.machine c.apply.new.self (last_step c.apply.new.self.log) c.self.inside.pass.me
-    c.seen.inside.pass.me
-    c.record.new.me.me c.args.seen.now c.self.invariant.seen.1 c.seen.view_is (last g c).longer
-    c.record.ensures.me.1 c.record.ensures.begins
+pub returns-clause-seen : goal.returns-clause-seen
+returns-clause-seen g c =
+    access_seen c.self.inside.machine c.apply-accessed.new.self c.args.event c.apply-accessed.result c.args.seen.now
+    c.record_or_compare.new.seen c.requires c.apply-accessed.ensures.after c.record_or_compare.ensures.seen
 
-pub invariant_of-self : goal.invariant_of-self
-invariant_of-self g c = record {
-  replay = c.keeps_replay.ensures.replay;
-  seen = (
-    c.record.ensures.pass.0,
-    kept_longer c.self.inside.machine c.apply.new.self (last_step c.apply.new.self.log) c.self.inside.pass.me
-        c.record.new.pass.me
-        c.self.invariant.seen.1 (last g c).longer c.record.ensures.pass.1,
-  );
-}
-
-pub returns-in-Ok-clause-current : goal.returns-in-Ok-clause-current
-returns-in-Ok-clause-current g c =
-    let p = (made g c).present in (ap (λ (h : History). h.booted) p, ap (λ (h : History). h.log) p)
-
-pub returns-in-Ok-clause-seen : goal.returns-in-Ok-clause-seen
-returns-in-Ok-clause-seen g c =
-    subst (λ x. IsMade x c.args.seen.now (known_by c.record.new.me.me)) (last g c).last (made g c).made
-
-pub returns-in-Ok-clause-word : goal.returns-in-Ok-clause-word
-returns-in-Ok-clause-word g c =
-    word_of c.apply.new.self (known_by c.record.new.me.me) c.args.event c.apply.result c.in-Ok.done
-    c.keeps_replay.ensures.replay (made g c).present c.in-Ok.is c.apply.ensures.word
-
-pub returns-in-Ok-clause-replayed : goal.returns-in-Ok-clause-replayed
-returns-in-Ok-clause-replayed g c =
-    replay_by c.apply.new.self c.record.new.me.me c.keeps_replay.ensures.replay (made g c).present
-
--- ---- refused ----
-
-refused : (g : given.Over) (c : After-compare g)
-    → Compared c.self.inside.machine c.apply.new.self c.args.seen.now c.compare.new.me.me
-refused g c =
-    compared c.self.inside.machine c.apply.new.self c.self.inside.pass.me c.seen.inside.pass.me c.compare.new.me.me
-    c.args.seen.now c.self.invariant.seen.1 c.seen.view_is
-    (refused_past c.self.inside.machine c.apply.new.self c.args.event c.apply.result c.in-Err.refusal
-    c.apply.ensures.after c.in-Err.is)
-    c.compare.ensures.me.1 c.compare.ensures.begins
-
-pub invariant_of-self-in-Err : goal.invariant_of-self-in-Err
-invariant_of-self-in-Err g c = record {
-  replay = subst IsReplay
-      (sym (refused_same c.self.inside.machine c.apply.new.self c.args.event c.apply.result c.in-Err.refusal
-      c.apply.ensures.after c.in-Err.is))
-      c.self.invariant.replay;
-  seen = (
-    c.compare.ensures.pass.0,
-    kept_same c.self.inside.machine c.apply.new.self c.self.inside.pass.me c.compare.new.pass.me
-        c.self.invariant.seen.1
-        (refused_past c.self.inside.machine c.apply.new.self c.args.event c.apply.result c.in-Err.refusal
-        c.apply.ensures.after c.in-Err.is)
-        c.compare.ensures.pass.1,
-  );
-}
-
-pub returns-in-Err-clause-current : goal.returns-in-Err-clause-current
-returns-in-Err-clause-current g c =
-    let p = (refused g c).present in (ap (λ (h : History). h.booted) p, ap (λ (h : History). h.log) p)
-
-pub returns-in-Err-clause-replayed : goal.returns-in-Err-clause-replayed
-returns-in-Err-clause-replayed g c =
-    replay_by c.self.inside.machine c.compare.new.me.me c.self.invariant.replay (refused g c).before
-
-pub returns-in-Err-clause-seen : goal.returns-in-Err-clause-seen
-returns-in-Err-clause-seen g c = (refused g c).learnt
+pub returns-clause-word : goal.returns-clause-word
+returns-clause-word g c =
+    word_of c.apply-accessed.new.self c.record_or_compare.new.seen c.args.event c.apply-accessed.result
+    c.record_or_compare.ensures.replay c.record_or_compare.ensures.current c.apply-accessed.ensures.word

@@ -5,16 +5,16 @@ ghost use Rattle.unit_workers.specs.Ending.{is_end};
 ghost use Rattle.unit_workers.specs.Onward.{GoesOnFrom};
 
 use crate::asking::FreeRequests;
-use crate::crew::Lines;
 use crate::waiting::Waiting;
-use exchange_requests::Requests;
+use crate::worker_lanes::WorkerLanes;
+use exchange_requests::{Ask, Requests};
 use instruction_table::Refusal;
 use machine_lock::{Naming, Seen, Shared};
 use std::sync::Wait;
 
 /// How a run goes on after a step.
 #[derive(Clone, Copy, Drop)]
-enum Course {
+enum Progress {
     /// Something was done.
     GoesOn,
     /// Nothing could be done yet.
@@ -35,53 +35,22 @@ fn ends_run(refusal: &Refusal) -> bool
 
 /// The requests that a run has still to make.
 #[derive(Drop)]
-pub struct Agenda<'a> {
-    /// Those that the issuing thread makes.
+pub struct PendingRequests<'a> {
+    /// Those that the issuing thread makes. One that was due stays among them while another request waits.
     requests: Requests,
-    /// The package of the one that was due and has still to be asked for, since another request waits.
-    refused: Option<u32>,
     /// Those that a thread of its own makes.
     free: &'a FreeRequests<'a>,
 }
 
-impl<'a> Agenda<'a> {
+impl<'a> PendingRequests<'a> {
     /// Nothing is asked for yet.
-    pub fn new(requests: Requests, free: &'a FreeRequests<'a>) -> Agenda<'a> {
-        Agenda {
-            requests,
-            refused: None,
-            free,
-        }
+    pub fn new(requests: Requests, free: &'a FreeRequests<'a>) -> PendingRequests<'a> {
+        PendingRequests { requests, free }
     }
 
-    /// The package of the request that is to be made now.
-    fn due(&mut self) -> Option<u32> {
-        if self.refused.is_some() {
-            return self.refused;
-        }
-        let (at, _) = self.requests.take_due()?;
-        Some(at)
-    }
-
-    /// The package of the request that follows the exchange which waits, if one does. It is known before that exchange
-    /// is made, since what is due depends only on how many instructions were issued.
-    fn following(&self) -> Option<u32> {
-        if self.refused.is_some() {
-            return self.refused;
-        }
-        let (at, _) = self.requests.next_due()?;
-        Some(at)
-    }
-
-    /// An exchange was made, and so was the request that follows it. The exchange was the one of the request that was
-    /// taken last, unless that request had still to be made.
-    fn exchanged(&mut self) {
-        if self.refused.is_some() {
-            self.refused = None;
-        } else {
-            self.requests.exchanged();
-            let _ = self.requests.take_due();
-        }
+    /// Those that a thread of its own makes.
+    pub fn free(&self) -> &'a FreeRequests<'a> {
+        self.free
     }
 }
 
@@ -93,24 +62,33 @@ fn ask_due<K: Naming, R: Wait>(
     rt: &R,
     shared: &Shared<K>,
     seen: &mut Seen<K>,
-    agenda: &mut Agenda<'_>,
+    pending: &mut PendingRequests<'_>,
 ) -> Result<(), Refusal>
     ensures onward { GoesOnFrom seen.old seen.new }
 {
-    let Some(at) = agenda.due() else {
+    let Some((at, _)) = pending.requests.due() else {
         return Ok(());
     };
     match shared.ask(rt, seen, at) {
-        Ok(()) => agenda.refused = None,
-        Err(Refusal::ExchangeBusy) => agenda.refused = Some(at),
-        Err(refusal) => return Err(refusal),
+        Ok(()) => {
+            let _ = pending.requests.take_due();
+            Ok(())
+        }
+        Err(Refusal::ExchangeBusy) => Ok(()),
+        Err(refusal) => Err(refusal),
     }
-    Ok(())
+}
+
+/// The absolute address of a request's package.
+fn package(request: Option<Ask>) -> Option<u32> {
+    let (at, _) = request?;
+    Some(at)
 }
 
 /// Makes the exchange that waits, as soon as the machine is drained, and asks for the one that follows it, so that no
-/// request at any time comes between the two. Where the machine runs in the middle of a word the exchange can't be
-/// made.
+/// request at any time comes between the two. What follows is known before the exchange is made, since what is due
+/// depends only on how many instructions were issued. Where the machine runs in the middle of a word the exchange can't
+/// be made.
 ///
 /// # Errors
 /// What else was refused.
@@ -118,18 +96,20 @@ fn exchange<K: Naming, R: Wait>(
     rt: &R,
     shared: &Shared<K>,
     seen: &mut Seen<K>,
-    agenda: &mut Agenda<'_>,
-) -> Result<Course, Refusal>
+    pending: &mut PendingRequests<'_>,
+) -> Result<Progress, Refusal>
     ensures onward { GoesOnFrom seen.old seen.new }
 {
-    match shared.exchange_and_ask(rt, seen, agenda.following()) {
+    let following = package(pending.requests.next_due());
+    match shared.exchange_and_ask(rt, seen, following) {
         Ok(Ok(())) => {
-            agenda.exchanged();
-            Ok(Course::GoesOn)
+            pending.requests.exchanged();
+            let _ = pending.requests.take_due();
+            Ok(Progress::GoesOn)
         }
         Ok(Err(refusal)) => Err(refusal),
-        Err(Refusal::NotDrained) => Ok(Course::Waits),
-        Err(Refusal::MidWord) => Ok(Course::Ends),
+        Err(Refusal::NotDrained) => Ok(Progress::Waits),
+        Err(Refusal::MidWord) => Ok(Progress::Ends),
         Err(refusal) => Err(refusal),
     }
 }
@@ -143,22 +123,22 @@ fn finish<K: Naming, R: Wait>(
     rt: &R,
     shared: &Shared<K>,
     seen: &mut Seen<K>,
-    agenda: &mut Agenda<'_>,
-) -> Result<Course, Refusal>
+    pending: &mut PendingRequests<'_>,
+) -> Result<Progress, Refusal>
     ensures onward { GoesOnFrom seen.old seen.new }
 {
     // This comes first: a thread that asks counts afterwards, so where none is left all were asked for.
-    let are_left = agenda.free.are_left();
-    match exchange(rt, shared, seen, agenda) {
+    let are_left = pending.free.are_left();
+    match exchange(rt, shared, seen, pending) {
         Err(Refusal::Nothing) => {}
-        course => return course,
+        progress => return progress,
     }
-    if agenda.refused.is_some() {
-        Ok(Course::GoesOn)
+    if pending.requests.due().is_some() {
+        Ok(Progress::GoesOn)
     } else if !are_left && shared.drained(rt) {
-        Ok(Course::Ends)
+        Ok(Progress::Ends)
     } else {
-        Ok(Course::Waits)
+        Ok(Progress::Waits)
     }
 }
 
@@ -171,24 +151,24 @@ fn step<K: Naming, R: Wait>(
     rt: &R,
     shared: &Shared<K>,
     seen: &mut Seen<K>,
-    agenda: &mut Agenda<'_>,
-    lines: &mut Lines<'_>,
-) -> Result<Course, Refusal>
+    pending: &mut PendingRequests<'_>,
+    lanes: &mut WorkerLanes<'_>,
+) -> Result<Progress, Refusal>
     ensures onward { GoesOnFrom seen.old seen.new }
 {
-    ask_due(rt, shared, seen, agenda)?;
+    ask_due(rt, shared, seen, pending)?;
     match shared.issue(rt, seen) {
         Ok(note) => {
-            agenda.requests.issued();
+            pending.requests.issued();
             if let Some(note) = note {
-                lines.send(rt, note);
+                lanes.send(rt, note);
                 shared.signals().sent(note.unit).raise();
             }
-            Ok(Course::GoesOn)
+            Ok(Progress::GoesOn)
         }
-        Err(Refusal::ExchangeWaiting) => exchange(rt, shared, seen, agenda),
-        Err(refusal) if ends_run(&refusal) => finish(rt, shared, seen, agenda),
-        Err(_) => Ok(Course::Waits),
+        Err(Refusal::ExchangeWaiting) => exchange(rt, shared, seen, pending),
+        Err(refusal) if ends_run(&refusal) => finish(rt, shared, seen, pending),
+        Err(_) => Ok(Progress::Waits),
     }
 }
 
@@ -200,12 +180,12 @@ pub fn begin<K: Naming, R: Wait>(
     rt: &R,
     shared: &Shared<K>,
     seen: &mut Seen<K>,
-    agenda: &mut Agenda<'_>,
+    pending: &mut PendingRequests<'_>,
 ) -> Result<(), Refusal>
     ensures onward { GoesOnFrom seen.old seen.new }
 {
-    ask_due(rt, shared, seen, agenda)?;
-    exchange(rt, shared, seen, agenda)?;
+    ask_due(rt, shared, seen, pending)?;
+    exchange(rt, shared, seen, pending)?;
     Ok(())
 }
 
@@ -217,8 +197,8 @@ pub fn conduct<K: Naming, R: Wait>(
     rt: &R,
     shared: &Shared<K>,
     seen: &mut Seen<K>,
-    mut agenda: Agenda<'_>,
-    lines: &mut Lines<'_>,
+    mut pending: PendingRequests<'_>,
+    lanes: &mut WorkerLanes<'_>,
 ) -> Result<(), Refusal>
     ensures onward { GoesOnFrom seen.old seen.new }
 {
@@ -226,10 +206,10 @@ pub fn conduct<K: Naming, R: Wait>(
     let mut wait = Waiting::new();
     for _ in rt.forever() {
         let count = changes.count();
-        match step(rt, shared, seen, &mut agenda, lines)? {
-            Course::GoesOn => wait.reset(),
-            Course::Waits => wait.until_raised(rt, changes, count),
-            Course::Ends => return Ok(()),
+        match step(rt, shared, seen, &mut pending, lanes)? {
+            Progress::GoesOn => wait.reset(),
+            Progress::Waits => wait.until_raised(rt, changes, count),
+            Progress::Ends => return Ok(()),
         }
     }
     unreachable!()

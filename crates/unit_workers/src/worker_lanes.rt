@@ -1,13 +1,14 @@
-//! The lanes with their ends, and the threads that serve them.
+//! The lanes of the seven units with their ends, and the workers' threads that serve them.
 ghost use Rattle.std.specs.Prelude.{◌≡◌, IfSome};
 ghost use Rattle.std.specs.Option.{ForSome};
 
-use crate::gate::Gate;
+use crate::gate::{Gate, Gates};
 use crate::working::{Tally, worker};
 use crossbeam_utils::Backoff;
 use instruction_table::Unit;
 use machine::{Note, Seat};
 use machine_lock::{Naming, Shared};
+use per_unit::PerUnit;
 use std::alloc::Global;
 use std::snapshot::Snapshot;
 use std::sync::Wait;
@@ -16,19 +17,19 @@ use unit_queue::{Lane, SendPass, TakePass, lane};
 
 /// The tally that a worker's thread gives is of this lane.
 #[derive(Drop)]
-pub struct OfLane(Snapshot<Lane>);
+pub struct TallyOfLane(Snapshot<Lane>);
 
-impl Promise<Option<Tally>> for OfLane {
+impl Promise<Option<Tally>> for TallyOfLane {
     ghost use Rattle.std.specs.Prelude.{◌≡◌, IfSome};
 
     ghost kept_by = { λ p t. IfSome t (λ x. x.pass.id ≡ p.0.value.id) };
 }
 
-pub type Worker = PromisedHandle<Option<Tally>, OfLane>;
+pub type Worker = PromisedHandle<Option<Tally>, TallyOfLane>;
 
 /// A lane with its two ends.
 #[derive(Drop)]
-pub struct Pair<'a> {
+pub struct LaneEnds<'a> {
     lane: &'a Lane,
     sender: SendPass,
     taker: TakePass,
@@ -38,7 +39,7 @@ pub struct Pair<'a> {
 
 /// A lane to take from.
 #[derive(Drop)]
-struct Post<'a> {
+struct LaneReceiver<'a> {
     lane: &'a Lane,
     taker: TakePass,
     ghost takes: { taker.id ≡ lane.now.id },
@@ -46,7 +47,7 @@ struct Post<'a> {
 
 /// A lane to send on, with the worker that takes from it, if its thread could be started.
 #[derive(Drop)]
-pub struct Line<'a> {
+pub struct WorkerLane<'a> {
     lane: &'a Lane,
     sender: SendPass,
     started: Option<Worker>,
@@ -61,13 +62,13 @@ pub struct Line<'a> {
 fn work<K: Naming, G: Gate, R: Wait>(
     rt: &R,
     shared: &Shared<K>,
-    post: Post<'_>,
+    receiver: LaneReceiver<'_>,
     place: &mut Option<Seat>,
     mut gate: G,
 ) -> Option<Tally>
-    ensures { IfSome result (λ t. t.pass.id ≡ post.entry.lane.now.id) }
+    ensures { IfSome result (λ t. t.pass.id ≡ receiver.entry.lane.now.id) }
 {
-    let Post { lane, taker } = post;
+    let LaneReceiver { lane, taker } = receiver;
     let seat = place.take()?;
     Some(worker(rt, shared, lane, taker, seat, &mut gate))
 }
@@ -77,30 +78,30 @@ fn start_at<'s, E, K: Naming + Send + Sync + 's, G: Gate + Send + 's, R: Threads
     scope: &Scope<'s, E>,
     rt: &'s R,
     shared: &'s Shared<K>,
-    post: Post<'s>,
+    receiver: LaneReceiver<'s>,
     place: &'s mut Option<Seat>,
     gate: G,
 ) -> Option<Worker>
-    ensures { IfSome result (λ h. h.promise.0.value.id ≡ post.entry.lane.now.id) }
+    ensures { IfSome result (λ h. h.promise.0.value.id ≡ receiver.entry.lane.now.id) }
 {
-    let lane = post.lane;
+    let lane = receiver.lane;
     scope
         .spawn_with(
-            OfLane(Snapshot::of(lane)),
+            TallyOfLane(Snapshot::of(lane)),
             move || -> Option<Tally>
-                ensures { IfSome result (λ t. t.pass.id ≡ post.entry.lane.now.id) }
-            { work(rt, shared, post, place, gate) },
+                ensures { IfSome result (λ t. t.pass.id ≡ receiver.entry.lane.now.id) }
+            { work(rt, shared, receiver, place, gate) },
         )
         .ok()
 }
 
-impl<'a> Pair<'a> {
+impl<'a> LaneEnds<'a> {
     /// A lane with its own two ends.
-    pub fn of(lane: &'a Lane, sender: SendPass, taker: TakePass) -> Pair<'a>
+    pub fn of(lane: &'a Lane, sender: SendPass, taker: TakePass) -> LaneEnds<'a>
         requires sends { sender.id ≡ lane.now.id }
         requires takes { taker.id ≡ lane.now.id }
     {
-        Pair {
+        LaneEnds {
             lane,
             sender,
             taker,
@@ -108,9 +109,9 @@ impl<'a> Pair<'a> {
     }
 
     /// Makes a unit's lane, which is kept in the place. None where memory ran out.
-    pub fn open(alloc: Global, unit: Unit, place: &'a mut Option<Lane>) -> Option<Pair<'a>> {
+    pub fn open(alloc: Global, unit: Unit, place: &'a mut Option<Lane>) -> Option<LaneEnds<'a>> {
         let (lane, sender, taker) = lane(alloc, unit).ok()?;
-        Some(Pair::of(place.insert(lane), sender, taker))
+        Some(LaneEnds::of(place.insert(lane), sender, taker))
     }
 
     /// Starts the lane's worker, which finds its seat in the place.
@@ -121,14 +122,14 @@ impl<'a> Pair<'a> {
         shared: &'a Shared<K>,
         place: &'a mut Option<Seat>,
         gate: G,
-    ) -> Line<'a> {
-        let Pair {
+    ) -> WorkerLane<'a> {
+        let LaneEnds {
             lane,
             sender,
             taker,
         } = self;
-        let started = start_at(scope, rt, shared, Post { lane, taker }, place, gate);
-        Line {
+        let started = start_at(scope, rt, shared, LaneReceiver { lane, taker }, place, gate);
+        WorkerLane {
             lane,
             sender,
             started,
@@ -137,7 +138,7 @@ impl<'a> Pair<'a> {
     }
 }
 
-impl<'a> Line<'a> {
+impl<'a> WorkerLane<'a> {
     /// Whether the lane's worker could be started.
     pub fn is_served(&self) -> bool {
         self.started.is_some()
@@ -167,7 +168,7 @@ impl<'a> Line<'a> {
 
     /// Waits for the lane's worker, and settles its tally. None where no thread could be started.
     pub fn end<R: Threads + Wait>(self, rt: &R) -> Option<Tally> {
-        let Line {
+        let WorkerLane {
             lane,
             sender,
             started,
@@ -176,5 +177,73 @@ impl<'a> Line<'a> {
         let mut tally = started?.join(rt)?;
         tally.settle(rt, lane, sender);
         Some(tally)
+    }
+}
+
+/// Makes the lanes of all units, each in its place. None where memory ran out.
+pub fn open_lanes<'a>(
+    alloc: Global,
+    places: &'a mut PerUnit<Option<Lane>>,
+) -> Option<PerUnit<LaneEnds<'a>>> {
+    PerUnit::units()
+        .zip(places.each_mut())
+        .map(|(unit, place)| LaneEnds::open(alloc, unit, place))
+        .complete()
+}
+
+/// The lanes of all units to send on, with their workers.
+#[derive(Drop)]
+pub struct WorkerLanes<'a> {
+    lanes: PerUnit<WorkerLane<'a>>,
+}
+
+impl<'a> WorkerLanes<'a> {
+    /// Starts the worker of each lane, which finds its seat in the place of its unit.
+    pub fn start<E, K: Naming + Send + Sync + 'a, G: Gate + Send + 'a, R: Threads + Wait + Sync>(
+        scope: &Scope<'a, E>,
+        rt: &'a R,
+        shared: &'a Shared<K>,
+        ends: PerUnit<LaneEnds<'a>>,
+        places: &'a mut PerUnit<Option<Seat>>,
+        gates: Gates<G>,
+    ) -> WorkerLanes<'a> {
+        let lanes = ends.zip_with(
+            places.each_mut().zip(gates.into_each()),
+            |ends, (place, gate)| ends.start(scope, rt, shared, place, gate),
+        );
+        WorkerLanes { lanes }
+    }
+
+    /// Whether each lane has its worker.
+    pub fn are_served(&self) -> bool {
+        self.lanes.each().map(|lane| lane.is_served()).into_array() == [true; 7]
+    }
+
+    /// Sends a note on the lane of its unit. A unit that is never reserved has none.
+    pub fn send<R: Wait>(&mut self, rt: &R, note: Note) {
+        if let Some(lane) = self.lanes.get_mut(note.unit) {
+            lane.send(rt, note);
+        }
+    }
+
+    /// Closes all lanes.
+    pub fn close<R: Wait>(&mut self, rt: &R) {
+        let _ = self.lanes.each_mut().map(|lane| lane.close(rt));
+    }
+
+    /// Waits for all workers, and settles their tallies, in the order of the units' numbers. None where a worker
+    /// couldn't be started.
+    pub fn end<R: Threads + Wait>(self, rt: &R) -> Option<[Tally; 7]> {
+        let WorkerLanes { lanes } = self;
+        let tallies = PerUnit {
+            branch: lanes.branch.end(rt),
+            boolean: lanes.boolean.end(rt),
+            shift: lanes.shift.end(rt),
+            long_add: lanes.long_add.end(rt),
+            divide: lanes.divide.end(rt),
+            increment1: lanes.increment1.end(rt),
+            increment2: lanes.increment2.end(rt),
+        };
+        Some(tallies.complete()?.into_array())
     }
 }

@@ -1,9 +1,9 @@
 use Rattle.std.proofs.Common.{sym, subst}
 use Rattle.machine_lock.specs.CallerKnowledge.{Known}
 use Rattle.unit_workers.specs.Onward.{GoesOnFrom}
-use Rattle.unit_workers.specs.declared.running.Ended.{Ended}
+use Rattle.unit_workers.specs.declared.threaded_run.Ended.{Ended}
 use Rattle.unit_workers.proofs.Onward.{ok_through}
-use Rattle.unit_workers.proofs.running.run_from_start.Goals as goal
+use Rattle.unit_workers.proofs.threaded_run.run_from_start.Goals as goal
 
 -- what is split is what was seen after the first exchange
 pub returns : goal.returns

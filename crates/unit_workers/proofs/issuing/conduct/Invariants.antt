@@ -1,5 +1,5 @@
 use Rattle.unit_workers.specs.Onward.{GoesOnFrom}
-use Rattle.unit_workers.proofs.conducting.conduct.Given as goal
+use Rattle.unit_workers.proofs.issuing.conduct.Given as goal
 
 -- what has been seen goes on from what was seen at first
 abbrev pub invariant-loop : goal.invariant-loop

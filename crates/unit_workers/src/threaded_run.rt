@@ -5,15 +5,16 @@ ghost use Rattle.machine_lock.specs.CallerKnowledge.{booted_by, known, StartsWit
 ghost use Rattle.unit_workers.specs.Onward.{EndsFrom};
 
 use crate::asking::{FreeRequests, ask_all};
-use crate::conducting::{Agenda, begin, conduct};
-use crate::crew::{Lanes, Lines, Pairs, Places};
 use crate::gate::{Gate, Gates};
-use crate::storing::storage_worker;
+use crate::issuing::{PendingRequests, begin, conduct};
+use crate::memory_worker::storage_worker;
+use crate::worker_lanes::{LaneEnds, WorkerLanes, open_lanes};
 use crate::working::Tally;
-use exchange_requests::Requests;
+use exchange_requests::{Ask, Requests};
 use instruction_table::Refusal;
-use machine::{Machine, Snapshot};
+use machine::{Machine, Seat, Snapshot};
 use machine_lock::{Ground, Naming, Seen, Shared};
+use per_unit::PerUnit;
 use std::alloc::Global;
 use std::marker::Brand;
 use std::sync::Wait;
@@ -27,7 +28,7 @@ pub struct Orders {
     pub start: u32,
     /// Requests for exchanges: the absolute address of the package, and the number of instructions after which the
     /// exchange is asked for.
-    pub after: Vec<(u32, u64)>,
+    pub after: Vec<Ask>,
     /// The absolute addresses of packages for which an exchange is asked at any time, in this order.
     pub free: Vec<u32>,
 }
@@ -79,7 +80,21 @@ fn with_tallies(
     Ok(Ended { snapshot, tallies })
 }
 
-/// Starts the threads, issues to the end, and waits for all of them. Where one couldn't be started nothing is issued.
+/// What the threads of a run get.
+#[derive(Drop)]
+struct Tasks<'a, K: Naming, G: Gate> {
+    /// What the workers call.
+    gates: Gates<G>,
+    /// The exchanges to ask for.
+    pending: PendingRequests<'a>,
+    /// What the issuing thread has seen.
+    seen: Seen<K>,
+    /// What the thread has seen that makes the requests at any time.
+    other: Seen<K>,
+}
+
+/// Starts the threads, issues to the end, and waits for all of them. A worker takes its seat out of its place and leaves
+/// it at its end. Where one couldn't be started nothing is issued.
 ///
 /// # Errors
 /// What the machine refuses, and `OutOfMemory`, also where a thread couldn't be started.
@@ -87,27 +102,30 @@ fn run_in<'s, E, K: Naming + Send + Sync + 's, G: Gate + Send + 's, R: Threads +
     scope: &Scope<'s, E>,
     rt: &'s R,
     shared: &'s Shared<K>,
-    pairs: Pairs<'s>,
-    places: &'s mut Places,
-    gates: Gates<G>,
-    agenda: Agenda<'s>,
-    free: &'s FreeRequests<'s>,
-    mut seen: Seen<K>,
-    other: Seen<K>,
+    ends: PerUnit<LaneEnds<'s>>,
+    places: &'s mut PerUnit<Option<Seat>>,
+    tasks: Tasks<'s, K, G>,
 ) -> Result<Ended, Refusal>
-    ensures onward { IfOk result (λ ended. EndsFrom seen ended.snapshot) }
+    ensures onward { IfOk result (λ ended. EndsFrom tasks.entry.seen ended.snapshot) }
 {
-    let mut lines = Lines::start(scope, rt, shared, pairs, places, gates);
+    let Tasks {
+        gates,
+        pending,
+        mut seen,
+        other,
+    } = tasks;
+    let free = pending.free();
+    let mut lanes = WorkerLanes::start(scope, rt, shared, ends, places, gates);
     let storing = scope.spawn(move || storage_worker(rt, shared)).ok();
     let asking = scope.spawn(move || ask_all(rt, shared, other, free)).ok();
-    let conducted = if lines.are_served() && storing.is_some() && asking.is_some() {
-        conduct(rt, shared, &mut seen, agenda, &mut lines)
+    let conducted = if lanes.are_served() && storing.is_some() && asking.is_some() {
+        conduct(rt, shared, &mut seen, pending, &mut lanes)
     } else {
         Err(Refusal::OutOfMemory)
     };
-    lines.close(rt);
+    lanes.close(rt);
     shared.end(rt);
-    let tallies = lines.end(rt);
+    let tallies = lanes.end(rt);
     if let Some(storing) = storing {
         storing.join(rt);
     }
@@ -118,36 +136,6 @@ fn run_in<'s, E, K: Naming + Send + Sync + 's, G: Gate + Send + 's, R: Threads +
     with_tallies(closing(rt, shared, conducted, asked, seen), tallies)
 }
 
-/// Runs with these lanes.
-///
-/// # Errors
-/// What the machine refuses, and `OutOfMemory`, also where a thread couldn't be started.
-fn run_scope<K: Naming + Send + Sync, G: Gate + Send, R: Threads + Wait + Sync>(
-    rt: &R,
-    shared: &Shared<K>,
-    pairs: Pairs<'_>,
-    places: &mut Places,
-    gates: Gates<G>,
-    agenda: Agenda<'_>,
-    free: &FreeRequests<'_>,
-    seen: Seen<K>,
-    other: Seen<K>,
-) -> Result<Ended, Refusal>
-    ensures onward { IfOk result (λ ended. EndsFrom seen ended.snapshot) }
-{
-    thread::scope(
-        thread::scope_env(),
-        rt,
-        move |scope| -> Result<Ended, Refusal>
-            ensures { IfOk result (λ ended. EndsFrom seen ended.snapshot) }
-        {
-            run_in(
-                scope, rt, shared, pairs, places, gates, agenda, free, seen, other,
-            )
-        },
-    )
-}
-
 /// Makes the lanes, and runs.
 ///
 /// # Errors
@@ -156,20 +144,22 @@ fn run_lanes<K: Naming + Send + Sync, G: Gate + Send, R: Threads + Wait + Sync>(
     rt: &R,
     alloc: Global,
     shared: &Shared<K>,
-    places: &mut Places,
-    gates: Gates<G>,
-    agenda: Agenda<'_>,
-    free: &FreeRequests<'_>,
-    seen: Seen<K>,
-    other: Seen<K>,
+    places: &mut PerUnit<Option<Seat>>,
+    tasks: Tasks<'_, K, G>,
 ) -> Result<Ended, Refusal>
-    ensures onward { IfOk result (λ ended. EndsFrom seen ended.snapshot) }
+    ensures onward { IfOk result (λ ended. EndsFrom tasks.entry.seen ended.snapshot) }
 {
-    let mut lanes = Lanes::default();
-    let Some(pairs) = Pairs::open(alloc, &mut lanes) else {
+    let mut lanes = PerUnit::default();
+    let Some(ends) = open_lanes(alloc, &mut lanes) else {
         return Err(Refusal::OutOfMemory);
     };
-    run_scope(rt, shared, pairs, places, gates, agenda, free, seen, other)
+    thread::scope(
+        thread::scope_env(),
+        rt,
+        move |scope| -> Result<Ended, Refusal>
+            ensures { IfOk result (λ ended. EndsFrom tasks.entry.seen ended.snapshot) }
+        { run_in(scope, rt, shared, ends, places, tasks) },
+    )
 }
 
 /// Makes the first exchange, and then runs. Each of the two threads that ask for exchanges keeps what it has seen.
@@ -180,18 +170,23 @@ fn run_from_start<K: Naming + Send + Sync, G: Gate + Send, R: Threads + Wait + S
     rt: &R,
     alloc: Global,
     shared: &Shared<K>,
-    places: &mut Places,
+    places: &mut PerUnit<Option<Seat>>,
     gates: Gates<G>,
-    requests: Requests,
-    free: &FreeRequests<'_>,
+    pending: PendingRequests<'_>,
     mut seen: Seen<K>,
 ) -> Result<Ended, Refusal>
     ensures onward { IfOk result (λ ended. EndsFrom seen ended.snapshot) }
 {
-    let mut agenda = Agenda::new(requests, free);
-    begin(rt, shared, &mut seen, &mut agenda)?;
+    let mut pending = pending;
+    begin(rt, shared, &mut seen, &mut pending)?;
     let other = seen.split()?;
-    run_lanes(rt, alloc, shared, places, gates, agenda, free, seen, other)
+    let tasks = Tasks {
+        gates,
+        pending,
+        seen,
+        other,
+    };
+    run_lanes(rt, alloc, shared, places, tasks)
 }
 
 /// Runs a machine beside a progress word.
@@ -205,17 +200,23 @@ fn run_beside<K: Naming + Send + Sync, G: Gate + Send, R: Threads + Wait + Sync>
     ground: Ground,
     machine: Machine,
     gates: Gates<G>,
-    requests: Requests,
-    free: &FreeRequests<'_>,
+    pending: PendingRequests<'_>,
 ) -> Result<Ended, Refusal>
     requires { ground ≡ K.table }
     ensures onward { IfOk result (λ ended. EndsFrom (known (booted_by machine) machine.log []) ended.snapshot) }
 {
     let (shared, seats, seen) = Shared::<K>::open(alloc, ground, machine)?;
-    let mut places = Places::of(seats);
-    let ended = run_from_start(rt, alloc, &shared, &mut places, gates, requests, free, seen);
-    places.leave();
+    let mut places = PerUnit::from_array(seats).map(|seat| Some(seat));
+    let ended = run_from_start(rt, alloc, &shared, &mut places, gates, pending, seen);
+    let _ = places.map(leave);
     ended
+}
+
+/// Leaves a seat that no worker took.
+fn leave(place: Option<Seat>) {
+    if let Some(seat) = place {
+        seat.leave();
+    }
 }
 
 /// Runs a machine by threads: one for each of the seven units, one for memory, one that makes the requests at any time,
@@ -248,5 +249,6 @@ pub fn run_threads<G: Gate + Send, R: Threads + Wait + Sync>(
     let free = FreeRequests::new(orders.free.as_slice());
     let mut machine = machine;
     machine.drain();
-    run_beside::<Brand, _, _>(rt, alloc, ground, machine, gates, requests, &free)
+    let pending = PendingRequests::new(requests, &free);
+    run_beside::<Brand, _, _>(rt, alloc, ground, machine, gates, pending)
 }
