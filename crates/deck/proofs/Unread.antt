@@ -1,22 +1,21 @@
 -- How many bytes are after a deck of which not all was read.
-use Rattle.std.proofs.Common.{◌≡◌, ◌≢◌, ℕ, suc, ◌+◌, ◌≤◌, true, false, cond, eqb, Bool, not, ltb, List, [], ◌∷◌}
-use Rattle.std.proofs.Common.{◌++◌, length, drop, codes, Option, Ok, Err, refl, sym, subst, arith}
+use Rattle.std.proofs.Common.{◌≡◌, ◌≢◌, ℕ, suc, ◌+◌, ◌≤◌, true, false, cond, eqb, Bool, ltb, List, [], ◌∷◌}
+use Rattle.std.proofs.Common.{◌++◌, length, drop, Option, None, Some, Ok, Err, sym, subst, arith}
+use Rattle.std.proofs.Common.{inl, inr, ap, ◌∙◌}
 use Rattle.std.proofs.lemmas.Bool.{ne_eqb}
 use Rattle.std.proofs.lemmas.List.Elements.{All-head, All-tail}
-use Rattle.deck.specs.Deck.{Reading, Bad, LineOutcome, deck, read_all, read_from, read_on}
-use Rattle.deck.specs.Deck.{begins_with, applied, applied_core, applied_line, refuse_if, parsed_line}
+use Rattle.deck.specs.Deck.{Reading, Bad, LineOutcome, deck, read_from, read_on}
+use Rattle.deck.specs.Deck.{applied_line, applied_to, refuse_if}
 use Rattle.device_text.specs.Device.{Moves}
 use Rattle.device_text.specs.Line.{IsText, ReadsPart, left_after, lines_of, onto}
-use Rattle.device_text.specs.Text.{fields_of}
-use Rattle.deck.specs.Reading.{EndsWithin, Refuses, is_cut, is_read}
+use Rattle.deck.specs.Reading.{EndsWithin, Refuses, is_cut, is_read_failure}
 use Rattle.deck.specs.declared.deck.Deck.{Deck}
 use Rattle.deck.specs.declared.deck.Draft.{Draft}
 use Rattle.deck.specs.declared.deck.Step.TheVariants.{Goes, Ends}
-use Rattle.deck.specs.declared.deck.DeckError.{DeckError}
-use Rattle.deck.specs.declared.deck.DeckError.TheVariants as errors
+use Rattle.instructions.specs.declared.refusal.Refusal.{Refusal}
 use Rattle.instructions.specs.declared.refusal.DeckFault.TheVariants as faults
 use Rattle.deck.proofs.DeckLines.{ReadsOn, Taken}
-use Rattle.device_text.proofs.Moving.{Moves-trans, Moves-weaker}
+use Rattle.device_text.proofs.Moving.{Moves-trans}
 
 -- after each line are at most k bytes
 abbrev Behind : ℕ → List (List ℕ × List ℕ) → Type 0
@@ -59,64 +58,44 @@ line_within : (k n : ℕ) (long : Bool) (j : LineOutcome) (bytes rest : List ℕ
 line_within k n true j bytes rest next l h = tt
 line_within k n false j bytes rest next l h = on_within k n j rest next l h
 
-from_within : (k n : ℕ) (s : Draft) (bytes : List ℕ) (lines : List (List ℕ × List ℕ)) → Behind k lines
+from_within : (k n : ℕ) (s : Option Draft) (bytes : List ℕ) (lines : List (List ℕ × List ℕ)) → Behind k lines
     → EndsWithin k (read_from n s bytes lines)
 from_within k n s bytes [] h = tt
 from_within k n s bytes (line ∷ lines) h =
     elim (ltb 10000000 n) as (λ v. EndsWithin k
     (cond v (Bad n faults.Lines bytes)
-    (read_on n (applied_line s line.0) (left_after bytes line) (λ t. read_from (n + 1) t line.1 lines)))) [
+    (read_on n (applied_line s line.0) (left_after bytes line) (λ t. read_from (n + 1) (Some t) line.1 lines)))) [
       | true ↦ tt
-      | false ↦ line_within k n (ltb 200 (length line.0)) (applied s (parsed_line line.0)) bytes line.1
-          (λ t. read_from (n + 1) t line.1 lines) h.0 (λ t. from_within k (n + 1) t line.1 lines h.1)
+      | false ↦ line_within k n (ltb 200 (length line.0)) (applied_to s line.0) bytes line.1
+          (λ t. read_from (n + 1) (Some t) line.1 lines) h.0 (λ t. from_within k (n + 1) (Some t) line.1 lines h.1)
     ]
-
-all_within : (k : ℕ) (bytes : List ℕ) (lines : List (List ℕ × List ℕ)) → Behind k lines
-    → EndsWithin k (read_all bytes lines)
-all_within k bytes [] h = tt
-all_within k bytes (line ∷ lines) h =
-    line_within k 1 (ltb 200 (length line.0))
-    (refuse_if (not (begins_with (codes "core") (fields_of line.0))) faults.First (applied_core (parsed_line line.0)))
-    bytes line.1 (λ s. read_from 2 s line.1 lines) h.0 (λ s. from_within k 2 s line.1 lines h.1)
 
 -- what is left is at most what is after the deck
 abbrev pub Unread : List ℕ → List ℕ → Type 0
 Unread xs ys = EndsWithin (length ys) (deck xs)
 
-none_there : (a b : Option (List ℕ)) (P : List ℕ → List ℕ → Type 0) → Moves a b (λ xs ys. ⊥) → Moves a b P
-none_there a b P m = Moves-weaker a b (λ xs ys. ⊥) P (λ xs ys h. absurd h) m
+-- the read of a line failed: the other refusal of a line is a fault
+failed_read : (n : ℕ) (e : Refusal) (xs ys : List ℕ) → Refuses n e xs ys (lines_of xs)
+    → is_cut {T = Deck × ℕ} (Err e) ≡ true → is_read_failure {T = Unit {0}} (Err e) ≡ true
+failed_read n e xs ys (inl h) c =
+    let fault : false ≡ true = sym (ap (λ x. is_cut {T = Deck × ℕ} (Err x)) h.1) ∙ c in absurd (cc)
+failed_read n e xs ys (inr h) c = ap (λ x. is_read_failure {T = Unit {0}} (Err x)) h
 
-pub first_cut : (a b : Option (List ℕ)) (e : DeckError) → Moves a b (λ xs ys. Refuses 1 e xs ys (lines_of xs))
-    → (is_read {T = Unit {0}} (Err e) ≡ true → Moves a b ReadsPart) → is_cut {T = Deck × ℕ} (Err e) ≡ true
-    → Moves a b Unread
-first_cut a b (errors.Deck n fault) m part c = cc
-first_cut a b errors.OutOfMemory m part c = none_there a b Unread m
-first_cut a b errors.Read m part c =
-    Moves-weaker a b ReadsPart Unread
-    (λ xs ys h.
-    rw h.2 (all_within (length ys) (h.0 ++ ys) (lines_of (h.0 ++ ys)) (after_part h.0 ys h.1))) (part refl)
-
-pub first_taken : (a b : Option (List ℕ)) (text : List ℕ) → Moves a b (Taken text) → Moves a b Unread
-first_taken a b text m =
-    Moves-weaker a b (Taken text) Unread
-    (λ xs ys h. subst (λ l. EndsWithin (length ys) (read_all xs l)) (sym h)
-    (all_within (length ys) xs ((text, ys) ∷ lines_of ys) (omega arith, after_lines ys))) m
-
-pub later_cut : (a b c : Option (List ℕ)) (n : ℕ) (d : Draft) (e : DeckError) → Moves a b (ReadsOn n d)
+pub line_cut : (a b c : Option (List ℕ)) (n : ℕ) (d : Option Draft) (e : Refusal) → Moves a b (ReadsOn n d)
     → Moves b c (λ xs ys. Refuses n e xs ys (lines_of xs))
-    → (is_read {T = Unit {0}} (Err e) ≡ true → Moves b c ReadsPart)
+    → (is_read_failure {T = Unit {0}} (Err e) ≡ true → Moves b c ReadsPart)
     → is_cut {T = Deck × ℕ} (Err e) ≡ true → Moves a c Unread
-later_cut a b c n d (errors.Deck m fault) told refused part h = cc
-later_cut a b c n d errors.OutOfMemory told refused part h =
-    Moves-trans a b c (ReadsOn n d) (λ xs ys. ⊥) Unread (λ xs ys zs p q. absurd q) told refused
-later_cut a b c n d errors.Read told refused part h =
-    Moves-trans a b c (ReadsOn n d) ReadsPart Unread (λ xs ys zs p q.
-    subst (EndsWithin (length zs)) (sym p)
-    (from_within (length zs) n d ys (lines_of ys) (rw q.2 (after_part q.0 zs q.1)))) told (part refl)
+line_cut None b c n d e told m part h = tt
+line_cut (Some xs) None c n d e told m part h = absurd told
+line_cut (Some xs) (Some ys) None n d e told m part h = absurd m
+line_cut (Some xs) (Some ys) (Some zs) n d e told m part h =
+    let q = part (failed_read n e ys zs m h) in
+    subst (EndsWithin (length zs)) (sym told)
+    (from_within (length zs) n d ys (lines_of ys) (rw q.2 (after_part q.0 zs q.1)))
 
-pub later_taken : (a b c : Option (List ℕ)) (n : ℕ) (d : Draft) (text : List ℕ) → Moves a b (ReadsOn n d)
+pub line_taken : (a b c : Option (List ℕ)) (n : ℕ) (d : Option Draft) (text : List ℕ) → Moves a b (ReadsOn n d)
     → Moves b c (Taken text) → Moves a c Unread
-later_taken a b c n d text told taken =
+line_taken a b c n d text told taken =
     Moves-trans a b c (ReadsOn n d) (Taken text) Unread (λ xs ys zs p q.
     subst (EndsWithin (length zs)) (sym p)
     (from_within (length zs) n d ys (lines_of ys)

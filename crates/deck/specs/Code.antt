@@ -1,7 +1,7 @@
 -- The word of a `code` line.
 -- Source: ours; the texts and the parcels of the instructions are the manual's.
 use Rattle.std.specs.Prelude.{◌≡◌, ℕ, Bool, true, false, List, [], ◌∷◌, ◌++◌, Option, Some, None, ◌==◌, if◌then◌else◌}
-use Rattle.std.specs.Prelude.{slice_index, slice_index_or}
+use Rattle.std.specs.Prelude.{slice_index, slice_index_or, option_map, option_and_then}
 use Rattle.std.specs.List.{slice_split}
 use Rattle.parcel.specs.Parcels.{joined}
 use Rattle.instructions.specs.declared.instr.Instr.{Instr}
@@ -20,27 +20,16 @@ instr_in (b ∷ text) = if b == 32 then instr_of text else None
 
 -- these parcels and then the others, if the others are those of instructions
 abbrev pub put_before : List ℕ → Option (List ℕ) → Option (List ℕ)
-put_before parcels None = None
-put_before parcels (Some more) = Some (parcels ++ more)
-
--- the parcels of an instruction, if there is one
-abbrev pub parcels_if : Option Instr → Option (List ℕ)
-parcels_if None = None
-parcels_if (Some instr) = Some (parcels_of instr)
+put_before parcels more = option_map (λ others. parcels ++ others) more
 
 -- the parcels of an item, if it is an instruction's
 abbrev pub item_parcels : List ℕ → Option (List ℕ)
-item_parcels item = parcels_if (instr_in item)
-
--- the parcels of an item and then those of the items after it, if each is an instruction's
-abbrev pub all_parcels : Option (List ℕ) → Option (List ℕ) → Option (List ℕ)
-all_parcels None more = None
-all_parcels (Some parcels) more = put_before parcels more
+item_parcels item = option_map parcels_of (instr_in item)
 
 -- the parcels of all items, if each is an instruction's
 abbrev pub parcels_in : List (List ℕ) → Option (List ℕ)
 parcels_in [] = Some []
-parcels_in (item ∷ more) = all_parcels (item_parcels item) (parcels_in more)
+parcels_in (item ∷ more) = option_and_then (λ parcels. put_before parcels (parcels_in more)) (item_parcels item)
 
 -- these items are what is found where the answer is yes; where it is no, nothing is
 abbrev pub OptionalItems : Bool → List ℕ → Option (List ℕ) → Type 0

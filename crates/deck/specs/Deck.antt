@@ -143,15 +143,19 @@ applied d (says.AskFree a) =
 applied d says.End = ended d d.start
 applied d says.Unknown = Err faults.Unknown
 
--- the first line: how long it is (`long`), its first field (`first`), and then what it says
-abbrev pub applied_first_line : List ℕ → LineOutcome
-applied_first_line text =
-    refuse_if (nat_lt 200 (length text)) faults.Long
-    (refuse_if (not (begins_with (codes "core") (fields_of text))) faults.First (applied_core (parsed_line text)))
+-- what the first line does: its first field (`first`), and then what it says
+abbrev pub applied_first : List ℕ → LineOutcome
+applied_first text =
+    refuse_if (not (begins_with (codes "core") (fields_of text))) faults.First (applied_core (parsed_line text))
 
--- a later line: how long it is (`long`), and then what it says
-abbrev pub applied_line : Draft → List ℕ → LineOutcome
-applied_line d text = refuse_if (nat_lt 200 (length text)) faults.Long (applied d (parsed_line text))
+-- what a line does to the deck that the lines before it began, if it isn't the first
+abbrev pub applied_to : Option Draft → List ℕ → LineOutcome
+applied_to None text = applied_first text
+applied_to (Some d) text = applied d (parsed_line text)
+
+-- the same of a line that may be too long (`long`)
+abbrev pub applied_line : Option Draft → List ℕ → LineOutcome
+applied_line before text = refuse_if (nat_lt 200 (length text)) faults.Long (applied_to before text)
 
 -- what reading a deck gives: the deck, the number of its `end` line and the bytes after it; or the number of a line,
 -- its fault and the bytes that are left unread
@@ -167,17 +171,12 @@ read_on n (Err fault) rest next = Bad n fault rest
 
 -- reading these bytes from line n on, as lines that come with the bytes after each: past line 10,000,000 the fault is
 -- `lines`, and no more is read; where no line is left before that it is `no end`, and no byte is left
-abbrev pub read_from : ℕ → Draft → List ℕ → List (List ℕ × List ℕ) → Reading
-read_from n d bytes [] = Bad n (if nat_lt 10000000 n then faults.Lines else faults.NoEnd) bytes
-read_from n d bytes (line ∷ lines) = if nat_lt 10000000 n then Bad n faults.Lines bytes
-    else read_on n (applied_line d line.0) (left_after bytes line) (λ next. read_from (n + 1) next line.1 lines)
-
--- reading a deck from its first line on; where there is no line the fault is `no end` in line 1
-abbrev pub read_all : List ℕ → List (List ℕ × List ℕ) → Reading
-read_all bytes [] = Bad 1 faults.NoEnd bytes
-read_all bytes (line ∷ lines) =
-    read_on 1 (applied_first_line line.0) (left_after bytes line) (λ draft. read_from 2 draft line.1 lines)
+abbrev pub read_from : ℕ → Option Draft → List ℕ → List (List ℕ × List ℕ) → Reading
+read_from n before bytes [] = Bad n (if nat_lt 10000000 n then faults.Lines else faults.NoEnd) bytes
+read_from n before bytes (line ∷ lines) = if nat_lt 10000000 n then Bad n faults.Lines bytes
+    else read_on n (applied_line before line.0) (left_after bytes line)
+    (λ next. read_from (n + 1) (Some next) line.1 lines)
 
 -- the deck that the bytes begin with
 abbrev pub deck : List ℕ → Reading
-deck bytes = read_all bytes (lines_of bytes)
+deck bytes = read_from 1 None bytes (lines_of bytes)

@@ -1,5 +1,5 @@
 ghost use Rattle.std.specs.Prelude.{◌≡◌, ◌≤◌, Err, length, MatchOption};
-ghost use Rattle.deck.specs.Deck.{goes_on, applied, applied_core, applied_first_line, applied_line, with_request};
+ghost use Rattle.deck.specs.Deck.{goes_on, applied, applied_core, applied_first, applied_line, with_request};
 ghost use Rattle.deck.specs.declared.deck.Draft.{Draft as SomeDraft};
 ghost use Rattle.deck.specs.declared.parsing.Line.TheVariants as says;
 ghost use Rattle.deck.specs.inner.ParsedLine.{line_with_bytes};
@@ -243,11 +243,25 @@ fn end_line(draft: Draft) -> Result<Step, LineError>
     }
 }
 
-/// What a later line of at most 200 bytes does to a deck.
-pub fn apply_line(draft: Draft, text: &[u8]) -> Result<Step, LineError>
-    requires { length text.now ≤ 200 }
-    ensures { Answers result (applied_line draft text.now) }
+/// What the first line begins.
+fn first_line(alloc: Global, text: &[u8]) -> Result<Step, LineError>
+    ensures { Answers result (applied_first text.now) }
 {
+    let (word, _) = first_field(text);
+    if word != b"core".as_slice() {
+        return Err(LineError::Faulty(DeckFault::First));
+    }
+    core_line(alloc, parse_line(text))
+}
+
+/// What a line of at most 200 bytes does to the deck that the lines before it began; none came before the first.
+pub fn apply_line(alloc: Global, before: Option<Draft>, text: &[u8]) -> Result<Step, LineError>
+    requires { length text.now ≤ 200 }
+    ensures { Answers result (applied_line before text.now) }
+{
+    let Some(draft) = before else {
+        return first_line(alloc, text);
+    };
     match parse_line(text) {
         Line::Core(size) => core_again(draft, size),
         Line::At(address) => at_line(draft, address),
@@ -260,16 +274,4 @@ pub fn apply_line(draft: Draft, text: &[u8]) -> Result<Step, LineError>
         Line::End => end_line(draft),
         Line::Unknown => Err(LineError::Faulty(DeckFault::Unknown)),
     }
-}
-
-/// What the first line of at most 200 bytes begins.
-pub fn apply_first_line(alloc: Global, text: &[u8]) -> Result<Step, LineError>
-    requires { length text.now ≤ 200 }
-    ensures { Answers result (applied_first_line text.now) }
-{
-    let (word, _) = first_field(text);
-    if word != b"core".as_slice() {
-        return Err(LineError::Faulty(DeckFault::First));
-    }
-    core_line(alloc, parse_line(text))
 }

@@ -55,14 +55,3 @@ pub enum LineError {
     Faulty(DeckFault),
     OutOfMemory,
 }
-
-/// Why no deck was read.
-#[derive(Clone, Copy, Debug, Drop, PartialEq, Eq)]
-pub enum DeckError {
-    /// A line of the deck is refused.
-    Deck { line: u32, fault: DeckFault },
-    /// Memory ran out.
-    OutOfMemory,
-    /// A read failed.
-    Read,
-}

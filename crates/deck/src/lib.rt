@@ -4,7 +4,7 @@
 //!
 //! Callers rely on `read_deck`: it answers exactly the deck that the bytes are, or the first line
 //! at fault, and reads nothing past the deck's end or that fault. Begin with `Deck` in `deck` and
-//! `read_deck` in `reading`; `judging` has what each line does.
+//! `read_deck` in `reading`; `applying` has what each line does.
 #![tactic(auto)]
 
 mod applying;
@@ -15,7 +15,7 @@ mod line_list;
 mod parsing;
 mod reading;
 
-pub use deck::{Ask, Deck, DeckError, Show};
+pub use deck::{Ask, Deck, Show};
 pub use image::Image;
 pub use line_list::LineList;
-pub use reading::{read_deck, read_deck_from, refusal};
+pub use reading::{read_deck, read_deck_from};

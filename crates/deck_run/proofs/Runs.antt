@@ -1,7 +1,8 @@
 -- A run of a deck: where it is at its end, and where no deck was read.
-use Rattle.std.proofs.Common.{◌≡◌, ◌≤◌, List, ℕ, Option, Some, Err, subst}
+use Rattle.std.proofs.Common.{◌≡◌, ◌≤◌, List, ℕ, Option, Some, Err, true, false, refl, subst, inl, inr}
 use Rattle.std.proofs.KnownBytes.{Keeps-refl}
 use Rattle.instructions.specs.declared.refusal.Refusal.{Refusal}
+use Rattle.instructions.specs.declared.refusal.Refusal.TheVariants as refusals
 use Rattle.sequential.specs.declared.state.State.{State}
 use Rattle.sequential.specs.Log.{issued}
 use Rattle.sequential.specs.Replay.{LogStep, boot, replay}
@@ -9,11 +10,10 @@ use Rattle.program_order.proofs.theorem.Headline.{replay_faulted}
 use Rattle.device_text.specs.Device.{Moves}
 use Rattle.device_text.proofs.Moving.{Moves-weaker}
 use Rattle.deck.specs.Deck.{Reading, deck}
-use Rattle.deck.specs.Reading.{GivesErr, GivesRefusal}
-use Rattle.deck.specs.declared.deck.DeckError.{DeckError}
-use Rattle.deck.specs.declared.deck.DeckError.TheVariants as errors
+use Rattle.deck.specs.Reading.{GivesNoDeck, is_of_reading, is_read_failure}
+use Rattle.deck.specs.declared.deck.Deck.{Deck}
 use Rattle.operator_terms.specs.declared.fault.ProgramFault.{ProgramFault}
-use Rattle.deck_run.specs.Running.{IsRun, Runs}
+use Rattle.deck_run.specs.Running.{IsRun, Runs, is_read_fault, is_write_fault}
 use Rattle.operator_terms.specs.Status.{fault_of}
 
 -- a snapshot on this memory shows a run on it
@@ -27,16 +27,25 @@ run_on memory other budget log s same within h =
       fault = λ faulted. replay_faulted log memory s replays faulted;
     }
 
-refused_there : (e : DeckError) (r : Refusal) (reading : Reading) (budget : ℕ) (rest : List ℕ)
-    (old : Option (List ℕ)) → GivesRefusal e r → GivesErr e reading rest
-    → Runs (Err (fault_of r)) reading budget rest old old
-refused_there (errors.Deck n fault) r reading budget rest old k h = rw k (h, Keeps-refl old)
-refused_there errors.OutOfMemory r reading budget rest old k h = rw k (Keeps-refl old)
-refused_there errors.Read r reading budget rest old k h = rw k (Keeps-refl old)
+refused_there : (e : Refusal) (reading : Reading) (budget : ℕ) (rest : List ℕ) (old : Option (List ℕ))
+    → GivesNoDeck e reading rest → Runs (Err (fault_of e)) reading budget rest old old
+refused_there e reading budget rest old (inl h) = rw h.2 (h.3, Keeps-refl old)
+refused_there e reading budget rest old (inr (inl h)) = rw h (Keeps-refl old)
+refused_there e reading budget rest old (inr (inr h)) = rw h (Keeps-refl old)
 
-pub runs_refused : (a b : Option (List ℕ)) (e : DeckError) (r : Refusal) (fault : ProgramFault) (budget : ℕ)
-    (old : Option (List ℕ)) → GivesRefusal e r → fault ≡ fault_of r → Moves a b (λ xs ys. GivesErr e (deck xs) ys)
+pub runs_refused : (a b : Option (List ℕ)) (e : Refusal) (fault : ProgramFault) (budget : ℕ) (old : Option (List ℕ))
+    → fault ≡ fault_of e → Moves a b (λ xs ys. GivesNoDeck e (deck xs) ys)
     → Moves a b (λ xs ys. Runs (Err fault) (deck xs) budget ys old old)
-runs_refused a b e r fault budget old k same m =
-    Moves-weaker a b (λ xs ys. GivesErr e (deck xs) ys) (λ xs ys. Runs (Err fault) (deck xs) budget ys old old)
-    (λ xs ys h. rw same (refused_there e r (deck xs) budget ys old k h)) m
+runs_refused a b e fault budget old same m =
+    Moves-weaker a b (λ xs ys. GivesNoDeck e (deck xs) ys) (λ xs ys. Runs (Err fault) (deck xs) budget ys old old)
+    (λ xs ys h. rw same (refused_there e (deck xs) budget ys old h)) m
+
+-- where no deck was read, the program ends for a failed read where a read failed
+pub read_told : (e : Refusal) → is_read_failure {T = Deck × ℕ} (Err e) ≡ is_read_fault (Err (fault_of e))
+read_told refusals.Read = refl
+read_told other = refl
+
+-- and never for a failed write
+pub unwritten : (e : Refusal) → is_of_reading {T = Deck × ℕ} (Err e) ≡ true → is_write_fault (Err (fault_of e)) ≡ false
+unwritten refusals.Write h = cc
+unwritten other h = refl

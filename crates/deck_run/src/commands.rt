@@ -4,7 +4,6 @@ ghost use Rattle.device_text.specs.Device.{Moves};
 ghost use Rattle.deck_run.specs.Running.{PrintsRun, Runs, EndsReplay, is_read_fault, is_write_fault};
 
 use super::running::run;
-use deck::refusal;
 use job_deck::{Deck, Input, Output, dump_to, read_deck_from, replay_to};
 use operator_terms::{Budget, ProgramFault, Status, end_status};
 use std::alloc::Global;
@@ -56,7 +55,7 @@ pub fn run_deck<T: Threads + Wait + Sync, I: Input, O: Output>(
 {
     match read_deck_from(alloc, input) {
         Ok((deck, _)) => print_run(rt, alloc, output, &deck, budget),
-        Err(error) => Err(ProgramFault::of(refusal(error))),
+        Err(refused) => Err(ProgramFault::of(refused)),
     }
 }
 

@@ -1,4 +1,5 @@
 pub mod Moving
+pub mod Putting
 pub mod Separators
 pub mod Numbers
 pub mod Lines

@@ -64,24 +64,10 @@ piece_cut a b c piece rest all h p = (
 
 -- ---- a text for each item of a list
 
-each_left : {X : Type 0} (f : X → List ℕ) (xs : List X) (i : ℕ) (d : X) → i < length xs
+pub each_left : {X : Type 0} (f : X → List ℕ) (xs : List X) (i : ℕ) (d : X) → i < length xs
     → flat_map f (drop i xs) ≡ f (get_or xs i d) ++ flat_map f (drop (i + 1) xs)
 each_left f xs i d h = ap (flat_map f) (drop-cons xs i d h) ∙ flat_map-cons f (get_or xs i d) (drop (suc i) xs)
     ∙ ap (λ j. f (get_or xs i d) ++ flat_map f (drop j xs)) (sym (add-one i))
-
-pub each_written : {X : Type 0} (f : X → List ℕ) (xs : List X) (i : ℕ) (d : X) (a b c : Option (List ℕ)) (all : List ℕ)
-    → i < length xs → WritesAllBut (flat_map f (drop i xs)) a b all → Appends b c (f (get_or xs i d))
-    → WritesAllBut (flat_map f (drop (i + 1) xs)) a c all
-each_written f xs i d a b c all h w p =
-    piece_written a b c (f (get_or xs i d)) (flat_map f (drop (i + 1) xs)) all
-    (subst (λ l. WritesAllBut l a b all) (each_left f xs i d h) w) p
-
-pub each_cut : {X : Type 0} (f : X → List ℕ) (xs : List X) (i : ℕ) (d : X) (a b c : Option (List ℕ)) (all : List ℕ)
-    → i < length xs → WritesAllBut (flat_map f (drop i xs)) a b all → WritesFront b c (f (get_or xs i d))
-    → WritesFront a c all
-each_cut f xs i d a b c all h w p =
-    piece_cut a b c (f (get_or xs i d)) (flat_map f (drop (i + 1) xs)) all
-    (subst (λ l. WritesAllBut l a b all) (each_left f xs i d h) w) p
 
 -- ---- texts one after another, as calls with `?` write them
 

@@ -1,5 +1,5 @@
 ghost use Rattle.std.specs.Prelude.{◌≡◌, ◌<◌};
-ghost use Rattle.device_text.specs.Device.{Writes, failed_after};
+ghost use Rattle.device_text.specs.Putting.{Puts};
 ghost use Rattle.device_text.specs.Names.{register_text};
 ghost use Rattle.device_text.specs.Pieces.{code_text, reason_text, text_of, text_of_all};
 
@@ -41,9 +41,7 @@ pub enum Piece<'a> {
 
 /// Writes an opcode's digits.
 fn put_opcode<O: Output>(output: &mut O, op: Op) -> Result<(), WriteFailed>
-    ensures written { Writes result (O.contents output.old) (O.contents output.new) (code_text op) }
-    ensures failure { O.has_failed output.new ≡ failed_after (O.has_failed output.old) result }
-    ensures same { O.lender output.new ≡ O.lender output.old }
+    ensures { Puts O.Output result output.old output.new (code_text op) }
 {
     match op {
         Op::Plain(f, m) => output.put(&[b'0' + f.get(), b'0' + m.get()]),
@@ -53,9 +51,7 @@ fn put_opcode<O: Output>(output: &mut O, op: Op) -> Result<(), WriteFailed>
 
 /// Writes why a machine is halted.
 fn put_reason<O: Output>(output: &mut O, halt: Halt) -> Result<(), WriteFailed>
-    ensures written { Writes result (O.contents output.old) (O.contents output.new) (reason_text halt) }
-    ensures failure { O.has_failed output.new ≡ failed_after (O.has_failed output.old) result }
-    ensures same { O.lender output.new ≡ O.lender output.old }
+    ensures { Puts O.Output result output.old output.new (reason_text halt) }
 {
     match halt {
         Halt::Stop => output.put(b"stop"),
@@ -70,9 +66,7 @@ fn put_reason<O: Output>(output: &mut O, halt: Halt) -> Result<(), WriteFailed>
 
 /// Writes a register's letter and digit.
 fn put_register<O: Output>(output: &mut O, register: Reg) -> Result<(), WriteFailed>
-    ensures written { Writes result (O.contents output.old) (O.contents output.new) (register_text register) }
-    ensures failure { O.has_failed output.new ≡ failed_after (O.has_failed output.old) result }
-    ensures same { O.lender output.new ≡ O.lender output.old }
+    ensures { Puts O.Output result output.old output.new (register_text register) }
 {
     match register {
         Reg::X(digit) => output.put(&[b'X', b'0' + digit.get()]),
@@ -83,9 +77,7 @@ fn put_register<O: Output>(output: &mut O, register: Reg) -> Result<(), WriteFai
 
 /// Writes a piece.
 fn put_piece<O: Output>(output: &mut O, piece: &Piece<'_>) -> Result<(), WriteFailed>
-    ensures written { Writes result (O.contents output.old) (O.contents output.new) (text_of piece.now) }
-    ensures failure { O.has_failed output.new ≡ failed_after (O.has_failed output.old) result }
-    ensures same { O.lender output.new ≡ O.lender output.old }
+    ensures { Puts O.Output result output.old output.new (text_of piece.now) }
 {
     match *piece {
         Piece::Text(bytes) => output.put(bytes),
@@ -110,9 +102,7 @@ fn put_piece<O: Output>(output: &mut O, piece: &Piece<'_>) -> Result<(), WriteFa
 
 /// Writes pieces, one after another.
 pub fn put_pieces<O: Output>(output: &mut O, pieces: &[Piece<'_>]) -> Result<(), WriteFailed>
-    ensures written { Writes result (O.contents output.old) (O.contents output.new) (text_of_all pieces.now) }
-    ensures failure { O.has_failed output.new ≡ failed_after (O.has_failed output.old) result }
-    ensures same { O.lender output.new ≡ O.lender output.old }
+    ensures { Puts O.Output result output.old output.new (text_of_all pieces.now) }
 {
     for piece in pieces {
         put_piece(output, piece)?;

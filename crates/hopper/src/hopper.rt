@@ -5,7 +5,7 @@ ghost use Rattle.instructions.specs.Finding.{seek};
 ghost use Rattle.hopper.specs.Queue.{reference_at, place_for, enter_answer, accept_answer, accepted, free_answer};
 ghost use Rattle.hopper.specs.Queue.{is_for, stores_here};
 
-use crate::places::{reference_to_accept, any_for, any_store, free_place, is_busy};
+use crate::places::{any_for, any_store, free_place, is_busy, reference_to_accept};
 use crate::{BANKS, Entered, PLACES, Reference, bank_of};
 use arrayvec::ArrayVec;
 use instructions::Refusal;
@@ -84,7 +84,11 @@ impl Hopper {
             (λ reference. self.new ≡ accepted self.old (seek (reference_at place) self.old.entered))
             (λ refusal. self.new ≡ self.old) }
     {
-        let (index, reference) = match reference_to_accept(self.entered.as_slice(), &self.busy, place) {
+        let (index, reference) = match reference_to_accept(
+            self.entered.as_slice(),
+            &self.busy,
+            place,
+        ) {
             Ok(found) => found,
             Err(refusal) => return Err(refusal),
         };

@@ -24,7 +24,7 @@ ghost use Rattle.in_flight.specs.inner.OwnSlots.{HasOwnSlots};
 ghost use Rattle.in_flight.specs.Apart.{IsApart};
 
 use crate::slots::Slots;
-use crate::{Arrival, Outstanding, Pending, Phase, Relocated, Located, Stage};
+use crate::{Arrival, Located, Outstanding, Pending, Phase, Relocated, Stage};
 use hopper::{Hopper, Reference};
 use instruction_table::{Instr, Refusal, Unit, unit_kind};
 use registers::RegisterFile;

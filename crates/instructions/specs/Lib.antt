@@ -2,6 +2,7 @@
 pub mod Operations
 pub mod Operands
 pub mod Shape
+pub mod Refusals
 pub mod RegisterLists
 pub mod Each
 pub mod Order

@@ -61,63 +61,104 @@ pub enum DeckFault {
     NoEnd,
 }
 
-/// Why something was refused. The program prints the number of a refusal of a schedule's event, and the numbers of some
-/// faults of its own. Where several apply, the answer is the one with the lowest number, and want of memory comes last.
+/// Why something was refused. `label` has the number of each, and what it says; the program prints both for a refusal
+/// of a schedule's event, and for some faults of its own. Where several apply, the answer is the one with the lowest
+/// number, and want of memory comes last.
 #[derive(Clone, Copy, Debug, Drop, PartialEq, Eq)]
 pub enum Refusal {
-    /// E1, issue: the machine is halted.
+    /// Issue: the machine is halted.
     Halted(Halt),
-    /// E2, issue: the fault flag is set.
+    /// Issue: the fault flag is set.
     Faulted,
-    /// E3, issue: the budget is used up; ask: 1,000,000 requests were accepted; peripheral access: 1,000,000
+    /// Issue: the budget is used up; ask: 1,000,000 requests were accepted; peripheral access: 1,000,000
     /// accesses were accepted.
     Budget,
-    /// E4, issue: the Branch unit is reserved.
+    /// Issue: the Branch unit is reserved.
     BranchPending,
-    /// E5, issue: an exchange is asked for and no word is held.
+    /// Issue: an exchange is asked for and no word is held.
     ExchangeWaiting,
-    /// E6, issue: a store may still change the word to be fetched.
+    /// Issue: a store may still change the word to be fetched.
     FetchWait,
-    /// E7, issue: no free unit; the lower-numbered one of the kind.
+    /// Issue: no free unit; the lower-numbered one of the kind.
     UnitBusy(Unit),
-    /// E8, issue: the first result register that an earlier instruction has still to write, A before X.
+    /// Issue: the first result register that an earlier instruction has still to write, A before X.
     ResultReserved(Reg),
-    /// E9, read: the first operand that an earlier instruction has still to write.
+    /// Read: the first operand that an earlier instruction has still to write.
     OperandAwaited(Reg),
-    /// E10, store or return: the register that an earlier instruction has still to read.
+    /// Store or return: the register that an earlier instruction has still to read.
     ResultHeld(Reg),
-    /// E11, store: a reference in range, and all four places of the hopper are taken.
+    /// Store: a reference in range, and all four places of the hopper are taken.
     HopperFull,
-    /// E12, store: an earlier reference hasn't come to its store event.
+    /// Store: an earlier reference hasn't come to its store event.
     OutOfTurn,
-    /// E13, accept: the bank is busy.
+    /// Accept: the bank is busy.
     BankBusy(u8),
-    /// E14, accept: an older reference to the address waits, and one of the two stores.
+    /// Accept: an older reference to the address waits, and one of the two stores.
     OlderAtAddress,
-    /// E15: there is nothing that the event could act on.
+    /// There is nothing that the event could act on.
     Nothing,
-    /// E16: a token that doesn't match the slot that it names.
+    /// A token that doesn't match the slot that it names.
     Stranger,
-    /// E17, ask: a request waits already.
+    /// Ask: a request waits already.
     ExchangeBusy,
-    /// E18, exchange or snapshot: the machine isn't drained.
+    /// Exchange or snapshot: the machine isn't drained.
     NotDrained,
-    /// E19: the sixteen words of the package don't lie in memory.
+    /// The sixteen words of the package don't lie in memory.
     PackageRange,
-    /// E20: a line of the deck or the schedule is refused; lines are numbered from 1.
+    /// A line of the deck or the schedule is refused; lines are numbered from 1.
     Deck { line: u32, fault: DeckFault },
-    /// E21: memory ran out.
+    /// Memory ran out.
     OutOfMemory,
-    /// E22: a read failed.
+    /// A read failed.
     Read,
-    /// E23: a write or a flush failed, or a write took nothing of a piece that wasn't empty.
+    /// A write or a flush failed, or a write took nothing of a piece that wasn't empty.
     Write,
-    /// E24: a memory size that isn't 32 to 131,072 words.
+    /// A memory size that isn't 32 to 131,072 words.
     MemorySize,
-    /// E25, exchange: the machine runs without fault in the middle of a word.
+    /// Exchange: the machine runs without fault in the middle of a word.
     MidWord,
-    /// E26, peripheral access: a reference hasn't come to its store event, or one that entered waits for the word.
+    /// Peripheral access: a reference hasn't come to its store event, or one that entered waits for the word.
     PeripheralWait,
-    /// E27, peripheral access: the address doesn't lie in memory.
+    /// Peripheral access: the address doesn't lie in memory.
     PeripheralRange,
+}
+
+impl Refusal {
+    ghost use Rattle.std.specs.Prelude.{◌≡◌};
+    ghost use Rattle.instructions.specs.Refusals.{label_of};
+
+    /// Its number and what it says, without what it names.
+    pub fn label(&self) -> &'static str
+        ensures { result.now ≡ label_of self.now }
+    {
+        match self {
+            Refusal::Halted(_) => "E1 halted",
+            Refusal::Faulted => "E2 faulted",
+            Refusal::Budget => "E3 budget",
+            Refusal::BranchPending => "E4 branch pending",
+            Refusal::ExchangeWaiting => "E5 exchange waiting",
+            Refusal::FetchWait => "E6 fetch waits",
+            Refusal::UnitBusy(_) => "E7 unit busy",
+            Refusal::ResultReserved(_) => "E8 result reserved",
+            Refusal::OperandAwaited(_) => "E9 operand awaited",
+            Refusal::ResultHeld(_) => "E10 result held",
+            Refusal::HopperFull => "E11 hopper full",
+            Refusal::OutOfTurn => "E12 out of turn",
+            Refusal::BankBusy(_) => "E13 bank busy",
+            Refusal::OlderAtAddress => "E14 older at address",
+            Refusal::Nothing => "E15 nothing",
+            Refusal::Stranger => "E16 stranger",
+            Refusal::ExchangeBusy => "E17 exchange busy",
+            Refusal::NotDrained => "E18 not drained",
+            Refusal::PackageRange => "E19 package range",
+            Refusal::Deck { .. } => "E20 line",
+            Refusal::OutOfMemory => "E21 out of memory",
+            Refusal::Read => "E22 read failed",
+            Refusal::Write => "E23 write failed",
+            Refusal::MemorySize => "E24 memory size",
+            Refusal::MidWord => "E25 mid word",
+            Refusal::PeripheralWait => "E26 peripheral waits",
+            Refusal::PeripheralRange => "E27 peripheral range",
+        }
+    }
 }

@@ -76,12 +76,7 @@ Lists (Err refusals.Write) (Good deck n after) rest old new = (rest ≡ after) �
 Lists (Err refusals.Write) (Bad n fault after) rest old new = ⊥
 Lists (Err other) reading rest old new = ⊥
 
--- whether the answer is that a read failed (`E22`)
-abbrev pub is_read_refusal : {T : Type 0} → Result T Refusal → Bool
-is_read_refusal (Err refusals.Read) = true
-is_read_refusal other = false
-
 -- whether the answer is that a write failed (`E23`)
-abbrev pub is_write_refusal : {T : Type 0} → Result T Refusal → Bool
-is_write_refusal (Err refusals.Write) = true
-is_write_refusal other = false
+abbrev pub is_write_failure : {T : Type 0} → Result T Refusal → Bool
+is_write_failure (Err refusals.Write) = true
+is_write_failure other = false

@@ -1,7 +1,7 @@
 -- What a log's text says.
 -- Source: ours.
 use Rattle.std.specs.Prelude.{◌≡◌, ℕ, ◌-◌, Bool, true, false, ◌||◌, ◌==◌, nat_lt, if◌then◌else◌, List, [], ◌∷◌, ◌++◌}
-use Rattle.std.specs.Prelude.{Option, Some, None, codes}
+use Rattle.std.specs.Prelude.{Option, Some, None, codes, option_map, option_and_then}
 use Rattle.std.specs.List.{slice_split}
 use Rattle.std.specs.Str.{bytes_eq}
 use Rattle.word60.specs.Words.{from_octal}
@@ -88,18 +88,14 @@ spent left (PpWrite a w) = record left { after_count = false; accesses = left.ac
 
 -- these steps and then the others, if the others are steps of a log
 abbrev pub put_steps : List LogStep → Option (List LogStep) → Option (List LogStep)
-put_steps steps None = None
-put_steps steps (Some more) = Some (steps ++ more)
-
--- the steps of an entry and then those of the entries after it, if each is one that may come
-abbrev pub with_entry : Option Entry → (Entry → Option (List LogStep)) → Option (List LogStep)
-with_entry None more = None
-with_entry (Some entry) more = put_steps (steps_of (entry ∷ [])) (more entry)
+put_steps steps more = option_map (λ others. steps ++ others) more
 
 -- the steps of entries, if each field is one that may come
 abbrev pub steps_in : Allowance → List (List ℕ) → Option (List LogStep)
 steps_in left [] = Some []
-steps_in left (field ∷ more) = with_entry (entry_in left field) (λ entry. steps_in (spent left entry) more)
+steps_in left (field ∷ more) =
+    option_and_then (λ entry. put_steps (steps_of (entry ∷ [])) (steps_in (spent left entry) more))
+    (entry_in left field)
 
 -- the steps of a log's text: `none`, or entries with one space between them; any other text is refused as `bad log`
 unfoldable pub log_in : List ℕ → Option (List LogStep)

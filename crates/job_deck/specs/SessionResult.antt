@@ -15,8 +15,6 @@ use Rattle.device_text.specs.Line.{IsText, lines_of}
 use Rattle.job_deck.specs.Schedule.{line_says, left_after_line}
 use Rattle.job_deck.specs.Session.{IsLast, IsReply, Session}
 use Rattle.job_deck.specs.declared.schedule.ScheduleLine.TheVariants.{Faulty}
-use Rattle.job_deck.specs.declared.session.SessionError.{SessionError}
-use Rattle.job_deck.specs.declared.session.SessionError.TheVariants as errors
 
 -- the first line was taken, and these are the bytes after it
 abbrev pub IsTaken : List (List ℕ × List ℕ) → List ℕ → Type 0
@@ -37,25 +35,26 @@ WritesCut old new text last =
 -- a session with machine w from line n on. An `Ok` has written it all, and leaves what follows its last line. At a
 -- fault, at a failed read and where memory for the dump is wanting, each earlier line has its whole answer; nothing is
 -- read past a fault. A failed write has cut the reply to the line that was read last. IsLed is what holds of the
--- events, the answers and the machine so far
-abbrev pub RunsSession : Result (Unit {0}) SessionError → (List Event → List (Result Done Refusal) → Processor → Type 0)
+-- events, the answers and the machine so far. No other refusal comes
+abbrev pub RunsSession : Result (Unit {0}) Refusal → (List Event → List (Result Done Refusal) → Processor → Type 0)
     → Processor
     → ℕ → List Show → List ℕ → List ℕ → Option (List ℕ) → Option (List ℕ) → Type 0
 RunsSession (Ok x) IsLed w n shows xs rest old new =
     (s : Session IsLed w n (lines_of xs)) × (text : List ℕ) × IsLast (line_says s.number s.left)
     × IsReply (line_says s.number s.left) s.machine shows text × IsTaken s.left rest × Appends old new (s.text ++ text)
-RunsSession (Err (errors.Line m fault)) IsLed w n shows xs rest old new =
+RunsSession (Err (refusals.Deck m fault)) IsLed w n shows xs rest old new =
     (s : Session IsLed w n (lines_of xs)) × (m ≡ s.number) × (line_says s.number s.left ≡ Faulty fault)
     × IsRefused s.number s.left xs rest × Appends old new s.text
-RunsSession (Err errors.OutOfMemory) IsLed w n shows xs rest old new =
+RunsSession (Err refusals.OutOfMemory) IsLed w n shows xs rest old new =
     (s : Session IsLed w n (lines_of xs)) × IsLast (line_says s.number s.left) × IsTaken s.left rest
     × Appends old new s.text
-RunsSession (Err errors.Read) IsLed w n shows xs rest old new =
+RunsSession (Err refusals.Read) IsLed w n shows xs rest old new =
     (s : Session IsLed w n (lines_of xs)) × (part : List ℕ) × IsText part × (s.left ≡ lines_of (part ++ rest))
     × Appends old new s.text
-RunsSession (Err errors.Write) IsLed w n shows xs rest old new =
+RunsSession (Err refusals.Write) IsLed w n shows xs rest old new =
     (s : Session IsLed w n (lines_of xs)) × (text : List ℕ) × IsReply (line_says s.number s.left) s.machine shows text
     × IsTaken s.left rest × WritesCut old new s.text text
+RunsSession (Err other) IsLed w n shows xs rest old new = ⊥
 
 -- nothing was written, and nothing read of the bytes after the deck
 abbrev pub HasNotBegun : List ℕ → List ℕ → Option (List ℕ) → Option (List ℕ) → Type 0
@@ -63,7 +62,7 @@ HasNotBegun after rest old new = (length after ≤ length rest) × Keeps old new
 
 -- the session of the machine that was booted with the deck's memory, from the line after the deck on: the events that
 -- its lines said, with the answers that were printed, lead from boot to its machine
-abbrev pub RunsSessionFromBoot : Result (Unit {0}) SessionError → ℕ → Deck → ℕ → List ℕ → List ℕ → Option (List ℕ)
+abbrev pub RunsSessionFromBoot : Result (Unit {0}) Refusal → ℕ → Deck → ℕ → List ℕ → List ℕ → Option (List ℕ)
     → Option (List ℕ) → Type 0
 RunsSessionFromBoot result budget deck n after rest old new =
     RunsSession result (IsReached deck.image.memory budget) (boot_processor deck.image.memory budget) (n + 1) deck.shows
@@ -75,16 +74,16 @@ abbrev pub Performs : Result (Unit {0}) Refusal → ℕ → Reading → List ℕ
 Performs (Ok x) budget (Good deck n after) rest old new = RunsSessionFromBoot (Ok x) budget deck n after rest old new
 Performs (Ok x) budget (Bad n fault after) rest old new = ⊥
 Performs (Err (refusals.Deck m fault)) budget (Good deck n after) rest old new =
-    RunsSessionFromBoot (Err (errors.Line m fault)) budget deck n after rest old new
+    RunsSessionFromBoot (Err (refusals.Deck m fault)) budget deck n after rest old new
 Performs (Err (refusals.Deck m fault)) budget (Bad n other after) rest old new =
     (m ≡ n) × (fault ≡ other) × (rest ≡ after) × Keeps old new
 Performs (Err refusals.OutOfMemory) budget (Good deck n after) rest old new =
-    HasNotBegun after rest old new ⊎ RunsSessionFromBoot (Err errors.OutOfMemory) budget deck n after rest old new
+    HasNotBegun after rest old new ⊎ RunsSessionFromBoot (Err refusals.OutOfMemory) budget deck n after rest old new
 Performs (Err refusals.OutOfMemory) budget (Bad n fault after) rest old new = Keeps old new
 Performs (Err refusals.Read) budget (Good deck n after) rest old new =
-    HasNotBegun after rest old new ⊎ RunsSessionFromBoot (Err errors.Read) budget deck n after rest old new
+    HasNotBegun after rest old new ⊎ RunsSessionFromBoot (Err refusals.Read) budget deck n after rest old new
 Performs (Err refusals.Read) budget (Bad n fault after) rest old new = Keeps old new
 Performs (Err refusals.Write) budget (Good deck n after) rest old new =
-    RunsSessionFromBoot (Err errors.Write) budget deck n after rest old new
+    RunsSessionFromBoot (Err refusals.Write) budget deck n after rest old new
 Performs (Err refusals.Write) budget (Bad n fault after) rest old new = ⊥
 Performs (Err other) budget reading rest old new = ⊥

@@ -1,6 +1,7 @@
 ghost use Rattle.std.specs.Prelude.{◌≡◌, ◌<◌, slice_index_or, OnOk, OnErr, Err, false};
 ghost use Rattle.std.specs.List.{flat_map};
-ghost use Rattle.device_text.specs.Device.{Writes, failed_after};
+ghost use Rattle.device_text.specs.Device.{Writes};
+ghost use Rattle.device_text.specs.Putting.{Puts};
 ghost use Rattle.job_deck.specs.Dump.{held_text, place_line, halt_text, fault_text, area_line, spaced_index};
 ghost use Rattle.job_deck.specs.Dump.{index_line, x_line, x_lines, state_lines, register_lines, word_line, show_lines};
 ghost use Rattle.job_deck.specs.Dump.{log_text, log_line, spaced_entry, dump_text};
@@ -87,10 +88,7 @@ fn spaced_index(index: Word18) -> [Piece<'static>; 2]
 
 /// Writes numbers of six digits, with a space before each.
 fn put_indexes<O: Output>(output: &mut O, indexes: &[Word18]) -> Result<(), WriteFailed>
-    ensures written { Writes result (O.contents output.old) (O.contents output.new)
-        (flat_map spaced_index indexes.now) }
-    ensures failure { O.has_failed output.new ≡ failed_after (O.has_failed output.old) result }
-    ensures same { O.lender output.new ≡ O.lender output.old }
+    ensures { Puts O.Output result output.old output.new (flat_map spaced_index indexes.now) }
 {
     for index in indexes {
         put_pieces(output, &spaced_index(*index))?;
@@ -104,9 +102,7 @@ fn put_index_line<O: Output>(
     name: &[u8],
     indexes: &[Word18],
 ) -> Result<(), WriteFailed>
-    ensures written { Writes result (O.contents output.old) (O.contents output.new) (index_line name.now indexes.now) }
-    ensures failure { O.has_failed output.new ≡ failed_after (O.has_failed output.old) result }
-    ensures same { O.lender output.new ≡ O.lender output.old }
+    ensures { Puts O.Output result output.old output.new (index_line name.now indexes.now) }
 {
     output.put(name)?;
     put_indexes(output, indexes)?;
@@ -129,9 +125,7 @@ fn x_line(x: &[Word60; 8], number: u8) -> [Piece<'static>; 5]
 
 /// Writes X0 to X7, one a line.
 fn put_x_lines<O: Output>(output: &mut O, x: &[Word60; 8]) -> Result<(), WriteFailed>
-    ensures written { Writes result (O.contents output.old) (O.contents output.new) (x_lines x.now) }
-    ensures failure { O.has_failed output.new ≡ failed_after (O.has_failed output.old) result }
-    ensures same { O.lender output.new ≡ O.lender output.old }
+    ensures { Puts O.Output result output.old output.new (x_lines x.now) }
 {
     for number in 0..8u8 {
         put_pieces(output, &x_line(x, number))?;
@@ -141,9 +135,7 @@ fn put_x_lines<O: Output>(output: &mut O, x: &[Word60; 8]) -> Result<(), WriteFa
 
 /// Writes the lines of the machine's state, without the registers.
 fn put_state<O: Output>(output: &mut O, state: &State) -> Result<(), WriteFailed>
-    ensures written { Writes result (O.contents output.old) (O.contents output.new) (state_lines state.now) }
-    ensures failure { O.has_failed output.new ≡ failed_after (O.has_failed output.old) result }
-    ensures same { O.lender output.new ≡ O.lender output.old }
+    ensures { Puts O.Output result output.old output.new (state_lines state.now) }
 {
     put_pieces(output, &place_line(&state.position))?;
     put_pieces(output, &halt_text(&state.halt))?;
@@ -153,9 +145,7 @@ fn put_state<O: Output>(output: &mut O, state: &State) -> Result<(), WriteFailed
 
 /// Writes the lines of the registers.
 fn put_registers<O: Output>(output: &mut O, registers: &RegisterFile) -> Result<(), WriteFailed>
-    ensures written { Writes result (O.contents output.old) (O.contents output.new) (register_lines registers.now) }
-    ensures failure { O.has_failed output.new ≡ failed_after (O.has_failed output.old) result }
-    ensures same { O.lender output.new ≡ O.lender output.old }
+    ensures { Puts O.Output result output.old output.new (register_lines registers.now) }
 {
     put_index_line(output, b"A", &registers.a)?;
     // B0 is always +0.
@@ -189,10 +179,7 @@ fn word_line(memory: &Storage, address: Word18) -> [Piece<'static>; 5]
 
 /// Writes the words of a `show` line.
 fn put_show<O: Output>(output: &mut O, memory: &Storage, show: Show) -> Result<(), WriteFailed>
-    ensures written { Writes result (O.contents output.old) (O.contents output.new)
-        (show_lines memory.now show) }
-    ensures failure { O.has_failed output.new ≡ failed_after (O.has_failed output.old) result }
-    ensures same { O.lender output.new ≡ O.lender output.old }
+    ensures { Puts O.Output result output.old output.new (show_lines memory.now show) }
 {
     for address in show.first.get()..show.last.get() + 1 {
         put_pieces(output, &word_line(memory, Word18::from_bits(address)))?;
@@ -202,10 +189,7 @@ fn put_show<O: Output>(output: &mut O, memory: &Storage, show: Show) -> Result<(
 
 /// Writes the words of all `show` lines.
 fn put_shows<O: Output>(output: &mut O, memory: &Storage, shows: &[Show]) -> Result<(), WriteFailed>
-    ensures written { Writes result (O.contents output.old) (O.contents output.new)
-        (flat_map (show_lines memory.now) shows.now) }
-    ensures failure { O.has_failed output.new ≡ failed_after (O.has_failed output.old) result }
-    ensures same { O.lender output.new ≡ O.lender output.old }
+    ensures { Puts O.Output result output.old output.new (flat_map (show_lines memory.now) shows.now) }
 {
     for show in shows {
         put_show(output, memory, *show)?;
@@ -247,10 +231,7 @@ fn spaced_entry(entry: Entry) -> [Piece<'static>; 4]
 
 /// Writes the entries of a log with a space before each.
 fn put_entries<O: Output>(output: &mut O, entries: &[Entry]) -> Result<(), WriteFailed>
-    ensures written { Writes result (O.contents output.old) (O.contents output.new)
-        (flat_map spaced_entry entries.now) }
-    ensures failure { O.has_failed output.new ≡ failed_after (O.has_failed output.old) result }
-    ensures same { O.lender output.new ≡ O.lender output.old }
+    ensures { Puts O.Output result output.old output.new (flat_map spaced_entry entries.now) }
 {
     for entry in entries {
         put_pieces(output, &spaced_entry(*entry))?;
@@ -260,9 +241,7 @@ fn put_entries<O: Output>(output: &mut O, entries: &[Entry]) -> Result<(), Write
 
 /// Writes the text of a log with a space before it.
 fn put_log<O: Output>(output: &mut O, entries: &[Entry]) -> Result<(), WriteFailed>
-    ensures written { Writes result (O.contents output.old) (O.contents output.new) (log_text entries.now) }
-    ensures failure { O.has_failed output.new ≡ failed_after (O.has_failed output.old) result }
-    ensures same { O.lender output.new ≡ O.lender output.old }
+    ensures { Puts O.Output result output.old output.new (log_text entries.now) }
 {
     match entries {
         [] => output.put(b" none"),
@@ -272,9 +251,7 @@ fn put_log<O: Output>(output: &mut O, entries: &[Entry]) -> Result<(), WriteFail
 
 /// Writes the line of the log.
 pub fn put_log_line<O: Output>(output: &mut O, entries: &[Entry]) -> Result<(), WriteFailed>
-    ensures written { Writes result (O.contents output.old) (O.contents output.new) (log_line entries.now) }
-    ensures failure { O.has_failed output.new ≡ failed_after (O.has_failed output.old) result }
-    ensures same { O.lender output.new ≡ O.lender output.old }
+    ensures { Puts O.Output result output.old output.new (log_line entries.now) }
 {
     output.put(b"LOG")?;
     put_log(output, entries)?;
@@ -288,10 +265,7 @@ fn put_dump<O: Output>(
     entries: &[Entry],
     shows: &[Show],
 ) -> Result<(), WriteFailed>
-    ensures written { Writes result (O.contents output.old) (O.contents output.new)
-        (dump_text state.now entries.now shows.now) }
-    ensures failure { O.has_failed output.new ≡ failed_after (O.has_failed output.old) result }
-    ensures same { O.lender output.new ≡ O.lender output.old }
+    ensures { Puts O.Output result output.old output.new (dump_text state.now entries.now shows.now) }
 {
     put_state(output, state)?;
     put_registers(output, &state.registers)?;
@@ -309,11 +283,9 @@ pub fn dump_to<O: Output>(
     log: &Log,
     deck: &Deck,
 ) -> Result<(), WriteFailed>
-    ensures written { Writes result (O.contents output.old) (O.contents output.new)
+    ensures puts { Puts O.Output result output.old output.new
         (dump_text state.now (entries_of log.now.steps) deck.now.shows) }
-    ensures failure { O.has_failed output.new ≡ failed_after (O.has_failed output.old) result }
     ensures handed_on { OnOk result (O.waits output.new ≡ false) }
-    ensures same { O.lender output.new ≡ O.lender output.old }
 {
     put_dump(output, state, log.entries(), deck.shows.as_slice())?;
     output.flush()

@@ -1,46 +1,42 @@
 ghost use Rattle.std.specs.Prelude.{◌≡◌, ◌||◌, OnOk, false};
 ghost use Rattle.in_flight.specs.Lookup.{is_pending};
-ghost use Rattle.device_text.specs.Device.{NothingWaits, Writes, failed_after};
+ghost use Rattle.device_text.specs.Device.{NothingWaits};
+ghost use Rattle.device_text.specs.Putting.{Puts};
 ghost use Rattle.job_deck.specs.Session.{not_drained_text};
-ghost use Rattle.job_deck.specs.inner.SessionParts.{Closes, Dumps, is_write_error, last_line};
+ghost use Rattle.job_deck.specs.inner.SessionParts.{Closes, Dumps, last_line};
+ghost use Rattle.job_deck.specs.Listing.{is_write_failure};
 
 use crate::dumping::{dump_to, put_log_line};
-use crate::session::SessionError;
 use deck::Deck;
 use device_text::{Output, WriteFailed};
+use instruction_table::Refusal;
 use machine::Machine;
 
 /// Writes the dump of a drained machine and hands it on.
 ///
 /// # Errors
 /// `OutOfMemory` where the machine's state can't be copied, and `Write` where a write fails.
-fn put_drained<O: Output>(
-    output: &mut O,
-    machine: &Machine,
-    deck: &Deck,
-) -> Result<(), SessionError>
+fn put_drained<O: Output>(output: &mut O, machine: &Machine, deck: &Deck) -> Result<(), Refusal>
     requires { is_pending machine.now.pending ≡ false }
     ensures closed { Dumps result machine.now deck.now.shows (O.contents output.old)
         (O.contents output.new) }
-    ensures write { O.has_failed output.new ≡ (O.has_failed output.old || is_write_error result) }
+    ensures write { O.has_failed output.new ≡ (O.has_failed output.old || is_write_failure result) }
     ensures handed_on { OnOk result (O.waits output.new ≡ false) }
-    ensures kept { NothingWaits (is_write_error result) (O.waits output.old) (O.waits output.new) }
+    ensures kept { NothingWaits (is_write_failure result) (O.waits output.old) (O.waits output.new) }
     ensures same { O.lender output.new ≡ O.lender output.old }
 {
     match machine.snapshot() {
         Ok(snapshot) => match dump_to(output, snapshot.state(), snapshot.log(), deck) {
             Ok(()) => Ok(()),
-            Err(_) => Err(SessionError::Write),
+            Err(_) => Err(Refusal::Write),
         },
-        Err(_) => Err(SessionError::OutOfMemory),
+        Err(_) => Err(Refusal::OutOfMemory),
     }
 }
 
 /// Writes that a machine isn't drained, and its log.
 fn put_not_drained<O: Output>(output: &mut O, machine: &Machine) -> Result<(), WriteFailed>
-    ensures written { Writes result (O.contents output.old) (O.contents output.new) (not_drained_text machine.now) }
-    ensures failure { O.has_failed output.new ≡ failed_after (O.has_failed output.old) result }
-    ensures same { O.lender output.new ≡ O.lender output.old }
+    ensures { Puts O.Output result output.old output.new (not_drained_text machine.now) }
 {
     output.put(b"NOT DRAINED\n")?;
     put_log_line(output, machine.log().entries())
@@ -48,10 +44,8 @@ fn put_not_drained<O: Output>(output: &mut O, machine: &Machine) -> Result<(), W
 
 /// Writes that a machine isn't drained, and its log, and hands it on.
 fn print_not_drained<O: Output>(output: &mut O, machine: &Machine) -> Result<(), WriteFailed>
-    ensures written { Writes result (O.contents output.old) (O.contents output.new) (not_drained_text machine.now) }
-    ensures failure { O.has_failed output.new ≡ failed_after (O.has_failed output.old) result }
+    ensures puts { Puts O.Output result output.old output.new (not_drained_text machine.now) }
     ensures handed_on { OnOk result (O.waits output.new ≡ false) }
-    ensures same { O.lender output.new ≡ O.lender output.old }
 {
     put_not_drained(output, machine)?;
     output.flush()
@@ -61,12 +55,12 @@ fn print_not_drained<O: Output>(output: &mut O, machine: &Machine) -> Result<(),
 ///
 /// # Errors
 /// As `put_drained`.
-fn put_end<O: Output>(output: &mut O, machine: &Machine, deck: &Deck) -> Result<(), SessionError>
+fn put_end<O: Output>(output: &mut O, machine: &Machine, deck: &Deck) -> Result<(), Refusal>
     ensures closed { Closes result (last_line false) machine.now deck.now.shows (O.contents output.old)
         (O.contents output.new) }
-    ensures write { O.has_failed output.new ≡ (O.has_failed output.old || is_write_error result) }
+    ensures write { O.has_failed output.new ≡ (O.has_failed output.old || is_write_failure result) }
     ensures handed_on { OnOk result (O.waits output.new ≡ false) }
-    ensures kept { NothingWaits (is_write_error result) (O.waits output.old) (O.waits output.new) }
+    ensures kept { NothingWaits (is_write_failure result) (O.waits output.old) (O.waits output.new) }
     ensures same { O.lender output.new ≡ O.lender output.old }
 {
     if machine.drained() {
@@ -74,7 +68,7 @@ fn put_end<O: Output>(output: &mut O, machine: &Machine, deck: &Deck) -> Result<
     }
     match print_not_drained(output, machine) {
         Ok(()) => Ok(()),
-        Err(_) => Err(SessionError::Write),
+        Err(_) => Err(Refusal::Write),
     }
 }
 
@@ -87,12 +81,12 @@ pub fn finish<O: Output>(
     machine: &mut Machine,
     deck: &Deck,
     drains: bool,
-) -> Result<(), SessionError>
+) -> Result<(), Refusal>
     ensures closed { Closes result (last_line drains) machine.old deck.now.shows (O.contents output.old)
         (O.contents output.new) }
-    ensures write { O.has_failed output.new ≡ (O.has_failed output.old || is_write_error result) }
+    ensures write { O.has_failed output.new ≡ (O.has_failed output.old || is_write_failure result) }
     ensures handed_on { OnOk result (O.waits output.new ≡ false) }
-    ensures kept { NothingWaits (is_write_error result) (O.waits output.old) (O.waits output.new) }
+    ensures kept { NothingWaits (is_write_failure result) (O.waits output.old) (O.waits output.new) }
     ensures same { O.lender output.new ≡ O.lender output.old }
 {
     if drains {

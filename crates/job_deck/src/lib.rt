@@ -19,7 +19,7 @@ mod schedule_reading;
 mod session;
 
 pub use answering::put_answer;
-pub use deck::{Ask, Deck, DeckError, Image, LineList, Show, read_deck, read_deck_from};
+pub use deck::{Ask, Deck, Image, LineList, Show, read_deck, read_deck_from};
 pub use device_text::{
     CheckedBufReader, CheckedReader, CheckedWriter, Input, Output, ReadFailed, WriteFailed,
 };

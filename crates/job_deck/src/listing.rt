@@ -1,12 +1,14 @@
 ghost use Rattle.std.specs.Prelude.{◌≡◌, ◌<◌, ◌^◌, ◌||◌, OnOk, false, length};
-ghost use Rattle.device_text.specs.Device.{Moves, NothingWaits, Writes, failed_after};
+ghost use Rattle.device_text.specs.Device.{Moves, NothingWaits};
+ghost use Rattle.device_text.specs.Putting.{Puts};
 ghost use Rattle.deck.specs.Deck.{deck};
 ghost use Rattle.device_text.specs.Pieces.{text_of_all};
 ghost use Rattle.job_deck.specs.Listing.{after, separated, items_text, placed_word, listed_word, listed};
 ghost use Rattle.job_deck.specs.Listing.{listing, Lists};
-ghost use Rattle.job_deck.specs.Listing.{is_read_refusal, is_write_refusal};
+ghost use Rattle.deck.specs.Reading.{is_read_failure};
+ghost use Rattle.job_deck.specs.Listing.{is_write_failure};
 
-use deck::{Image, read_deck_from, refusal};
+use deck::{Image, read_deck_from};
 use device_text::{CheckedReader, CheckedWriter, Input, Output, Piece, WriteFailed, put_pieces};
 use instruction_table::{Decoded, Refusal, decode};
 use std::alloc::Global;
@@ -41,9 +43,7 @@ fn separated(parcel: u8, item: &Decoded) -> [Piece<'static>; 3]
 
 /// Writes the items of a word.
 fn put_items<O: Output>(output: &mut O, word: Word60) -> Result<(), WriteFailed>
-    ensures written { Writes result (O.contents output.old) (O.contents output.new) (items_text word) }
-    ensures failure { O.has_failed output.new ≡ failed_after (O.has_failed output.old) result }
-    ensures same { O.lender output.new ≡ O.lender output.old }
+    ensures { Puts O.Output result output.old output.new (items_text word) }
 {
     let mut parcel = 0u8;
     while parcel < 4 {
@@ -72,9 +72,7 @@ fn put_listed_word<O: Output>(
     address: Word18,
     word: Word60,
 ) -> Result<(), WriteFailed>
-    ensures written { Writes result (O.contents output.old) (O.contents output.new) (listed_word address word) }
-    ensures failure { O.has_failed output.new ≡ failed_after (O.has_failed output.old) result }
-    ensures same { O.lender output.new ≡ O.lender output.old }
+    ensures { Puts O.Output result output.old output.new (listed_word address word) }
 {
     put_pieces(output, &placed_word(address, word))?;
     put_items(output, word)?;
@@ -85,9 +83,7 @@ fn put_listed_word<O: Output>(
 fn put_listed<O: Output>(output: &mut O, image: &Image, address: u32) -> Result<(), WriteFailed>
     requires within { address < length image.now.memory }
     requires range { address < 2 ^ 18 }
-    ensures written { Writes result (O.contents output.old) (O.contents output.new) (listed image.now address) }
-    ensures failure { O.has_failed output.new ≡ failed_after (O.has_failed output.old) result }
-    ensures same { O.lender output.new ≡ O.lender output.old }
+    ensures { Puts O.Output result output.old output.new (listed image.now address) }
 {
     if image.is_placed(address) {
         let word = image.memory().load(address);
@@ -102,9 +98,7 @@ fn put_listed<O: Output>(output: &mut O, image: &Image, address: u32) -> Result<
 /// # Errors
 /// Where a write fails; a beginning of the text is then written.
 fn put_listing<O: Output>(output: &mut O, image: &Image) -> Result<(), WriteFailed>
-    ensures written { Writes result (O.contents output.old) (O.contents output.new) (listing image.now) }
-    ensures failure { O.has_failed output.new ≡ failed_after (O.has_failed output.old) result }
-    ensures same { O.lender output.new ≡ O.lender output.old }
+    ensures { Puts O.Output result output.old output.new (listing image.now) }
 {
     for address in 0..image.size() {
         put_listed(output, image, address)?;
@@ -114,10 +108,8 @@ fn put_listing<O: Output>(output: &mut O, image: &Image) -> Result<(), WriteFail
 
 /// Writes the listing and hands it on.
 fn print_listing<O: Output>(output: &mut O, image: &Image) -> Result<(), WriteFailed>
-    ensures written { Writes result (O.contents output.old) (O.contents output.new) (listing image.now) }
-    ensures failure { O.has_failed output.new ≡ failed_after (O.has_failed output.old) result }
+    ensures puts { Puts O.Output result output.old output.new (listing image.now) }
     ensures handed_on { OnOk result (O.waits output.new ≡ false) }
-    ensures same { O.lender output.new ≡ O.lender output.old }
 {
     put_listing(output, image)?;
     output.flush()
@@ -135,19 +127,17 @@ pub fn list_to<I: Input, O: Output>(
 ) -> Result<(), Refusal>
     ensures listed { Moves (I.remaining input.old) (I.remaining input.new)
         (λ xs ys. Lists result (deck xs) ys (O.contents output.old) (O.contents output.new)) }
-    ensures read { I.has_failed input.new ≡ (I.has_failed input.old || is_read_refusal result) }
-    ensures write { O.has_failed output.new ≡ (O.has_failed output.old || is_write_refusal result) }
+    ensures read { I.has_failed input.new ≡ (I.has_failed input.old || is_read_failure result) }
+    ensures write { O.has_failed output.new ≡ (O.has_failed output.old || is_write_failure result) }
     ensures handed_on { OnOk result (O.waits output.new ≡ false) }
-    ensures kept { NothingWaits (is_write_refusal result) (O.waits output.old) (O.waits output.new) }
+    ensures kept { NothingWaits (is_write_failure result) (O.waits output.old) (O.waits output.new) }
     ensures input { I.lender input.new ≡ I.lender input.old }
     ensures output { O.lender output.new ≡ O.lender output.old }
 {
-    match read_deck_from(alloc, input) {
-        Ok((deck, _)) => match print_listing(output, &deck.image) {
-            Ok(()) => Ok(()),
-            Err(_) => Err(Refusal::Write),
-        },
-        Err(error) => Err(refusal(error)),
+    let (deck, _) = read_deck_from(alloc, input)?;
+    match print_listing(output, &deck.image) {
+        Ok(()) => Ok(()),
+        Err(_) => Err(Refusal::Write),
     }
 }
 

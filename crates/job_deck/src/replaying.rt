@@ -1,12 +1,13 @@
 ghost use Rattle.std.specs.Prelude.{◌≡◌, ◌||◌, IfOk, IsSome, false};
 ghost use Rattle.deck.specs.Deck.{deck};
 ghost use Rattle.device_text.specs.Device.{Moves, NothingWaits};
-ghost use Rattle.job_deck.specs.Listing.{is_read_refusal, is_write_refusal};
+ghost use Rattle.deck.specs.Reading.{is_read_failure};
+ghost use Rattle.job_deck.specs.Listing.{is_write_failure};
 ghost use Rattle.job_deck.specs.Replaying.{replayed, Prints, Replays};
 
 use crate::dumping::dump_to;
 use crate::logs::read_log;
-use deck::{Deck, read_deck_from, refusal};
+use deck::{Deck, read_deck_from};
 use device_text::{CheckedReader, CheckedWriter, Input, Output};
 use instruction_table::Refusal;
 use sequential::State;
@@ -27,9 +28,9 @@ fn print_replay<O: Output>(
 ) -> Result<Option<State>, Refusal>
     ensures printed { Prints result (replayed deck.now text.now) deck.now.shows
         (O.contents output.old) (O.contents output.new) }
-    ensures failure { O.has_failed output.new ≡ (O.has_failed output.old || is_write_refusal result) }
+    ensures failure { O.has_failed output.new ≡ (O.has_failed output.old || is_write_failure result) }
     ensures handed_on { IfOk result (λ state. IsSome state → O.waits output.new ≡ false) }
-    ensures kept { NothingWaits (is_write_refusal result) (O.waits output.old) (O.waits output.new) }
+    ensures kept { NothingWaits (is_write_failure result) (O.waits output.old) (O.waits output.new) }
     ensures same { O.lender output.new ≡ O.lender output.old }
 {
     let Some(log) = read_log(alloc, text)? else {
@@ -62,17 +63,15 @@ pub fn replay_to<I: Input, O: Output>(
 ) -> Result<Option<State>, Refusal>
     ensures replayed { Moves (I.remaining input.old) (I.remaining input.new)
         (λ xs ys. Replays result (deck xs) ys text.now (O.contents output.old) (O.contents output.new)) }
-    ensures read { I.has_failed input.new ≡ (I.has_failed input.old || is_read_refusal result) }
-    ensures write { O.has_failed output.new ≡ (O.has_failed output.old || is_write_refusal result) }
+    ensures read { I.has_failed input.new ≡ (I.has_failed input.old || is_read_failure result) }
+    ensures write { O.has_failed output.new ≡ (O.has_failed output.old || is_write_failure result) }
     ensures handed_on { IfOk result (λ state. IsSome state → O.waits output.new ≡ false) }
-    ensures kept { NothingWaits (is_write_refusal result) (O.waits output.old) (O.waits output.new) }
+    ensures kept { NothingWaits (is_write_failure result) (O.waits output.old) (O.waits output.new) }
     ensures input { I.lender input.new ≡ I.lender input.old }
     ensures output { O.lender output.new ≡ O.lender output.old }
 {
-    match read_deck_from(alloc, input) {
-        Ok((deck, _)) => print_replay(alloc, output, &deck, text),
-        Err(error) => Err(refusal(error)),
-    }
+    let (deck, _) = read_deck_from(alloc, input)?;
+    print_replay(alloc, output, &deck, text)
 }
 
 /// The same from any reader to any writer.

@@ -3,41 +3,27 @@ ghost use Rattle.instructions.specs.declared.refusal.Refusal.TheVariants.{OutOfM
 ghost use Rattle.program_order.specs.Reached.{GoesOn, IsReached};
 ghost use Rattle.program_order.specs.Processor.{boot_processor};
 ghost use Rattle.deck.specs.Deck.{deck};
-ghost use Rattle.device_text.specs.Device.{Moves, NothingWaits, failed_after};
-ghost use Rattle.job_deck.specs.Listing.{is_read_refusal, is_write_refusal};
-ghost use Rattle.job_deck.specs.inner.SessionParts.{AnswersLines, IsMade, is_read_error, is_write_error, refusal_of};
+ghost use Rattle.device_text.specs.Device.{Moves, NothingWaits};
+ghost use Rattle.deck.specs.Reading.{is_read_failure};
+ghost use Rattle.job_deck.specs.Listing.{is_write_failure};
+ghost use Rattle.job_deck.specs.inner.SessionParts.{AnswersLines, IsMade};
 ghost use Rattle.job_deck.specs.SessionResult.{Performs, RunsSession};
 
 use crate::answering::put_answer;
 use crate::ending::finish;
 use crate::schedule::ScheduleLine;
 use crate::schedule_reading::read_schedule_line;
-use deck::{Deck, read_deck_from, refusal};
+use deck::{Deck, read_deck_from};
 use device_text::{CheckedReader, CheckedWriter, Input, Output, WriteFailed};
 use instruction_table::{DeckFault, Refusal};
 use machine::{Event, Machine};
 use std::alloc::Global;
 use std::io::{Read, Write};
 
-/// Why a session ends before its last line is done.
-#[derive(Clone, Copy, Debug, Drop, PartialEq, Eq)]
-pub enum SessionError {
-    /// A line of the schedule is refused.
-    Line { line: u32, fault: DeckFault },
-    /// Memory for the dump ran out.
-    OutOfMemory,
-    /// A read failed.
-    Read,
-    /// A write failed.
-    Write,
-}
-
 /// Makes an event or refuses it, and writes and hands on the line of its answer.
 fn make<O: Output>(output: &mut O, machine: &mut Machine, event: Event) -> Result<(), WriteFailed>
-    ensures made { IsMade result machine.old machine.new event (O.contents output.old) (O.contents output.new) }
-    ensures failure { O.has_failed output.new ≡ failed_after (O.has_failed output.old) result }
+    ensures made { IsMade O.Output result machine.old machine.new event output.old output.new }
     ensures handed_on { OnOk result (O.waits output.new ≡ false) }
-    ensures same { O.lender output.new ≡ O.lender output.old }
 {
     let answer = machine.apply(event);
     put_answer(output, &answer)
@@ -53,35 +39,35 @@ fn answer_lines<I: Input, O: Output>(
     output: &mut O,
     machine: &mut Machine,
     before: u32,
-) -> Result<bool, SessionError>
+) -> Result<bool, Refusal>
     requires { before ≤ 10000000 }
     ensures told { Moves (I.remaining input.old) (I.remaining input.new)
         (λ xs ys. AnswersLines result machine.old machine.new (before + 1) xs ys (O.contents output.old)
         (O.contents output.new)) }
-    ensures read { I.has_failed input.new ≡ (I.has_failed input.old || is_read_error result) }
-    ensures write { O.has_failed output.new ≡ (O.has_failed output.old || is_write_error result) }
-    ensures kept { NothingWaits (is_write_error result) (O.waits output.old) (O.waits output.new) }
+    ensures read { I.has_failed input.new ≡ (I.has_failed input.old || is_read_failure result) }
+    ensures write { O.has_failed output.new ≡ (O.has_failed output.old || is_write_failure result) }
+    ensures kept { NothingWaits (is_write_failure result) (O.waits output.old) (O.waits output.new) }
     ensures input { I.lender input.new ≡ I.lender input.old }
     ensures output { O.lender output.new ≡ O.lender output.old }
 {
     for number in before + 1..10_000_001u32 {
         match read_schedule_line(input, output, before, number) {
-            Err(_) => return Err(SessionError::Read),
+            Err(_) => return Err(Refusal::Read),
             Ok(ScheduleLine::Ends) => return Ok(false),
             Ok(ScheduleLine::Drains) => return Ok(true),
             Ok(ScheduleLine::Faulty(fault)) => {
-                return Err(SessionError::Line {
+                return Err(Refusal::Deck {
                     line: number,
                     fault,
                 });
             }
             Ok(ScheduleLine::Makes(event)) => match make(output, machine, event) {
                 Ok(()) => {}
-                Err(_) => return Err(SessionError::Write),
+                Err(_) => return Err(Refusal::Write),
             },
         }
     }
-    Err(SessionError::Line {
+    Err(Refusal::Deck {
         line: 10_000_001,
         fault: DeckFault::Lines,
     })
@@ -98,22 +84,20 @@ fn run_session<I: Input, O: Output>(
     machine: &mut Machine,
     deck: &Deck,
     before: u32,
-) -> Result<(), SessionError>
+) -> Result<(), Refusal>
     requires { before ≤ 10000000 }
     ensures told { Moves (I.remaining input.old) (I.remaining input.new)
         (λ xs ys. RunsSession result (GoesOn machine.old) machine.old (before + 1) deck.now.shows xs ys
         (O.contents output.old) (O.contents output.new)) }
-    ensures read { I.has_failed input.new ≡ (I.has_failed input.old || is_read_error result) }
-    ensures write { O.has_failed output.new ≡ (O.has_failed output.old || is_write_error result) }
+    ensures read { I.has_failed input.new ≡ (I.has_failed input.old || is_read_failure result) }
+    ensures write { O.has_failed output.new ≡ (O.has_failed output.old || is_write_failure result) }
     ensures handed_on { OnOk result (O.waits output.new ≡ false) }
-    ensures kept { NothingWaits (is_write_error result) (O.waits output.old) (O.waits output.new) }
+    ensures kept { NothingWaits (is_write_failure result) (O.waits output.old) (O.waits output.new) }
     ensures input { I.lender input.new ≡ I.lender input.old }
     ensures output { O.lender output.new ≡ O.lender output.old }
 {
-    match answer_lines(input, output, machine, before) {
-        Ok(drains) => finish(output, machine, deck, drains),
-        Err(error) => Err(error),
-    }
+    let drains = answer_lines(input, output, machine, before)?;
+    finish(output, machine, deck, drains)
 }
 
 /// A machine that was just booted with the deck's memory.
@@ -128,18 +112,6 @@ fn booted(alloc: Global, deck: &Deck, budget: u64) -> Result<Machine, Refusal>
 {
     let memory = deck.image.memory().copy()?;
     Machine::boot(alloc, memory, budget)
-}
-
-/// Why a session ended, as a refusal.
-fn session_refusal(error: SessionError) -> Refusal
-    ensures { result ≡ refusal_of error }
-{
-    match error {
-        SessionError::Line { line, fault } => Refusal::Deck { line, fault },
-        SessionError::OutOfMemory => Refusal::OutOfMemory,
-        SessionError::Read => Refusal::Read,
-        SessionError::Write => Refusal::Write,
-    }
 }
 
 /// Reads a deck and the schedule that follows it, makes the schedule's events on a machine that is booted
@@ -158,25 +130,16 @@ pub fn events_to<I: Input, O: Output>(
     requires { budget ≤ 10000000 }
     ensures performed { Moves (I.remaining input.old) (I.remaining input.new)
         (λ xs ys. Performs result budget (deck xs) ys (O.contents output.old) (O.contents output.new)) }
-    ensures read { I.has_failed input.new ≡ (I.has_failed input.old || is_read_refusal result) }
-    ensures write { O.has_failed output.new ≡ (O.has_failed output.old || is_write_refusal result) }
+    ensures read { I.has_failed input.new ≡ (I.has_failed input.old || is_read_failure result) }
+    ensures write { O.has_failed output.new ≡ (O.has_failed output.old || is_write_failure result) }
     ensures handed_on { OnOk result (O.waits output.new ≡ false) }
-    ensures kept { NothingWaits (is_write_refusal result) (O.waits output.old) (O.waits output.new) }
+    ensures kept { NothingWaits (is_write_failure result) (O.waits output.old) (O.waits output.new) }
     ensures input { I.lender input.new ≡ I.lender input.old }
     ensures output { O.lender output.new ≡ O.lender output.old }
 {
-    let (deck, lines) = match read_deck_from(alloc, input) {
-        Ok(found) => found,
-        Err(error) => return Err(refusal(error)),
-    };
-    let mut machine = match booted(alloc, &deck, budget) {
-        Ok(machine) => machine,
-        Err(_) => return Err(Refusal::OutOfMemory),
-    };
-    match run_session(input, output, &mut machine, &deck, lines) {
-        Ok(()) => Ok(()),
-        Err(error) => Err(session_refusal(error)),
-    }
+    let (deck, lines) = read_deck_from(alloc, input)?;
+    let mut machine = booted(alloc, &deck, budget)?;
+    run_session(input, output, &mut machine, &deck, lines)
 }
 
 /// The same from any reader to any writer.

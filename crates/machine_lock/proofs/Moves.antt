@@ -29,7 +29,8 @@ fits_set : (keeper_at : ℕ) (begun : Bool) (h : History) (owner : ℕ → ℕ) 
     → (j : ℕ) (u : Knowing) → get_elem? (set views by w) j ≡ some u → Fits keeper_at begun h owner j u
 fits_set keeper_at begun h owner views by w mine others j u e =
     ⊎_elim
-    (λ (x : (j ≡ by) × (w ≡ u)). subst (λ (y : ℕ × Knowing). Fits keeper_at begun h owner y.0 y.1) (λ i. (sym x.0 i, x.1 i))
+    (λ (x : (j ≡ by) × (w ≡ u)). subst (λ (y : ℕ × Knowing). Fits keeper_at begun h owner y.0 y.1)
+    (λ i. (sym x.0 i, x.1 i))
     mine)
     (λ (x : (j ≢ by) × (get_elem? views j ≡ some u)). others j u x.0 x.1)
     (at_set views by j w u e)
@@ -151,7 +152,8 @@ hands_over id k positions s h at =
             apart = λ p a b. off b;
           })
           (fits_set h.keeper_at h.begun h.h owner s.views id spent (blank h.keeper_at h.begun h.h owner id)
-          (λ j u apart e. kept_by_others h.keeper_at h.begun h.h h.owner positions id n j u (λ p i. (mine.mine p i).1) apart
+          (λ j u apart e. kept_by_others h.keeper_at h.begun h.h h.owner positions id n j u
+          (λ p i. (mine.mine p i).1) apart
           (h.fits j u e)));
     }
 
@@ -226,7 +228,8 @@ takes_in id v other w is s h at two at' =
           j u apart_other e);
     }
   where
-    fits_but : (keeper_at : ℕ) (begun : Bool) (h : History) (owner : ℕ → ℕ) (views : List Knowing) (by : ℕ) (x : Knowing)
+    fits_but : (keeper_at : ℕ) (begun : Bool) (h : History) (owner : ℕ → ℕ) (views : List Knowing) (by : ℕ)
+        (x : Knowing)
         (but : ℕ) → Fits keeper_at begun h owner by x
         → ((j : ℕ) (u : Knowing) → j ≢ by → j ≢ but → get_elem? views j ≡ some u → Fits keeper_at begun h owner j u)
         → (j : ℕ) (u : Knowing) → j ≢ but → get_elem? (set views by x) j ≡ some u → Fits keeper_at begun h owner j u

@@ -23,8 +23,7 @@ abbrev pub booted_by : Processor → Booted
 booted_by w = booted_with w.boot_memory w.budget
 
 -- what the machine was booted with, the steps of its log that the caller has seen, from boot on, and the positions
--- among
--- them of the caller's own
+-- among them of the caller's own
 pub record Known : Type 0 where
   pub booted : Booted
   pub log : List LogStep
@@ -47,8 +46,7 @@ abbrev pub AreApart : List ℕ → List ℕ → Type 0
 AreApart xs ys = (p : ℕ) → is_in p xs ≡ true → is_in p ys ≡ true → ⊥
 
 -- the caller made the step: it is the last of the steps seen, which begin with those seen before, and its position
--- joins
--- the caller's own
+-- joins the caller's own
 abbrev pub IsMade : LogStep → Known → Known → Type 0
 IsMade x old new =
     (before : List LogStep) × StartsWith before old.log

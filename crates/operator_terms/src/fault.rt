@@ -7,19 +7,19 @@ use thiserror::Error;
 /// Why the program ends without its output.
 #[derive(Debug, Drop, Error)]
 pub enum ProgramFault {
-    #[error("E20 line {line}: {fault}")]
+    #[error("{} {line}: {fault}", Refusal::Deck {line: *line, fault: *fault}.label())]
     Deck { line: u32, fault: DeckFault },
-    #[error("E19 package range")]
+    #[error("{}", Refusal::PackageRange.label())]
     PackageRange,
-    #[error("E27 peripheral range")]
+    #[error("{}", Refusal::PeripheralRange.label())]
     PeripheralRange,
     #[error("bad log")]
     BadLog,
-    #[error("E21 out of memory")]
+    #[error("{}", Refusal::OutOfMemory.label())]
     OutOfMemory,
-    #[error("E22 read failed")]
+    #[error("{}", Refusal::Read.label())]
     Read,
-    #[error("E23 write failed")]
+    #[error("{}", Refusal::Write.label())]
     Write,
     /// The machine refused a step of a run. As far as is known it never does, since the deck was judged.
     #[error("the machine refused a step of the run")]

@@ -1,4 +1,4 @@
-//! Something of each of the seven units in use, as a seat, a lane or a worker's thread of each.
+//! Something of each of the seven units in use, as a lane or a worker's thread of each.
 //!
 //! Callers rely on `PerUnit::get`, which finds that of a unit, and on `zip` and `map`, which keep what belongs to one
 //! unit together. Begin there.

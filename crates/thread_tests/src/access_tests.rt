@@ -81,13 +81,13 @@ fn of_boolean_and_shift(seats: [Seat; 7]) -> (Seat, Seat) {
     (boolean, shift)
 }
 
-/// One thread's part: with the seat of a place it serves a reservation, and at its gate it writes the word and reads.
+/// One thread's part: with the seat of a holder it serves a reservation, and at its gate it writes the word and reads.
 /// It gives back what it has seen, with what it read and whether the reservation was stored.
 fn serve_and_access<K: Naming, R: Wait>(
     rt: &R,
     shared: &Shared<K>,
     hold: &Hold,
-    place: &mut Option<Seat>,
+    holder: &mut Option<Seat>,
     note: Note,
     seen: Seen<K>,
     word: Word60,
@@ -100,7 +100,7 @@ fn serve_and_access<K: Naming, R: Wait>(
         word,
         read: None,
     };
-    let Some(seat) = place.take() else {
+    let Some(seat) = holder.take() else {
         return (gate.seen, None, false);
     };
     let (seat, is_stored) = serve(rt, shared, note, seat, &mut gate);

@@ -66,9 +66,9 @@ pub(crate) fn leave(seat: Seat) -> (Unit, u64) {
     (unit, seat.leave())
 }
 
-/// Whether a place is empty; a seat that stands there is left.
-pub(crate) fn is_empty(place: Option<Seat>) -> bool {
-    match place {
+/// Whether a holder is empty; a seat that stands there is left.
+pub(crate) fn is_empty(holder: Option<Seat>) -> bool {
+    match holder {
         None => true,
         Some(seat) => {
             seat.leave();

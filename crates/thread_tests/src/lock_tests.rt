@@ -489,15 +489,15 @@ fn ending_of<K: Naming, R: Wait>(
     Ok([before, shared.ended(rt)])
 }
 
-/// Takes the seat out of a place and serves a reservation with it. It answers how many were stored with
+/// Takes the seat out of a holder and serves a reservation with it. It answers how many were stored with
 /// the seat, which is left, and whether all was accepted.
 fn serve_from<K: Naming, R: Wait>(
     rt: &R,
     shared: &Shared<K>,
-    place: &mut Option<Seat>,
+    holder: &mut Option<Seat>,
     note: Note,
 ) -> (u64, bool) {
-    match place.take() {
+    match holder.take() {
         None => (0, false),
         Some(seat) => {
             let (seat, is_served) = serve(rt, shared, seat, note);
@@ -587,7 +587,7 @@ fn has_log<K: Naming, R: Wait>(
 }
 
 /// The issuer, with four issues after the first exchange, meets a second holder that knows the exchange alone. The
-/// second holder's next snapshot has them, and an issue of its own then has the next place.
+/// second holder's next snapshot has them, and an issue of its own then has the next position.
 #[test]
 fn meeting(rt: HostRuntime) -> Result<(), Fail> {
     let machine = booted(rt.alloc(), &[(0o100, PASSES), (0o101, FIVE)])?;

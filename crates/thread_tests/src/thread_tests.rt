@@ -199,7 +199,7 @@ const UNITS: [Unit; 7] = [
     Unit::Increment2,
 ];
 
-/// How many reservations were stored, as in a `Run`. None where a note was strange or a tally isn't at its place.
+/// How many reservations were stored, as in a `Run`. None where a note was strange or a tally isn't at its position.
 fn stored(tallies: &[Tally; 7]) -> Option<[u64; 6]> {
     let mut counts = [0u64; 6];
     for index in 0..7usize {
@@ -680,19 +680,19 @@ fn send_strangers<R: Wait>(rt: &R, mut sending: Sending<'_>) {
     sending.close(rt);
 }
 
-/// Works on a lane with the seat of a place, which is empty then: how many notes were stored, and how many strange.
+/// Works on a lane with the seat of a holder, which is empty then: how many notes were stored, and how many strange.
 fn work_with<K: Naming, R: Wait>(
     rt: &R,
     shared: &Shared<K>,
     taking: Taking<'_>,
-    place: &mut Option<Seat>,
+    holder: &mut Option<Seat>,
 ) -> Option<(u64, u64)> {
     let tally = worker(
         rt,
         shared,
         taking.lane,
         taking.pass,
-        place.take()?,
+        holder.take()?,
         &mut Open,
     );
     Some((tally.stored(), tally.strange()))
@@ -704,11 +704,11 @@ fn strange_tally<K: Naming + Send + Sync, R: Threads + Wait + Sync>(
     shared: &Shared<K>,
     sending: Sending<'_>,
     taking: Taking<'_>,
-    place: &mut Option<Seat>,
+    holder: &mut Option<Seat>,
 ) -> Option<(u64, u64)> {
     thread::scope(thread::scope_env(), rt, move |scope| {
         let sent = scope.spawn(move || send_strangers(rt, sending)).ok()?;
-        let tally = work_with(rt, shared, taking, place);
+        let tally = work_with(rt, shared, taking, holder);
         sent.join(rt);
         tally
     })
@@ -735,7 +735,7 @@ fn counts_strangers_beside<K: Naming + Send + Sync, R: Threads + Wait + Sync>(
 {
     let (lane, sender, taker) = lane(alloc, Unit::Boolean)?;
     let (shared, seats, mut seen) = Shared::<K>::open(alloc, ground, machine)?;
-    let mut place = Some(of_boolean(seats));
+    let mut holder = Some(of_boolean(seats));
     let started = start(rt, &shared, &mut seen);
     let sending = Sending {
         lane: &lane,
@@ -745,6 +745,6 @@ fn counts_strangers_beside<K: Naming + Send + Sync, R: Threads + Wait + Sync>(
         lane: &lane,
         pass: taker,
     };
-    let counts = strange_tally(rt, &shared, sending, taking, &mut place);
-    Ok((started, is_empty(place), counts))
+    let counts = strange_tally(rt, &shared, sending, taking, &mut holder);
+    Ok((started, is_empty(holder), counts))
 }

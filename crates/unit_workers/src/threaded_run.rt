@@ -93,8 +93,8 @@ struct Tasks<'a, K: Naming, G: Gate> {
     other: Seen<K>,
 }
 
-/// Starts the threads, issues to the end, and waits for all of them. A worker takes its seat out of its place and leaves
-/// it at its end. Where one couldn't be started nothing is issued.
+/// Starts the threads, issues to the end, and waits for all of them. A worker takes its seat out of its holder and
+/// leaves it at its end. Where one couldn't be started nothing is issued.
 ///
 /// # Errors
 /// What the machine refuses, and `OutOfMemory`, also where a thread couldn't be started.
@@ -103,7 +103,7 @@ fn run_in<'s, E, K: Naming + Send + Sync + 's, G: Gate + Send + 's, R: Threads +
     rt: &'s R,
     shared: &'s Shared<K>,
     ends: PerUnit<LaneEnds<'s>>,
-    places: &'s mut PerUnit<Option<Seat>>,
+    holders: &'s mut PerUnit<Option<Seat>>,
     tasks: Tasks<'s, K, G>,
 ) -> Result<Ended, Refusal>
     ensures onward { IfOk result (λ ended. EndsFrom tasks.entry.seen ended.snapshot) }
@@ -115,7 +115,7 @@ fn run_in<'s, E, K: Naming + Send + Sync + 's, G: Gate + Send + 's, R: Threads +
         other,
     } = tasks;
     let free = pending.free();
-    let mut lanes = WorkerLanes::start(scope, rt, shared, ends, places, gates);
+    let mut lanes = WorkerLanes::start(scope, rt, shared, ends, holders, gates);
     let storing = scope.spawn(move || storage_worker(rt, shared)).ok();
     let asking = scope.spawn(move || ask_all(rt, shared, other, free)).ok();
     let conducted = if lanes.are_served() && storing.is_some() && asking.is_some() {
@@ -144,7 +144,7 @@ fn run_lanes<K: Naming + Send + Sync, G: Gate + Send, R: Threads + Wait + Sync>(
     rt: &R,
     alloc: Global,
     shared: &Shared<K>,
-    places: &mut PerUnit<Option<Seat>>,
+    holders: &mut PerUnit<Option<Seat>>,
     tasks: Tasks<'_, K, G>,
 ) -> Result<Ended, Refusal>
     ensures onward { IfOk result (λ ended. EndsFrom tasks.entry.seen ended.snapshot) }
@@ -158,7 +158,7 @@ fn run_lanes<K: Naming + Send + Sync, G: Gate + Send, R: Threads + Wait + Sync>(
         rt,
         move |scope| -> Result<Ended, Refusal>
             ensures { IfOk result (λ ended. EndsFrom tasks.entry.seen ended.snapshot) }
-        { run_in(scope, rt, shared, ends, places, tasks) },
+        { run_in(scope, rt, shared, ends, holders, tasks) },
     )
 }
 
@@ -170,7 +170,7 @@ fn run_from_start<K: Naming + Send + Sync, G: Gate + Send, R: Threads + Wait + S
     rt: &R,
     alloc: Global,
     shared: &Shared<K>,
-    places: &mut PerUnit<Option<Seat>>,
+    holders: &mut PerUnit<Option<Seat>>,
     gates: Gates<G>,
     pending: PendingRequests<'_>,
     mut seen: Seen<K>,
@@ -186,7 +186,7 @@ fn run_from_start<K: Naming + Send + Sync, G: Gate + Send, R: Threads + Wait + S
         seen,
         other,
     };
-    run_lanes(rt, alloc, shared, places, tasks)
+    run_lanes(rt, alloc, shared, holders, tasks)
 }
 
 /// Runs a machine beside a progress word.
@@ -206,15 +206,15 @@ fn run_beside<K: Naming + Send + Sync, G: Gate + Send, R: Threads + Wait + Sync>
     ensures onward { IfOk result (λ ended. EndsFrom (known (booted_by machine) machine.log []) ended.snapshot) }
 {
     let (shared, seats, seen) = Shared::<K>::open(alloc, ground, machine)?;
-    let mut places = PerUnit::from_array(seats).map(|seat| Some(seat));
-    let ended = run_from_start(rt, alloc, &shared, &mut places, gates, pending, seen);
-    let _ = places.map(leave);
+    let mut holders = PerUnit::from_array(seats).map(|seat| Some(seat));
+    let ended = run_from_start(rt, alloc, &shared, &mut holders, gates, pending, seen);
+    let _ = holders.map(leave);
     ended
 }
 
 /// Leaves a seat that no worker took.
-fn leave(place: Option<Seat>) {
-    if let Some(seat) = place {
+fn leave(holder: Option<Seat>) {
+    if let Some(seat) = holder {
         seat.leave();
     }
 }

@@ -57,19 +57,19 @@ pub struct WorkerLane<'a> {
     ghost serves: { ForSome started (λ h. h.promise.0.value.id ≡ lane.now.id) },
 }
 
-/// What a worker's thread does. A closure can't hold a seat, which must be spent, so the seat is taken from a place
+/// What a worker's thread does. A closure can't hold a seat, which must be spent, so the seat is taken from a holder
 /// that the thread is lent. None where no seat is there.
 fn work<K: Naming, G: Gate, R: Wait>(
     rt: &R,
     shared: &Shared<K>,
     receiver: LaneReceiver<'_>,
-    place: &mut Option<Seat>,
+    holder: &mut Option<Seat>,
     mut gate: G,
 ) -> Option<Tally>
     ensures { IfSome result (λ t. t.pass.id ≡ receiver.entry.lane.now.id) }
 {
     let LaneReceiver { lane, taker } = receiver;
-    let seat = place.take()?;
+    let seat = holder.take()?;
     Some(worker(rt, shared, lane, taker, seat, &mut gate))
 }
 
@@ -79,7 +79,7 @@ fn start_at<'s, E, K: Naming + Send + Sync + 's, G: Gate + Send + 's, R: Threads
     rt: &'s R,
     shared: &'s Shared<K>,
     receiver: LaneReceiver<'s>,
-    place: &'s mut Option<Seat>,
+    holder: &'s mut Option<Seat>,
     gate: G,
 ) -> Option<Worker>
     ensures { IfSome result (λ h. h.promise.0.value.id ≡ receiver.entry.lane.now.id) }
@@ -90,7 +90,7 @@ fn start_at<'s, E, K: Naming + Send + Sync + 's, G: Gate + Send + 's, R: Threads
             TallyOfLane(Snapshot::of(lane)),
             move || -> Option<Tally>
                 ensures { IfSome result (λ t. t.pass.id ≡ receiver.entry.lane.now.id) }
-            { work(rt, shared, receiver, place, gate) },
+            { work(rt, shared, receiver, holder, gate) },
         )
         .ok()
 }
@@ -108,19 +108,19 @@ impl<'a> LaneEnds<'a> {
         }
     }
 
-    /// Makes a unit's lane, which is kept in the place. None where memory ran out.
-    pub fn open(alloc: Global, unit: Unit, place: &'a mut Option<Lane>) -> Option<LaneEnds<'a>> {
+    /// Makes a unit's lane, which is kept in the holder. None where memory ran out.
+    pub fn open(alloc: Global, unit: Unit, holder: &'a mut Option<Lane>) -> Option<LaneEnds<'a>> {
         let (lane, sender, taker) = lane(alloc, unit).ok()?;
-        Some(LaneEnds::of(place.insert(lane), sender, taker))
+        Some(LaneEnds::of(holder.insert(lane), sender, taker))
     }
 
-    /// Starts the lane's worker, which finds its seat in the place.
+    /// Starts the lane's worker, which finds its seat in the holder.
     pub fn start<E, K: Naming + Send + Sync + 'a, G: Gate + Send + 'a, R: Threads + Wait + Sync>(
         self,
         scope: &Scope<'a, E>,
         rt: &'a R,
         shared: &'a Shared<K>,
-        place: &'a mut Option<Seat>,
+        holder: &'a mut Option<Seat>,
         gate: G,
     ) -> WorkerLane<'a> {
         let LaneEnds {
@@ -128,7 +128,14 @@ impl<'a> LaneEnds<'a> {
             sender,
             taker,
         } = self;
-        let started = start_at(scope, rt, shared, LaneReceiver { lane, taker }, place, gate);
+        let started = start_at(
+            scope,
+            rt,
+            shared,
+            LaneReceiver { lane, taker },
+            holder,
+            gate,
+        );
         WorkerLane {
             lane,
             sender,
@@ -180,14 +187,14 @@ impl<'a> WorkerLane<'a> {
     }
 }
 
-/// Makes the lanes of all units, each in its place. None where memory ran out.
+/// Makes the lanes of all units, each in its holder. None where memory ran out.
 pub fn open_lanes<'a>(
     alloc: Global,
-    places: &'a mut PerUnit<Option<Lane>>,
+    holders: &'a mut PerUnit<Option<Lane>>,
 ) -> Option<PerUnit<LaneEnds<'a>>> {
     PerUnit::units()
-        .zip(places.each_mut())
-        .map(|(unit, place)| LaneEnds::open(alloc, unit, place))
+        .zip(holders.each_mut())
+        .map(|(unit, holder)| LaneEnds::open(alloc, unit, holder))
         .complete()
 }
 
@@ -198,18 +205,18 @@ pub struct WorkerLanes<'a> {
 }
 
 impl<'a> WorkerLanes<'a> {
-    /// Starts the worker of each lane, which finds its seat in the place of its unit.
+    /// Starts the worker of each lane, which finds its seat in the holder of its unit.
     pub fn start<E, K: Naming + Send + Sync + 'a, G: Gate + Send + 'a, R: Threads + Wait + Sync>(
         scope: &Scope<'a, E>,
         rt: &'a R,
         shared: &'a Shared<K>,
         ends: PerUnit<LaneEnds<'a>>,
-        places: &'a mut PerUnit<Option<Seat>>,
+        holders: &'a mut PerUnit<Option<Seat>>,
         gates: Gates<G>,
     ) -> WorkerLanes<'a> {
         let lanes = ends.zip_with(
-            places.each_mut().zip(gates.into_each()),
-            |ends, (place, gate)| ends.start(scope, rt, shared, place, gate),
+            holders.each_mut().zip(gates.into_each()),
+            |ends, (holder, gate)| ends.start(scope, rt, shared, holder, gate),
         );
         WorkerLanes { lanes }
     }

@@ -455,7 +455,8 @@ room_entering : (u : FunctionalUnit) (ms : List Pending) (f : Found Pending Stag
 unfolding entering left_to_return returning enters
 room_entering u ms f (Some a) x apart h returns room = by_place (place_for ms) refl (room refl)
   where
-    by_place : (q : Option ℕ) → place_for ms ≡ q → is_none q ≡ false → HasRoom (Some (HasEntered (unwrap_or q 0) a x)) ms
+    by_place : (q : Option ℕ) → place_for ms ≡ q → is_none q ≡ false
+        → HasRoom (Some (HasEntered (unwrap_or q 0) a x)) ms
     by_place None e k = cc
     by_place (Some p) e k =
         let q = place_found ms p e in
@@ -579,7 +580,8 @@ pub leave_tied : (u : FunctionalUnit) (ms ns : List Pending) (queue after : Queu
     (f : Found Pending Stage) (rest : Option Relocated) (l : Option Outstanding) → IsTied ms queue b → Pairs IsApart ms
     → seek (stage_at u) ms ≡ Some f
     → IfSome (located (seek (stage_at u) ms)) (λ s. IsRestOf (shape_of s.pending.instr) rest)
-    → l ≡ outstanding_of (unwrap_or (free_in queue.entered) 0) rest → ns ≡ replaced (seek (stage_at u) ms) ms (λ m. kept m l)
+    → l ≡ outstanding_of (unwrap_or (free_in queue.entered) 0) rest → ns
+    ≡ replaced (seek (stage_at u) ms) ms (λ m. kept m l)
     → after ≡ queue_with queue l
     → c ≡ with_issued b (replaced (seek (held_in u) b.issued) b.issued left) → IsTied ns after c
 unfolding replaced with_issued
@@ -609,7 +611,8 @@ left_from u rest ms =
 
 pub leave_flight : (u : FunctionalUnit) (ms ns : List Pending) (queue after : Queue) (b c : Standing)
     (rest : Option Relocated) (l : Option Outstanding) (now : Flight) → flight_of ms queue b ≡ now → IsTied ms queue b
-    → l ≡ outstanding_of (unwrap_or (free_in queue.entered) 0) rest → ns ≡ replaced (seek (stage_at u) ms) ms (λ m. kept m l)
+    → l ≡ outstanding_of (unwrap_or (free_in queue.entered) 0) rest → ns
+    ≡ replaced (seek (stage_at u) ms) ms (λ m. kept m l)
     → after ≡ queue_with queue l
     → c ≡ with_issued b (replaced (seek (held_in u) b.issued) b.issued left)
     → flight_of ns after c ≡ with_pending now (left_from u rest now.pending)

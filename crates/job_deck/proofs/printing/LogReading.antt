@@ -3,14 +3,14 @@ use Rattle.std.proofs.Common.{◌≡◌, ℕ, ◌+◌, ◌≤◌, ◌==◌, true
 use Rattle.std.proofs.Common.{Result, Ok, Err, refl}
 use Rattle.std.proofs.Common.{sym, ap, ◌∙◌, append_assoc, append-nil, arith}
 use Rattle.std.specs.List.{onto_first, slice_split}
-use Rattle.std.specs.Prelude.{replicate, MatchResult, is_err}
+use Rattle.std.specs.Prelude.{replicate, MatchResult, is_err, option_and_then}
 use Rattle.instructions.specs.declared.refusal.Refusal.{Refusal}
 use Rattle.sequential.specs.declared.log.Entry.{Entry}
 use Rattle.sequential.specs.declared.log.Entry.TheVariants.{Issued as Count, Exchange, PpRead, PpWrite}
 use Rattle.sequential.specs.Log.{steps_of, issued}
 use Rattle.sequential.specs.Replay.{LogStep, Issued}
 use Rattle.sequential.proofs.Entries.{issued-append, issued-replicate}
-use Rattle.job_deck.specs.LogText.{entry_in, entry_count, spent, put_steps, with_entry, steps_in, write_in, written_in}
+use Rattle.job_deck.specs.LogText.{entry_in, entry_count, spent, put_steps, steps_in, write_in, written_in}
 use Rattle.job_deck.specs.LogText.{number_without_leading_zeros, word_without_leading_zeros}
 use Rattle.job_deck.specs.declared.logs.Allowance.{Allowance}
 
@@ -28,7 +28,8 @@ pub entry_on : (before now : List LogStep) (left : Allowance) (field : List ℕ)
     → entry_in left field ≡ Some entry → now ≡ before ++ steps_of (entry ∷ [])
     → put_steps before (steps_in left (field ∷ more)) ≡ put_steps now (steps_in (spent left entry) more)
 entry_on before now left field entry more found same =
-    ap (λ e. put_steps before (with_entry e (λ f. steps_in (spent left f) more))) found
+    ap (λ e. put_steps before
+    (option_and_then (λ f. put_steps (steps_of (f ∷ [])) (steps_in (spent left f) more)) e)) found
     ∙ put_twice before (steps_of (entry ∷ [])) (steps_in (spent left entry) more)
     ∙ ap (λ steps. put_steps steps (steps_in (spent left entry) more)) (sym same)
 

@@ -10,7 +10,7 @@ use Rattle.sequential.specs.declared.state.State.{State}
 use Rattle.sequential.specs.Replay.{LogStep, Issued, Exchanged, ReadAt, Wrote, IsRefusedAt, boot, replay, step_refusal}
 use Rattle.deck.specs.declared.deck.Deck.{Deck}
 use Rattle.deck.specs.declared.deck.Show.{Show}
-use Rattle.job_deck.specs.Listing.{is_write_refusal}
+use Rattle.job_deck.specs.Listing.{is_write_failure}
 use Rattle.job_deck.specs.LogText.{log_in}
 use Rattle.job_deck.specs.Replaying.{Prints, Undefined, reached, replayed, replayed_steps}
 
@@ -48,8 +48,8 @@ refused_printed k d text memory start end steps old l m b n r =
     (undefined_printed k start end steps d.shows old r)
 
 pub refused_unwritten : (k : Refusal) (start end : State) (steps : List LogStep) → IsRefusedAt start steps end k
-    → is_write_refusal {T = Option State} (Err k) ≡ false
+    → is_write_failure {T = Option State} (Err k) ≡ false
 refused_unwritten k start end steps r =
-    ⊎_elim (λ e. ap (λ x. is_write_refusal {T = Option State} (Err x)) e)
-    (λ e. ap (λ x. is_write_refusal {T = Option State} (Err x)) e)
+    ⊎_elim (λ e. ap (λ x. is_write_failure {T = Option State} (Err x)) e)
+    (λ e. ap (λ x. is_write_failure {T = Option State} (Err x)) e)
     (step_named _ r.at k r.refused)

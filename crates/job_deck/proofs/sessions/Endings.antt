@@ -19,11 +19,10 @@ use Rattle.job_deck.specs.Dump.{dump_text}
 use Rattle.device_text.specs.Line.{lines_of}
 use Rattle.job_deck.specs.Schedule.{line_says}
 use Rattle.job_deck.specs.Session.{IsDump, IsLast, IsReply, Session}
-use Rattle.job_deck.specs.inner.SessionParts.{Closes, AnswersLines, Dumps, last_line, refusal_of}
+use Rattle.job_deck.specs.inner.SessionParts.{Closes, AnswersLines, Dumps, last_line}
 use Rattle.job_deck.specs.SessionResult.{Performs, RunsSession, RunsSessionFromBoot}
 use Rattle.job_deck.specs.declared.schedule.ScheduleLine.{ScheduleLine}
-use Rattle.job_deck.specs.declared.session.SessionError.{SessionError}
-use Rattle.job_deck.specs.declared.session.SessionError.TheVariants as errors
+use Rattle.instructions.specs.declared.refusal.Refusal.TheVariants as refusals
 use Rattle.device_text.proofs.Moving.{Moves-trans, Moves-weaker}
 
 -- the dump of what a snapshot shows
@@ -41,18 +40,17 @@ is_dump w s state l log m shows drained same_state same_log same_memory r e f =
     }
 
 -- what is dumped of a drained machine closes a session that says `drain`
-pub drain_closes : (r : Result (Unit {0}) SessionError) (drains : Bool) (w v : Processor) (count : ℕ)
+pub drain_closes : (r : Result (Unit {0}) Refusal) (drains : Bool) (w v : Processor) (count : ℕ)
     (shows : List Show) (old new : Option (List ℕ)) → drains ≡ true → Works w v count → GoesOnByWork w count v
     → Dumps r v shows old new → Closes r (last_line drains) w shows old new
 drain_closes r drains w v count shows old new d a b h =
     subst (λ x. Closes r (last_line x) w shows old new) (sym d) (closes r h)
   where
-    closes : (r : Result (Unit {0}) SessionError) → Dumps r v shows old new → Closes r (last_line true) w shows old new
+    closes : (r : Result (Unit {0}) Refusal) → Dumps r v shows old new → Closes r (last_line true) w shows old new
     closes (Ok x) k = (k.0, (v, count, a, b, k.1), k.2)
-    closes (Err (errors.Line m fault)) k = absurd k
-    closes (Err errors.OutOfMemory) k = k
-    closes (Err errors.Read) k = absurd k
-    closes (Err errors.Write) k = (k.0, (v, count, a, b, k.1), k.2)
+    closes (Err refusals.OutOfMemory) k = k
+    closes (Err refusals.Write) k = (k.0, (v, count, a, b, k.1), k.2)
+    closes (Err other) k = absurd k
 
 is_last : (drains : Bool) → IsLast (last_line drains)
 is_last true = tt
@@ -64,7 +62,7 @@ reply_there : (said told : ScheduleLine) (w v : Processor) (shows : List Show) (
 reply_there said told w v shows text e f h =
     subst (λ x. IsReply told x shows text) (sym f) (subst (λ x. IsReply x v shows text) (sym e) h)
 
-closed_there : (r : Result (Unit {0}) SessionError) (drains : Bool) (w v : Processor) (n : ℕ) (shows : List Show)
+closed_there : (r : Result (Unit {0}) Refusal) (drains : Bool) (w v : Processor) (n : ℕ) (shows : List Show)
     (xs ys : List ℕ) (old mid new : Option (List ℕ)) → AnswersLines (Ok drains) w v n xs ys old mid
     → Closes r (last_line drains) v shows mid new → RunsSession r (GoesOn w) w n shows xs ys old new
 closed_there (Ok x) drains w v n shows xs ys old mid new h k = (
@@ -75,11 +73,9 @@ closed_there (Ok x) drains w v n shows xs ys old mid new h k = (
   h.3,
   Appends-trans old mid new h.0.text k.0 h.4 k.2,
 )
-closed_there (Err (errors.Line m fault)) drains w v n shows xs ys old mid new h k = absurd k
-closed_there (Err errors.OutOfMemory) drains w v n shows xs ys old mid new h k =
+closed_there (Err refusals.OutOfMemory) drains w v n shows xs ys old mid new h k =
     (h.0, subst IsLast (sym h.2) (is_last drains), h.3, Appends-kept old mid new h.0.text h.4 k)
-closed_there (Err errors.Read) drains w v n shows xs ys old mid new h k = absurd k
-closed_there (Err errors.Write) drains w v n shows xs ys old mid new h k =
+closed_there (Err refusals.Write) drains w v n shows xs ys old mid new h k =
     let cut = k.2 in (
       h.0,
       k.0,
@@ -87,8 +83,9 @@ closed_there (Err errors.Write) drains w v n shows xs ys old mid new h k =
       h.3,
       (cut.1.0, cut.0, cut.1.1, Appends-trans old mid new h.0.text cut.1.0 h.4 cut.1.2),
     )
+closed_there (Err other) drains w v n shows xs ys old mid new h k = absurd k
 
-pub session_closed : (a b : Option (List ℕ)) (r : Result (Unit {0}) SessionError) (drains : Bool) (w v : Processor)
+pub session_closed : (a b : Option (List ℕ)) (r : Result (Unit {0}) Refusal) (drains : Bool) (w v : Processor)
     (n : ℕ) (shows : List Show) (old mid new : Option (List ℕ))
     → Moves a b (λ xs ys. AnswersLines (Ok drains) w v n xs ys old mid) → Closes r (last_line drains) v shows mid new
     → Moves a b (λ xs ys. RunsSession r (GoesOn w) w n shows xs ys old new)
@@ -97,21 +94,21 @@ session_closed a b r drains w v n shows old mid new told closed =
     (λ xs ys. RunsSession r (GoesOn w) w n shows xs ys old new)
     (λ xs ys h. closed_there r drains w v n shows xs ys old mid new h closed) told
 
-stopped_there : (e : SessionError) (w v : Processor) (n : ℕ) (shows : List Show) (xs ys : List ℕ)
+stopped_there : (e : Refusal) (w v : Processor) (n : ℕ) (shows : List Show) (xs ys : List ℕ)
     (old new : Option (List ℕ)) → AnswersLines (Err e) w v n xs ys old new
     → RunsSession (Err e) (GoesOn w) w n shows xs ys old new
-stopped_there (errors.Line m fault) w v n shows xs ys old new h = h
-stopped_there errors.OutOfMemory w v n shows xs ys old new h = absurd h
-stopped_there errors.Read w v n shows xs ys old new h = h
-stopped_there errors.Write w v n shows xs ys old new h = (
+stopped_there (refusals.Deck m fault) w v n shows xs ys old new h = h
+stopped_there refusals.Read w v n shows xs ys old new h = h
+stopped_there refusals.Write w v n shows xs ys old new h = (
   h.0,
   answer_line h.2,
   subst (λ x. IsReply x h.0.machine shows (answer_line h.2)) (sym h.3) (h.2, h.4, refl),
   h.5,
   h.6,
 )
+stopped_there other w v n shows xs ys old new h = absurd h
 
-pub session_stopped : (a b : Option (List ℕ)) (e : SessionError) (w v : Processor) (n : ℕ) (shows : List Show)
+pub session_stopped : (a b : Option (List ℕ)) (e : Refusal) (w v : Processor) (n : ℕ) (shows : List Show)
     (old new : Option (List ℕ)) → Moves a b (λ xs ys. AnswersLines (Err e) w v n xs ys old new)
     → Moves a b (λ xs ys. RunsSession (Err e) (GoesOn w) w n shows xs ys old new)
 session_stopped a b e w v n shows old new told =
@@ -120,11 +117,6 @@ session_stopped a b e w v n shows old new told =
     (λ xs ys h. stopped_there e w v n shows xs ys old new h) told
 
 -- ---- the deck with its schedule
-
--- the answer with a refusal instead of the error
-abbrev pub refused : Result (Unit {0}) SessionError → Result (Unit {0}) Refusal
-refused (Ok x) = Ok x
-refused (Err e) = Err (refusal_of e)
 
 -- the session of a machine that was reached from boot by no events, told from boot
 session_from_boot : (memory : List ℕ) (budget n : ℕ) (w : Processor) (lines : List (List ℕ × List ℕ))
@@ -145,41 +137,43 @@ session_from_boot memory budget n w lines booted s =
       written = s.written;
     }
 
-runs_from_boot : (r : Result (Unit {0}) SessionError) (memory : List ℕ) (budget n : ℕ) (w : Processor)
+runs_from_boot : (r : Result (Unit {0}) Refusal) (memory : List ℕ) (budget n : ℕ) (w : Processor)
     (shows : List Show) (xs ys : List ℕ) (old new : Option (List ℕ)) → IsReached memory budget [] [] w
     → RunsSession r (GoesOn w) w n shows xs ys old new → RunsSession r (IsReached memory budget) w n shows xs ys old new
 unfolding session_from_boot
 runs_from_boot (Ok x) memory budget n w shows xs ys old new booted h =
     (session_from_boot memory budget n w (lines_of xs) booted h.0, h.1, h.2, h.3, h.4, h.5)
-runs_from_boot (Err (errors.Line m fault)) memory budget n w shows xs ys old new booted h =
+runs_from_boot (Err (refusals.Deck m fault)) memory budget n w shows xs ys old new booted h =
     (session_from_boot memory budget n w (lines_of xs) booted h.0, h.1, h.2, h.3, h.4)
-runs_from_boot (Err errors.OutOfMemory) memory budget n w shows xs ys old new booted h =
+runs_from_boot (Err refusals.OutOfMemory) memory budget n w shows xs ys old new booted h =
     (session_from_boot memory budget n w (lines_of xs) booted h.0, h.1, h.2, h.3)
-runs_from_boot (Err errors.Read) memory budget n w shows xs ys old new booted h =
+runs_from_boot (Err refusals.Read) memory budget n w shows xs ys old new booted h =
     (session_from_boot memory budget n w (lines_of xs) booted h.0, h.1, h.2, h.3, h.4)
-runs_from_boot (Err errors.Write) memory budget n w shows xs ys old new booted h =
+runs_from_boot (Err refusals.Write) memory budget n w shows xs ys old new booted h =
     (session_from_boot memory budget n w (lines_of xs) booted h.0, h.1, h.2, h.3, h.4)
+runs_from_boot (Err other) memory budget n w shows xs ys old new booted h = absurd h
 
-performed_there : (r : Result (Unit {0}) SessionError) (budget n : ℕ) (d : Deck) (ys zs : List ℕ)
+performed_there : (r : Result (Unit {0}) Refusal) (budget n : ℕ) (d : Deck) (ys zs : List ℕ)
     (old new : Option (List ℕ)) → RunsSessionFromBoot r budget d n ys zs old new
-    → Performs (refused r) budget (Good d n ys) zs old new
+    → Performs r budget (Good d n ys) zs old new
 performed_there (Ok x) budget n d ys zs old new h = h
-performed_there (Err (errors.Line m fault)) budget n d ys zs old new h = h
-performed_there (Err errors.OutOfMemory) budget n d ys zs old new h = inr h
-performed_there (Err errors.Read) budget n d ys zs old new h = inr h
-performed_there (Err errors.Write) budget n d ys zs old new h = h
+performed_there (Err (refusals.Deck m fault)) budget n d ys zs old new h = h
+performed_there (Err refusals.OutOfMemory) budget n d ys zs old new h = inr h
+performed_there (Err refusals.Read) budget n d ys zs old new h = inr h
+performed_there (Err refusals.Write) budget n d ys zs old new h = h
+performed_there (Err other) budget n d ys zs old new h = absurd h
 
-pub performed : (a b c : Option (List ℕ)) (r : Result (Unit {0}) SessionError) (budget n : ℕ) (d : Deck)
+pub performed : (a b c : Option (List ℕ)) (r : Result (Unit {0}) Refusal) (budget n : ℕ) (d : Deck)
     (w : Processor) (old new : Option (List ℕ)) → w ≡ boot_processor d.image.memory budget
     → IsReached d.image.memory budget [] [] w → Moves a b (λ xs ys. deck xs ≡ Good d n ys)
     → Moves b c (λ ys zs. RunsSession r (GoesOn w) w (n + 1) d.shows ys zs old new)
-    → Moves a c (λ xs zs. Performs (refused r) budget (deck xs) zs old new)
+    → Moves a c (λ xs zs. Performs r budget (deck xs) zs old new)
 performed a b c r budget n d w old new booted reached read told =
     Moves-trans a b c (λ xs ys. deck xs ≡ Good d n ys)
     (λ ys zs. RunsSession r (GoesOn w) w (n + 1) d.shows ys zs old new)
-    (λ xs zs. Performs (refused r) budget (deck xs) zs old new) (λ xs ys zs h k.
+    (λ xs zs. Performs r budget (deck xs) zs old new) (λ xs ys zs h k.
     let from_boot = runs_from_boot r d.image.memory budget (n + 1) w d.shows ys zs old new reached k in
-    subst (λ x. Performs (refused r) budget x zs old new) (sym h)
+    subst (λ x. Performs r budget x zs old new) (sym h)
     (performed_there r budget n d ys zs old new
     (subst (λ x. RunsSession r (IsReached d.image.memory budget) x (n + 1) d.shows ys zs old new) booted
     from_boot))) read told

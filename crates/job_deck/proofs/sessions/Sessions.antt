@@ -24,7 +24,7 @@ use Rattle.job_deck.specs.SessionResult.{IsRefused}
 use Rattle.job_deck.specs.inner.SessionParts.{AnswersLines, ReadsScheduleLine}
 use Rattle.job_deck.specs.declared.schedule.ScheduleLine.{ScheduleLine}
 use Rattle.job_deck.specs.declared.schedule.ScheduleLine.TheVariants.{Makes, Ends, Drains, Faulty}
-use Rattle.job_deck.specs.declared.session.SessionError.TheVariants as errors
+use Rattle.instructions.specs.declared.refusal.Refusal.TheVariants as refusals
 use Rattle.device_text.proofs.Moving.{Moves-refl, Moves-trans, Moves-weaker}
 
 -- ---- one more event
@@ -158,11 +158,11 @@ module _ (w : Processor) (n : ℕ) (old : Option (List ℕ)) where
       → Moves b c (ReadsScheduleLine m (Makes e))
       → ((answer : Result Done Refusal) × IsAnswer v e answer × (x ≡ settled v e answer)
       × GoesOn v (e ∷ []) (answer ∷ []) x
-      × WritesFront mid new (answer_line answer)) → Moves a c (λ xs zs. AnswersLines (Err errors.Write) w x n xs zs
+      × WritesFront mid new (answer_line answer)) → Moves a c (λ xs zs. AnswersLines (Err refusals.Write) w x n xs zs
       old new)
   session_cut a b c mid new m v x e told taken made =
       Moves-trans a b c (Has m v mid) (ReadsScheduleLine m (Makes e))
-      (λ xs zs. AnswersLines (Err errors.Write) w x n xs zs old new)
+      (λ xs zs. AnswersLines (Err refusals.Write) w x n xs zs old new)
       (λ xs ys zs h k.
       let cut = made.4 in (
         h.0,
@@ -201,17 +201,17 @@ module _ (w : Processor) (n : ℕ) (old : Option (List ℕ)) where
 
   pub session_refused : (a b c new : Option (List ℕ)) (m : ℕ) (v : Processor) (fault : DeckFault)
       → Moves a b (Has m v new) → Moves b c (ReadsScheduleLine m (Faulty fault))
-      → Moves a c (λ xs zs. AnswersLines (Err (errors.Line m fault)) w v n xs zs old new)
+      → Moves a c (λ xs zs. AnswersLines (Err (refusals.Deck m fault)) w v n xs zs old new)
   session_refused a b c new m v fault told taken =
       Moves-trans a b c (Has m v new) (ReadsScheduleLine m (Faulty fault))
-      (λ xs zs. AnswersLines (Err (errors.Line m fault)) w v n xs zs old new) (λ xs ys zs h k.
+      (λ xs zs. AnswersLines (Err (refusals.Deck m fault)) w v n xs zs old new) (λ xs ys zs h k.
       (h.0, sym h.2, says_next m v new xs ys (Faulty fault) h k.0, refused_there m v new xs ys zs h k.1, h.4)) told
       taken
 
   pub session_unread : (a b c new : Option (List ℕ)) (m : ℕ) (v : Processor) → Moves a b (Has m v new)
-      → Moves b c ReadsPart → Moves a c (λ xs zs. AnswersLines (Err errors.Read) w v n xs zs old new)
+      → Moves b c ReadsPart → Moves a c (λ xs zs. AnswersLines (Err refusals.Read) w v n xs zs old new)
   session_unread a b c new m v told taken =
-      Moves-trans a b c (Has m v new) ReadsPart (λ xs zs. AnswersLines (Err errors.Read) w v n xs zs old new)
+      Moves-trans a b c (Has m v new) ReadsPart (λ xs zs. AnswersLines (Err refusals.Read) w v n xs zs old new)
       (λ xs ys zs h k.
       (h.0, k.0, k.1, h.1 ∙ ap lines_of k.2, h.4)) told taken
 
@@ -225,10 +225,10 @@ module _ (w : Processor) (n : ℕ) (old : Option (List ℕ)) where
   past_left m bytes (line ∷ lines) h = let past : ltb 10000000 m ≡ true = lt-ltb _ _ h in rw past refl
 
   pub session_over : (a b new : Option (List ℕ)) (m : ℕ) (v : Processor) → m ≡ 10000001 → Moves a b (Has m v new)
-      → Moves a b (λ xs zs. AnswersLines (Err (errors.Line 10000001 faults.Lines)) w v n xs zs old new)
+      → Moves a b (λ xs zs. AnswersLines (Err (refusals.Deck 10000001 faults.Lines)) w v n xs zs old new)
   session_over a b new m v e told =
       Moves-weaker a b (Has m v new)
-      (λ xs zs. AnswersLines (Err (errors.Line 10000001 faults.Lines)) w v n xs zs old new)
+      (λ xs zs. AnswersLines (Err (refusals.Deck 10000001 faults.Lines)) w v n xs zs old new)
       (λ xs ys h. (
         h.0,
         sym (h.2 ∙ e),

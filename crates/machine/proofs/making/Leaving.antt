@@ -65,7 +65,8 @@ is_rest b h v rest e = record {
 
 -- what is left is what an instruction of that shape may leave
 pub store_rest : (w : Processor) (u : FunctionalUnit) (m : Pending) (v : UnitValue) (b : Bounds)
-    (rest : Option Relocated) → located (seek (stage_at u) w.pending) ≡ Some (record { pending = m; answer = Finished v })
+    (rest : Option Relocated) → located (seek (stage_at u) w.pending)
+    ≡ Some (record { pending = m; answer = Finished v })
     → rest ≡ relocated b (reference_for (shape_of m.instr) v)
     → IfSome (located (seek (stage_at u) w.pending)) (λ s. IsRestOf (shape_of s.pending.instr) rest)
 store_rest w u m v b rest h er =

@@ -546,7 +546,8 @@ relocated_fault b None = refl
 relocated_fault b (Some r) = refl
 
 pub store_parts : (w : Processor) (u : FunctionalUnit) (size : ℕ) (m : Pending) (v : UnitValue) (written rs : List Reg)
-    (number : ℕ) (jump : Option ℕ) (s : State) (position : ProgramPosition) (fault : Bool) (rest : Option Relocated) (g : Flight)
+    (number : ℕ) (jump : Option ℕ) (s : State) (position : ProgramPosition) (fault : Bool) (rest : Option Relocated)
+    (g : Flight)
     → located (seek (stage_at u) w.pending) ≡ Some (record { pending = m; answer = Finished v })
     → size ≡ length w.state.memory
     → rest ≡ relocated (record { area = w.state.area; size = size }) (reference_for (shape_of m.instr) v)

@@ -18,8 +18,8 @@ impl Machine {
     /// The next instruction is issued: the event `Issue`.
     ///
     /// # Errors
-    /// `Halted`, `Faulted`, `Budget`, `BranchPending`, `ExchangeWaiting`, `FetchWait`, `UnitBusy`, `ResultReserved`: the
-    /// first that applies. The machine is then as it was.
+    /// `Halted`, `Faulted`, `Budget`, `BranchPending`, `ExchangeWaiting`, `FetchWait`, `UnitBusy`, `ResultReserved`:
+    /// the first that applies. The machine is then as it was.
     pub fn issue(&mut self) -> Answer
         ensures answer { result ≡ answer_of self.old Issue }
         ensures after { self.new ≡ settled self.old Issue result }

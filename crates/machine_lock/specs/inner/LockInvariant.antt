@@ -68,7 +68,8 @@ last_step [] = Issued
 last_step (x ∷ []) = x
 last_step (x ∷ y ∷ ys) = last_step (y ∷ ys)
 
--- the machine's log after an event that is logged: one step longer than that one where the event was made, else the same
+-- the machine's log after an event that is logged: one step longer than that one where the event was made, else the
+-- same
 abbrev pub IsLogged : Result Done Refusal → History → Processor → Type 0
 IsLogged (Ok done) h w = past w ≡ history h.booted (h.log ++ last_step w.log ∷ [])
 IsLogged (Err refusal) h w = past w ≡ h

@@ -1,7 +1,8 @@
-use Rattle.device_text.proofs.Moving.{flushed}
+use Rattle.device_text.proofs.Putting.{puts_flushed}
 use Rattle.job_deck.proofs.dumping.dump_to.Goals as goal
 
-pub returns-clause-written : goal.returns-clause-written
-returns-clause-written g c = flushed c.flush.result _ _ _ _
-    (rw (c.entries.ensures.shortest, c.as_slice.ensures) at c.in_ok-put_dump.ensures.written)
-    c.flush.ensures.bytes
+pub returns-clause-puts : goal.returns-clause-puts
+returns-clause-puts g c =
+    let e = c.flush.ensures in
+    puts_flushed g.O.Output c.flush.result _ _ _ _
+    (rw (c.entries.ensures.shortest, c.as_slice.ensures) at c.in_ok-put_dump.ensures) e.bytes e.failure e.same

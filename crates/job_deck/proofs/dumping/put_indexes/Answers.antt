@@ -1,22 +1,15 @@
-use Rattle.std.proofs.Common.{rules}
-use Rattle.std.proofs.lemmas.Result.{err_from_is_err_and}
-use Rattle.device_text.proofs.Moving.{each_written, each_cut}
+use Rattle.device_text.proofs.Putting.{puts_each, puts_each_cut}
 use Rattle.job_deck.specs.Dump.{spaced_index}
 use Rattle.job_deck.proofs.dumping.put_indexes.Goals as goal
 
-pub returns-in_err-put_pieces-clause-written : goal.returns-in_err-put_pieces-clause-written
-returns-in_err-put_pieces-clause-written g c =
-    let p = err_from_is_err_and c.from_residual.result c.from_residual.ensures.1 in
-    rw p.1 (each_cut spaced_index c.args.indexes.now c.loop-index.index-index _ _ _
-    (g.O.Output.contents c.put_pieces.new.output) _ c.loop-index-test.true c.loop-index.invariant.written
-    (rw (c.spaced_index.ensures, c.index-item.is) at c.in_err-put_pieces.ensures.written))
+pub returns-in_err-put_pieces : goal.returns-in_err-put_pieces
+returns-in_err-put_pieces g c =
+    puts_each_cut g.O.Output c.from_residual.result _ c.from_residual.ensures.1 spaced_index c.args.indexes.now
+    c.loop-index.index-index _ _ _ c.put_pieces.new.output _ c.loop-index-test.true c.loop-index.invariant
+    (rw (c.spaced_index.ensures, c.index-item.is) at c.in_err-put_pieces.ensures)
 
 pub loop-index-preserved : goal.loop-index-preserved
 loop-index-preserved g c =
-    record {
-      written = each_written spaced_index c.args.indexes.now c.loop-index.index-index _ _ _
-          (g.O.Output.contents c.put_pieces.new.output) _ c.loop-index-test.true c.loop-index.invariant.written
-          (rw (c.spaced_index.ensures, c.index-item.is) at c.in_ok-put_pieces.ensures.written);
-      same = search rules;
-      failures = search rules;
-    }
+    puts_each g.O.Output spaced_index c.args.indexes.now c.loop-index.index-index _ _ _ c.put_pieces.new.output _
+    c.loop-index-test.true c.loop-index.invariant (rw (c.spaced_index.ensures, c.index-item.is) at
+    c.in_ok-put_pieces.ensures)

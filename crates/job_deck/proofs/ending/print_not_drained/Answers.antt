@@ -1,6 +1,7 @@
-use Rattle.device_text.proofs.Moving.{flushed}
+use Rattle.device_text.proofs.Putting.{puts_flushed}
 use Rattle.job_deck.proofs.ending.print_not_drained.Goals as goal
 
-pub returns-clause-written : goal.returns-clause-written
-returns-clause-written g c =
-    flushed c.flush.result _ _ _ _ c.in_ok-put_not_drained.ensures.written c.flush.ensures.bytes
+pub returns-clause-puts : goal.returns-clause-puts
+returns-clause-puts g c =
+    let e = c.flush.ensures in
+    puts_flushed g.O.Output c.flush.result _ _ _ _ c.in_ok-put_not_drained.ensures e.bytes e.failure e.same

@@ -8,7 +8,7 @@ returns-in-Ok-dump_to-clause-closed g c =
       is_dump c.args.machine.now c.in-Ok.snapshot.state c.state.result.now c.in-Ok.snapshot.log
           c.log.result.now.steps c.in-Ok.snapshot.boot_memory c.args.deck.now.shows taken.0 taken.1
           taken.2 taken.3 c.in-Ok.ensures.replay c.state.ensures.value c.log.ensures,
-      c.in-Ok-dump_to.ensures.written,
+      c.in-Ok-dump_to.ensures.puts.written,
     )
 
 pub returns-in-Ok-clause-closed : goal.returns-in-Ok-clause-closed
@@ -18,5 +18,5 @@ returns-in-Ok-clause-closed g c =
       is_dump c.args.machine.now c.in-Ok.snapshot.state c.state.result.now c.in-Ok.snapshot.log
           c.log.result.now.steps c.in-Ok.snapshot.boot_memory c.args.deck.now.shows taken.0 taken.1
           taken.2 taken.3 c.in-Ok.ensures.replay c.state.ensures.value c.log.ensures,
-      c.in-Err-dump_to.ensures.written,
+      c.in-Err-dump_to.ensures.puts.written,
     )

@@ -6,4 +6,4 @@ use Rattle.job_deck.proofs.ending.put_end.Goals as goal
 pub returns-in-Err-clause-closed : goal.returns-in-Err-clause-closed
 returns-in-Err-clause-closed g c =
     let pending : is_pending c.args.machine.now.pending ≡ true = search rules in
-    (not_drained_text c.args.machine.now, inr (pending, refl), c.in-Err.ensures.written)
+    (not_drained_text c.args.machine.now, inr (pending, refl), c.in-Err.ensures.puts.written)

@@ -1,24 +1,24 @@
-use Rattle.std.proofs.lemmas.Result.{err_from_is_err_and}
-use Rattle.device_text.proofs.Moving.{cut_in, cut_after, writes_after}
+use Rattle.device_text.proofs.Putting.{bytes_put, puts_cut, puts_after}
 use Rattle.job_deck.specs.Listing.{placed_word, items_text}
 use Rattle.job_deck.proofs.listing.put_listed_word.Goals as goal
 
-pub returns-in_err-put_pieces-clause-written : goal.returns-in_err-put_pieces-clause-written
-returns-in_err-put_pieces-clause-written g c =
-    let p = err_from_is_err_and c.from_residual.result c.from_residual.ensures.1 in
-    rw p.1 (cut_in _ _ (placed_word c.args.address c.args.word) _
-    (rw c.placed_word.ensures at c.in_err-put_pieces.ensures.written))
+pub returns-in_err-put_pieces : goal.returns-in_err-put_pieces
+returns-in_err-put_pieces g c =
+    puts_cut g.O.Output c.from_residual.result _ c.from_residual.ensures.1 _ _
+    (placed_word c.args.address c.args.word) _ (rw c.placed_word.ensures at c.in_err-put_pieces.ensures)
 
-pub returns-in_err-put_items-clause-written : goal.returns-in_err-put_items-clause-written
-returns-in_err-put_items-clause-written g c =
-    let p = err_from_is_err_and c.from_residual-in_err-put_items.result c.from_residual-in_err-put_items.ensures.1 in
-    rw p.1 (cut_after _ _ _ (placed_word c.args.address c.args.word) _
-    (rw c.placed_word.ensures at c.in_ok-put_pieces.ensures.written)
-    (cut_in _ _ (items_text c.args.word) _ c.in_err-put_items.ensures.written))
+pub returns-in_err-put_items : goal.returns-in_err-put_items
+returns-in_err-put_items g c =
+    let residual = c.from_residual-in_err-put_items in
+    puts_after g.O.Output residual.result _ _ _ (placed_word c.args.address c.args.word) _
+    (rw c.placed_word.ensures at c.in_ok-put_pieces.ensures)
+    (puts_cut g.O.Output residual.result _ residual.ensures.1 _ _ (items_text c.args.word) _
+    c.in_err-put_items.ensures)
 
-pub returns-clause-written : goal.returns-clause-written
-returns-clause-written g c =
-    writes_after c.put.result _ _ _ (placed_word c.args.address c.args.word) _
-    (rw c.placed_word.ensures at c.in_ok-put_pieces.ensures.written)
-    (writes_after c.put.result _ _ _ (items_text c.args.word) _ c.in_ok-put_items.ensures.written
-    c.put.ensures.written)
+pub returns : goal.returns
+returns g c =
+    let end = c.put.ensures in
+    puts_after g.O.Output c.put.result _ _ _ (placed_word c.args.address c.args.word) _
+    (rw c.placed_word.ensures at c.in_ok-put_pieces.ensures)
+    (puts_after g.O.Output c.put.result _ _ _ (items_text c.args.word) _ c.in_ok-put_items.ensures
+    (bytes_put g.O.Output c.put.result _ _ _ end.written end.failure end.same))

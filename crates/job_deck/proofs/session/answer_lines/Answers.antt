@@ -1,4 +1,5 @@
-use Rattle.std.proofs.Common.{◌+◌, arith, rules}
+use Rattle.std.proofs.Common.{◌+◌, ◌∙◌, sym, arith, rules}
+use Rattle.std.proofs.Math.Bool.{or-true}
 use Rattle.job_deck.proofs.sessions.Sessions.{session_begun, session_on, session_cut, session_ends, session_drains}
 use Rattle.job_deck.proofs.sessions.Sessions.{session_refused, session_unread, session_over}
 use Rattle.job_deck.proofs.session.answer_lines.Goals as goal
@@ -45,25 +46,33 @@ returns-in-Ok-Faulty-clause-told g c =
 
 pub returns-in-Err-make-clause-told : goal.returns-in-Err-make-clause-told
 returns-in-Err-make-clause-told g c =
+    let made = c.in-Err-make.ensures.made in
     session_cut c.args.machine.now (c.args.before + 1) (g.O.Output.contents c.args.output.now) _ _
     (g.I.Input.remaining c.read_schedule_line.new.input) (g.O.Output.contents c.loop-number.output)
     (g.O.Output.contents c.make.new.output) c.loop-number.number c.loop-number.machine c.make.new.machine
     c.in-Ok-Makes.event c.loop-number.invariant.told (rw c.in-Ok-Makes.field-0-is at c.in-Ok-Makes.ensures.line)
-    c.in-Err-make.ensures.made
+    (made.0, made.1, made.2, made.3, made.4.written)
+
+pub returns-in-Err-make-clause-write : goal.returns-in-Err-make-clause-write
+returns-in-Err-make-clause-write g c = c.in-Err-make.ensures.made.4.failure ∙ sym (or-true _)
+
+pub returns-in-Err-make-clause-output : goal.returns-in-Err-make-clause-output
+returns-in-Err-make-clause-output g c = c.in-Err-make.ensures.made.4.same ∙ c.loop-number.invariant.same_output
 
 pub loop-number-preserved : goal.loop-number-preserved
 loop-number-preserved g c =
+    let made = c.in-Ok.ensures.made in
     record {
       told = session_on c.args.machine.now (c.args.before + 1) (g.O.Output.contents c.args.output.now) _ _
           (g.I.Input.remaining c.read_schedule_line.new.input) (g.O.Output.contents c.loop-number.output)
           (g.O.Output.contents c.make.new.output) c.loop-number.number c.loop-number.machine c.make.new.machine
           c.in-Ok-Makes.event c.loop-number.invariant.told (rw c.in-Ok-Makes.field-0-is at c.in-Ok-Makes.ensures.line)
-          c.in-Ok.ensures.made;
+          (made.0, made.1, made.2, made.3, made.4.written);
       low = search rules;
       same_input = search rules;
-      same_output = search rules;
+      same_output = made.4.same ∙ c.loop-number.invariant.same_output;
       reads = search rules;
-      writes = search rules;
+      writes = made.4.failure ∙ c.loop-number.invariant.writes;
       handed_on = search rules;
       kept = search rules;
     }

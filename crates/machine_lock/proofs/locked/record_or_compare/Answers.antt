@@ -9,7 +9,8 @@ made : (g : given.Over) (c : After-record g)
 made g c =
     recorded c.args.pass.now.me.0.seen c.args.machine.now (last_step c.args.machine.now.log) c.seen.inside.pass.me
     c.record.new.me.me c.args.seen.now c.seen.view_is
-    (logged_one_more c.args.pass.now.me.0.seen c.args.machine.now c.args.answer.now c.in-Ok.field-0 c.in-Ok.is c.requires.logged)
+    (logged_one_more c.args.pass.now.me.0.seen c.args.machine.now c.args.answer.now c.in-Ok.field-0 c.in-Ok.is
+    c.requires.logged)
     c.record.ensures.me.1 c.record.ensures.begins
 
 pub returns-in-Ok-clause-replayed : goal.returns-in-Ok-clause-replayed

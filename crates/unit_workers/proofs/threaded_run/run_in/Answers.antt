@@ -13,7 +13,8 @@ returns g c =
     elim c.if-are_served.branch [
       | then-are_served+then-is_some+then-is_some-2 w ↦
           subst (λ (k : Known). GoesOnFrom c.args.tasks.seen k) (sym w.seen-is) w.conduct-conducted.ensures.onward
-      | else-are_served w ↦ subst (λ (k : Known). GoesOnFrom c.args.tasks.seen k) (sym w.seen-is) (at_first c.args.tasks.seen)
+      | else-are_served w ↦ subst (λ (k : Known). GoesOnFrom c.args.tasks.seen k) (sym w.seen-is)
+          (at_first c.args.tasks.seen)
     ] in
     record {
       onward = ok_ending (λ (e : Ended). e.snapshot) c.args.tasks.seen c.if-are_served.seen c.closing.result

@@ -12,5 +12,6 @@ pub returns-clause-seen : goal.returns-clause-seen
 returns-clause-seen g c =
     exchange_seen c.self.inside.machine c.exchange-answer.new.self c.args.self.now.processor.request
     c.exchange-answer.result c.args.seen.now c.record_or_compare.new.seen
-    (ap (λ (k : Kept). k.processor.request) (sym c.self.view_is)) c.self.invariant.replay (inl c.exchange-answer.ensures.answer) c.exchange-answer.ensures.after
+    (ap (λ (k : Kept). k.processor.request) (sym c.self.view_is)) c.self.invariant.replay
+    (inl c.exchange-answer.ensures.answer) c.exchange-answer.ensures.after
     c.exchange-answer.ensures.why c.record_or_compare.ensures.current c.record_or_compare.ensures.seen
