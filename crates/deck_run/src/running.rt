@@ -5,7 +5,7 @@ ghost use Rattle.program_order.specs.Processor.{boot_processor};
 ghost use Rattle.deck_run.specs.Running.{IsRun, EndsNoRun};
 
 use instruction_table::Refusal;
-use job_deck::Deck;
+use job_deck::{Deck, booted};
 use machine::{Machine, Snapshot};
 use operator_terms::{Budget, ProgramFault};
 use std::alloc::{AllocError, Global};
@@ -36,18 +36,6 @@ fn orders(alloc: Global, deck: &Deck) -> Result<Orders, AllocError>
     })
 }
 
-/// A machine that was just booted with the deck's memory.
-///
-/// # Errors
-/// `OutOfMemory`.
-fn booted(alloc: Global, deck: &Deck, budget: Budget) -> Result<Machine, Refusal>
-    ensures machine { MatchResult result (λ machine. machine ≡ boot_processor deck.now.image.memory budget)
-        (λ refusal. refusal ≡ OutOfMemory) }
-{
-    let memory = deck.image.memory().copy()?;
-    Machine::boot(alloc, memory, budget.get())
-}
-
 /// What `run_threads` gets for a run of a deck: a machine that was just booted with the deck's memory and the budget,
 /// and the deck's orders.
 ///
@@ -63,7 +51,7 @@ fn prepared(alloc: Global, deck: &Deck, budget: Budget) -> Result<(Machine, Orde
     let Ok(orders) = orders(alloc, deck) else {
         return Err(Refusal::OutOfMemory);
     };
-    match booted(alloc, deck, budget) {
+    match booted(alloc, deck, budget.get()) {
         Ok(machine) => Ok((machine, orders)),
         Err(refusal) => Err(refusal),
     }

@@ -1,5 +1,5 @@
-pub mod Opened
 pub mod Lists
 pub mod Sorted
 pub mod Finding
 pub mod Slots
+pub mod ResultLists

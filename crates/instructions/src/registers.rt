@@ -1,7 +1,8 @@
 ghost use Rattle.std.specs.Prelude.{◌≡◌, ◌<◌, ◌≤◌, ◌+◌, [], Some, None};
 ghost use Rattle.std.specs.List.{list_any};
 ghost use Rattle.arrayvec.specs.ArrayVec.{array_vec_len};
-ghost use Rattle.instructions.specs.Shape.{shape_of, results as results_of_shape};
+ghost use Rattle.std.specs.Prelude.{option_to_list};
+ghost use Rattle.instructions.specs.Shape.{shape_of, loads_of, results as results_of_shape};
 ghost use Rattle.instructions.specs.Operands.{uses, stored, with_source, sources_of, base_reg, pair_reg, reg_eq};
 
 use crate::{Addends, Base, Digit, Instr, Pair, Reg, Target, UnitKind};
@@ -40,47 +41,40 @@ pub fn unit_kind(instr: &Instr) -> Option<UnitKind>
     }
 }
 
-/// The registers that an instruction sets: at most two, A before X, and never B0.
-#[tactic(auto, unfolding(crate::proofs::Opened::results_by_shape))]
-pub fn results(instr: &Instr) -> ArrayVec<Reg, 2>
-    ensures uses { result.items ≡ (uses instr.now).results }
-    ensures shape { result.items ≡ results_of_shape (shape_of instr.now) }
+/// The X register that a load writes at its return, if the instruction is one: SA1 to SA5 are.
+#[tactic(auto, unfolding(crate::specs::Shape::shape_of, crate::specs::Shape::loads_of))]
+fn loaded(instr: &Instr) -> Option<Reg>
+    ensures { loads_of (shape_of instr.now) ≡ option_to_list result }
 {
-    let mut results = ArrayVec::new();
     match *instr {
-        Instr::Copy { i, .. }
-        | Instr::Invert { i, .. }
-        | Instr::Logical { i, .. }
-        | Instr::ShiftBy { i, .. }
-        | Instr::ShiftNominal { i, .. }
-        | Instr::LongAdd { i, .. }
-        | Instr::Mask { i, .. }
-        | Instr::CountOnes { i, .. }
-        | Instr::Increment {
-            target: Target::X,
-            i,
-            ..
-        } => results.push(Reg::X(i)),
         Instr::Increment {
             target: Target::A,
             i,
             ..
-        } => {
-            results.push(Reg::A(i));
-            if (1..=5).contains(&i.get()) {
-                results.push(Reg::X(i));
-            }
-        }
-        Instr::Increment {
-            target: Target::B,
-            i,
-            ..
-        } => {
-            if i.get() != 0 {
-                results.push(Reg::B(i));
-            }
-        }
-        _ => {}
+        } if (1..=5).contains(&i.get()) => Some(Reg::X(i)),
+        _ => None,
+    }
+}
+
+/// A list of the register, if there is one.
+fn listed(register: Option<Reg>) -> ArrayVec<Reg, 2>
+    ensures { result.items ≡ option_to_list register }
+{
+    let mut registers = ArrayVec::new();
+    if let Some(register) = register {
+        registers.push(register);
+    }
+    registers
+}
+
+/// The registers that an instruction sets: at most two, A before X, and never B0.
+pub fn results(instr: &Instr) -> ArrayVec<Reg, 2>
+    ensures uses { result.items ≡ (uses instr.now).results }
+    ensures shape { result.items ≡ results_of_shape (shape_of instr.now) }
+{
+    let mut results = listed(instr.sets());
+    if let Some(register) = loaded(instr) {
+        results.push(register);
     }
     results
 }

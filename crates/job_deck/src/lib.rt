@@ -28,4 +28,4 @@ pub use listing::{list, list_to};
 pub use logs::read_log;
 pub use replaying::{replay, replay_to};
 pub use schedule::{ScheduleLine, parse_schedule_line};
-pub use session::{events, events_to};
+pub use session::{booted, events, events_to};

@@ -100,11 +100,11 @@ fn run_session<I: Input, O: Output>(
     finish(output, machine, deck, drains)
 }
 
-/// A machine that was just booted with the deck's memory.
+/// A machine that was just booted with the deck's memory, which issues at most `budget` instructions.
 ///
 /// # Errors
 /// `OutOfMemory`.
-fn booted(alloc: Global, deck: &Deck, budget: u64) -> Result<Machine, Refusal>
+pub fn booted(alloc: Global, deck: &Deck, budget: u64) -> Result<Machine, Refusal>
     requires { budget ≤ 10000000 }
     ensures machine { MatchResult result (λ machine. machine ≡ boot_processor deck.now.image.memory budget)
         (λ refusal. refusal ≡ OutOfMemory) }

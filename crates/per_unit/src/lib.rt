@@ -42,7 +42,8 @@ impl PerUnit<Unit> {
 }
 
 impl<T> PerUnit<T> {
-    /// From all of them in the order of the units' numbers.
+    /// From all of them in the order of the units' numbers. No clause says so: what is taken out of an array of values
+    /// that may have to be spent has no facts. A run would find another order: a worker for another unit claims nothing.
     pub fn from_array(all: [T; 7]) -> PerUnit<T> {
         let [
             branch,

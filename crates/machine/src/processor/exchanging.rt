@@ -22,8 +22,6 @@ impl Machine {
         ensures after { self.new ≡ settled self.old (Ask at) result }
         ensures named { IfErr result (λ refusal. may_refuse (Ask at) refusal ≡ true) }
         ensures reached { GoesOn self.old (Ask at ∷ []) (result ∷ []) self.new }
-
-        // What a refusal tells about the state to which the log led.
         ensures why { IfErr result (λ refusal. IsWhy (completed self.old) refusal) }
     {
         let size = self.state.memory.size();
@@ -47,8 +45,6 @@ impl Machine {
         ensures after { self.new ≡ settled self.old Exchange result }
         ensures named { IfErr result (λ refusal. may_refuse Exchange refusal ≡ true) }
         ensures reached { GoesOn self.old (Exchange ∷ []) (result ∷ []) self.new }
-
-        // What a refusal tells about the state to which the log led.
         ensures why { IfErr result (λ refusal. IsWhy (completed self.old) refusal) }
     {
         let judged = judge_exchange(&self.request, &self.in_flight, &self.state);

@@ -1,6 +1,5 @@
 use Rattle.std.proofs.Common.{◌≡◌, ◌≤◌, ℕ, List, ◌∙◌, ap, subst, rules}
 use Rattle.sequential.specs.Log.{issued}
-use Rattle.sequential.specs.Replay.{LogStep}
 use Rattle.program_order.specs.Processor.{Processor, boot_processor}
 use Rattle.deck_run.proofs.Runs.{run_on}
 use Rattle.deck_run.proofs.running.run.Goals as goal
