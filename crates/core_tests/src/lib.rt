@@ -1,4 +1,4 @@
-//! Tests of the crates below `in_flight` and of `exchange_requests`, by what these crates hand out.
+//! Tests of the crates below `in_flight`, and of `per_unit` and `exchange_requests`, by what these crates hand out.
 //! The crate hands out nothing itself.
 //!
 //! There is a file for each crate or subject. The first table is `RESERVES_A_FREE_UNIT` in
@@ -23,6 +23,8 @@ mod instruction_table_tests;
 mod instructions_tests;
 #[cfg(test)]
 mod parcel_tests;
+#[cfg(test)]
+mod per_unit_tests;
 #[cfg(test)]
 mod registers_tests;
 #[cfg(test)]

@@ -127,31 +127,31 @@ impl Refusal {
     ghost use Rattle.std.specs.Prelude.{◌≡◌};
     ghost use Rattle.instructions.specs.Refusals.{label_of};
 
-    /// Its number and what it says, without what it names.
+    /// Its number and what it says. Where it names something a space ends it, since the name follows.
     pub fn label(&self) -> &'static str
         ensures { result.now ≡ label_of self.now }
     {
         match self {
-            Refusal::Halted(_) => "E1 halted",
+            Refusal::Halted(_) => "E1 halted ",
             Refusal::Faulted => "E2 faulted",
             Refusal::Budget => "E3 budget",
             Refusal::BranchPending => "E4 branch pending",
             Refusal::ExchangeWaiting => "E5 exchange waiting",
             Refusal::FetchWait => "E6 fetch waits",
-            Refusal::UnitBusy(_) => "E7 unit busy",
-            Refusal::ResultReserved(_) => "E8 result reserved",
-            Refusal::OperandAwaited(_) => "E9 operand awaited",
-            Refusal::ResultHeld(_) => "E10 result held",
+            Refusal::UnitBusy(_) => "E7 unit busy ",
+            Refusal::ResultReserved(_) => "E8 result reserved ",
+            Refusal::OperandAwaited(_) => "E9 operand awaited ",
+            Refusal::ResultHeld(_) => "E10 result held ",
             Refusal::HopperFull => "E11 hopper full",
             Refusal::OutOfTurn => "E12 out of turn",
-            Refusal::BankBusy(_) => "E13 bank busy",
+            Refusal::BankBusy(_) => "E13 bank busy ",
             Refusal::OlderAtAddress => "E14 older at address",
             Refusal::Nothing => "E15 nothing",
             Refusal::Stranger => "E16 stranger",
             Refusal::ExchangeBusy => "E17 exchange busy",
             Refusal::NotDrained => "E18 not drained",
             Refusal::PackageRange => "E19 package range",
-            Refusal::Deck { .. } => "E20 line",
+            Refusal::Deck { .. } => "E20 line ",
             Refusal::OutOfMemory => "E21 out of memory",
             Refusal::Read => "E22 read failed",
             Refusal::Write => "E23 write failed",

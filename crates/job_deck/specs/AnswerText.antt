@@ -1,6 +1,6 @@
 -- The line of an answer.
 -- Source: ours.
-use Rattle.std.specs.Prelude.{ℕ, List, [], ◌∷◌, ◌++◌, codes, decimal, Some, None, Result, Ok, Err}
+use Rattle.std.specs.Prelude.{ℕ, List, [], ◌∷◌, codes, decimal, Some, None, Result, Ok, Err}
 use Rattle.std.specs.List.{concat}
 use Rattle.word60.specs.Words.{octal_text}
 use Rattle.instructions.specs.declared.refusal.Refusal.{Refusal}
@@ -11,15 +11,15 @@ use Rattle.program_order.specs.declared.event.Done.TheVariants.{Issued, Word, Ma
 use Rattle.device_text.specs.Names.{register_text, unit_text}
 use Rattle.device_text.specs.Pieces.{reason_text}
 
--- what a refusal names, with a space before it: why the machine is halted, a unit, a register or a bank; no other names
--- something that an event could be refused for
+-- what a refusal names: why the machine is halted, a unit, a register or a bank; of the others none that refuses an
+-- event names something
 abbrev pub named_text : Refusal → List ℕ
-named_text (refusals.Halted halt) = codes " " ++ reason_text halt
-named_text (refusals.UnitBusy unit) = codes " " ++ unit_text unit
-named_text (refusals.ResultReserved register) = codes " " ++ register_text register
-named_text (refusals.OperandAwaited register) = codes " " ++ register_text register
-named_text (refusals.ResultHeld register) = codes " " ++ register_text register
-named_text (refusals.BankBusy bank) = codes " " ++ decimal bank
+named_text (refusals.Halted halt) = reason_text halt
+named_text (refusals.UnitBusy unit) = unit_text unit
+named_text (refusals.ResultReserved register) = register_text register
+named_text (refusals.OperandAwaited register) = register_text register
+named_text (refusals.ResultHeld register) = register_text register
+named_text (refusals.BankBusy bank) = decimal bank
 named_text other = []
 
 -- the line of an answer: `ok`, with a reservation's unit and number where an issue made one, and with the word that a

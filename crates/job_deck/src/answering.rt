@@ -1,5 +1,5 @@
-ghost use Rattle.std.specs.Prelude.{◌≡◌, Err, OnOk, false};
-ghost use Rattle.job_deck.specs.AnswerText.{answer_line};
+ghost use Rattle.std.specs.Prelude.{◌≡◌, Err, OnOk, false, option_to_list};
+ghost use Rattle.job_deck.specs.AnswerText.{answer_line, named_text};
 ghost use Rattle.device_text.specs.Putting.{Puts};
 ghost use Rattle.device_text.specs.Pieces.{text_of_all};
 
@@ -7,21 +7,29 @@ use device_text::{Output, Piece, WriteFailed, put_pieces};
 use instruction_table::Refusal;
 use machine::{Answer, Done, Note};
 
-/// The line of a refusal: its number, what it says, and what it names.
-fn refusal_line(refusal: &Refusal) -> [Piece<'static>; 4]
-    ensures { text_of_all result ≡ answer_line (Err refusal.now) }
+/// What a refusal names, if it names something. No other refusal answers an event.
+fn named(refusal: &Refusal) -> Option<Piece<'static>>
+    ensures { text_of_all (option_to_list result) ≡ named_text refusal.now }
+{
+    match *refusal {
+        Refusal::Halted(halt) => Some(Piece::Reason(halt)),
+        Refusal::UnitBusy(unit) => Some(Piece::UnitName(unit)),
+        Refusal::ResultReserved(register) => Some(Piece::Register(register)),
+        Refusal::OperandAwaited(register) => Some(Piece::Register(register)),
+        Refusal::ResultHeld(register) => Some(Piece::Register(register)),
+        Refusal::BankBusy(bank) => Some(Piece::Count(u64::from(bank))),
+        _ => None,
+    }
+}
+
+/// Writes the line of a refusal: its number, what it says, and what it names.
+fn put_refusal<O: Output>(output: &mut O, refusal: &Refusal) -> Result<(), WriteFailed>
+    ensures { Puts O.Output result output.old output.new (answer_line (Err refusal.now)) }
 {
     let label = Piece::Text(refusal.label().as_bytes());
-    let space = Piece::Text(b" ");
-    let end = Piece::Text(b"\n");
-    match *refusal {
-        Refusal::Halted(halt) => [label, space, Piece::Reason(halt), end],
-        Refusal::UnitBusy(unit) => [label, space, Piece::UnitName(unit), end],
-        Refusal::ResultReserved(register) => [label, space, Piece::Register(register), end],
-        Refusal::OperandAwaited(register) => [label, space, Piece::Register(register), end],
-        Refusal::ResultHeld(register) => [label, space, Piece::Register(register), end],
-        Refusal::BankBusy(bank) => [label, space, Piece::Count(u64::from(bank)), end],
-        _ => [label, Piece::Text(b""), Piece::Text(b""), end],
+    match named(refusal) {
+        Some(name) => put_pieces(output, &[label, name, Piece::Text(b"\n")]),
+        None => put_pieces(output, &[label, Piece::Text(b"\n")]),
     }
 }
 
@@ -46,7 +54,7 @@ fn put_line<O: Output>(output: &mut O, answer: &Answer) -> Result<(), WriteFaile
             &[Piece::Text(b"ok "), Piece::Word(*word), Piece::Text(b"\n")],
         ),
         Ok(Done::Made) => output.put(b"ok\n"),
-        Err(refusal) => put_pieces(output, &refusal_line(refusal)),
+        Err(refusal) => put_refusal(output, refusal),
     }
 }
 

@@ -7,7 +7,7 @@ use thiserror::Error;
 /// Why the program ends without its output.
 #[derive(Debug, Drop, Error)]
 pub enum ProgramFault {
-    #[error("{} {line}: {fault}", Refusal::Deck {line: *line, fault: *fault}.label())]
+    #[error("{}{line}: {fault}", Refusal::Deck {line: *line, fault: *fault}.label())]
     Deck { line: u32, fault: DeckFault },
     #[error("{}", Refusal::PackageRange.label())]
     PackageRange,

@@ -10,7 +10,7 @@ abbrev pub in_order : {T : Type 0} → PerUnit T → List T
 in_order all =
     all.branch ∷ all.boolean ∷ all.shift ∷ all.long_add ∷ all.divide ∷ all.increment1 ∷ all.increment2 ∷ []
 
--- that of a unit, if it is in use
+-- the one of a unit, if it is in use
 abbrev pub of_unit : {T : Type 0} → Unit → PerUnit T → Option T
 of_unit Branch all = Some all.branch
 of_unit Boolean all = Some all.boolean
@@ -27,7 +27,7 @@ is_complete all =
     is_some all.branch && is_some all.boolean && is_some all.shift && is_some all.long_add && is_some all.divide
     && is_some all.increment1 && is_some all.increment2
 
--- that of each unit beside what another has of it
+-- the one of each unit beside what another has of it
 abbrev pub paired : {T U : Type 0} → PerUnit T → PerUnit U → PerUnit (T × U)
 paired one other = record {
   branch = (one.branch, other.branch);
@@ -39,7 +39,7 @@ paired one other = record {
   increment2 = (one.increment2, other.increment2);
 }
 
--- what is so of that of each unit and what another has of the unit
+-- what is so of the one of each unit and of what another has of it
 pub record Each {T U : Type 0} (R : T → U → Type 0) (one : PerUnit T) (other : PerUnit U) : Type 0 where
   pub branch : R one.branch other.branch
   pub boolean : R one.boolean other.boolean

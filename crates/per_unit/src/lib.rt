@@ -1,6 +1,6 @@
 //! Something of each of the seven units in use, as a lane or a worker's thread of each.
 //!
-//! Callers rely on `PerUnit::get`, which finds that of a unit, and on `zip` and `map`, which keep what belongs to one
+//! Callers rely on `PerUnit::get`, which finds the one of a unit, and on `zip` and `map`, which keep what belongs to one
 //! unit together. Begin there.
 #![tactic(auto)]
 
@@ -42,8 +42,9 @@ impl PerUnit<Unit> {
 }
 
 impl<T> PerUnit<T> {
-    /// From all of them in the order of the units' numbers. No clause says so: what is taken out of an array of values
-    /// that may have to be spent has no facts. A run would find another order: a worker for another unit claims nothing.
+    /// From all of them in the order of the units' numbers. No clause says so: what is taken out of an array of
+    /// values that may have to be spent has no facts. A run would find another order: a worker for another unit
+    /// claims nothing.
     pub fn from_array(all: [T; 7]) -> PerUnit<T> {
         let [
             branch,
@@ -83,7 +84,7 @@ impl<T> PerUnit<T> {
         ]
     }
 
-    /// That of a unit. None where the unit is never reserved.
+    /// The one of a unit. None where the unit is never reserved.
     pub fn get(&self, unit: Unit) -> Option<&T>
         ensures { MatchOption result (of_unit unit self.now ≡ None) (λ found. of_unit unit self.now ≡ Some found.now) }
     {
@@ -99,7 +100,7 @@ impl<T> PerUnit<T> {
         }
     }
 
-    /// That of a unit, to change. None where the unit is never reserved.
+    /// The one of a unit, to change. None where the unit is never reserved.
     pub fn get_mut(&mut self, unit: Unit) -> Option<&mut T>
         ensures { MatchOption result (of_unit unit self.old ≡ None) (λ found. of_unit unit self.old ≡ Some found.now) }
     {
@@ -145,7 +146,7 @@ impl<T> PerUnit<T> {
         }
     }
 
-    /// That of each unit beside what another has of it.
+    /// The one of each unit beside what another has of it.
     pub fn zip<U>(self, other: PerUnit<U>) -> PerUnit<(T, U)>
         ensures { result ≡ paired self other }
     {
@@ -160,7 +161,7 @@ impl<T> PerUnit<T> {
         }
     }
 
-    /// What is made of that of each unit and of what another has of it, one after another in the order of the units'
+    /// What is made of the one of each unit and of what another has of it, one after another in the order of the units'
     /// numbers.
     pub fn zip_with<U, V, F: Fn(T, U) -> V>(self, other: PerUnit<U>, make: F) -> PerUnit<V>
         requires { F.IsAlwaysCallable make }

@@ -31,11 +31,6 @@ to_come_in shape (Left returning) = returning_to returning
 unfoldable pub to_come : Reservation → List Reg
 to_come reservation = to_come_in (shape_of reservation.instr) reservation.progress
 
--- it has not come to its read event
-unfoldable pub is_unread : Progress → Bool
-is_unread (Reserved has_read) = not has_read
-is_unread (Left returning) = false
-
 -- the operands that are still to be read: all of them before the read, none after it
 unfoldable pub reads_in : List Reg → Progress → List Reg
 reads_in sources (Reserved false) = sources

@@ -1,5 +1,5 @@
 ghost use Rattle.std.specs.Prelude.{◌≡◌};
-ghost use Rattle.scoreboard.specs.Reservations.{is_unread, returning_to, to_come, reads, comes, reads_it, holds};
+ghost use Rattle.scoreboard.specs.Reservations.{returning_to, to_come, reads, comes, reads_it, holds};
 ghost use Rattle.scoreboard.specs.Reservations.{is_branch, has_turn, has_store_turn, is_reserved};
 ghost use Rattle.instructions.specs.Operands.{reg_eq};
 ghost use Rattle.instructions.specs.RegisterLists.{is_in};
@@ -69,17 +69,6 @@ impl Reservation {
     {
         match self.progress {
             Progress::Reserved { .. } => true,
-            Progress::Left { .. } => false,
-        }
-    }
-
-    /// Whether it has still to read its operands.
-    #[tactic(auto, unfolding(crate::specs::Reservations::is_unread))]
-    pub(crate) fn is_unread(&self) -> bool
-        ensures { result ≡ is_unread self.now.progress }
-    {
-        match self.progress {
-            Progress::Reserved { has_read } => !has_read,
             Progress::Left { .. } => false,
         }
     }
