@@ -1,24 +1,33 @@
-ghost use Rattle.std.specs.Prelude.{◌≡◌, Err, OnOk, false, option_to_list};
+ghost use Rattle.std.specs.Prelude.{◌≡◌, ◌∷◌, [], Err, OnOk, codes, false};
+ghost use Rattle.std.specs.List.{concat};
+ghost use Rattle.instructions.specs.Refusals.{label_of};
 ghost use Rattle.job_deck.specs.AnswerText.{answer_line, named_text};
 ghost use Rattle.device_text.specs.Putting.{Puts};
-ghost use Rattle.device_text.specs.Pieces.{text_of_all};
 
 use device_text::{Output, Piece, WriteFailed, put_pieces};
 use instruction_table::Refusal;
 use machine::{Answer, Done, Note};
 
-/// What a refusal names, if it names something. No other refusal answers an event.
-fn named(refusal: &Refusal) -> Option<Piece<'static>>
-    ensures { text_of_all (option_to_list result) ≡ named_text refusal.now }
+/// Writes the number of a refusal and what it says.
+fn put_label<O: Output>(output: &mut O, refusal: &Refusal) -> Result<(), WriteFailed>
+    ensures { Puts O.Output result output.old output.new (label_of refusal.now) }
 {
+    output.put(refusal.label().as_bytes())
+}
+
+/// Writes what a refusal names, and the end of its line. No refusal of an event names anything else.
+fn put_named<O: Output>(output: &mut O, refusal: &Refusal) -> Result<(), WriteFailed>
+    ensures { Puts O.Output result output.old output.new (concat (named_text refusal.now ∷ codes "\n" ∷ [])) }
+{
+    let end = Piece::Text(b"\n");
     match *refusal {
-        Refusal::Halted(halt) => Some(Piece::Reason(halt)),
-        Refusal::UnitBusy(unit) => Some(Piece::UnitName(unit)),
-        Refusal::ResultReserved(register) => Some(Piece::Register(register)),
-        Refusal::OperandAwaited(register) => Some(Piece::Register(register)),
-        Refusal::ResultHeld(register) => Some(Piece::Register(register)),
-        Refusal::BankBusy(bank) => Some(Piece::Count(u64::from(bank))),
-        _ => None,
+        Refusal::Halted(halt) => put_pieces(output, &[Piece::Reason(halt), end]),
+        Refusal::UnitBusy(unit) => put_pieces(output, &[Piece::UnitName(unit), end]),
+        Refusal::ResultReserved(register) => put_pieces(output, &[Piece::Register(register), end]),
+        Refusal::OperandAwaited(register) => put_pieces(output, &[Piece::Register(register), end]),
+        Refusal::ResultHeld(register) => put_pieces(output, &[Piece::Register(register), end]),
+        Refusal::BankBusy(bank) => put_pieces(output, &[Piece::Count(u64::from(bank)), end]),
+        _ => output.put(b"\n"),
     }
 }
 
@@ -26,11 +35,8 @@ fn named(refusal: &Refusal) -> Option<Piece<'static>>
 fn put_refusal<O: Output>(output: &mut O, refusal: &Refusal) -> Result<(), WriteFailed>
     ensures { Puts O.Output result output.old output.new (answer_line (Err refusal.now)) }
 {
-    let label = Piece::Text(refusal.label().as_bytes());
-    match named(refusal) {
-        Some(name) => put_pieces(output, &[label, name, Piece::Text(b"\n")]),
-        None => put_pieces(output, &[label, Piece::Text(b"\n")]),
-    }
+    put_label(output, refusal)?;
+    put_named(output, refusal)
 }
 
 /// Writes the line of an answer.
