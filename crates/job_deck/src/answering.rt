@@ -1,5 +1,4 @@
-ghost use Rattle.std.specs.Prelude.{◌≡◌, ◌∷◌, [], Err, OnOk, codes, false};
-ghost use Rattle.std.specs.List.{concat};
+ghost use Rattle.std.specs.Prelude.{◌≡◌, Err, OnOk, false};
 ghost use Rattle.instructions.specs.Refusals.{label_of};
 ghost use Rattle.job_deck.specs.AnswerText.{answer_line, named_text};
 ghost use Rattle.device_text.specs.Putting.{Puts};
@@ -15,19 +14,18 @@ fn put_label<O: Output>(output: &mut O, refusal: &Refusal) -> Result<(), WriteFa
     output.put(refusal.label().as_bytes())
 }
 
-/// Writes what a refusal names, and the end of its line. No refusal of an event names anything else.
+/// Writes what a refusal names. No other refusal of an event names anything.
 fn put_named<O: Output>(output: &mut O, refusal: &Refusal) -> Result<(), WriteFailed>
-    ensures { Puts O.Output result output.old output.new (concat (named_text refusal.now ∷ codes "\n" ∷ [])) }
+    ensures { Puts O.Output result output.old output.new (named_text refusal.now) }
 {
-    let end = Piece::Text(b"\n");
     match *refusal {
-        Refusal::Halted(halt) => put_pieces(output, &[Piece::Reason(halt), end]),
-        Refusal::UnitBusy(unit) => put_pieces(output, &[Piece::UnitName(unit), end]),
-        Refusal::ResultReserved(register) => put_pieces(output, &[Piece::Register(register), end]),
-        Refusal::OperandAwaited(register) => put_pieces(output, &[Piece::Register(register), end]),
-        Refusal::ResultHeld(register) => put_pieces(output, &[Piece::Register(register), end]),
-        Refusal::BankBusy(bank) => put_pieces(output, &[Piece::Count(u64::from(bank)), end]),
-        _ => output.put(b"\n"),
+        Refusal::Halted(halt) => put_pieces(output, &[Piece::Reason(halt)]),
+        Refusal::UnitBusy(unit) => put_pieces(output, &[Piece::UnitName(unit)]),
+        Refusal::ResultReserved(register) => put_pieces(output, &[Piece::Register(register)]),
+        Refusal::OperandAwaited(register) => put_pieces(output, &[Piece::Register(register)]),
+        Refusal::ResultHeld(register) => put_pieces(output, &[Piece::Register(register)]),
+        Refusal::BankBusy(bank) => put_pieces(output, &[Piece::Count(u64::from(bank))]),
+        _ => Ok(()),
     }
 }
 
@@ -36,7 +34,8 @@ fn put_refusal<O: Output>(output: &mut O, refusal: &Refusal) -> Result<(), Write
     ensures { Puts O.Output result output.old output.new (answer_line (Err refusal.now)) }
 {
     put_label(output, refusal)?;
-    put_named(output, refusal)
+    put_named(output, refusal)?;
+    output.put(b"\n")
 }
 
 /// Writes the line of an answer.
