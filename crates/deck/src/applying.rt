@@ -255,6 +255,8 @@ fn first_line(alloc: Global, text: &[u8]) -> Result<Step, LineError>
 }
 
 /// What a line of at most 200 bytes does to the deck that the lines before it began; none came before the first.
+/// It is inlined, since a draft that is handed over by value is copied.
+#[inline(always)]
 pub fn apply_line(alloc: Global, before: Option<Draft>, text: &[u8]) -> Result<Step, LineError>
     requires { length text.now ≤ 200 }
     ensures { Answers result (applied_line before text.now) }
