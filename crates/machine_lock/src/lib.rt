@@ -9,14 +9,15 @@
 //! docs/threads.md has an example.
 #![tactic(auto)]
 
+mod guard;
 mod locked;
 mod rule;
 mod seen;
 mod shared;
-mod signal;
 mod word;
 
+pub use guard::MachineGuard;
 pub use rule::Naming;
 pub use seen::Seen;
 pub use shared::{Ground, Shared};
-pub use signal::{Signal, Signals};
+pub use signals::{Signal, Signals, Told};

@@ -12,18 +12,18 @@ ghost use Rattle.machine.specs.Tokens.{new_seats, one_more};
 ghost use Rattle.machine_lock.specs.CallerKnowledge.{booted_by, known, IsMade, Learnt, HasReplay, IsNoteOf, IsWhyOf};
 ghost use Rattle.machine_lock.specs.CallerKnowledge.{IsWordOf};
 ghost use Rattle.machine_lock.specs.CallerKnowledge.{word_in, AreApart, NumbersApart};
-ghost use Rattle.machine_lock.specs.inner.LockInvariant.{is_of_memory};
 
 use crate::Seen;
+use crate::guard::MachineGuard;
 use crate::locked::Locked;
 use crate::rule::{Naming, Pass, Progress};
-use crate::signal::Signals;
 use crate::word::Word;
 use instruction_table::Refusal;
 use machine::{
     Answer, Computed, Done, Event, Finished, Loaded, Machine, Note, Reserved, Seat, Snapshot,
 };
 use per_unit::PerUnit;
+use signals::{Signals, Told};
 use std::alloc::Global;
 use std::marker::Model;
 use std::sync::{Arc, Mutex, Wait};
@@ -171,45 +171,44 @@ impl<K: Naming> Shared<K> {
         Ok((shared, seen))
     }
 
+    /// The machine with its lock held, to make several events with nothing between them.
+    pub fn lock<R: Wait>(&self, rt: &R) -> MachineGuard<'_, K> {
+        MachineGuard {
+            locked: self.locked.lock(rt),
+            word: &self.word,
+            signals: &self.signals,
+            told: Told::default(),
+        }
+    }
+
     /// Issues the next instruction: the event `Issue`. It answers the reservation of an instruction that
     /// has a unit. The issue is then the last step of the log that its caller has seen, and the caller's own; after a
     /// refusal its caller has seen the log.
     ///
     /// # Errors
     /// What an issue may refuse.
-    #[tactic(auto, unfolding(program_order::specs::Refusals::may_refuse))]
     pub fn issue<R: Wait>(&self, rt: &R, seen: &mut Seen<K>) -> Result<Option<Note>, Refusal>
         ensures seen { MatchResult result (λ note. IsMade Issued seen.old seen.new × IsNoteOf seen.new note)
             (λ refusal. Learnt seen.old seen.new × IsWhyOf seen.new refusal) }
         ensures replayed { HasReplay seen.new }
         ensures named { IfErr result (λ refusal. is_issue_refusal refusal ≡ true) }
     {
-        match self.locked.lock(rt).issue(&self.word, seen) {
-            Ok(Done::Issued(note)) => Ok(note),
-            Ok(Done::Word(_)) => Ok(None),
-            Ok(Done::Made) => Ok(None),
-            Err(refusal) => Err(refusal),
-        }
+        self.lock(rt).issue(seen)
     }
 
     /// Asks for an exchange with the package at an absolute address: the event `Ask`. Its caller has then seen the log.
     ///
     /// # Errors
     /// What a request may refuse.
-    #[tactic(auto, unfolding(program_order::specs::Refusals::may_refuse))]
     pub fn ask<R: Wait>(&self, rt: &R, seen: &mut Seen<K>, at: u32) -> Result<(), Refusal>
         ensures seen { Learnt seen.old seen.new }
         ensures replayed { HasReplay seen.new }
         ensures named { IfErr result (λ refusal. is_ask_refusal refusal ≡ true) }
     {
-        let asked = self.locked.lock(rt).ask(&self.word, seen, at);
-        match asked {
-            Ok(_) => {
-                self.signals.changes.raise();
-                Ok(())
-            }
-            Err(refusal) => Err(refusal),
-        }
+        let mut machine = self.lock(rt);
+        let asked = machine.ask(seen, at);
+        machine.release();
+        asked
     }
 
     /// Makes the exchange that was asked for: the event `Exchange`. It is then the last step of the log that its caller
@@ -227,7 +226,7 @@ impl<K: Naming> Shared<K> {
         let made = self.locked.lock(rt).exchange(&self.word, seen);
         match made {
             Ok(_) => {
-                self.signals.changes.raise();
+                self.signals.requests.raise();
                 Ok(())
             }
             Err(refusal) => Err(refusal),
@@ -261,7 +260,7 @@ impl<K: Naming> Shared<K> {
             .exchange_and_ask(&self.word, seen, next);
         match made {
             Ok(_) => {
-                self.signals.changes.raise();
+                self.signals.requests.raise();
                 Ok(unless_refused(asked))
             }
             Err(refusal) => Err(refusal),
@@ -319,17 +318,6 @@ impl<K: Naming> Shared<K> {
         }
     }
 
-    /// Makes an event of memory, and tells only whether it was made.
-    fn make<R: Wait>(&self, rt: &R, event: Event) -> Result<(), Refusal>
-        requires { is_of_memory event ≡ true }
-        ensures { IfErr result (λ refusal. may_refuse event refusal ≡ true) }
-    {
-        match self.locked.lock(rt).apply(event) {
-            Ok(_) => Ok(()),
-            Err(refusal) => Err(refusal),
-        }
-    }
-
     /// Takes on a reservation with the seat of its unit.
     ///
     /// # Errors
@@ -343,7 +331,7 @@ impl<K: Naming> Shared<K> {
         ensures claimed { IfOk result (λ token. token ≡ record { seat = seat; number = note.number }) }
         ensures given_back { IfErr result (λ back. (back.1 ≡ seat) × (back.0 ≡ Stranger)) }
     {
-        self.locked.lock(rt).claim(seat, note)
+        self.lock(rt).claim(seat, note)
     }
 
     /// The unit reads its operands: the event `Read` for the token's reservation.
@@ -355,7 +343,10 @@ impl<K: Naming> Shared<K> {
         ensures given_back { IfErr result
             (λ back. (back.1 ≡ token) × ((is_stranger back.0 || is_read_refusal back.0) ≡ true)) }
     {
-        self.locked.lock(rt).read(token)
+        let mut machine = self.lock(rt);
+        let loaded = machine.read(token);
+        machine.release();
+        loaded
     }
 
     /// The unit gets the token's value: the event `Finish` for the token's reservation.
@@ -366,7 +357,7 @@ impl<K: Naming> Shared<K> {
         ensures finished { IfOk result (λ finished. finished ≡ record { seat = token.seat; number = token.number }) }
         ensures given_back { IfErr result (λ back. (back.1 ≡ token) × (back.0 ≡ Stranger)) }
     {
-        self.locked.lock(rt).finish(token)
+        self.lock(rt).finish(token)
     }
 
     /// The unit stores its result and is released: the event `Store` for the token's reservation.
@@ -378,10 +369,10 @@ impl<K: Naming> Shared<K> {
         ensures given_back { IfErr result
             (λ back. (back.1 ≡ token) × ((is_stranger back.0 || is_store_refusal back.0) ≡ true)) }
     {
-        let stored = self.locked.lock(rt).store(token);
-        if let Ok(seat) = &stored {
-            self.signals.stored(seat.unit());
-        }
+        let mut machine = self.lock(rt);
+        let stored = machine.store(token);
+        machine.leave_to_memory();
+        machine.release();
         stored
     }
 
@@ -389,37 +380,36 @@ impl<K: Naming> Shared<K> {
     ///
     /// # Errors
     /// `BankBusy` or `OlderAtAddress`, or `Nothing` where the place is empty.
-    #[tactic(auto, unfolding(program_order::specs::Refusals::may_refuse))]
     pub fn accept<R: Wait>(&self, rt: &R, place: u8) -> Result<(), Refusal>
         ensures { IfErr result (λ refusal. (is_nothing refusal || is_accept_refusal refusal) ≡ true) }
     {
-        self.make(rt, Event::Accept(place))?;
-        self.signals.changes.raise();
-        Ok(())
+        let mut machine = self.lock(rt);
+        let accepted = machine.accept(place);
+        machine.release();
+        accepted
     }
 
     /// The load in a channel, 1 to 5, writes its register: the event `Return`.
     ///
     /// # Errors
     /// `ResultHeld`, or `Nothing` where the channel is empty.
-    #[tactic(auto, unfolding(program_order::specs::Refusals::may_refuse))]
     pub fn return_load<R: Wait>(&self, rt: &R, channel: u8) -> Result<(), Refusal>
         ensures { IfErr result (λ refusal. (is_nothing refusal || is_return_refusal refusal) ≡ true) }
     {
-        self.make(rt, Event::Return(channel))?;
-        self.signals.changes.raise();
-        Ok(())
+        let mut machine = self.lock(rt);
+        let returned = machine.return_load(channel);
+        machine.release();
+        returned
     }
 
     /// A bank, 0 to 31, is no longer busy: the event `BankFree`.
     ///
     /// # Errors
     /// `Nothing` where the bank isn't busy.
-    #[tactic(auto, unfolding(program_order::specs::Refusals::may_refuse))]
     pub fn bank_free<R: Wait>(&self, rt: &R, bank: u8) -> Result<(), Refusal>
         ensures { IfErr result (λ refusal. is_nothing refusal ≡ true) }
     {
-        self.make(rt, Event::BankFree(bank))
+        self.lock(rt).bank_free(bank)
     }
 
     /// The state, the log, the boot memory and the budget of the machine, if it is drained. The state is the replay of

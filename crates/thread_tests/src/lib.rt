@@ -3,7 +3,7 @@
 //!
 //! The first table is `RUNS` in `thread_tests`: programs, one a row, with what the machine shows
 //! after a run of each by threads. `lock_tests` has what callers of the lock have seen,
-//! `queue_tests` the lanes, and `access_tests` two peripheral processors. `example_tests` is the
+//! `guard_tests` several events in one hold of it, `queue_tests` the lanes, and `access_tests` two peripheral processors. `example_tests` is the
 //! example of docs/threads.md.
 #![tactic(auto)]
 
@@ -13,6 +13,8 @@ mod access_tests;
 mod example_tests;
 #[cfg(test)]
 mod fixtures;
+#[cfg(test)]
+mod guard_tests;
 #[cfg(test)]
 mod lock_tests;
 #[cfg(test)]

@@ -20,12 +20,12 @@ const FIVE: &str = "71100000050000000000";
 const PASSES: &str = "46000460004600046000";
 
 /// What an issue answers for an instruction that has a unit.
-fn issued(unit: Unit, number: u64) -> Issued {
+pub(crate) fn issued(unit: Unit, number: u64) -> Issued {
     Ok(Some(note(unit, number)))
 }
 
 /// Asks for the exchange with the package at 40 (octal), and makes it.
-fn start<K: Naming, R: Wait>(
+pub(crate) fn start<K: Naming, R: Wait>(
     rt: &R,
     shared: &Shared<K>,
     seen: &mut Seen<K>,
@@ -35,7 +35,7 @@ fn start<K: Naming, R: Wait>(
 }
 
 /// The seats of Increment1 and Increment2; the others are left.
-fn of_increments(seats: [Seat; 7]) -> (Seat, Seat) {
+pub(crate) fn of_increments(seats: [Seat; 7]) -> (Seat, Seat) {
     let [
         branch,
         boolean,
@@ -131,7 +131,12 @@ fn carry_out<K: Naming, R: Wait>(rt: &R, shared: &Shared<K>, token: Reserved) ->
 }
 
 /// From claim to store. It answers whether all was accepted.
-fn serve<K: Naming, R: Wait>(rt: &R, shared: &Shared<K>, seat: Seat, note: Note) -> (Seat, bool) {
+pub(crate) fn serve<K: Naming, R: Wait>(
+    rt: &R,
+    shared: &Shared<K>,
+    seat: Seat,
+    note: Note,
+) -> (Seat, bool) {
     match claim(rt, shared, seat, note) {
         Err(seat) => (seat, false),
         Ok(reserved) => carry_out(rt, shared, reserved),
@@ -268,7 +273,7 @@ fn claims_of_strangers(rt: HostRuntime) -> Result<(), Fail> {
 }
 
 /// What an issue answers.
-type Issued = Result<Option<Note>, Refusal>;
+pub(crate) type Issued = Result<Option<Note>, Refusal>;
 
 /// What the start and the two issues answer, how many claims were a stranger's before and after the first was stored,
 /// which were stored, what the seats tell, and whether the snapshot shows both.

@@ -4,7 +4,7 @@ ghost use Rattle.std.specs.Prelude.{◌≡◌};
 use crate::fixtures::{FIRST, booted, leave, note};
 use instruction_table::{Refusal, Unit};
 use machine::{Machine, Note, Seat};
-use machine_lock::{Ground, Naming, Seen, Shared, Signal};
+use machine_lock::{Ground, Naming, Seen, Shared, Signal, Told};
 use std::alloc::Global;
 use std::marker::Brand;
 use std::sync::Wait;
@@ -14,20 +14,24 @@ use std::thread::{Threads, join};
 /// What was told so far.
 fn told<K: Naming>(shared: &Shared<K>) -> Counts {
     let signals = shared.signals();
-    (signals.changes.count(), signals.references.count())
+    (
+        signals.issuing.count(),
+        signals.requests.count(),
+        signals.memory.count(),
+    )
 }
 
-/// How often each unit's worker was told of what was sent to it.
+/// How often each unit's worker was told.
 fn sent<K: Naming>(shared: &Shared<K>) -> [u64; 7] {
     let signals = shared.signals();
     [
-        signals.sent(Unit::Branch).count(),
-        signals.sent(Unit::Boolean).count(),
-        signals.sent(Unit::Shift).count(),
-        signals.sent(Unit::LongAdd).count(),
-        signals.sent(Unit::Divide).count(),
-        signals.sent(Unit::Increment1).count(),
-        signals.sent(Unit::Increment2).count(),
+        signals.worker(Unit::Branch).count(),
+        signals.worker(Unit::Boolean).count(),
+        signals.worker(Unit::Shift).count(),
+        signals.worker(Unit::LongAdd).count(),
+        signals.worker(Unit::Divide).count(),
+        signals.worker(Unit::Increment1).count(),
+        signals.worker(Unit::Increment2).count(),
     ]
 }
 
@@ -87,24 +91,25 @@ fn opened<K: Naming>(
     Ok((shared, increment1, seen))
 }
 
-/// Others are told where an exchange was asked for or made and where a unit has stored, and memory's worker too where
-/// the unit makes references. A refused call tells nobody.
+/// The thread that issues is told where an exchange was asked for and, where it waits for a change, where a unit has
+/// stored; the thread that makes requests where an exchange was made; memory's worker where a unit has stored that makes
+/// references. A refused call tells nobody.
 #[test]
 fn stores_are_told(rt: HostRuntime) -> Result<(), Fail> {
     let machine = booted(rt.alloc(), &[(0o100, FIRST)])?;
     let ground = Ground::new(rt.alloc())?;
     let stored = stores_told::<Brand, _>(&rt, rt.alloc(), ground, machine)?;
-    let after = Some([(2, 0), (2, 0), (2, 0), (3, 1)]);
+    let after = Some([(1, 1, 0), (1, 1, 0), (1, 1, 0), (2, 1, 1)]);
     let refused = Err(Refusal::Nothing);
     assert_eq!(rt;
         stored,
-        (true, (Unit::Increment1, 1), after, refused, (3, 1))
+        (true, (Unit::Increment1, 1), after, refused, (2, 1, 1))
     );
     Ok(())
 }
 
-/// How often it was told of changes and of references.
-type Counts = (u64, u64);
+/// How often the threads were told that issue, make requests and serve memory.
+type Counts = (u64, u64, u64);
 
 /// Whether exchange and issue were made, what the seat tells, what was told at each step of the reservation, what
 /// an accept answers, and what was told then.
@@ -128,6 +133,7 @@ fn stores_told<K: Naming, R: Wait>(
     let asked = shared.ask(rt, &mut seen, 0o40);
     let exchanged = shared.exchange(rt, &mut seen);
     let issued = shared.issue(rt, &mut seen);
+    shared.signals().issuing.await_change(true);
     let (seat, after) = served(rt, &shared, seat, note(Unit::Increment1, 1));
     let refused = shared.accept(rt, 0);
     let is_made = asked.is_ok() && exchanged.is_ok() && issued.is_ok();
@@ -140,8 +146,8 @@ fn the_end_is_told_to_all(rt: HostRuntime) -> Result<(), Fail> {
     let machine = booted(rt.alloc(), &[])?;
     let ground = Ground::new(rt.alloc())?;
     let counts = end_told::<Brand, _>(&rt, rt.alloc(), ground, machine)?;
-    let before = ([0, 0, 1, 0, 0, 0, 0], (0, 0));
-    let after = ([1, 1, 2, 1, 1, 1, 1], (1, 1));
+    let before = ([0, 0, 1, 0, 0, 0, 0], (0, 0, 0));
+    let after = ([1, 1, 2, 1, 1, 1, 1], (1, 1, 1));
     assert_eq!(rt; counts, [before, after]);
     Ok(())
 }
@@ -157,10 +163,55 @@ fn end_told<K: Naming, R: Wait>(
 {
     let (shared, seat, _) = opened::<K>(alloc, ground, machine)?;
     seat.leave();
-    shared.signals().sent(Unit::Shift).raise();
+    shared.signals().worker(Unit::Shift).raise();
     let before = (sent(&shared), told(&shared));
     shared.end(rt);
     Ok([before, (sent(&shared), told(&shared))])
+}
+
+/// A signal is raised by what its thread waits for, and by nothing else.
+#[test]
+fn waiting_threads_are_told(rt: HostRuntime) -> Result<(), Fail> {
+    let machine = booted(rt.alloc(), &[])?;
+    let ground = Ground::new(rt.alloc())?;
+    let counts = told_by_turns::<Brand, _>(&rt, rt.alloc(), ground, machine)?;
+    assert_eq!(rt; counts, [0, 1, 1, 2]);
+    Ok(())
+}
+
+/// How often a signal was raised where a change and a read were told to it, whose thread waits for nothing, for a
+/// change, for nothing again, and for a read.
+fn told_by_turns<K: Naming, R: Wait>(
+    _rt: &R,
+    alloc: Global,
+    ground: Ground,
+    machine: Machine,
+) -> Result<[u64; 4], Refusal>
+    requires { ground ≡ K.table }
+{
+    let (shared, seat, _) = opened::<K>(alloc, ground, machine)?;
+    seat.leave();
+    let signal = &shared.signals().memory;
+    let changed = Told {
+        changed: true,
+        ..Told::default()
+    };
+    let read = Told {
+        read: true,
+        ..Told::default()
+    };
+    let mut counts = [0; 4];
+    for (turn, waits) in [(false, false), (true, false), (false, false), (false, true)]
+        .iter()
+        .enumerate()
+    {
+        signal.await_change(waits.0);
+        signal.await_read(waits.1);
+        signal.tell(&changed);
+        signal.tell(&read);
+        counts[turn] = signal.count();
+    }
+    Ok(counts)
 }
 
 /// Sleeps until a signal was raised, and answers how often it was.
@@ -198,8 +249,8 @@ fn sleep_and_wake<K: Naming, R: Threads + Wait + Sync>(
 {
     let (shared, seat, _) = opened::<K>(alloc, ground, machine)?;
     seat.leave();
-    let changes = &shared.signals().changes;
-    changes.sleep(rt, 0);
-    let (count, ()) = join(rt, || woken(rt, changes), || changes.raise());
+    let requests = &shared.signals().requests;
+    requests.sleep(rt, 0);
+    let (count, ()) = join(rt, || woken(rt, requests), || requests.raise());
     Ok(count)
 }

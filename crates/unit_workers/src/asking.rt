@@ -1,8 +1,8 @@
 //! The thread that makes the requests for exchanges which may be made at any time.
 
-use crate::waiting::Waiting;
 use instruction_table::Refusal;
 use machine_lock::{Naming, Seen, Shared};
+use signals::Waiting;
 use std::sync::Wait;
 use std::sync::atomic::{AtomicU64, Ordering};
 
@@ -42,10 +42,10 @@ fn ask_in_turn<K: Naming, R: Wait>(
     at: u32,
     wait: &mut Waiting,
 ) -> Result<bool, Refusal> {
-    let changes = &shared.signals().changes;
+    let exchanges = &shared.signals().requests;
     wait.reset();
     for _ in rt.forever() {
-        let count = changes.count();
+        let count = exchanges.count();
         match shared.ask(rt, seen, at) {
             Ok(()) => return Ok(true),
             Err(Refusal::ExchangeBusy) => {}
@@ -54,7 +54,7 @@ fn ask_in_turn<K: Naming, R: Wait>(
         if shared.ended(rt) {
             return Ok(false);
         }
-        wait.until_raised(rt, changes, count);
+        wait.until_raised(rt, exchanges, count);
     }
     unreachable!()
 }
@@ -92,7 +92,7 @@ pub fn ask_all<K: Naming, R: Wait>(
 ) -> Result<Seen<K>, Refusal> {
     let asked = ask_each(rt, shared, &mut seen, free);
     free.left.store(0, Ordering::SeqCst);
-    shared.signals().changes.raise();
+    shared.signals().issuing.raise();
     match asked {
         Ok(()) => Ok(seen),
         Err(refusal) => Err(refusal),

@@ -5,12 +5,21 @@ ghost use Rattle.unit_workers.specs.Ending.{is_end};
 ghost use Rattle.unit_workers.specs.Onward.{GoesOnFrom};
 
 use crate::asking::FreeRequests;
-use crate::waiting::Waiting;
 use crate::worker_lanes::WorkerLanes;
+use arrayvec::ArrayVec;
 use exchange_requests::{Ask, Requests};
 use instruction_table::Refusal;
-use machine_lock::{Naming, Seen, Shared};
+use machine::Note;
+use machine_lock::{MachineGuard, Naming, Seen, Shared};
+use signals::Waiting;
 use std::sync::Wait;
+
+/// The reservations of one hold of the lock: a unit has one at most, as nobody stores meanwhile. An `ArrayVec` wants
+/// elements that have a value by default, which a note has not.
+type Notes = ArrayVec<Option<Note>, 7>;
+
+/// How many instructions are issued while the lock is held once: passes alone would hold it for ever.
+const MOST_ISSUES: u32 = 64;
 
 /// How a run goes on after a step.
 #[derive(Clone, Copy, Drop)]
@@ -58,9 +67,8 @@ impl<'a> PendingRequests<'a> {
 ///
 /// # Errors
 /// What else was refused.
-fn ask_due<K: Naming, R: Wait>(
-    rt: &R,
-    shared: &Shared<K>,
+fn ask_due<K: Naming>(
+    machine: &mut MachineGuard<'_, K>,
     seen: &mut Seen<K>,
     pending: &mut PendingRequests<'_>,
 ) -> Result<(), Refusal>
@@ -69,7 +77,7 @@ fn ask_due<K: Naming, R: Wait>(
     let Some((at, _)) = pending.requests.due() else {
         return Ok(());
     };
-    match shared.ask(rt, seen, at) {
+    match machine.ask(seen, at) {
         Ok(()) => {
             let _ = pending.requests.take_due();
             Ok(())
@@ -142,8 +150,65 @@ fn finish<K: Naming, R: Wait>(
     }
 }
 
-/// Asks for the exchange that is due, and then issues the next instruction or, where none is issued, makes the
-/// exchange that waits.
+/// Issues until an issue is refused, and asks before each for the exchange that is due. It answers the refusal, if one
+/// came before the notes were full or so many instructions were issued that others may want the lock.
+///
+/// # Errors
+/// What was refused to a request.
+fn issue_on<K: Naming>(
+    machine: &mut MachineGuard<'_, K>,
+    seen: &mut Seen<K>,
+    pending: &mut PendingRequests<'_>,
+    notes: &mut Notes,
+) -> Result<Option<Refusal>, Refusal>
+    ensures onward { GoesOnFrom seen.old seen.new }
+{
+    for _ in 0..MOST_ISSUES {
+        ask_due(machine, seen, pending)?;
+        match machine.issue(seen) {
+            Ok(note) => {
+                pending.requests.issued();
+                if note.is_some() {
+                    let _ = notes.try_push(note);
+                }
+            }
+            Err(refusal) => return Ok(Some(refusal)),
+        }
+        if notes.is_full() {
+            return Ok(None);
+        }
+    }
+    Ok(None)
+}
+
+/// Issues until an issue is refused, while the lock is held once, and then sends each reservation on the lane of its
+/// unit.
+///
+/// # Errors
+/// What was refused to a request.
+fn issue_and_send<K: Naming, R: Wait>(
+    rt: &R,
+    shared: &Shared<K>,
+    seen: &mut Seen<K>,
+    pending: &mut PendingRequests<'_>,
+    lanes: &mut WorkerLanes<'_>,
+) -> Result<Option<Refusal>, Refusal>
+    ensures onward { GoesOnFrom seen.old seen.new }
+{
+    let mut notes = Notes::new();
+    let mut machine = shared.lock(rt);
+    let refused = issue_on(&mut machine, seen, pending, &mut notes);
+    let is_refused = matches!(&refused, Ok(Some(_)));
+    shared.signals().issuing.await_change(is_refused);
+    machine.release();
+    for note in notes.as_slice().iter().flatten() {
+        lanes.send(rt, *note);
+        shared.signals().worker(note.unit).raise();
+    }
+    refused
+}
+
+/// Issues as much as can be issued, and then, where an exchange waits or no more is issued, makes the exchange.
 ///
 /// # Errors
 /// What was refused, except what the events of others can help against.
@@ -156,19 +221,11 @@ fn step<K: Naming, R: Wait>(
 ) -> Result<Progress, Refusal>
     ensures onward { GoesOnFrom seen.old seen.new }
 {
-    ask_due(rt, shared, seen, pending)?;
-    match shared.issue(rt, seen) {
-        Ok(note) => {
-            pending.requests.issued();
-            if let Some(note) = note {
-                lanes.send(rt, note);
-                shared.signals().sent(note.unit).raise();
-            }
-            Ok(Progress::GoesOn)
-        }
-        Err(Refusal::ExchangeWaiting) => exchange(rt, shared, seen, pending),
-        Err(refusal) if ends_run(&refusal) => finish(rt, shared, seen, pending),
-        Err(_) => Ok(Progress::Waits),
+    match issue_and_send(rt, shared, seen, pending, lanes)? {
+        None => Ok(Progress::GoesOn),
+        Some(Refusal::ExchangeWaiting) => exchange(rt, shared, seen, pending),
+        Some(refusal) if ends_run(&refusal) => finish(rt, shared, seen, pending),
+        Some(_) => Ok(Progress::Waits),
     }
 }
 
@@ -184,7 +241,10 @@ pub fn begin<K: Naming, R: Wait>(
 ) -> Result<(), Refusal>
     ensures onward { GoesOnFrom seen.old seen.new }
 {
-    ask_due(rt, shared, seen, pending)?;
+    let mut machine = shared.lock(rt);
+    let asked = ask_due(&mut machine, seen, pending);
+    machine.release();
+    asked?;
     exchange(rt, shared, seen, pending)?;
     Ok(())
 }
@@ -202,13 +262,13 @@ pub fn conduct<K: Naming, R: Wait>(
 ) -> Result<(), Refusal>
     ensures onward { GoesOnFrom seen.old seen.new }
 {
-    let changes = &shared.signals().changes;
+    let issuing = &shared.signals().issuing;
     let mut wait = Waiting::new();
     for _ in rt.forever() {
-        let count = changes.count();
+        let count = issuing.count();
         match step(rt, shared, seen, &mut pending, lanes)? {
             Progress::GoesOn => wait.reset(),
-            Progress::Waits => wait.until_raised(rt, changes, count),
+            Progress::Waits => wait.until_raised(rt, issuing, count),
             Progress::Ends => return Ok(()),
         }
     }

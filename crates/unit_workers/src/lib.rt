@@ -14,7 +14,6 @@ mod issuing;
 mod memory_worker;
 mod serving;
 mod threaded_run;
-mod waiting;
 mod worker_lanes;
 mod working;
 

@@ -5,10 +5,10 @@ ghost use Rattle.unit_workers.specs.Tallies.{Served};
 
 use crate::gate::Gate;
 use crate::serving::serve_waiting;
-use crate::waiting::Waiting;
 use instruction_table::Unit;
 use machine::Seat;
 use machine_lock::{Naming, Shared};
+use signals::Waiting;
 use std::snapshot::Snapshot;
 use std::sync::Wait;
 use unit_queue::{Item, Lane, SendPass, TakePass};
@@ -59,7 +59,7 @@ pub fn worker<K: Naming, G: Gate, R: Wait>(
     let unit = at.unit();
     let before = at.stored();
     let mut strange = 0;
-    let sent = shared.signals().sent(unit);
+    let sent = shared.signals().worker(unit);
     let mut wait = Waiting::new();
     for _ in rt.forever() {
         let count = sent.count();

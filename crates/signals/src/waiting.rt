@@ -1,15 +1,15 @@
 //! How a thread waits for what others do. While it waits it takes no lock and lets other threads run, and after long
 //! it sleeps.
 
+use crate::signal::Signal;
 use crossbeam_utils::Backoff;
-use machine_lock::Signal;
 use std::sync::Wait;
 
 /// How many looks find nothing before a wait is no longer short: longer than most pauses between two stores.
 const SHORT: u32 = 32;
 
 /// How many looks find nothing before the thread sleeps.
-const AWAKE: u32 = 64;
+const AWAKE: u32 = 512;
 
 /// How a thread waits: it has one for all of its waits.
 #[derive(Drop)]
@@ -62,16 +62,6 @@ impl Waiting {
     pub fn until_raised<R: Wait>(&mut self, rt: &R, signal: &Signal, count: u64) {
         if !self.is_raised(signal, count, AWAKE) && self.may_sleep() {
             signal.sleep(rt, count);
-        }
-    }
-
-    /// Lets others run before the next try, whether a signal is raised or not.
-    pub fn turn<R: Wait>(&mut self, rt: &R, signal: &Signal, count: u64) {
-        if self.may_sleep() {
-            signal.sleep(rt, count);
-        } else {
-            self.looks = self.looks.saturating_add(1);
-            self.backoff.snooze();
         }
     }
 }
