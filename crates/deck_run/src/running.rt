@@ -11,7 +11,7 @@ use operator_terms::{Budget, ProgramFault};
 use std::alloc::{AllocError, Global};
 use std::sync::Wait;
 use std::thread::Threads;
-use unit_workers::{Gates, Open, Orders, run_threads};
+use unit_workers::{Orders, run_crew};
 
 /// What a run of this deck has to do: it starts with the package of `start`, and makes the requests of the `ask` lines,
 /// after so many instructions or at any time.
@@ -36,7 +36,7 @@ fn orders(alloc: Global, deck: &Deck) -> Result<Orders, AllocError>
     })
 }
 
-/// What `run_threads` gets for a run of a deck: a machine that was just booted with the deck's memory and the budget,
+/// What `run_crew` gets for a run of a deck: a machine that was just booted with the deck's memory and the budget,
 /// and the deck's orders.
 ///
 /// # Errors
@@ -54,19 +54,6 @@ fn prepared(alloc: Global, deck: &Deck, budget: Budget) -> Result<(Machine, Orde
     match booted(alloc, deck, budget.get()) {
         Ok(machine) => Ok((machine, orders)),
         Err(refusal) => Err(refusal),
-    }
-}
-
-/// A gate for each unit that holds up nobody.
-fn open_gates() -> Gates<Open> {
-    Gates {
-        branch: Open,
-        boolean: Open,
-        shift: Open,
-        long_add: Open,
-        divide: Open,
-        increment1: Open,
-        increment2: Open,
     }
 }
 
@@ -89,7 +76,7 @@ pub fn run<T: Threads + Wait + Sync>(
     let Ok((machine, orders)) = prepared(alloc, deck, budget) else {
         return Err(ProgramFault::OutOfMemory);
     };
-    match run_threads(rt, alloc, machine, &orders, open_gates()) {
+    match run_crew(rt, alloc, machine, &orders) {
         Ok(ended) => Ok(ended.snapshot),
         Err(Refusal::OutOfMemory) => Err(ProgramFault::OutOfMemory),
         Err(_) => Err(ProgramFault::Stuck),

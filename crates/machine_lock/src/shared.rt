@@ -25,9 +25,13 @@ use machine::{
 use per_unit::PerUnit;
 use signals::{Signals, Told};
 use std::alloc::Global;
+use std::hint::spin_loop;
 use std::marker::Model;
-use std::sync::{Arc, Mutex, Wait};
+use std::sync::{Arc, Mutex, MutexGuard, Wait};
 use word60::Word60;
+
+/// How often a thread asks for the lock before it may sleep until it gets it: for longer than most holds.
+const LOCK_TRIES: u32 = 128;
 
 /// A progress word, which counts the steps of a machine's log, before a machine stands beside it. A contract sees which
 /// it is.
@@ -171,10 +175,21 @@ impl<K: Naming> Shared<K> {
         Ok((shared, seen))
     }
 
+    /// What the lock keeps, with the lock held. Most holds are short, so the thread asks often before it sleeps.
+    fn acquire<R: Wait>(&self, rt: &R) -> MutexGuard<'_, Locked<K>> {
+        for _ in 0..LOCK_TRIES {
+            if let Some(locked) = self.locked.try_lock() {
+                return locked;
+            }
+            spin_loop();
+        }
+        self.locked.lock(rt)
+    }
+
     /// The machine with its lock held, to make several events with nothing between them.
     pub fn lock<R: Wait>(&self, rt: &R) -> MachineGuard<'_, K> {
         MachineGuard {
-            locked: self.locked.lock(rt),
+            locked: self.acquire(rt),
             word: &self.word,
             signals: &self.signals,
             told: Told::default(),

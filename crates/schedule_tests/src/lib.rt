@@ -10,8 +10,6 @@
 #[cfg(test)]
 mod branch_schedules;
 #[cfg(test)]
-mod crew;
-#[cfg(test)]
 mod dump;
 #[cfg(test)]
 mod exchange_schedules;
@@ -23,3 +21,5 @@ mod register_schedules;
 mod schedule;
 #[cfg(test)]
 mod schedule_tests;
+#[cfg(test)]
+mod seat_holder;

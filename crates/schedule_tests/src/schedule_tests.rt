@@ -3,9 +3,9 @@
 
 ghost use Rattle.std.specs.Prelude.{◌≡◌};
 
-use super::crew::Crew;
 use super::dump::dump_text;
 use super::schedule::Schedule;
+use super::seat_holder::SeatHolder;
 use super::{branch_schedules, exchange_schedules, reference_schedules, register_schedules};
 use instruction_table::{Refusal, Unit};
 use job_deck::{
@@ -238,11 +238,11 @@ fn stored_by_unit(schedule: &Schedule) -> [Option<(Unit, u64)>; 7] {
 /// machines drained or neither.
 fn is_alike<K: Naming>(
     rt: &impl Wait,
-    crew: &mut Crew<K>,
+    holder: &mut SeatHolder<K>,
     machine: &mut Machine,
     event: &Event,
 ) -> bool {
-    crew.call(rt, *event) == machine.apply(*event) && crew.drained(rt) == machine.drained()
+    holder.call(rt, *event) == machine.apply(*event) && holder.drained(rt) == machine.drained()
 }
 
 /// How many of the events are alike.
@@ -250,12 +250,12 @@ fn count_alike<K: Naming>(
     rt: &(impl AllocGlobal + Wait),
     schedule: &Schedule,
     deck: &Deck,
-    crew: &mut Crew<K>,
+    holder: &mut SeatHolder<K>,
 ) -> Result<usize, Fail> {
     let mut machine = booted(rt.alloc(), deck, schedule)?;
     let mut alike = 0usize;
     for event in events_of(rt.alloc(), schedule)? {
-        if is_alike(rt, crew, &mut machine, &event) {
+        if is_alike(rt, holder, &mut machine, &event) {
             alike = alike.saturating_add(1);
         }
     }
@@ -267,11 +267,11 @@ fn told_by<K: Naming>(
     rt: &(impl AllocGlobal + Wait),
     schedule: &Schedule,
     deck: &Deck,
-    mut crew: Crew<K>,
+    mut holder: SeatHolder<K>,
 ) -> Result<(usize, [Option<(Unit, u64)>; 7], Snapshot), Fail> {
-    let alike = count_alike(rt, schedule, deck, &mut crew);
-    let snapshot = crew.snapshot(rt);
-    let stored = crew.leave();
+    let alike = count_alike(rt, schedule, deck, &mut holder);
+    let snapshot = holder.snapshot(rt);
+    let stored = holder.leave();
     Ok((alike?, stored, snapshot?))
 }
 
@@ -285,8 +285,8 @@ fn expect_calls_beside<K: Naming>(
     requires { ground ≡ K.table }
 {
     let machine = booted(rt.alloc(), deck, schedule)?;
-    let crew = Crew::<K>::open(rt.alloc(), ground, machine)?;
-    let (alike, stored, snapshot) = told_by(rt, schedule, deck, crew)?;
+    let holder = SeatHolder::<K>::open(rt.alloc(), ground, machine)?;
+    let (alike, stored, snapshot) = told_by(rt, schedule, deck, holder)?;
     assert_eq!(rt;
         (alike, stored),
         (schedule.steps.len(), stored_by_unit(schedule)),

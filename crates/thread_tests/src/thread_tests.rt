@@ -18,7 +18,7 @@ use std::test::Fail;
 use std::thread;
 use std::thread::Threads;
 use unit_queue::lane;
-use unit_workers::{Ended, Gate, Gates, Open, Orders, Tally, run_threads, serve, worker};
+use unit_workers::{Ended, Gate, Gates, Open, Orders, Tally, run_crew, run_threads, serve, worker};
 
 fn orders(alloc: Global) -> Orders {
     Orders {
@@ -254,6 +254,17 @@ fn ends<G: Gate + Send, R: Threads + Wait + Sync>(
     }
 }
 
+/// Whether a run with one thread for all units ends as it is to.
+fn ends_by_a_crew<R: Threads + Wait + Sync>(rt: &R, alloc: Global, run: &Run<'_>) -> bool {
+    let Ok(machine) = booted_over(alloc, &REGISTERS, run.words) else {
+        return false;
+    };
+    match run_crew(rt, alloc, machine, &orders(alloc)) {
+        Ok(ended) => is_end_of(&ended, run),
+        Err(_) => false,
+    }
+}
+
 /// One reservation that isn't computed until another is stored.
 #[derive(Drop)]
 pub(crate) struct Hold {
@@ -370,6 +381,14 @@ fn runs(rt: HostRuntime) -> Result<(), Fail> {
             "{}",
             run.name
         );
+    }
+    Ok(())
+}
+
+#[test]
+fn runs_by_a_crew(rt: HostRuntime) -> Result<(), Fail> {
+    for run in &RUNS {
+        assert!(rt; ends_by_a_crew(&rt, rt.alloc(), run), "{}", run.name);
     }
     Ok(())
 }

@@ -201,10 +201,7 @@ fn issue_and_send<K: Naming, R: Wait>(
     let is_refused = matches!(&refused, Ok(Some(_)));
     shared.signals().issuing.await_change(is_refused);
     machine.release();
-    for note in notes.as_slice().iter().flatten() {
-        lanes.send(rt, *note);
-        shared.signals().worker(note.unit).raise();
-    }
+    lanes.send_all(rt, shared.signals(), notes.as_slice());
     refused
 }
 

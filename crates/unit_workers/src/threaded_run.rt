@@ -5,11 +5,8 @@ ghost use Rattle.machine_lock.specs.CallerKnowledge.{booted_by, known, StartsWit
 ghost use Rattle.unit_workers.specs.Onward.{EndsFrom};
 
 use crate::asking::{FreeRequests, ask_all};
-use crate::gate::{Gate, Gates};
 use crate::issuing::{PendingRequests, begin, conduct};
-use crate::memory_worker::storage_worker;
 use crate::worker_lanes::{LaneEnds, WorkerLanes, open_lanes};
-use crate::working::Tally;
 use exchange_requests::{Ask, Requests};
 use instruction_table::Refusal;
 use machine::{Machine, Seat, Snapshot};
@@ -20,6 +17,7 @@ use std::marker::Brand;
 use std::sync::Wait;
 use std::thread;
 use std::thread::{Scope, Threads};
+use unit_serving::{Gate, Gates, Open, Tally, storage_worker};
 
 /// What a run by threads has to do: the package with which it starts, and the exchanges for which it asks.
 #[derive(Drop)]
@@ -83,8 +81,8 @@ fn with_tallies(
 /// What the threads of a run get.
 #[derive(Drop)]
 struct Tasks<'a, K: Naming, G: Gate> {
-    /// What the workers call.
-    gates: Gates<G>,
+    /// What the workers call, if each has a thread of its own.
+    gates: Option<Gates<G>>,
     /// The exchanges to ask for.
     pending: PendingRequests<'a>,
     /// What the issuing thread has seen.
@@ -115,7 +113,10 @@ fn run_in<'s, E, K: Naming + Send + Sync + 's, G: Gate + Send + 's, R: Threads +
         other,
     } = tasks;
     let free = pending.free();
-    let mut lanes = WorkerLanes::start(scope, rt, shared, ends, holders, gates);
+    let mut lanes = match gates {
+        Some(gates) => WorkerLanes::start(scope, rt, shared, ends, holders, gates),
+        None => WorkerLanes::start_crew(scope, rt, shared, ends, holders),
+    };
     let storing = scope.spawn(move || storage_worker(rt, shared)).ok();
     let asking = scope.spawn(move || ask_all(rt, shared, other, free)).ok();
     let conducted = if lanes.are_served() && storing.is_some() && asking.is_some() {
@@ -171,7 +172,7 @@ fn run_from_start<K: Naming + Send + Sync, G: Gate + Send, R: Threads + Wait + S
     alloc: Global,
     shared: &Shared<K>,
     holders: &mut PerUnit<Option<Seat>>,
-    gates: Gates<G>,
+    gates: Option<Gates<G>>,
     pending: PendingRequests<'_>,
     mut seen: Seen<K>,
 ) -> Result<Ended, Refusal>
@@ -199,7 +200,7 @@ fn run_beside<K: Naming + Send + Sync, G: Gate + Send, R: Threads + Wait + Sync>
     alloc: Global,
     ground: Ground,
     machine: Machine,
-    gates: Gates<G>,
+    gates: Option<Gates<G>>,
     pending: PendingRequests<'_>,
 ) -> Result<Ended, Refusal>
     requires { ground ≡ K.table }
@@ -217,6 +218,30 @@ fn leave(holder: Option<Seat>) {
     if let Some(seat) = holder {
         seat.leave();
     }
+}
+
+/// Runs a machine, by a thread for each unit where there are gates for them, and else by one for all.
+///
+/// # Errors
+/// As those of `run_threads`.
+fn run_machine<G: Gate + Send, R: Threads + Wait + Sync>(
+    rt: &R,
+    alloc: Global,
+    machine: Machine,
+    orders: &Orders,
+    gates: Option<Gates<G>>,
+) -> Result<Ended, Refusal>
+    ensures onward { IfOk result (λ ended. EndsFrom (known (booted_by machine) machine.log []) ended.snapshot) }
+{
+    let Ok(requests) = Requests::new(alloc, orders.start, orders.after.as_slice()) else {
+        return Err(Refusal::OutOfMemory);
+    };
+    let ground = Ground::new(alloc)?;
+    let free = FreeRequests::new(orders.free.as_slice());
+    let mut machine = machine;
+    machine.drain();
+    let pending = PendingRequests::new(requests, &free);
+    run_beside::<Brand, _, _>(rt, alloc, ground, machine, gates, pending)
 }
 
 /// Runs a machine by threads: one for each of the seven units, one for memory, one that makes the requests at any time,
@@ -242,13 +267,24 @@ pub fn run_threads<G: Gate + Send, R: Threads + Wait + Sync>(
     ensures budget { IfOk result (λ ended. ended.snapshot.budget ≡ machine.budget) }
     ensures within { IfOk result (λ ended. issued ended.snapshot.log ≤ machine.budget) }
 {
-    let Ok(requests) = Requests::new(alloc, orders.start, orders.after.as_slice()) else {
-        return Err(Refusal::OutOfMemory);
-    };
-    let ground = Ground::new(alloc)?;
-    let free = FreeRequests::new(orders.free.as_slice());
-    let mut machine = machine;
-    machine.drain();
-    let pending = PendingRequests::new(requests, &free);
-    run_beside::<Brand, _, _>(rt, alloc, ground, machine, gates, pending)
+    run_machine(rt, alloc, machine, orders, Some(gates))
+}
+
+/// Runs a machine as `run_threads`, but by a crew: one thread for the workers of all seven units, whose gates hold up
+/// nobody. It takes less time: a thread for each unit mostly waits, or is switched to.
+///
+/// # Errors
+/// As those of `run_threads`.
+pub fn run_crew<R: Threads + Wait + Sync>(
+    rt: &R,
+    alloc: Global,
+    machine: Machine,
+    orders: &Orders,
+) -> Result<Ended, Refusal>
+    ensures memory { IfOk result (λ ended. ended.snapshot.boot_memory ≡ machine.boot_memory) }
+    ensures log { IfOk result (λ ended. StartsWith ended.snapshot.log machine.log) }
+    ensures budget { IfOk result (λ ended. ended.snapshot.budget ≡ machine.budget) }
+    ensures within { IfOk result (λ ended. issued ended.snapshot.log ≤ machine.budget) }
+{
+    run_machine::<Open, R>(rt, alloc, machine, orders, None)
 }

@@ -1,19 +1,20 @@
-//! The lanes of the seven units with their ends, and the workers' threads that serve them.
+//! The lanes of the seven units with their ends, and the threads that serve them.
 ghost use Rattle.std.specs.Prelude.{◌≡◌, IfSome};
 ghost use Rattle.std.specs.Option.{ForSome};
+ghost use Rattle.per_unit.specs.Units.{paired};
 
-use crate::gate::{Gate, Gates};
-use crate::working::{Tally, worker};
 use crossbeam_utils::Backoff;
 use instruction_table::Unit;
 use machine::{Note, Seat};
 use machine_lock::{Naming, Shared};
 use per_unit::PerUnit;
+use signals::Signals;
 use std::alloc::Global;
 use std::snapshot::Snapshot;
 use std::sync::Wait;
-use std::thread::{Promise, PromisedHandle, Scope, Threads};
+use std::thread::{JoinHandle, Promise, PromisedHandle, Scope, Threads};
 use unit_queue::{Lane, SendPass, TakePass, lane};
+use unit_serving::{Gate, Gates, LaneReceiver, Tally, crew, crew_signal, worker};
 
 /// The tally that a worker's thread gives is of this lane.
 #[derive(Drop)]
@@ -37,15 +38,7 @@ pub struct LaneEnds<'a> {
     ghost takes: { taker.id ≡ lane.now.id },
 }
 
-/// A lane to take from.
-#[derive(Drop)]
-struct LaneReceiver<'a> {
-    lane: &'a Lane,
-    taker: TakePass,
-    ghost takes: { taker.id ≡ lane.now.id },
-}
-
-/// A lane to send on, with the worker that takes from it, if its thread could be started.
+/// A lane to send on, with the worker that takes from it, if one was started for it alone.
 #[derive(Drop)]
 pub struct WorkerLane<'a> {
     lane: &'a Lane,
@@ -68,9 +61,9 @@ fn work<K: Naming, G: Gate, R: Wait>(
 ) -> Option<Tally>
     ensures { IfSome result (λ t. t.pass.id ≡ receiver.entry.lane.now.id) }
 {
-    let LaneReceiver { lane, taker } = receiver;
+    let LaneReceiver { lane, pass } = receiver;
     let seat = holder.take()?;
-    Some(worker(rt, shared, lane, taker, seat, &mut gate))
+    Some(worker(rt, shared, lane, pass, seat, &mut gate))
 }
 
 /// Starts a worker's thread. None where that couldn't be done.
@@ -93,6 +86,40 @@ fn start_at<'s, E, K: Naming + Send + Sync + 's, G: Gate + Send + 's, R: Threads
             { work(rt, shared, receiver, holder, gate) },
         )
         .ok()
+}
+
+/// The first ones and the second ones.
+fn unzip<T, U>(pairs: PerUnit<(T, U)>) -> (PerUnit<T>, PerUnit<U>)
+    ensures { pairs ≡ paired result.0 result.1 }
+{
+    let PerUnit {
+        branch,
+        boolean,
+        shift,
+        long_add,
+        divide,
+        increment1,
+        increment2,
+    } = pairs;
+    let first = PerUnit {
+        branch: branch.0,
+        boolean: boolean.0,
+        shift: shift.0,
+        long_add: long_add.0,
+        divide: divide.0,
+        increment1: increment1.0,
+        increment2: increment2.0,
+    };
+    let second = PerUnit {
+        branch: branch.1,
+        boolean: boolean.1,
+        shift: shift.1,
+        long_add: long_add.1,
+        divide: divide.1,
+        increment1: increment1.1,
+        increment2: increment2.1,
+    };
+    (first, second)
 }
 
 impl<'a> LaneEnds<'a> {
@@ -132,7 +159,7 @@ impl<'a> LaneEnds<'a> {
             scope,
             rt,
             shared,
-            LaneReceiver { lane, taker },
+            LaneReceiver::of(lane, taker),
             holder,
             gate,
         );
@@ -142,6 +169,22 @@ impl<'a> LaneEnds<'a> {
             started,
             backoff: Backoff::new(),
         }
+    }
+
+    /// The lane to send on, without a worker of its own, and the lane to take from.
+    fn split(self) -> (WorkerLane<'a>, LaneReceiver<'a>) {
+        let LaneEnds {
+            lane,
+            sender,
+            taker,
+        } = self;
+        let sending = WorkerLane {
+            lane,
+            sender,
+            started: None,
+            backoff: Backoff::new(),
+        };
+        (sending, LaneReceiver::of(lane, taker))
     }
 }
 
@@ -198,14 +241,16 @@ pub fn open_lanes<'a>(
         .complete()
 }
 
-/// The lanes of all units to send on, with their workers.
+/// The lanes of all units to send on, with the threads that serve them: one for each lane, or one for all.
 #[derive(Drop)]
 pub struct WorkerLanes<'a> {
     lanes: PerUnit<WorkerLane<'a>>,
+    /// The thread that serves all lanes, if one does.
+    crew: Option<JoinHandle<Option<PerUnit<Tally>>>>,
 }
 
 impl<'a> WorkerLanes<'a> {
-    /// Starts the worker of each lane, which finds its seat in the holder of its unit.
+    /// Starts the worker of each lane, in a thread of its own, which finds its seat in the holder of its unit.
     pub fn start<E, K: Naming + Send + Sync + 'a, G: Gate + Send + 'a, R: Threads + Wait + Sync>(
         scope: &Scope<'a, E>,
         rt: &'a R,
@@ -218,18 +263,45 @@ impl<'a> WorkerLanes<'a> {
             holders.each_mut().zip(gates.into_each()),
             |ends, (holder, gate)| ends.start(scope, rt, shared, holder, gate),
         );
-        WorkerLanes { lanes }
+        WorkerLanes { lanes, crew: None }
     }
 
-    /// Whether each lane has its worker.
+    /// Starts one thread for the workers of all lanes, which finds their seats in the holders.
+    pub fn start_crew<E, K: Naming + Send + Sync + 'a, R: Threads + Wait + Sync>(
+        scope: &Scope<'a, E>,
+        rt: &'a R,
+        shared: &'a Shared<K>,
+        ends: PerUnit<LaneEnds<'a>>,
+        holders: &'a mut PerUnit<Option<Seat>>,
+    ) -> WorkerLanes<'a> {
+        let (lanes, receivers) = unzip(ends.map(|ends| ends.split()));
+        let crew = scope
+            .spawn(move || crew(rt, shared, receivers, holders))
+            .ok();
+        WorkerLanes { lanes, crew }
+    }
+
+    /// Whether each lane is served.
     pub fn are_served(&self) -> bool {
-        self.lanes.each().map(|lane| lane.is_served()).into_array() == [true; 7]
+        self.crew.is_some()
+            || self.lanes.each().map(|lane| lane.is_served()).into_array() == [true; 7]
     }
 
     /// Sends a note on the lane of its unit. A unit that is never reserved has none.
-    pub fn send<R: Wait>(&mut self, rt: &R, note: Note) {
+    fn send<R: Wait>(&mut self, rt: &R, note: Note) {
         if let Some(lane) = self.lanes.get_mut(note.unit) {
             lane.send(rt, note);
+        }
+    }
+
+    /// Sends each of the notes on the lane of its unit, and tells those who serve them.
+    pub fn send_all<R: Wait>(&mut self, rt: &R, signals: &Signals, notes: &[Option<Note>]) {
+        for note in notes.iter().flatten() {
+            self.send(rt, *note);
+            signals.worker(note.unit).raise();
+        }
+        if self.crew.is_some() && !notes.is_empty() {
+            crew_signal(signals).raise();
         }
     }
 
@@ -238,10 +310,13 @@ impl<'a> WorkerLanes<'a> {
         let _ = self.lanes.each_mut().map(|lane| lane.close(rt));
     }
 
-    /// Waits for all workers, and settles their tallies, in the order of the units' numbers. None where a worker
-    /// couldn't be started.
+    /// Waits for all workers, and gives their tallies in the order of the units' numbers. Those of threads of their own
+    /// are settled. None where a thread couldn't be started.
     pub fn end<R: Threads + Wait>(self, rt: &R) -> Option<[Tally; 7]> {
-        let WorkerLanes { lanes } = self;
+        let WorkerLanes { lanes, crew } = self;
+        if let Some(crew) = crew {
+            return Some(crew.join(rt)?.into_array());
+        }
         let tallies = PerUnit {
             branch: lanes.branch.end(rt),
             boolean: lanes.boolean.end(rt),

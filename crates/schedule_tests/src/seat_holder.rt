@@ -1,0 +1,239 @@
+//! For the tests: a machine under its lock with all its seats, whose events are made by the calls of `Shared`.
+
+ghost use Rattle.std.specs.Prelude.{◌≡◌, ◌<◌, IfSome};
+
+use instruction_table::{Refusal, Unit};
+use machine::{Answer, Computed, Done, Event, Finished, Machine, Note, Reserved, Seat, Snapshot};
+use machine_lock::{Ground, Naming, Seen, Shared};
+use std::alloc::Global;
+use std::mem;
+use std::sync::Wait;
+
+/// What is held for a unit: its seat, or the token of the reservation that was taken on with it.
+enum Held {
+    Idle(Seat),
+    Reserved(Reserved),
+    Computed(Computed),
+    Finished(Finished),
+    /// Nothing, while a call has it.
+    Lent,
+}
+
+/// What is held, with the answer of a call.
+type Step = (Held, Answer);
+
+const MADE: Answer = Ok(Done::Made);
+
+impl Held {
+    /// The seat is left; None where there is none or a reservation isn't stored.
+    fn leave(self) -> Option<(Unit, u64)> {
+        match self {
+            Held::Idle(seat) => Some((seat.unit(), seat.leave())),
+            Held::Reserved(token) => abandoned(token.abandon()),
+            Held::Computed(token) => abandoned(token.abandon()),
+            Held::Finished(token) => abandoned(token.abandon()),
+            Held::Lent => None,
+        }
+    }
+
+    fn claim<K: Naming, R: Wait>(self, rt: &R, shared: &Shared<K>, note: Note) -> Step {
+        match self {
+            Held::Idle(seat) => match shared.claim(rt, seat, note) {
+                Ok(token) => (Held::Reserved(token), Ok(Done::Issued(Some(note)))),
+                Err((refusal, seat)) => (Held::Idle(seat), Err(refusal)),
+            },
+            held => (held, Err(Refusal::Stranger)),
+        }
+    }
+
+    /// Reads, and computes at once.
+    fn read<K: Naming, R: Wait>(self, rt: &R, shared: &Shared<K>) -> Step {
+        match self {
+            Held::Reserved(token) => match shared.read(rt, token) {
+                Ok(token) => (Held::Computed(token.compute()), MADE),
+                Err((refusal, token)) => (Held::Reserved(token), Err(refusal)),
+            },
+            held => (held, Err(Refusal::Nothing)),
+        }
+    }
+
+    fn finish<K: Naming, R: Wait>(self, rt: &R, shared: &Shared<K>) -> Step {
+        match self {
+            Held::Computed(token) => match shared.finish(rt, token) {
+                Ok(token) => (Held::Finished(token), MADE),
+                Err((refusal, token)) => (Held::Computed(token), Err(refusal)),
+            },
+            held => (held, Err(Refusal::Nothing)),
+        }
+    }
+
+    fn store<K: Naming, R: Wait>(self, rt: &R, shared: &Shared<K>) -> Step {
+        match self {
+            Held::Finished(token) => match shared.store(rt, token) {
+                Ok(seat) => (Held::Idle(seat), MADE),
+                Err((refusal, token)) => (Held::Finished(token), Err(refusal)),
+            },
+            held => (held, Err(Refusal::Nothing)),
+        }
+    }
+}
+
+fn abandoned(seat: Seat) -> Option<(Unit, u64)> {
+    seat.leave();
+    None
+}
+
+/// A machine under its lock, what its user has seen, and what is held for each of its units in use.
+pub struct SeatHolder<K: Naming> {
+    shared: Shared<K>,
+    seen: Seen<K>,
+    held: [Held; 7],
+}
+
+/// Where what is held for a unit in use stands.
+fn place_of(unit: Unit) -> Option<usize>
+    ensures { IfSome result (λ position. position < 7) }
+{
+    match unit {
+        Unit::Branch => Some(0),
+        Unit::Boolean => Some(1),
+        Unit::Shift => Some(2),
+        Unit::LongAdd => Some(3),
+        Unit::Divide => Some(4),
+        Unit::Increment1 => Some(5),
+        Unit::Increment2 => Some(6),
+        Unit::Add | Unit::Multiply1 | Unit::Multiply2 => None,
+    }
+}
+
+/// The answer of a call that gives nothing.
+fn made(called: Result<(), Refusal>) -> Answer {
+    match called {
+        Ok(()) => MADE,
+        Err(refusal) => Err(refusal),
+    }
+}
+
+impl<K: Naming> SeatHolder<K> {
+    pub fn open(alloc: Global, ground: Ground, machine: Machine) -> Result<SeatHolder<K>, Refusal>
+        requires { ground ≡ K.table }
+    {
+        let (shared, seats, seen) = Shared::<K>::open(alloc, ground, machine)?;
+        let [
+            branch,
+            boolean,
+            shift,
+            long_add,
+            divide,
+            increment1,
+            increment2,
+        ] = seats;
+        let held = [
+            Held::Idle(branch),
+            Held::Idle(boolean),
+            Held::Idle(shift),
+            Held::Idle(long_add),
+            Held::Idle(divide),
+            Held::Idle(increment1),
+            Held::Idle(increment2),
+        ];
+        Ok(SeatHolder { shared, seen, held })
+    }
+
+    /// Lends what is held for a unit to a call.
+    fn lend(&mut self, unit: Unit) -> Held {
+        match place_of(unit) {
+            Some(position) => mem::replace(&mut self.held[position], Held::Lent),
+            None => Held::Lent,
+        }
+    }
+
+    /// Takes back what the call left, and answers what it answered.
+    fn take_back(&mut self, unit: Unit, step: Step) -> Answer {
+        let (held, answer) = step;
+        let left = match place_of(unit) {
+            Some(position) => mem::replace(&mut self.held[position], held),
+            None => held,
+        };
+        left.leave();
+        answer
+    }
+
+    /// Issues, and claims a reservation at once with the seat of its unit.
+    fn issue<R: Wait>(&mut self, rt: &R) -> Answer {
+        match self.shared.issue(rt, &mut self.seen) {
+            Ok(Some(note)) => {
+                let step = self.lend(note.unit).claim(rt, &self.shared, note);
+                self.take_back(note.unit, step)
+            }
+            Ok(None) => Ok(Done::Issued(None)),
+            Err(refusal) => Err(refusal),
+        }
+    }
+
+    /// Makes the event of a unit with the token that is held for it.
+    fn work<R: Wait>(&mut self, rt: &R, unit: Unit, event: Event) -> Answer {
+        let held = self.lend(unit);
+        let step = match event {
+            Event::Read(_) => held.read(rt, &self.shared),
+            Event::Finish(_) => held.finish(rt, &self.shared),
+            _ => held.store(rt, &self.shared),
+        };
+        self.take_back(unit, step)
+    }
+
+    /// Makes the event by the call of its name.
+    pub fn call<R: Wait>(&mut self, rt: &R, event: Event) -> Answer {
+        match event {
+            Event::Issue => self.issue(rt),
+            Event::Read(unit) => self.work(rt, unit, event),
+            Event::Finish(unit) => self.work(rt, unit, event),
+            Event::Store(unit) => self.work(rt, unit, event),
+            Event::Accept(position) => made(self.shared.accept(rt, position)),
+            Event::Return(channel) => made(self.shared.return_load(rt, channel)),
+            Event::BankFree(bank) => made(self.shared.bank_free(rt, bank)),
+            Event::Ask(at) => made(self.shared.ask(rt, &mut self.seen, at)),
+            Event::Exchange => made(self.shared.exchange(rt, &mut self.seen)),
+            Event::PpRead(at) => match self.shared.pp_read(rt, &mut self.seen, at) {
+                Ok(word) => Ok(Done::Word(word)),
+                Err(refusal) => Err(refusal),
+            },
+            Event::PpWrite(at, word) => { made(self.shared.pp_write(rt, &mut self.seen, at, word)) }
+        }
+    }
+
+    /// Whether nothing is pending.
+    pub fn drained<R: Wait>(&self, rt: &R) -> bool {
+        self.shared.drained(rt)
+    }
+
+    /// What the drained machine shows.
+    pub fn snapshot<R: Wait>(&mut self, rt: &R) -> Result<Snapshot, Refusal> {
+        self.shared.snapshot(rt, &mut self.seen)
+    }
+
+    /// Leaves the seats: how many reservations were stored with each, in the order of the units' numbers.
+    pub fn leave(self) -> [Option<(Unit, u64)>; 7] {
+        let SeatHolder { shared, seen, held } = self;
+        drop(seen);
+        drop(shared);
+        let [
+            branch,
+            boolean,
+            shift,
+            long_add,
+            divide,
+            increment1,
+            increment2,
+        ] = held;
+        [
+            branch.leave(),
+            boolean.leave(),
+            shift.leave(),
+            long_add.leave(),
+            divide.leave(),
+            increment1.leave(),
+            increment2.leave(),
+        ]
+    }
+}

@@ -1,0 +1,4 @@
+pub mod Accounts
+pub mod AllUnits
+pub mod NotesTaken
+pub mod Sent

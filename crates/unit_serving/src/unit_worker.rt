@@ -1,0 +1,206 @@
+//! The worker of a unit.
+ghost use Rattle.std.specs.Prelude.{◌≡◌, ◌+◌, true, MatchResult};
+ghost use Rattle.unit_queue.specs.Lanes.{is_closed};
+ghost use Rattle.machine.specs.Tokens.{ServedReservation};
+ghost use Rattle.unit_serving.specs.Services.{IsOf};
+ghost use Rattle.unit_serving.specs.Tallies.{Served, IsCounted};
+ghost use Rattle.unit_serving.specs.Workers.{IsSamePost, IsTallyOf, IsMore};
+
+use crate::gate::Gate;
+use crate::lane_receiver::LaneReceiver;
+use crate::post::{Duty, Post, UnitWorker};
+use crate::service::{Service, pause};
+use crate::tally::Tally;
+use machine::{Note, Seat};
+use machine_lock::{Naming, Shared};
+use signals::{Signal, Waiting};
+use std::snapshot::Snapshot;
+use std::sync::Wait;
+use unit_queue::{Item, Lane, TakePass};
+
+/// The number after this one. It never returns at the largest number, to which no worker counts.
+fn one_more<R: Wait>(rt: &R, number: u64) -> u64
+    ensures { result ≡ number + 1 }
+{
+    if let Some(more) = number.checked_add(1) {
+        return more;
+    }
+    for _ in rt.forever() {}
+    unreachable!()
+}
+
+impl<'a> Post<'a> {
+    /// Goes on after a step of a reservation's service.
+    fn after<R: Wait>(self, rt: &R, note: Note, service: Service) -> UnitWorker<'a>
+        requires { (r : ServedReservation) × IsOf r service × IsCounted self r.seat 1 }
+        ensures { IsSamePost self.entry result.post
+            × (result.post.receiver.pass.got ≡ self.entry.receiver.pass.got) }
+    {
+        let mut post = self;
+        match service {
+            Service::Claimed(token) => UnitWorker {
+                post,
+                duty: Duty::Reads(note, token),
+                waits: true,
+            },
+            Service::Finished(token) => UnitWorker {
+                post,
+                duty: Duty::Stores(note, token),
+                waits: true,
+            },
+            Service::Stored(seat) => UnitWorker {
+                post,
+                duty: Duty::Free(seat),
+                waits: false,
+            },
+            Service::Strange(seat) => {
+                post.strange = one_more(rt, post.strange);
+                UnitWorker {
+                    post,
+                    duty: Duty::Free(seat),
+                    waits: false,
+                }
+            }
+        }
+    }
+
+    /// Leaves the seat at the lane's end.
+    fn leave(self, seat: Seat) -> Tally
+        requires counted { IsCounted self seat 0 }
+        requires closed { is_closed self.receiver.pass.got ≡ true }
+        ensures { IsTallyOf self.entry result × (result.pass ≡ self.entry.receiver.pass) }
+    {
+        let left = Snapshot::of(&seat);
+        let stored = seat.leave() - self.before;
+        Tally {
+            unit: self.unit,
+            stored,
+            strange: self.strange,
+            pass: self.receiver.pass,
+            left,
+        }
+    }
+}
+
+impl<'a> UnitWorker<'a> {
+    /// The worker that serves this lane's notes with a seat.
+    pub fn new(receiver: LaneReceiver<'a>, seat: Seat) -> UnitWorker<'a>
+        ensures unit { result.post.unit ≡ seat.unit }
+        ensures first { result.post.first.value ≡ receiver.entry.pass }
+        ensures taken { result.post.receiver.pass ≡ receiver.entry.pass }
+        ensures before { result.post.before ≡ seat.stored }
+    {
+        let first = receiver.taken();
+        let post = Post {
+            unit: seat.unit(),
+            receiver,
+            strange: 0,
+            before: seat.stored(),
+            first,
+        };
+        UnitWorker {
+            post,
+            duty: Duty::Free(seat),
+            waits: false,
+        }
+    }
+
+    /// Whether its last step found nothing that it could do.
+    pub fn waits(&self) -> bool {
+        self.waits
+    }
+
+    /// Goes on with the reservation that it has, or takes the next one from its lane where it is told that one may be
+    /// there, as far as may be done now. Where it waits then for others' events, whoever makes one raises the signal.
+    ///
+    /// # Errors
+    /// What it did, where its lane is closed. The seat is left.
+    pub fn step<K: Naming, G: Gate, R: Wait>(
+        self,
+        rt: &R,
+        shared: &Shared<K>,
+        signal: &Signal,
+        is_told: bool,
+        gate: &mut G,
+    ) -> Result<UnitWorker<'a>, Tally>
+        ensures same { MatchResult result (λ worker. IsSamePost self.entry.post worker.post)
+            (λ tally. IsTallyOf self.entry.post tally) }
+        ensures taken { MatchResult result
+            (λ worker. IsMore self.entry.post.receiver.pass.got worker.post.receiver.pass.got)
+            (λ tally. IsMore self.entry.post.receiver.pass.got tally.pass.got) }
+    {
+        let UnitWorker {
+            mut post,
+            duty,
+            waits: _,
+        } = self;
+        match duty {
+            Duty::Reads(note, token) => {
+                let service = Service::Claimed(token).go_on(rt, shared, signal, note, gate);
+                Ok(post.after(rt, note, service))
+            }
+            Duty::Stores(note, token) => {
+                let service = Service::Finished(token).go_on(rt, shared, signal, note, gate);
+                Ok(post.after(rt, note, service))
+            }
+            Duty::Free(seat) => match post.receiver.take(rt, is_told) {
+                Some(Item::Work(note)) => {
+                    let service = Service::begin(rt, shared, signal, note, seat, gate);
+                    Ok(post.after(rt, note, service))
+                }
+                Some(Item::Closed) => Err(post.leave(seat)),
+                None => Ok(UnitWorker {
+                    post,
+                    duty: Duty::Free(seat),
+                    waits: true,
+                }),
+            },
+        }
+    }
+
+    /// Gives up what it serves, and leaves its seat.
+    pub fn give_up(self) {
+        let UnitWorker {
+            post: _,
+            duty,
+            waits: _,
+        } = self;
+        let seat = match duty {
+            Duty::Free(seat) => seat,
+            Duty::Reads(_, token) => token.abandon(),
+            Duty::Stores(_, token) => token.abandon(),
+        };
+        seat.leave();
+    }
+}
+
+/// Serves the notes of a lane until it is closed, and leaves the seat. Each note is stored or strange: a stranger's
+/// reservation is given up. The seat's count grows by the number of those that were stored. The pass has to be this
+/// lane's.
+pub fn worker<K: Naming, G: Gate, R: Wait>(
+    rt: &R,
+    shared: &Shared<K>,
+    lane: &Lane,
+    pass: TakePass,
+    seat: Seat,
+    gate: &mut G,
+) -> Tally
+    requires { pass.id ≡ lane.now.id }
+    ensures unit { result.unit ≡ seat.unit }
+    ensures lane { result.pass.id ≡ lane.now.id }
+    ensures notes { Served pass.got result.pass.got result.stored result.strange }
+    ensures counted { result.left.value.stored ≡ seat.stored + result.stored }
+{
+    let signal = shared.signals().worker(seat.unit());
+    let mut at = UnitWorker::new(LaneReceiver::of(lane, pass), seat);
+    let mut wait = Waiting::new();
+    for _ in rt.forever() {
+        let count = signal.count();
+        at = match at.step(rt, shared, signal, true, gate) {
+            Ok(at) => at,
+            Err(tally) => return tally,
+        };
+        pause(rt, &mut wait, at.waits(), signal, count);
+    }
+    unreachable!()
+}
