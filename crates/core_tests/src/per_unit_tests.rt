@@ -52,6 +52,14 @@ fn keeps_units_together(rt: HostRuntime) {
     );
 }
 
+/// What was put side by side comes apart again.
+#[test]
+fn unzips(rt: HostRuntime) {
+    let (units, kept) = PerUnit::units().zip(PerUnit::from_array(KEPT)).unzip();
+    assert_eq!(rt; units.into_array(), PerUnit::units().into_array());
+    assert_eq!(rt; kept.into_array(), KEPT);
+}
+
 /// All are there, or one is missing.
 #[test]
 fn complete_or_not(rt: HostRuntime) {

@@ -30,16 +30,16 @@ pub struct MachineGuard<'a, K: Naming> {
 }
 
 impl<'a, K: Naming> MachineGuard<'a, K> {
+    /// Gives the lock back, and answers what was done meanwhile, for `Signals::tell`.
+    pub fn hand_back(self) -> Told {
+        drop(self.locked);
+        self.told
+    }
+
     /// Gives the lock back, and tells those who wait what was done.
     pub fn release(self) {
-        let MachineGuard {
-            locked,
-            word: _,
-            signals,
-            told,
-        } = self;
-        drop(locked);
-        signals.tell(&told);
+        let signals = self.signals;
+        signals.tell(&self.hand_back());
     }
 
     /// Memory's worker is to be told that something may be left for it.

@@ -1,7 +1,7 @@
 //! Something of each of the seven units in use, as a lane or a worker's thread of each.
 //!
-//! Callers rely on `PerUnit::get`, which finds the one of a unit, and on `zip` and `map`, which keep what belongs to one
-//! unit together. Begin there.
+//! Callers rely on `PerUnit::get`, which finds the one of a unit, and on `zip` and `map`, which keep what belongs to
+//! one unit together. Begin there.
 #![tactic(auto)]
 
 ghost use Rattle.std.specs.Prelude.{◌≡◌, ◌∷◌, [], IfSome, MatchOption, Some, None, is_some};
@@ -192,6 +192,42 @@ impl<T> PerUnit<T> {
             increment1: make(self.increment1),
             increment2: make(self.increment2),
         }
+    }
+}
+
+impl<T, U> PerUnit<(T, U)> {
+    /// The first ones, and the second ones.
+    pub fn unzip(self) -> (PerUnit<T>, PerUnit<U>)
+        ensures { self ≡ paired result.0 result.1 }
+    {
+        let PerUnit {
+            branch,
+            boolean,
+            shift,
+            long_add,
+            divide,
+            increment1,
+            increment2,
+        } = self;
+        let first = PerUnit {
+            branch: branch.0,
+            boolean: boolean.0,
+            shift: shift.0,
+            long_add: long_add.0,
+            divide: divide.0,
+            increment1: increment1.0,
+            increment2: increment2.0,
+        };
+        let second = PerUnit {
+            branch: branch.1,
+            boolean: boolean.1,
+            shift: shift.1,
+            long_add: long_add.1,
+            divide: divide.1,
+            increment1: increment1.1,
+            increment2: increment2.1,
+        };
+        (first, second)
     }
 }
 

@@ -3,7 +3,7 @@
 //!
 //! Callers rely on `Waiting::until_raised` to come back. Begin with `Signals`, which has a count for each thread of a
 //! run; then `Told`, what its events tell, so that nobody is told who waits for something else, and `Waiting`, how a
-//! thread looks, lets others run, and sleeps.
+//! thread looks and sleeps.
 #![tactic(auto)]
 
 mod signal;

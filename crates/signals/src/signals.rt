@@ -2,8 +2,10 @@
 
 use crate::signal::Signal;
 use crate::told::Told;
+use crate::waiting::Waiting;
 use instructions::Unit;
 use per_unit::PerUnit;
+use std::sync::atomic::{AtomicBool, Ordering};
 
 /// What the threads that drive a machine tell one another.
 #[derive(Drop)]
@@ -12,10 +14,11 @@ pub struct Signals {
     pub issuing: Signal,
     /// For the thread that makes requests at any time: an exchange was made.
     pub requests: Signal,
-    /// For the worker for memory: a unit has stored whose instructions may make references, or what a load waits for
-    /// was read.
+    /// For the worker for memory: something may be left for it, or what a load waits for was read.
     pub memory: Signal,
     workers: PerUnit<Signal>,
+    /// Whether there are several processors for the threads.
+    side_by_side: AtomicBool,
 }
 
 impl Signals {
@@ -26,6 +29,21 @@ impl Signals {
             requests: Signal::new(),
             memory: Signal::new(),
             workers: PerUnit::units().map(|_| Signal::new()),
+            side_by_side: AtomicBool::new(false),
+        }
+    }
+
+    /// There are several processors for the threads, so some of them run at the same time.
+    pub fn run_side_by_side(&self) {
+        self.side_by_side.store(true, Ordering::SeqCst);
+    }
+
+    /// How a thread waits that issues or serves units. These two wait for each other most of the time.
+    pub fn waiting(&self) -> Waiting {
+        if self.side_by_side.load(Ordering::SeqCst) {
+            Waiting::beside_others()
+        } else {
+            Waiting::new()
         }
     }
 
@@ -47,9 +65,6 @@ impl Signals {
         }
         if told.asked {
             self.issuing.raise();
-        }
-        if told.exchanged {
-            self.requests.raise();
         }
     }
 

@@ -1,31 +1,33 @@
-//! How a thread waits for what others do. While it waits it takes no lock and lets other threads run, and after long
-//! it sleeps.
+//! How a thread waits for what others do. While it waits it takes no lock, and soon it sleeps.
 
 use crate::signal::Signal;
-use crossbeam_utils::Backoff;
+use std::hint::spin_loop;
 use std::sync::Wait;
 
-/// How many looks find nothing before a wait is no longer short: longer than most pauses between two stores.
-const SHORT: u32 = 32;
+/// How many looks of a wait spin where there are several processors: longer than most waits for a thread that runs on
+/// another one. Where a pause takes five nanoseconds that is five microseconds.
+const SPINS: u32 = 1000;
 
-/// How many looks find nothing before the thread sleeps.
-const AWAKE: u32 = 512;
-
-/// How a thread waits: it has one for all of its waits.
+/// How a thread waits: it has one for all of its waits. It never lets others run without sleeping: where other work
+/// wants the processor too, that work would run for milliseconds each time.
 #[derive(Drop)]
 pub struct Waiting {
-    /// It is never reset: its first seven pauses spin, and each later one lets others run. A spin is longer than most
-    /// waits, and on few processors it holds up those that are waited for.
-    backoff: Backoff,
+    /// How many looks of each wait spin before the thread sleeps.
+    spins: u32,
     /// The looks that found nothing since the wait began.
     looks: u32,
 }
 
 impl Waiting {
-    /// Of a thread that hasn't waited yet.
+    /// Of a thread that sleeps at once, so that those run for which it waits.
     pub fn new() -> Waiting {
+        Waiting { spins: 0, looks: 0 }
+    }
+
+    /// Of a thread that waits for others which run at the same time: it looks for a while before it sleeps.
+    pub fn beside_others() -> Waiting {
         Waiting {
-            backoff: Backoff::new(),
+            spins: SPINS,
             looks: 0,
         }
     }
@@ -35,33 +37,25 @@ impl Waiting {
         self.looks = 0;
     }
 
-    /// Whether a signal is raised from this count on, before so many looks found nothing.
-    fn is_raised(&mut self, signal: &Signal, count: u64, most: u32) -> bool {
-        for look in self.looks..most {
+    /// Whether a signal is raised from this count on, before the thread would sleep.
+    pub fn is_raised_soon(&mut self, signal: &Signal, count: u64) -> bool {
+        for look in self.looks..self.spins {
             if signal.count() != count {
-                self.looks = 0;
-                return true;
+                break;
             }
-            self.backoff.snooze();
+            spin_loop();
             self.looks = look + 1;
         }
-        false
-    }
-
-    /// Whether a signal is raised from this count on, while the wait is short.
-    pub fn is_raised_soon(&mut self, signal: &Signal, count: u64) -> bool {
-        self.is_raised(signal, count, SHORT)
-    }
-
-    /// Whether the thread may sleep: the wait is long, and its first pauses are over.
-    fn may_sleep(&self) -> bool {
-        self.looks >= AWAKE && self.backoff.is_completed()
+        signal.count() != count
     }
 
     /// Waits until a signal is raised from this count on. It may come back earlier.
     pub fn until_raised<R: Wait>(&mut self, rt: &R, signal: &Signal, count: u64) {
-        if !self.is_raised(signal, count, AWAKE) && self.may_sleep() {
+        if !self.is_raised_soon(signal, count) {
             signal.sleep(rt, count);
+        }
+        if signal.count() != count {
+            self.looks = 0;
         }
     }
 }

@@ -3,8 +3,9 @@
 //!
 //! The first table is `RUNS` in `thread_tests`: programs, one a row, with what the machine shows
 //! after a run of each by threads. `lock_tests` has what callers of the lock have seen,
-//! `guard_tests` several events in one hold of it, `queue_tests` the lanes, and `access_tests` two peripheral processors. `example_tests` is the
-//! example of docs/threads.md.
+//! `guard_tests` several events in one hold of it, `queue_tests` the lanes, and `access_tests` two
+//! peripheral processors. `signal_tests` has what threads tell one another, and `example_tests` is
+//! the example of docs/threads.md.
 #![tactic(auto)]
 
 #[cfg(test)]

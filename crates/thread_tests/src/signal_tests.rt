@@ -92,8 +92,8 @@ fn opened<K: Naming>(
 }
 
 /// The thread that issues is told where an exchange was asked for and, where it waits for a change, where a unit has
-/// stored; the thread that makes requests where an exchange was made; memory's worker where a unit has stored that makes
-/// references. A refused call tells nobody.
+/// stored; the thread that makes requests where an exchange was made; memory's worker where a unit has stored that
+/// makes references. A refused call tells nobody.
 #[test]
 fn stores_are_told(rt: HostRuntime) -> Result<(), Fail> {
     let machine = booted(rt.alloc(), &[(0o100, FIRST)])?;
@@ -212,6 +212,60 @@ fn told_by_turns<K: Naming, R: Wait>(
         counts[turn] = signal.count();
     }
     Ok(counts)
+}
+
+/// What was done in two holds of the lock is told together.
+#[test]
+fn adds_what_was_told(rt: HostRuntime) {
+    let mut told = Told {
+        changed: true,
+        ..Told::default()
+    };
+    told.add(&Told {
+        read: true,
+        ..Told::default()
+    });
+    let both = Told {
+        changed: true,
+        read: true,
+        ..Told::default()
+    };
+    assert_eq!(rt; told, both);
+}
+
+/// A wait ends where its signal is raised, and not before, on one processor and on several.
+#[test]
+fn waits_end(rt: HostRuntime) -> Result<(), Fail> {
+    let machine = booted(rt.alloc(), &[])?;
+    let ground = Ground::new(rt.alloc())?;
+    assert_eq!(rt;
+        wait_and_raise::<Brand, _>(&rt, rt.alloc(), ground, machine)?,
+        [false, true, false]
+    );
+    Ok(())
+}
+
+/// Whether a signal was seen to be raised before it was, afterwards, and after a wait for it.
+fn wait_and_raise<K: Naming, R: Wait>(
+    rt: &R,
+    alloc: Global,
+    ground: Ground,
+    machine: Machine,
+) -> Result<[bool; 3], Refusal>
+    requires { ground ≡ K.table }
+{
+    let (shared, seat, _) = opened::<K>(alloc, ground, machine)?;
+    seat.leave();
+    let signals = shared.signals();
+    let mut wait = signals.waiting();
+    let before = wait.is_raised_soon(&signals.memory, 0);
+    signals.memory.raise();
+    wait.reset();
+    let after = wait.is_raised_soon(&signals.memory, 0);
+    signals.run_side_by_side();
+    let mut wait = signals.waiting();
+    wait.until_raised(rt, &signals.memory, 0);
+    Ok([before, after, wait.is_raised_soon(&signals.memory, 1)])
 }
 
 /// Sleeps until a signal was raised, and answers how often it was.

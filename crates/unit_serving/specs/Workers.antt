@@ -5,8 +5,7 @@ use Rattle.unit_queue.specs.Lanes.{TakeEnd}
 use Rattle.unit_serving.specs.Tallies.{notes_in, Served}
 use Rattle.unit_serving.specs.declared.tally.Tally.{Tally}
 use Rattle.unit_serving.specs.declared.post.Post.{Post}
-use Rattle.unit_serving.specs.declared.all_units.AtWork.{AtWork}
-use Rattle.unit_serving.specs.declared.all_units.AtWork.TheVariants.{Open, Left, Absent}
+use Rattle.unit_serving.specs.declared.post.UnitWorker.{UnitWorker}
 
 -- the worker of the same unit, with the same lane, that began with the same
 abbrev pub IsSamePost : Post → Post → Type 0
@@ -29,14 +28,16 @@ IsTallyOf post tally =
 abbrev pub IsTallyFrom : TakeEnd → Tally → Type 0
 IsTallyFrom from tally = (tally.pass.id ≡ from.id) × Served from.got tally.pass.got tally.stored tally.strange
 
--- it is the worker that began with this end for taking, or what it did
-abbrev pub IsWorkFrom : TakeEnd → AtWork → Type 0
-IsWorkFrom from (Open worker) =
+-- it is the worker that began with this end for taking
+abbrev pub IsWorkFrom : TakeEnd → UnitWorker → Type 0
+IsWorkFrom from worker =
     (worker.post.receiver.pass.id ≡ from.id) × (worker.post.first.value ≡ from)
     × IsMore from.got worker.post.receiver.pass.got
-IsWorkFrom from (Left tally) = IsTallyFrom from tally
-IsWorkFrom from (Absent receiver) = receiver.pass ≡ from
 
 -- whatever it began with, it goes on with
-abbrev pub IsSameWork : AtWork → AtWork → Type 0
+abbrev pub IsSameWork : UnitWorker → UnitWorker → Type 0
 IsSameWork old new = (from : TakeEnd) → IsWorkFrom from old → IsWorkFrom from new
+
+-- whatever the worker began with, so did what it did
+abbrev pub IsTallyOfWork : UnitWorker → Tally → Type 0
+IsTallyOfWork worker tally = (from : TakeEnd) → IsWorkFrom from worker → IsTallyFrom from tally

@@ -1,14 +1,14 @@
 //! One thread that serves all units.
 ghost use Rattle.std.specs.Prelude.{IfSome};
 ghost use Rattle.per_unit.specs.Units.{Each};
-ghost use Rattle.unit_serving.specs.declared.all_units.AtWork.TheVariants.{Left};
-ghost use Rattle.unit_serving.specs.Workers.{IsTallyFrom, IsWorkFrom, IsSameWork};
+ghost use Rattle.unit_serving.specs.Workers.{IsTallyFrom, IsWorkFrom, IsSameWork, IsTallyOfWork};
 
 use crate::gate::Open;
 use crate::lane_receiver::LaneReceiver;
 use crate::post::UnitWorker;
-use crate::service::pause;
+use crate::service::stop_waiting;
 use crate::tally::Tally;
+use crate::tidings::Tidings;
 use instruction_table::Unit;
 use machine::Seat;
 use machine_lock::{Naming, Shared};
@@ -17,85 +17,16 @@ use signals::{Signal, Signals, Waiting};
 use std::mem;
 use std::sync::Wait;
 
-/// The worker of a unit that shares its thread, from its start to its end.
-pub enum AtWork<'a> {
-    /// Its lane is open.
-    Open(UnitWorker<'a>),
-    /// Its lane is closed, and its seat is left.
-    Left(Tally),
-    /// Its seat wasn't there.
-    Absent(LaneReceiver<'a>),
-}
-
-impl<'a> AtWork<'a> {
-    /// At its start, with the seat of its holder.
-    fn start(receiver: LaneReceiver<'a>, holder: &mut Option<Seat>) -> AtWork<'a>
-        ensures { IsWorkFrom receiver.entry.pass result }
-    {
-        match holder.take() {
-            Some(seat) => AtWork::Open(UnitWorker::new(receiver, seat)),
-            None => AtWork::Absent(receiver),
-        }
-    }
-
-    /// A step of the worker, if its lane is still open. Its gate holds up nobody.
-    fn step<K: Naming, R: Wait>(
-        self,
-        rt: &R,
-        shared: &Shared<K>,
-        signal: &Signal,
-        is_told: bool,
-    ) -> AtWork<'a>
-        ensures { IsSameWork self.entry result }
-    {
-        match self {
-            AtWork::Open(worker) => match worker.step(rt, shared, signal, is_told, &mut Open) {
-                Ok(worker) => AtWork::Open(worker),
-                Err(tally) => AtWork::Left(tally),
-            },
-            AtWork::Left(tally) => AtWork::Left(tally),
-            AtWork::Absent(receiver) => AtWork::Absent(receiver),
-        }
-    }
-
-    /// Whether its last step found nothing that it could do.
-    fn waits(&self) -> bool {
-        match self {
-            AtWork::Open(worker) => worker.waits(),
-            AtWork::Left(_) | AtWork::Absent(_) => true,
-        }
-    }
-
-    /// Whether it takes no more notes.
-    fn is_over(&self) -> bool {
-        !matches!(self, AtWork::Open(_))
-    }
-
-    /// What it did. None where its lane is still open, and where its seat wasn't there.
-    fn end(self) -> Option<Tally>
-        ensures { IfSome result (λ tally. IsSameWork self.entry (Left tally)) }
-    {
-        match self {
-            AtWork::Open(worker) => {
-                worker.give_up();
-                None
-            }
-            AtWork::Left(tally) => Some(tally),
-            AtWork::Absent(_) => None,
-        }
-    }
-}
-
 /// What the thread waits for that serves all units: no other thread waits for the units' signals then.
 pub fn crew_signal(signals: &Signals) -> &Signal {
     signals.worker(Unit::Branch)
 }
 
-/// Whether each worker has to look at its lane where it has no reservation: its last step did something, so an item may
-/// have come meanwhile, or its unit's signal was raised since it looked last.
-fn tellings(
+/// Whether a step of each worker may do something. It looks at its lane where its unit's signal was raised since it
+/// looked last.
+fn due(
     signals: &Signals,
-    workers: &PerUnit<AtWork<'_>>,
+    workers: &PerUnit<UnitWorker<'_>>,
     looked: &mut PerUnit<Option<u64>>,
 ) -> PerUnit<bool> {
     PerUnit::units()
@@ -103,9 +34,97 @@ fn tellings(
         .zip(looked.each_mut())
         .map(|((unit, worker), looked)| {
             let count = Some(signals.worker(unit).count());
-            let is_raised = mem::replace(looked, count) != count;
-            is_raised || !worker.waits()
+            worker.is_due(mem::replace(looked, count) != count)
         })
+}
+
+/// What came of a round, in which each worker made its step if that was due.
+enum Round {
+    /// No step did anything.
+    Idle,
+    /// Some step did something.
+    Working,
+}
+
+/// What came of the steps that were due.
+fn round_of(workers: &PerUnit<UnitWorker<'_>>, due: &PerUnit<bool>) -> Round {
+    let done = workers
+        .each()
+        .zip_with(due.each(), |worker, due| *due && !worker.waits());
+    if done.into_array() == [false; 7] {
+        Round::Idle
+    } else {
+        Round::Working
+    }
+}
+
+/// What comes between two rounds. After an idle one it tells others what was done before, and waits until the signal is
+/// raised from this count on. Where it comes back though nobody raised it, all lanes are looked at: an item may wait
+/// behind one that was taken, if both had come at once.
+fn pause<R: Wait>(
+    rt: &R,
+    wait: &mut Waiting,
+    tidings: &mut Tidings<'_>,
+    looked: &mut PerUnit<Option<u64>>,
+    round: Round,
+    count: u64,
+) {
+    match round {
+        Round::Working => stop_waiting(wait, tidings.signal()),
+        Round::Idle => {
+            tidings.tell();
+            wait.until_raised(rt, tidings.signal(), count);
+            if tidings.signal().count() == count {
+                *looked = PerUnit::default();
+            }
+        }
+    }
+}
+
+/// Makes the steps that are due of all workers by turns, until each is over. Their gates hold up nobody.
+fn serve_lanes<'a, K: Naming, R: Wait>(
+    rt: &R,
+    shared: &Shared<K>,
+    workers: PerUnit<UnitWorker<'a>>,
+) -> PerUnit<UnitWorker<'a>>
+    ensures { Each IsSameWork workers.entry result }
+{
+    let signals = shared.signals();
+    let mut tidings = Tidings::gathered(signals, crew_signal(signals));
+    let mut workers = workers;
+    let mut looked = PerUnit::default();
+    let mut wait = signals.waiting();
+    for _ in rt.forever() {
+        if workers.each().map(|worker| worker.is_over()).into_array() == [true; 7] {
+            return workers;
+        }
+        let count = tidings.signal().count();
+        let due = due(signals, &workers, &mut looked);
+        if due.branch {
+            workers.branch = workers.branch.step(rt, shared, &mut tidings, &mut Open);
+        }
+        if due.boolean {
+            workers.boolean = workers.boolean.step(rt, shared, &mut tidings, &mut Open);
+        }
+        if due.shift {
+            workers.shift = workers.shift.step(rt, shared, &mut tidings, &mut Open);
+        }
+        if due.long_add {
+            workers.long_add = workers.long_add.step(rt, shared, &mut tidings, &mut Open);
+        }
+        if due.divide {
+            workers.divide = workers.divide.step(rt, shared, &mut tidings, &mut Open);
+        }
+        if due.increment1 {
+            workers.increment1 = workers.increment1.step(rt, shared, &mut tidings, &mut Open);
+        }
+        if due.increment2 {
+            workers.increment2 = workers.increment2.step(rt, shared, &mut tidings, &mut Open);
+        }
+        let round = round_of(&workers, &due);
+        pause(rt, &mut wait, &mut tidings, &mut looked, round, count);
+    }
+    unreachable!()
 }
 
 /// Serves the notes of all lanes by turns, in one thread, until each is closed. It takes the seats from their holders,
@@ -120,35 +139,17 @@ pub fn crew<K: Naming, R: Wait>(
     ensures { IfSome result
         (λ tallies. Each (λ tally receiver. IsTallyFrom receiver.pass tally) tallies receivers.entry) }
 {
-    let signal = crew_signal(shared.signals());
-    let mut workers = receivers.zip_with(
+    let workers = receivers.zip_with(
         holders.each_mut(),
-        |receiver, holder| -> AtWork<'_>
+        |receiver, holder| -> UnitWorker<'_>
             ensures { IsWorkFrom receiver.entry.pass result }
-        { AtWork::start(receiver, holder) },
+        { UnitWorker::start(receiver, holder) },
     );
-    let mut looked = PerUnit::default();
-    let mut wait = Waiting::new();
-    for _ in rt.forever() {
-        let count = signal.count();
-        let told = tellings(shared.signals(), &workers, &mut looked);
-        workers = workers.zip_with(
-            told,
-            |worker, is_told| -> AtWork<'_>
-                ensures { IsSameWork worker.entry result }
-            { worker.step(rt, shared, signal, is_told) },
-        );
-        if workers.each().map(|worker| worker.is_over()).into_array() == [true; 7] {
-            return workers
-                .map(
-                    |worker| -> Option<Tally>
-                        ensures { IfSome result (λ tally. IsSameWork worker.entry (Left tally)) }
-                    { worker.end() },
-                )
-                .complete();
-        }
-        let waits = workers.each().map(|worker| worker.waits()).into_array() == [true; 7];
-        pause(rt, &mut wait, waits, signal, count);
-    }
-    unreachable!()
+    serve_lanes(rt, shared, workers)
+        .map(
+            |worker| -> Option<Tally>
+                ensures { IfSome result (λ tally. IsTallyOfWork worker.entry tally) }
+            { worker.end() },
+        )
+        .complete()
 }

@@ -30,18 +30,14 @@ impl<'a> LaneReceiver<'a> {
         Snapshot::of(&self.pass)
     }
 
-    /// Takes the oldest item that waits, as `Lane::take`, but doesn't look where nobody told that an item was sent.
-    pub(crate) fn take<R: Wait>(&mut self, rt: &R, is_told: bool) -> Option<Item>
+    /// Takes the oldest item that waits, as `Lane::take`.
+    pub(crate) fn take<R: Wait>(&mut self, rt: &R) -> Option<Item>
         ensures lane { self.new.pass.id ≡ self.old.pass.id }
         ensures got { MatchOption result
             (self.new.pass.got ≡ self.old.pass.got)
             (λ item. self.new.pass.got ≡ self.old.pass.got ++ item ∷ []) }
         ensures closed { IfSome result (λ item. is_closed self.new.pass.got ≡ is_closing item) }
     {
-        if is_told {
-            self.lane.take(rt, &mut self.pass)
-        } else {
-            None
-        }
+        self.lane.take(rt, &mut self.pass)
     }
 }

@@ -4,7 +4,7 @@
 //! Callers rely on `serve`, which takes one reservation from its note to its store, and on `worker` and `crew`, whose
 //! tallies say what became of the notes that were taken. Begin with `serve` in `service`; `unit_worker` serves the
 //! notes of one lane, `all_units` those of all lanes in one thread, `memory_worker` takes references through memory,
-//! and `gate` is what a worker calls beside its work.
+//! `tidings` keeps what was done until others are told, and `gate` is what a worker calls beside its work.
 #![tactic(auto)]
 
 mod all_units;
@@ -14,6 +14,7 @@ mod memory_worker;
 mod post;
 mod service;
 mod tally;
+mod tidings;
 mod unit_worker;
 
 pub use all_units::{crew, crew_signal};

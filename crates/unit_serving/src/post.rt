@@ -1,5 +1,6 @@
 //! What a unit's worker has, and what it is at.
-ghost use Rattle.unit_serving.specs.Tallies.{IsCounted, seat_of, in_hand};
+ghost use Rattle.std.specs.Option.{ForSome};
+ghost use Rattle.unit_serving.specs.Tallies.{IsCounted, IsLeft, seat_of, in_hand, end_of};
 
 use crate::lane_receiver::LaneReceiver;
 use instruction_table::Unit;
@@ -15,6 +16,11 @@ pub enum Duty {
     Reads(Note, Reserved),
     /// It has still to store the result of the note's reservation.
     Stores(Note, Finished),
+    /// Its lane is closed. It has left its seat, which is here as it was for contracts alone; so many reservations were
+    /// stored.
+    Left(Snapshot<Seat>, u64),
+    /// It found no seat.
+    Seatless,
 }
 
 /// What a worker has beside its seat.
@@ -36,5 +42,6 @@ pub struct UnitWorker<'a> {
     pub(crate) duty: Duty,
     /// Whether its last step found nothing that it could do.
     pub(crate) waits: bool,
-    ghost counted: { IsCounted post (seat_of duty) (in_hand duty) },
+    ghost counted: { ForSome (seat_of duty) (λ seat. IsCounted post seat (in_hand duty)) },
+    ghost left: { ForSome (end_of duty) (λ end. IsLeft post end.0 end.1) },
 }

@@ -4,6 +4,7 @@ ghost use Rattle.unit_serving.specs.Services.{IsOf, IsFurther, to_read, to_store
 
 use crate::gate::Gate;
 use crate::memory_worker::refer;
+use crate::tidings::Tidings;
 use instruction_table::Refusal;
 use machine::{Computed, Finished, Loaded, Note, Reserved, Seat};
 use machine_lock::{MachineGuard, Naming, Shared};
@@ -87,7 +88,7 @@ impl Unread {
         }
     }
 
-    /// Does so while the lock is held once. Where the operands are awaited, whoever stores raises the signal.
+    /// Does so while the lock is held once. Where the operands are awaited, whoever stores raises the worker's signal.
     ///
     /// # Errors
     /// How far it is where they can't be read.
@@ -95,7 +96,7 @@ impl Unread {
         self,
         rt: &R,
         shared: &Shared<K>,
-        signal: &Signal,
+        tidings: &mut Tidings<'_>,
     ) -> Result<Loaded, Service>
         ensures { MatchResult result
             (λ loaded. (loaded.seat ≡ (to_read self).seat) × (loaded.number ≡ (to_read self).number))
@@ -104,9 +105,9 @@ impl Unread {
         let mut machine = shared.lock(rt);
         let loaded = self.read(&mut machine);
         if matches!(&loaded, Err(Service::Claimed(_))) {
-            signal.await_change(true);
+            tidings.signal().await_change(true);
         }
-        machine.release();
+        tidings.release(machine);
         loaded
     }
 }
@@ -126,12 +127,12 @@ impl Unstored {
     }
 
     /// Does so while the lock is held once, and then calls the gate, if it was stored. Where it waits, whoever reads or
-    /// stores raises the signal.
+    /// stores raises the worker's signal.
     fn deliver<K: Naming, G: Gate, R: Wait>(
         self,
         rt: &R,
         shared: &Shared<K>,
-        signal: &Signal,
+        tidings: &mut Tidings<'_>,
         note: Note,
         gate: &mut G,
     ) -> Service
@@ -140,10 +141,10 @@ impl Unstored {
         let mut machine = shared.lock(rt);
         let service = self.store(&mut machine);
         if matches!(&service, Service::Finished(_)) {
-            signal.await_change(true);
-            signal.await_read(true);
+            tidings.signal().await_change(true);
+            tidings.signal().await_read(true);
         }
-        machine.release();
+        tidings.release(machine);
         if matches!(&service, Service::Stored(_)) {
             gate.stored(note.unit, note.number);
         }
@@ -157,14 +158,14 @@ impl Service {
     pub fn begin<K: Naming, G: Gate, R: Wait>(
         rt: &R,
         shared: &Shared<K>,
-        signal: &Signal,
+        tidings: &mut Tidings<'_>,
         note: Note,
         seat: Seat,
         gate: &mut G,
     ) -> Service
         ensures { IsOf (record { seat = seat; number = note.number }) result }
     {
-        read_and_deliver(rt, shared, signal, note, Unread::Noted(seat, note), gate)
+        read_and_deliver(rt, shared, tidings, note, Unread::Noted(seat, note), gate)
     }
 
     /// Goes on with it as far as it may. The note is the reservation's.
@@ -172,7 +173,7 @@ impl Service {
         self,
         rt: &R,
         shared: &Shared<K>,
-        signal: &Signal,
+        tidings: &mut Tidings<'_>,
         note: Note,
         gate: &mut G,
     ) -> Service
@@ -180,10 +181,10 @@ impl Service {
     {
         match self {
             Service::Claimed(token) => {
-                read_and_deliver(rt, shared, signal, note, Unread::Reserved(token), gate)
+                read_and_deliver(rt, shared, tidings, note, Unread::Reserved(token), gate)
             }
             Service::Finished(token) => {
-                Unstored::Given(token).deliver(rt, shared, signal, note, gate)
+                Unstored::Given(token).deliver(rt, shared, tidings, note, gate)
             }
             Service::Stored(seat) => Service::Stored(seat),
             Service::Strange(seat) => Service::Strange(seat),
@@ -195,31 +196,26 @@ impl Service {
 fn read_and_deliver<K: Naming, G: Gate, R: Wait>(
     rt: &R,
     shared: &Shared<K>,
-    signal: &Signal,
+    tidings: &mut Tidings<'_>,
     note: Note,
     unread: Unread,
     gate: &mut G,
 ) -> Service
     ensures { IsOf (to_read unread) result }
 {
-    let loaded = match unread.load(rt, shared, signal) {
+    let loaded = match unread.load(rt, shared, tidings) {
         Ok(loaded) => loaded,
         Err(service) => return service,
     };
     gate.before(note.unit, note.number);
-    Unstored::Computed(loaded.compute()).deliver(rt, shared, signal, note, gate)
+    Unstored::Computed(loaded.compute()).deliver(rt, shared, tidings, note, gate)
 }
 
-/// What a thread does after a step of its workers: it waits until the signal is raised from this count on, or, where it
-/// doesn't wait, says so, and its next wait begins.
-pub fn pause<R: Wait>(rt: &R, wait: &mut Waiting, waits: bool, signal: &Signal, count: u64) {
-    if waits {
-        wait.until_raised(rt, signal, count);
-    } else {
-        signal.await_change(false);
-        signal.await_read(false);
-        wait.reset();
-    }
+/// What a thread does after a step that did something: it says that it waits for nothing, and its next wait begins.
+pub fn stop_waiting(wait: &mut Waiting, signal: &Signal) {
+    signal.await_change(false);
+    signal.await_read(false);
+    wait.reset();
 }
 
 /// Takes a reservation through its unit, from claim to store, and gives the seat back. It answers whether the result
@@ -236,9 +232,10 @@ pub fn serve<K: Naming, G: Gate, R: Wait>(
         (result.0 ≡ seat) }
 {
     let signal = shared.signals().worker(note.unit);
+    let mut tidings = Tidings::at_once(shared.signals(), signal);
     let mut wait = Waiting::new();
     let mut count = signal.count();
-    let mut service = Service::begin(rt, shared, signal, note, seat, gate);
+    let mut service = Service::begin(rt, shared, &mut tidings, note, seat, gate);
     for _ in rt.forever() {
         match service {
             Service::Stored(seat) => return (seat, true),
@@ -246,7 +243,7 @@ pub fn serve<K: Naming, G: Gate, R: Wait>(
             waiting => {
                 wait.until_raised(rt, signal, count);
                 count = signal.count();
-                service = waiting.go_on(rt, shared, signal, note, gate);
+                service = waiting.go_on(rt, shared, &mut tidings, note, gate);
             }
         }
     }

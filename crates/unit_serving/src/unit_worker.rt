@@ -1,5 +1,5 @@
 //! The worker of a unit.
-ghost use Rattle.std.specs.Prelude.{◌≡◌, ◌+◌, true, MatchResult};
+ghost use Rattle.std.specs.Prelude.{◌≡◌, ◌+◌, true, IfSome, MatchResult};
 ghost use Rattle.unit_queue.specs.Lanes.{is_closed};
 ghost use Rattle.machine.specs.Tokens.{ServedReservation};
 ghost use Rattle.unit_serving.specs.Services.{IsOf};
@@ -9,11 +9,12 @@ ghost use Rattle.unit_serving.specs.Workers.{IsSamePost, IsTallyOf, IsMore};
 use crate::gate::Gate;
 use crate::lane_receiver::LaneReceiver;
 use crate::post::{Duty, Post, UnitWorker};
-use crate::service::{Service, pause};
+use crate::service::{Service, stop_waiting};
 use crate::tally::Tally;
+use crate::tidings::Tidings;
 use machine::{Note, Seat};
 use machine_lock::{Naming, Shared};
-use signals::{Signal, Waiting};
+use signals::Waiting;
 use std::snapshot::Snapshot;
 use std::sync::Wait;
 use unit_queue::{Item, Lane, TakePass};
@@ -65,19 +66,17 @@ impl<'a> Post<'a> {
     }
 
     /// Leaves the seat at the lane's end.
-    fn leave(self, seat: Seat) -> Tally
+    fn leave(self, seat: Seat) -> UnitWorker<'a>
         requires counted { IsCounted self seat 0 }
         requires closed { is_closed self.receiver.pass.got ≡ true }
-        ensures { IsTallyOf self.entry result × (result.pass ≡ self.entry.receiver.pass) }
+        ensures { result.post ≡ self.entry }
     {
         let left = Snapshot::of(&seat);
         let stored = seat.leave() - self.before;
-        Tally {
-            unit: self.unit,
-            stored,
-            strange: self.strange,
-            pass: self.receiver.pass,
-            left,
+        UnitWorker {
+            post: self,
+            duty: Duty::Left(left, stored),
+            waits: false,
         }
     }
 }
@@ -105,29 +104,61 @@ impl<'a> UnitWorker<'a> {
         }
     }
 
+    /// The worker that serves this lane's notes with the seat of its holder, if there is one.
+    pub fn start(receiver: LaneReceiver<'a>, holder: &mut Option<Seat>) -> UnitWorker<'a>
+        ensures first { result.post.first.value ≡ receiver.entry.pass }
+        ensures taken { result.post.receiver.pass ≡ receiver.entry.pass }
+    {
+        match holder.take() {
+            Some(seat) => UnitWorker::new(receiver, seat),
+            None => {
+                let first = receiver.taken();
+                UnitWorker {
+                    post: Post {
+                        unit: receiver.lane.unit(),
+                        receiver,
+                        strange: 0,
+                        before: 0,
+                        first,
+                    },
+                    duty: Duty::Seatless,
+                    waits: true,
+                }
+            }
+        }
+    }
+
     /// Whether its last step found nothing that it could do.
     pub fn waits(&self) -> bool {
         self.waits
     }
 
-    /// Goes on with the reservation that it has, or takes the next one from its lane where it is told that one may be
-    /// there, as far as may be done now. Where it waits then for others' events, whoever makes one raises the signal.
-    ///
-    /// # Errors
-    /// What it did, where its lane is closed. The seat is left.
+    /// Whether it takes no more notes.
+    pub fn is_over(&self) -> bool {
+        matches!(&self.duty, Duty::Left(..) | Duty::Seatless)
+    }
+
+    /// Whether a step may do something: it has a reservation, or is told to look at its lane.
+    pub fn is_due(&self, is_told: bool) -> bool {
+        match &self.duty {
+            Duty::Free(_) => is_told,
+            Duty::Reads(..) | Duty::Stores(..) => true,
+            Duty::Left(..) | Duty::Seatless => false,
+        }
+    }
+
+    /// Goes on with the reservation that it has, or takes the next one from its lane, as far as may be done now. Where
+    /// it waits then for others' events, whoever makes one raises the signal. At the end of its lane it leaves its
+    /// seat.
     pub fn step<K: Naming, G: Gate, R: Wait>(
         self,
         rt: &R,
         shared: &Shared<K>,
-        signal: &Signal,
-        is_told: bool,
+        tidings: &mut Tidings<'_>,
         gate: &mut G,
-    ) -> Result<UnitWorker<'a>, Tally>
-        ensures same { MatchResult result (λ worker. IsSamePost self.entry.post worker.post)
-            (λ tally. IsTallyOf self.entry.post tally) }
-        ensures taken { MatchResult result
-            (λ worker. IsMore self.entry.post.receiver.pass.got worker.post.receiver.pass.got)
-            (λ tally. IsMore self.entry.post.receiver.pass.got tally.pass.got) }
+    ) -> UnitWorker<'a>
+        ensures same { IsSamePost self.entry.post result.post }
+        ensures taken { IsMore self.entry.post.receiver.pass.got result.post.receiver.pass.got }
     {
         let UnitWorker {
             mut post,
@@ -136,30 +167,71 @@ impl<'a> UnitWorker<'a> {
         } = self;
         match duty {
             Duty::Reads(note, token) => {
-                let service = Service::Claimed(token).go_on(rt, shared, signal, note, gate);
-                Ok(post.after(rt, note, service))
+                let service = Service::Claimed(token).go_on(rt, shared, tidings, note, gate);
+                post.after(rt, note, service)
             }
             Duty::Stores(note, token) => {
-                let service = Service::Finished(token).go_on(rt, shared, signal, note, gate);
-                Ok(post.after(rt, note, service))
+                let service = Service::Finished(token).go_on(rt, shared, tidings, note, gate);
+                post.after(rt, note, service)
             }
-            Duty::Free(seat) => match post.receiver.take(rt, is_told) {
+            Duty::Free(seat) => match post.receiver.take(rt) {
                 Some(Item::Work(note)) => {
-                    let service = Service::begin(rt, shared, signal, note, seat, gate);
-                    Ok(post.after(rt, note, service))
+                    let service = Service::begin(rt, shared, tidings, note, seat, gate);
+                    post.after(rt, note, service)
                 }
-                Some(Item::Closed) => Err(post.leave(seat)),
-                None => Ok(UnitWorker {
+                Some(Item::Closed) => post.leave(seat),
+                None => UnitWorker {
                     post,
                     duty: Duty::Free(seat),
                     waits: true,
-                }),
+                },
+            },
+            duty => UnitWorker {
+                post,
+                duty,
+                waits: true,
             },
         }
     }
 
+    /// What it did, where its lane is closed.
+    ///
+    /// # Errors
+    /// The worker as it is, where its lane is open, and where it found no seat.
+    pub fn tally(self) -> Result<Tally, UnitWorker<'a>>
+        ensures { MatchResult result
+            (λ tally. IsTallyOf self.entry.post tally × (tally.pass ≡ self.entry.post.receiver.pass))
+            (λ worker. worker.post ≡ self.entry.post) }
+    {
+        let UnitWorker { post, duty, waits } = self;
+        match duty {
+            Duty::Left(left, stored) => Ok(Tally {
+                unit: post.unit,
+                stored,
+                strange: post.strange,
+                pass: post.receiver.pass,
+                left,
+            }),
+            duty => Err(UnitWorker { post, duty, waits }),
+        }
+    }
+
+    /// What it did, where its lane is closed. Else it gives up what it serves, and leaves its seat.
+    pub fn end(self) -> Option<Tally>
+        ensures { IfSome result
+            (λ tally. IsTallyOf self.entry.post tally × (tally.pass ≡ self.entry.post.receiver.pass)) }
+    {
+        match self.tally() {
+            Ok(tally) => Some(tally),
+            Err(worker) => {
+                worker.give_up();
+                None
+            }
+        }
+    }
+
     /// Gives up what it serves, and leaves its seat.
-    pub fn give_up(self) {
+    fn give_up(self) {
         let UnitWorker {
             post: _,
             duty,
@@ -169,6 +241,8 @@ impl<'a> UnitWorker<'a> {
             Duty::Free(seat) => seat,
             Duty::Reads(_, token) => token.abandon(),
             Duty::Stores(_, token) => token.abandon(),
+            Duty::Left(_, _) => return,
+            Duty::Seatless => return,
         };
         seat.leave();
     }
@@ -192,15 +266,20 @@ pub fn worker<K: Naming, G: Gate, R: Wait>(
     ensures counted { result.left.value.stored ≡ seat.stored + result.stored }
 {
     let signal = shared.signals().worker(seat.unit());
+    let mut tidings = Tidings::at_once(shared.signals(), signal);
     let mut at = UnitWorker::new(LaneReceiver::of(lane, pass), seat);
     let mut wait = Waiting::new();
     for _ in rt.forever() {
         let count = signal.count();
-        at = match at.step(rt, shared, signal, true, gate) {
-            Ok(at) => at,
-            Err(tally) => return tally,
+        at = match at.step(rt, shared, &mut tidings, gate).tally() {
+            Ok(tally) => return tally,
+            Err(worker) => worker,
         };
-        pause(rt, &mut wait, at.waits(), signal, count);
+        if at.waits() {
+            wait.until_raised(rt, signal, count);
+        } else {
+            stop_waiting(&mut wait, signal);
+        }
     }
     unreachable!()
 }

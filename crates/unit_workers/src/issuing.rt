@@ -11,7 +11,6 @@ use exchange_requests::{Ask, Requests};
 use instruction_table::Refusal;
 use machine::Note;
 use machine_lock::{MachineGuard, Naming, Seen, Shared};
-use signals::Waiting;
 use std::sync::Wait;
 
 /// The reservations of one hold of the lock: a unit has one at most, as nobody stores meanwhile. An `ArrayVec` wants
@@ -260,7 +259,7 @@ pub fn conduct<K: Naming, R: Wait>(
     ensures onward { GoesOnFrom seen.old seen.new }
 {
     let issuing = &shared.signals().issuing;
-    let mut wait = Waiting::new();
+    let mut wait = shared.signals().waiting();
     for _ in rt.forever() {
         let count = issuing.count();
         match step(rt, shared, seen, &mut pending, lanes)? {

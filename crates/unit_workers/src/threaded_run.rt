@@ -14,9 +14,10 @@ use machine_lock::{Ground, Naming, Seen, Shared};
 use per_unit::PerUnit;
 use std::alloc::Global;
 use std::marker::Brand;
+use std::num::NonZeroUsize;
 use std::sync::Wait;
-use std::thread;
 use std::thread::{Scope, Threads};
+use std::{io, thread};
 use unit_serving::{Gate, Gates, Open, Tally, storage_worker};
 
 /// What a run by threads has to do: the package with which it starts, and the exchanges for which it asks.
@@ -190,6 +191,14 @@ fn run_from_start<K: Naming + Send + Sync, G: Gate + Send, R: Threads + Wait + S
     run_lanes(rt, alloc, shared, holders, tasks)
 }
 
+/// Whether there is more than one processor, as far as is known.
+fn are_several(processors: io::Result<NonZeroUsize>) -> bool {
+    match processors {
+        Ok(processors) => processors.get() > 1,
+        Err(_) => false,
+    }
+}
+
 /// Runs a machine beside a progress word.
 ///
 /// # Errors
@@ -207,6 +216,9 @@ fn run_beside<K: Naming + Send + Sync, G: Gate + Send, R: Threads + Wait + Sync>
     ensures onward { IfOk result (λ ended. EndsFrom (known (booted_by machine) machine.log []) ended.snapshot) }
 {
     let (shared, seats, seen) = Shared::<K>::open(alloc, ground, machine)?;
+    if are_several(thread::available_parallelism(rt)) {
+        shared.signals().run_side_by_side();
+    }
     let mut holders = PerUnit::from_array(seats).map(|seat| Some(seat));
     let ended = run_from_start(rt, alloc, &shared, &mut holders, gates, pending, seen);
     let _ = holders.map(leave);

@@ -1,7 +1,6 @@
 //! The lanes of the seven units with their ends, and the threads that serve them.
 ghost use Rattle.std.specs.Prelude.{◌≡◌, IfSome};
 ghost use Rattle.std.specs.Option.{ForSome};
-ghost use Rattle.per_unit.specs.Units.{paired};
 
 use crossbeam_utils::Backoff;
 use instruction_table::Unit;
@@ -86,40 +85,6 @@ fn start_at<'s, E, K: Naming + Send + Sync + 's, G: Gate + Send + 's, R: Threads
             { work(rt, shared, receiver, holder, gate) },
         )
         .ok()
-}
-
-/// The first ones and the second ones.
-fn unzip<T, U>(pairs: PerUnit<(T, U)>) -> (PerUnit<T>, PerUnit<U>)
-    ensures { pairs ≡ paired result.0 result.1 }
-{
-    let PerUnit {
-        branch,
-        boolean,
-        shift,
-        long_add,
-        divide,
-        increment1,
-        increment2,
-    } = pairs;
-    let first = PerUnit {
-        branch: branch.0,
-        boolean: boolean.0,
-        shift: shift.0,
-        long_add: long_add.0,
-        divide: divide.0,
-        increment1: increment1.0,
-        increment2: increment2.0,
-    };
-    let second = PerUnit {
-        branch: branch.1,
-        boolean: boolean.1,
-        shift: shift.1,
-        long_add: long_add.1,
-        divide: divide.1,
-        increment1: increment1.1,
-        increment2: increment2.1,
-    };
-    (first, second)
 }
 
 impl<'a> LaneEnds<'a> {
@@ -274,7 +239,7 @@ impl<'a> WorkerLanes<'a> {
         ends: PerUnit<LaneEnds<'a>>,
         holders: &'a mut PerUnit<Option<Seat>>,
     ) -> WorkerLanes<'a> {
-        let (lanes, receivers) = unzip(ends.map(|ends| ends.split()));
+        let (lanes, receivers) = ends.map(|ends| ends.split()).unzip();
         let crew = scope
             .spawn(move || crew(rt, shared, receivers, holders))
             .ok();
