@@ -6,6 +6,7 @@ drawing leads to. Words of memory and registers are those that `replay` prints f
 
 import re
 from functools import lru_cache
+from pathlib import Path
 
 UNITS = "(?:branch|boolean|shift|add|longadd|multiply1|multiply2|divide|increment1|increment2)"
 EVENT = re.compile(
@@ -24,6 +25,10 @@ REFUSABLE = {
 # How a pending reservation is drawn: in its unit, in the hopper, in its channel.
 RESERVED, IN_HOPPER, IN_CHANNEL = "-", "=", "~"
 PLACES = 4
+# A parcel with the instruction that does nothing.
+PASS = "46000"
+# The lines of a dump that shows no word.
+DUMP_LINES = 14
 
 
 class Fault(Exception):
@@ -31,6 +36,14 @@ class Fault(Exception):
 
     def __init__(self, file, what):
         super().__init__(f"{file}: {what}")
+
+
+def text_of(file):
+    """What a file has, a character for each byte."""
+    try:
+        return Path(file).read_bytes().decode("latin-1")
+    except OSError as fault:
+        raise Fault(file, fault.strerror) from None
 
 
 class Session:
@@ -55,11 +68,12 @@ class Session:
 
 
 class Reservation:
-    """An issued instruction: the unit and its text, its part in memory, how far it is, and how it is drawn."""
+    """An issued instruction: the unit and its text, the logs up to it without and with it, its part in memory, how far
+    it is, and how it is drawn. Its address is the absolute one, or none where it makes no reference in range."""
 
-    def __init__(self, unit, text):
-        self.unit, self.text = unit, text
-        self.phase, self.state, self.is_in_range = "issue", RESERVED, False
+    def __init__(self, unit, text, before, after):
+        self.unit, self.text, self.before, self.after = unit, text, before, after
+        self.phase, self.state, self.address = "issue", RESERVED, None
         self.channel = int(text[2]) if re.match(r"SA[1-5] ", text) else 0
         self.refers = bool(re.match(r"SA[1-7] |RJ ", text))
 
@@ -86,7 +100,10 @@ class Replays:
         if ran.told:
             told = ran.told.decode("latin-1").split("\n", maxsplit=1)[0].removeprefix("cdc6600: ")
             raise Fault(self.answers, f"they are not those of {self.session.file}: {told}")
-        return ran.printed.decode("latin-1").splitlines()
+        lines = ran.printed.decode("latin-1").splitlines()
+        if len(lines) < DUMP_LINES or not lines[-1].startswith("LOG "):
+            raise Fault(self.program.path, f"replay of {log} prints no dump, and ends with status {ran.status}")
+        return lines
 
     def field(self, log, line, place):
         """A field of a line of the dump after a log, both numbered from 0."""
@@ -96,18 +113,41 @@ class Replays:
         """The number that such a field has in octal digits."""
         return int(self.field(log, line, place), 8)
 
+    def register(self, log, name):
+        """The value of a register after a log, in octal digits without noughts in front."""
+        number = int(name[1])
+        line, place = {"A": (3, number + 1), "B": (4, number + 1), "X": (5 + number, 1)}[name[0]]
+        return plain(self.field(log, line, place))
+
+    def halt(self, log):
+        """How the machine is halted after a log, or `running`."""
+        return self.dump(log)[1].removeprefix("HALT ").split(" FAULT ")[0]
+
     def word(self, log, address):
         """A word of memory after a log, as its digits."""
         return self.dump(log, address)[-2][9:]
 
+    def absolute(self, log, address):
+        """The absolute address that an address has after a log, or none where it is out of range."""
+        absolute = address + self.number(log, 2, 1)
+        return absolute if address < self.number(log, 2, 3) and absolute < self.session.core else None
+
+    @lru_cache(maxsize=None)
     def instruction(self, log):
-        """The text of the instruction that is issued next after a log. It is listed as the first one of a word."""
+        """The text of the instruction that is issued next after a log, as a listing has it, or none where its word
+        would be fetched out of range. In the word that is listed the parcels before it are passes."""
         word, parcel = self.field(log, 0, 5), int(self.field(log, 0, 3))
         if word == "none":
-            word = self.word(log, f"{self.number(log, 2, 1) + self.number(log, 0, 1):o}")
-        word = (word[5 * parcel :] + "0" * 15)[:20]
-        listed = self.program.run(["list"], f"core 32\nword {word}\nstart 0\nend\n".encode()).printed.decode()
-        return listed.split("\n", maxsplit=1)[0].split(";", maxsplit=1)[0][28:]
+            address = self.absolute(log, self.number(log, 0, 1))
+            if address is None:
+                return None
+            word = self.word(log, f"{address:o}")
+        word = PASS * parcel + word[5 * parcel :]
+        ran = self.program.run(["list"], f"core 32\nword {word}\nstart 0\nend\n".encode())
+        items = ran.printed.decode("latin-1").split("\n", maxsplit=1)[0][28:].split("; ")
+        if len(items) <= parcel:
+            raise Fault(self.program.path, f"list of the word {word} ends with status {ran.status}")
+        return items[parcel]
 
 
 class Log:
@@ -130,12 +170,12 @@ class Following:
     """The drawing of a session as it is followed: a row for each reservation, the first one for the machine itself.
 
     `marks` has what a row has at an event, and `gaps` what it has before that. `refused` has a line for each refused
-    event, and `ending` is the last line."""
+    event, and `ending` is the last line. `logs` has the log after each event."""
 
     def __init__(self, program, session, file, answers):
         """Asks the program for the answers where there is no file of them.
 
-        Raises Fault where the deck is refused, or no schedule comes after it."""
+        Raises Fault where the deck is refused."""
         self.session, self.file = session, file or f"{session.file}, as answered"
         words = ["events"] if answers is None else ["list"]
         ran = program.run(words, session.text.encode("latin-1"))
@@ -143,7 +183,7 @@ class Following:
         self.answers = printed.removesuffix("\n").split("\n") if printed else []
         self.check_deck(ran.told.decode("latin-1").split("\n", maxsplit=1)[0].removeprefix("cdc6600: "))
         self.replays, self.log = Replays(program, session, self.file), Log()
-        self.rows, self.marks, self.gaps, self.columns = [Machine()], {}, {}, 0
+        self.rows, self.marks, self.gaps, self.columns, self.logs = [Machine()], {}, {}, 0, []
         self.holders, self.places, self.channels, self.asked = {}, {}, {}, None
         self.refused, self.ending, self.has_accesses = [], "", False
 
@@ -152,26 +192,39 @@ class Following:
         found = re.match(r"E20 line (\d+)", told)
         if told and not (found and self.session.deck_end and int(found[1]) > self.session.deck_end):
             raise Fault(self.session.file, told)
-        if not self.session.events:
-            raise Fault(self.session.file, "no schedule comes after its deck")
 
     def follow(self):
         """Draws each event up to the schedule's end, or to a line that is none.
 
-        Raises Fault where an answer doesn't fit."""
+        Raises Fault where no schedule comes after the deck, or an answer doesn't fit."""
+        if not self.session.events:
+            raise Fault(self.session.file, "no schedule comes after its deck")
         for n, event in enumerate(self.session.events):
-            line = f"line {self.session.deck_end + n + 1}"
             if not EVENT.fullmatch(event):
                 self.stop(n, "no event: " + re.sub(r"[^ -~]", "?", event)[:60])
                 return
-            if n >= len(self.answers):
-                raise Fault(self.file, f"no answer to {line} of {self.session.file}, {event}")
-            self.columns = n + 1
-            if not self.step(n, event):
-                no_answer = f"is no answer to {line} of {self.session.file}, {event}"
-                raise Fault(self.file, f"line {n + 1}, {self.answers[n]}, {no_answer}")
+            self.draw(n, event)
         if not self.ending:
             self.stop(len(self.session.events), "the schedule has no end")
+
+    def take(self, event, answers):
+        """Draws one event more, with the lines that answer it.
+
+        Raises Fault where they don't fit."""
+        self.session.events.append(event)
+        self.answers += answers
+        self.draw(len(self.session.events) - 1, event)
+
+    def draw(self, n, event):
+        """Draws an event. Raises Fault where its answer doesn't fit."""
+        line = f"line {self.session.deck_end + n + 1}"
+        if n >= len(self.answers):
+            raise Fault(self.file, f"no answer to {line} of {self.session.file}, {event}")
+        self.columns = n + 1
+        if not self.step(n, event):
+            no_answer = f"is no answer to {line} of {self.session.file}, {event}"
+            raise Fault(self.file, f"line {n + 1}, {self.answers[n]}, {no_answer}")
+        self.logs.append(self.log.text)
 
     def stop(self, n, why):
         """Draws that the schedule stops here. No answer may be left."""
@@ -192,6 +245,10 @@ class Following:
         self.marks[row, n] = code
         self.refused.append(noted(n, event, said))
         return bool(re.match(r"E[0-9]+ ", said)) and code in REFUSABLE[kind].split()
+
+    def is_refused(self, n):
+        """Whether an event was refused."""
+        return self.answers[n].startswith("E")
 
     def about(self, kind, fields):
         """The row that an event is about. A load is in its channel from its store event on."""
@@ -245,19 +302,20 @@ class Following:
         row = len(self.rows)
         if not found or int(found[2]) != row or self.holders.get(found[1]):
             return False
-        it = Reservation(found[1], self.replays.instruction(self.log.text))
+        before, text = self.log.text, self.replays.instruction(self.log.text)
         self.log.add_instruction()
-        it.is_in_range = not it.refers or self.is_in_range(it.text)
+        it = Reservation(found[1], text or "", before, self.log.text)
+        it.address = self.reference_of(it) if it.refers else None
         self.rows.append(it)
         self.holders[it.unit], self.marks[row, n] = row, "I"
-        return True
+        return bool(text)
 
-    def is_in_range(self, text):
-        """Whether the reference of the instruction that was just logged is within the field and the memory. A load or a
-        store has the address that it sets."""
-        log = self.log.text
-        address = int(text[3:], 8) if text.startswith("RJ ") else self.replays.number(log, 3, int(text[2]) + 1)
-        return address < self.replays.number(log, 2, 3) and address + self.replays.number(log, 2, 1) < self.session.core
+    def reference_of(self, it):
+        """The absolute address of a reservation's reference, or none where it is out of range. A load or a store has
+        the address that it sets."""
+        is_link = it.text.startswith("RJ ")
+        address = int(it.text[3:], 8) if is_link else self.replays.number(it.after, 3, int(it.text[2]) + 1)
+        return self.replays.absolute(it.after, address)
 
     def move(self, n, kind, what, row):
         """Draws an event of a reservation after its issue; whether it may come here."""
@@ -284,7 +342,7 @@ class Following:
             return True
         if it.channel:
             self.channels[it.channel] = row
-        if not it.is_in_range:
+        if it.address is None:
             self.marks[row, n], it.state = "O", IN_CHANNEL if it.channel else ""
             return True
         place = next((number for number in range(PLACES) if not self.places.get(number)), None)

@@ -32,6 +32,9 @@ class Form:
         self.labels = dict(enumerate(["event", "", "machine", *reserved], EVENTS))
         self.wide = max(len(label) for label in self.labels.values())
         self.legends = [*LEGENDS, *[ACCESSES] * following.has_accesses, LETTERS]
+        # Where the first column of the picture begins, and how wide the columns and how high the rows are with it.
+        self.left, self.height = LETTER_WIDTH * self.wide + MARGIN, LINE * len(self.labels) + MARGIN
+        self.width = self.left + COLUMN * following.columns + 2 * MARGIN
 
     def mark(self, row, n):
         """What a row has at an event."""
@@ -62,24 +65,27 @@ class Form:
 
     def picture(self):
         """The drawing as a picture."""
-        ET.register_namespace("", SVG)
-        left = LETTER_WIDTH * self.wide + MARGIN
-        width = max(left + COLUMN * self.following.columns + 2 * MARGIN, LEAST_WIDTH)
         height = LINE * (len(self.labels) + len(self.following.refused) + len(self.legends) + 4)
-        font = {"font-family": "monospace", "font-size": "13"}
-        root = ET.Element(f"{{{SVG}}}svg", {"width": str(width), "height": str(height), **font})
-        ET.SubElement(root, f"{{{SVG}}}rect", width="100%", height="100%", fill="white")
+        root = picture_of(max(self.width, LEAST_WIDTH), height)
         for row in self.labels:
-            self.add_row(root, row, left)
+            self.add_label(root, row)
+            self.add_row(root, row)
         self.add_lines(root, LINE * len(self.labels))
-        ET.indent(root, "")
-        return ET.tostring(root, encoding="unicode") + "\n"
+        return written(root)
 
-    def add_row(self, root, row, left):
-        """Adds a row's label, its bars, and over them its marks."""
-        y, middle, columns = LINE * (row - EVENTS + 1), left + COLUMN // 2, range(self.following.columns)
+    def add_label(self, root, row):
+        """Adds a row's label."""
         if self.labels[row]:
-            add_text(root, MARGIN, y, self.labels[row])
+            add_text(root, MARGIN, self.line_of(row), self.labels[row])
+
+    @staticmethod
+    def line_of(row):
+        """How far down a row is written."""
+        return LINE * (row - EVENTS + 1)
+
+    def add_row(self, root, row):
+        """Adds a row's bars, and over them its marks."""
+        y, middle, columns = self.line_of(row), self.left + COLUMN // 2, range(self.following.columns)
         for n in (n for n in columns if self.gap(row, n)):
             add_bar(root, middle + COLUMN * (n - 1), y, COLUMN, self.gap(row, n))
         for n in (n for n in columns if self.mark(row, n)):
@@ -88,18 +94,36 @@ class Form:
             add_text(root, middle + COLUMN * n, y, mark, {"text-anchor": "middle", **colour})
 
     def add_lines(self, root, y):
-        """Adds the lines below the rows, the last of which stands at a height. A legend has bars in its text's gaps."""
+        """Adds the lines below the rows, the last of which stands at a height."""
         y += LINE
         for line in [*self.following.refused, self.following.ending]:
             y += LINE
             add_text(root, MARGIN, y, line)
-        y += LINE
+        self.add_legends(root, y + LINE)
+
+    def add_legends(self, root, y):
+        """Adds the lines that say what the marks mean, below a height. A legend has bars in its text's gaps."""
         for legend in self.legends:
             y += LINE
             for gap in (gap for gap in COLOURS if 3 * gap in legend):
                 add_bar(root, LETTER_WIDTH * (legend.index(3 * gap) + 1), y, 28, gap)
                 legend = legend.replace(3 * gap, "   ", 1)
             add_text(root, MARGIN, y, legend)
+
+
+def picture_of(width, height):
+    """A picture of this size with nothing but its background."""
+    ET.register_namespace("", SVG)
+    font = {"font-family": "monospace", "font-size": "13"}
+    root = ET.Element(f"{{{SVG}}}svg", {"width": str(width), "height": str(height), **font})
+    ET.SubElement(root, f"{{{SVG}}}rect", width="100%", height="100%", fill="white")
+    return root
+
+
+def written(root):
+    """The text of a picture."""
+    ET.indent(root, "")
+    return ET.tostring(root, encoding="unicode") + "\n"
 
 
 def add_text(root, x, y, said, attributes=None):

@@ -118,11 +118,27 @@ def log_of(dump):
     return found[-1].decode() if found else None
 
 
-def cells_of(page):
-    """The cells of each line of a page that is a row of a table, its head too."""
+def cells_of(page, head=None):
+    """The cells of each line of a page that is a row of a table, a table's head too; where a head is given, of the
+    lines under it alone."""
+    rows = [line for line in lines_of(page, head) if line.startswith("| ")]
+    return [[cell.strip(" ") for cell in re.split(r" \|(?= )", line.strip().strip("|"))] for line in rows]
+
+
+def lines_of(page, head=None):
+    """The lines of a page; where a head is given, those from it to the next head."""
     lines = Path(page).read_text(encoding="utf-8").splitlines()
-    rows = [line for line in lines if line.startswith("| ")]
-    return [[cell.strip(" ") for cell in line.strip().strip("|").split(" | ")] for line in rows]
+    if head is None:
+        return lines
+    first = lines.index(f"## {head}") + 1
+    heads = [number for number, line in enumerate(lines) if number >= first and line.startswith("## ")]
+    return lines[first : min(heads, default=len(lines))]
+
+
+def shown_by_sessions():
+    """What each session shows, by its name, as decks/README.md says."""
+    rows = [cells for cells in cells_of(FOLDER / "README.md", "Sessions") if cells[0].startswith("`")]
+    return {name.strip("`"): shown for name, shown in rows}
 
 
 def rows_of(page):

@@ -34,6 +34,14 @@ def program_path():
     return named_program() or str(BUILT)
 
 
+class NoProgram(SystemExit):
+    """There is no such program. Where nobody looks for this, it ends the script with a line that says so."""
+
+    def __init__(self, path, what):
+        self.line = f"{path}: {what}"
+        super().__init__(f"{sys.argv[0]}: {self.line}")
+
+
 class Program:
     """The program, to be run any number of times."""
 
@@ -42,19 +50,27 @@ class Program:
 
     def run(self, words, text=b"", seconds=SECONDS, environment=None):
         """Runs it with these words and this standard input. A run that doesn't end in time is ended, and its status is
-        that of `timeout`, 124."""
+        that of `timeout`, 124.
+
+        Raises NoProgram where there is none."""
         try:
             ran = subprocess.run(
                 [self.path, *words], input=text, capture_output=True, timeout=seconds, env=environment, check=False
             )
         except subprocess.TimeoutExpired:
             return Ran(124, b"", b"it didn't end in %d seconds\n" % seconds)
+        except OSError as fault:
+            raise NoProgram(self.path, fault.strerror) from None
         return Ran(ran.returncode, ran.stdout, ran.stderr)
+
+
+def called():
+    """The name of the check that runs, from the folder of the repository on."""
+    return str(Path(sys.argv[0]).resolve().relative_to(ROOT))
 
 
 def tell(faults):
     """Writes each fault to standard error, after the name of the check that runs; its status."""
-    check = Path(sys.argv[0]).resolve().relative_to(ROOT)
     for fault in faults:
-        print(f"{check}: {fault}", file=sys.stderr)
+        print(f"{called()}: {fault}", file=sys.stderr)
     return 1 if faults else 0

@@ -16,12 +16,12 @@ from crates import Table
 
 from .program import ROOT
 
-FUNCTION = re.compile(r"( *)(pub(?:\([a-z]+\))? )?(?:const )?fn (\w+)")
+FUNCTION = re.compile(r'( *)(pub(?:\([a-z]+\))? )?(?:const |extern "C" )?fn (\w+)')
 CLAUSE = re.compile(r" *(?:requires|ensures) ([a-z_0-9]+) \{")
 CLAUSES = re.compile(r" *(?:requires|ensures)\b")
 COMMENT = re.compile(r" *(?:///|#\[)")
 OWNER = re.compile(r"(?:impl|trait|pub trait)[ <]")
-DECLARED = re.compile(r"^pub (?:const )?(?:fn|struct|enum|trait) (\w+)", re.MULTILINE)
+DECLARED = re.compile(r'^pub (?:const |extern "C" )?(?:fn|struct|enum|trait) (\w+)', re.MULTILINE)
 EDITS = ("must-fail", "wrong-bodies")
 
 

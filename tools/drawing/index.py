@@ -1,0 +1,51 @@
+"""Writes the page that leads to the pages of several sessions."""
+
+import re
+from dataclasses import dataclass
+from string import Template
+
+from .following import Following
+from .page import marked_up, read
+
+
+@dataclass(frozen=True)
+class Entry:
+    """A session with its page: its name, what it shows, and how it was followed."""
+
+    name: str
+    shown: str
+    following: Following
+
+    @property
+    def sentence(self):
+        """The first sentence of what it shows."""
+        return re.split(r"\.(?= [A-Z`])", self.shown, maxsplit=1)[0]
+
+    @property
+    def refusals(self):
+        """The numbers of the refusals that come in it, each once."""
+        marks = {mark for mark in self.following.marks.values() if re.fullmatch(r"E[0-9]+", mark)}
+        return sorted(marks, key=lambda mark: int(mark[1:]))
+
+    def row(self):
+        """Its item in the list."""
+        counts = f"{self.following.columns} events, {len(self.following.rows) - 1} reservations"
+        refused = f", refused {', '.join(self.refusals)}" if self.refusals else ""
+        return (
+            f'<li class="card"><h2><a href="{self.name}.html">{self.name}</a></h2>'
+            f'<p>{marked_up(self.sentence)}.</p><p class="count">{counts}{refused}</p></li>\n'
+        )
+
+
+def index(entries):
+    """The page that leads to all of them."""
+    items = "".join(entry.row() for entry in entries)
+    return Template(read("index.html")).substitute(style=read("page.css"), items=items, count=len(entries))
+
+
+def links(names, name):
+    """What leads from the page of a session to the others."""
+    at = names.index(name)
+    around = [("Before", names[at - 1]) if at else None, ("After", names[at + 1]) if at + 1 < len(names) else None]
+    found = "".join(f'<a href="{it[1]}.html">{it[0]}: {it[1]}</a>\n' for it in around if it)
+    return f'<nav class="links" aria-label="Sessions"><a href="index.html">All sessions</a>\n{found}</nav>\n'

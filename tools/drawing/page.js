@@ -1,0 +1,170 @@
+// The cursor of a page: it steps through the events, and shows for each one its words and the panel of the machine.
+"use strict";
+
+const session = JSON.parse(document.getElementById("session").textContent);
+const steps = session.steps;
+const boot = { machine: {}, units: {}, places: {}, channels: {}, banks: {}, registers: {} };
+const byId = (id) => document.getElementById(id);
+let shown = 0;
+
+// Whether something is shown otherwise than before the event.
+const differs = (one, other) => JSON.stringify(one) !== JSON.stringify(other);
+
+function mark(element, row, before, holds) {
+  element.classList.toggle("taken", row !== undefined);
+  element.classList.toggle("changed", differs(row, before));
+  element.classList.toggle("holds", row !== undefined && holds.includes(row[0]));
+}
+
+function showPart(part, step, before) {
+  for (const element of document.querySelectorAll(`.${part} tbody tr`)) {
+    const key = element.id.slice(part.length + 1);
+    const row = step[part][key];
+    mark(element, row, before[part][key], step.holds);
+    [...element.cells].slice(1).forEach((cell, at) => { cell.textContent = row ? row[at] : ""; });
+  }
+}
+
+function showMachine(step, before) {
+  for (const [key, text] of Object.entries(step.machine)) {
+    const element = byId(`machine-${key}`);
+    element.textContent = text;
+    element.classList.toggle("changed", text !== before.machine[key]);
+  }
+}
+
+function showBanks(step, before) {
+  for (const element of document.querySelectorAll(".cells li")) {
+    const key = element.id.slice("banks-".length);
+    mark(element, step.banks[key], before.banks[key], step.holds);
+  }
+  const busy = Object.entries(step.banks).map(([bank, row]) => `${bank} by ${row[1]} (reservation ${row[0]})`);
+  byId("busy").textContent = busy.length ? `Busy: ${busy.join(", ")}.` : "None is busy.";
+}
+
+function showRegisters(step, before) {
+  const rows = Object.entries(step.registers).map(([register, row]) => {
+    const element = document.createElement("tr");
+    element.id = `registers-${register}`;
+    const head = document.createElement("th");
+    head.scope = "row";
+    head.textContent = register;
+    const cells = row.map((text) => {
+      const cell = document.createElement("td");
+      cell.textContent = text;
+      return cell;
+    });
+    element.append(head, ...cells);
+    mark(element, row, before.registers[register], step.holds);
+    return element;
+  });
+  byId("registers").replaceChildren(...rows);
+  byId("registers").parentElement.hidden = rows.length === 0;
+  byId("unreserved").hidden = rows.length > 0;
+}
+
+function showStep(step) {
+  byId("which").textContent = `Event ${shown + 1}`;
+  byId("event").textContent = step.event;
+  byId("answer").textContent = step.answer;
+  byId("words").textContent = step.words;
+  byId("verdict").textContent = step.refused ? "Refused" : "Made";
+  byId("step").classList.toggle("refused", step.refused);
+}
+
+// A button that would do nothing keeps the focus, so it isn't disabled.
+function showControls(step) {
+  const isFirst = shown === 0;
+  const isLast = shown === steps.length - 1;
+  byId("number").textContent = shown + 1;
+  byId("slider").value = shown + 1;
+  byId("slider").setAttribute("aria-valuetext", `${shown + 1} of ${steps.length}, ${step.event}`);
+  for (const [id, isIdle] of [["first", isFirst], ["back", isFirst], ["next", isLast], ["last", isLast]]) {
+    byId(id).setAttribute("aria-disabled", isIdle);
+  }
+}
+
+function showCursor() {
+  const x = session.left + session.column * shown;
+  const box = byId("scroll");
+  byId("cursor").setAttribute("x", x);
+  const covered = byId("labels").getBoundingClientRect().width;
+  box.scrollLeft = x + session.column / 2 - covered - (box.clientWidth - covered) / 2;
+  for (const row of document.querySelectorAll(".events tbody tr")) {
+    row.classList.toggle("current", row.id === `event-${shown + 1}`);
+  }
+}
+
+function show(n) {
+  shown = Math.min(Math.max(n, 0), steps.length - 1);
+  const step = steps[shown];
+  const before = shown ? steps[shown - 1] : boot;
+  for (const part of ["units", "places", "channels"]) {
+    showPart(part, step, before);
+  }
+  showMachine(step, before);
+  showBanks(step, before);
+  showRegisters(step, before);
+  showStep(step);
+  showControls(step);
+  showCursor();
+  byId("ending").classList.toggle("later", shown < steps.length - 1);
+}
+
+// The step that the address names, as #event-7; else the one that is shown.
+function named() {
+  const found = location.hash.match(/^#event-(\d+)$/);
+  return found ? Number(found[1]) - 1 : shown;
+}
+
+const moves = {
+  ArrowLeft: () => show(shown - 1), ArrowRight: () => show(shown + 1), Home: () => show(0),
+  End: () => show(steps.length - 1),
+};
+
+const isPlain = (event) => !(event.altKey || event.ctrlKey || event.metaKey || event.shiftKey);
+
+function press(event) {
+  if (isPlain(event) && event.target.id !== "slider" && event.key in moves) {
+    event.preventDefault();
+    moves[event.key]();
+  }
+}
+
+function point(event) {
+  const x = event.clientX - byId("picture").getBoundingClientRect().left;
+  const n = Math.floor((x - session.left) / session.column);
+  if (n >= 0 && n < steps.length) {
+    show(n);
+  }
+}
+
+function follow(event) {
+  const link = event.target.closest(".events a");
+  if (link && isPlain(event)) {
+    event.preventDefault();
+    history.replaceState(null, "", link.hash);
+    show(named());
+    byId("step").focus({ preventScroll: true });
+    byId("stepping").scrollIntoView();
+  }
+}
+
+function begin() {
+  byId("stepping").hidden = false;
+  byId("first").addEventListener("click", moves.Home);
+  byId("back").addEventListener("click", moves.ArrowLeft);
+  byId("next").addEventListener("click", moves.ArrowRight);
+  byId("last").addEventListener("click", moves.End);
+  byId("slider").addEventListener("input", (event) => show(Number(event.target.value) - 1));
+  byId("picture").addEventListener("click", point);
+  document.addEventListener("keydown", press);
+  document.addEventListener("click", follow);
+  window.addEventListener("hashchange", () => show(named()));
+  window.addEventListener("resize", showCursor);
+  show(named());
+}
+
+if (steps.length) {
+  begin();
+}

@@ -1,0 +1,75 @@
+"""The program under `events`, asked one event after another."""
+
+import os
+import select
+import subprocess
+
+from drawing.following import Fault
+
+# An answer that takes longer doesn't come any more.
+SECONDS = 20
+# What a pipe takes at once, so that a write never waits.
+PIECE = 4096
+
+
+class Conversation:
+    """A run of `cdc6600 events` that has read a deck, and answers each event before the next one is asked."""
+
+    def __init__(self, path, deck):
+        self.path, self.came = path, b""
+        pipes = {"stdin": subprocess.PIPE, "stdout": subprocess.PIPE, "stderr": subprocess.PIPE}
+        try:
+            # An interrupt of this script doesn't reach a process that has a group of its own.
+            self.process = subprocess.Popen([path, "events"], bufsize=0, process_group=0, **pipes)
+        except OSError as fault:
+            raise Fault(path, fault.strerror) from None
+        self.write(deck)
+
+    def ask(self, event):
+        """Asks for an event; the line that answers it. Raises Fault where none comes."""
+        self.write(f"{event}\n")
+        while b"\n" not in self.came:
+            self.came += self.read() or self.ended()
+        line, _, self.came = self.came.partition(b"\n")
+        return line.decode("latin-1")
+
+    def ask_last(self, event):
+        """Asks for the last event of a schedule; the lines that are printed up to the program's end."""
+        self.write(f"{event}\n")
+        part = self.read()
+        while part:
+            self.came += part
+            part = self.read()
+        self.end()
+        return self.came.decode("latin-1").splitlines() or [""]
+
+    def write(self, text):
+        """Writes a text to the program."""
+        data = text.encode("latin-1")
+        while data:
+            if not select.select([], [self.process.stdin], [], SECONDS)[1]:
+                raise Fault(self.path, f"it reads nothing for {SECONDS} seconds")
+            try:
+                data = data[os.write(self.process.stdin.fileno(), data[:PIECE]) :]
+            except BrokenPipeError:
+                self.ended()
+
+    def read(self):
+        """What the program prints next; nothing at its end."""
+        if not select.select([self.process.stdout], [], [], SECONDS)[0]:
+            raise Fault(self.path, f"it prints nothing for {SECONDS} seconds")
+        return os.read(self.process.stdout.fileno(), 65536)
+
+    def ended(self):
+        """Tells that the program has ended before it answered."""
+        told = self.end().decode("latin-1").partition("\n")[0].removeprefix("cdc6600: ")
+        how = f"it ended with status {self.process.returncode} and no answer"
+        raise Fault(self.path, f"{how}: {told}" if told else how)
+
+    def end(self):
+        """Ends the program, if it still runs; what it wrote to standard error."""
+        try:
+            return self.process.communicate(timeout=1)[1]
+        except subprocess.TimeoutExpired:
+            self.process.kill()
+            return self.process.communicate()[1]

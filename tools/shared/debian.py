@@ -1,0 +1,40 @@
+"""The programs of other projects that some checks need. Where they are missing, Debian's packages have them."""
+
+import os
+import shutil
+import subprocess
+import sys
+
+from shared.program import called
+
+NEEDED = {
+    "tools/checks/browser": ("chromium", "chromedriver"), "tools/checks/emulators": ("rustc",),
+    "tools/checks/habits": ("man",), "tools/checks/embedding": ("cc", "rustc"),
+}
+PACKAGES = {
+    "cc": ("gcc", "libc6-dev"), "chromedriver": ("chromium-driver",), "chromium": ("chromium",), "man": ("man-db",),
+    "rustc": ("rustc",),
+}
+# How many seconds an installation waits for another one.
+PATIENCE = 600
+
+
+def missing(check):
+    """The programs that a check needs and that aren't installed."""
+    return [program for program in NEEDED.get(check, ()) if not shutil.which(program)]
+
+
+def provide():
+    """Installs what the check that runs needs, where something is missing and this user may. Else it ends this process
+    with a line that says what is missing."""
+    wanted = missing(called())
+    if not wanted:
+        return
+    packages = [package for program in wanted for package in PACKAGES[program]]
+    if os.geteuid() != 0 or not shutil.which("apt-get"):
+        sys.exit(f"{called()}: {' and '.join(wanted)} missing: apt-get install {' '.join(packages)}")
+    quiet = {"stdin": subprocess.DEVNULL, "stdout": subprocess.DEVNULL, "stderr": subprocess.DEVNULL, "check": False}
+    quiet["env"] = {**os.environ, "DEBIAN_FRONTEND": "noninteractive"}
+    for words in (["update"], ["install", "-y", "--no-install-recommends", *packages]):
+        if subprocess.run(["apt-get", "-o", f"DPkg::Lock::Timeout={PATIENCE}", *words], **quiet).returncode:
+            sys.exit(f"{called()}: apt-get {' '.join(words)} failed")
