@@ -3,7 +3,8 @@
 //!
 //! `plain LOG` reads a deck of `core`, `at`, `word`, `start`, `show` and `end` lines on standard input, goes
 //! through the log and prints the dump, as `cdc6600 replay LOG` does. It takes deck and log to be right, and
-//! panics where they aren't. bench/running takes its parts.
+//! panics where they aren't. bench/running takes its parts; tools/checks/emulators compares it as an emulator, and
+//! copies of it with the faults that tools/checks/planted.py puts in.
 
 use std::fmt::Write;
 use std::io::Read;
@@ -301,6 +302,11 @@ impl State {
             match entry.split_at(1) {
                 ("E", at) => self.exchange(octal(at) as usize),
                 ("I", count) => self.issue_many(count.parse().expect("decimal digits")),
+                ("R", _) => {} // A peripheral processor's read changes nothing here.
+                ("W", access) => {
+                    let (at, word) = access.split_once('=').expect("an address and a word");
+                    self.memory[octal(at) as usize] = octal(word);
+                }
                 _ => panic!("an entry {entry}"),
             }
         }

@@ -1,0 +1,60 @@
+"""Faults to plant in copies of bench/replaying/plain.rs: what each changes, and the steps at which it may be found."""
+
+from dataclasses import dataclass
+
+REFERENCE, STORE, BY_B = r"SA[1-7] |RJ ", r"SA[67] |RJ ", r"[AL]X\d B"
+EXCHANGE, FETCH = "the exchange ", "the fetch "
+
+
+@dataclass(frozen=True)
+class Planted:
+    """A fault: its name, a text that stands once in the source, what stands there instead, and a pattern with which the
+    text of each step begins whose meaning it touches."""
+
+    name: str
+    old: str
+    new: str
+    steps: str
+
+
+PLANTED = (
+    Planted("the carry of a word is lost", "(total + ((total + 1) >> 60))", "total", r"IX"),
+    Planted("a sum of x and -x is -0", "((total + 1) >> 60)", "(total >> 60)", r"IX"),
+    Planted("the carry of an address is lost", "(total + ((total + 1) >> 18))", "total", r"S[ABX]|JP "),
+    Planted(
+        "a difference borrows nothing around its end",
+        "add60(self.x[j], ONES60 - self.x[k])",
+        "self.x[j].wrapping_sub(self.x[k]) & ONES60",
+        r"IX\d X\d-X\d",
+    ),
+    Planted("SX extends no sign", "index >> 17 == 1 { ONES60 - u64::from(ONES18)", "index >> 18 == 1 { 0", r"SX"),
+    Planted("an or takes a wrong register", "self.x[j] | self.x[k]", "self.x[j] | self.x[i]", r"BX\d X\d\+X\d"),
+    Planted("an and takes no complement", "self.x[j] & (ONES60 - self.x[k])", "self.x[j] & self.x[k]", r"BX\d -X\d\*X"),
+    Planted("a right shift goes no further than 58", "count.min(59)", "count.min(58)", rf"AX|{BY_B}"),
+    Planted("a rotation isn't taken modulo 60", "count % 60", "count % 63", r"[AL]X"),
+    Planted("a nominal shift has five bits", "magnitude % 64", "magnitude % 32", BY_B),
+    Planted("a long right shift keeps the sign", "magnitude > 63", "magnitude > 127", BY_B),
+    Planted("a mask has at most 59 ones", "jk.min(60)", "jk.min(59)", r"MX"),
+    Planted("the lowest one isn't counted", "self.x[k].count_ones()", "(self.x[k] >> 1).count_ones()", r"CX"),
+    Planted("GE isn't taken for equal ones", "order(self.b[i]) >= order(", "order(self.b[i]) > order(", r"GE "),
+    Planted("negative B registers are the larger ones", "b ^ 0o400000", "b", r"GE |LT "),
+    Planted("ZR isn't taken for -0", "0 => x == 0 || x == ONES60,", "0 => x == 0,", r"ZR "),
+    Planted("DF takes 6000 for definite", "upper != 0o1777 && upper != 0o6000", "upper != 0o1777", r"DF "),
+    Planted("B0 is written", "if i != 0 {", "if i < 8 {", rf"SB0 |{EXCHANGE}"),
+    Planted("a store goes to the word beside", "self.memory[at] = word", "self.memory[at ^ 1] = word", STORE),
+    Planted(
+        "a load ignores RA",
+        "1..=5 => self.x[i] = self.load(address)",
+        "1..=5 => self.x[i] = self.memory.get(address as usize).copied().unwrap_or(0)",
+        r"SA[1-5] ",
+    ),
+    Planted("the word at FL is in range", "address < self.fl", "address <= self.fl", rf"{REFERENCE}|{FETCH}"),
+    Planted("no fault is set", "self.fault = true", "self.fault = false", REFERENCE),
+    Planted("a fault is set in any mode", "self.mode >> 12 & 1 == 1", "self.mode > 0", REFERENCE),
+    Planted("a return jump leads back to itself", "u64::from(next) << 30", "u64::from(self.p) << 30", r"RJ "),
+    Planted("RA and FL are swapped", "(upper(1), upper(2), upper(3))", "(upper(2), upper(1), upper(3))", EXCHANGE),
+    Planted("two X registers of a package are swapped", "incoming[8 + n]", "incoming[8 + (n ^ 1)]", EXCHANGE),
+    Planted("a package doesn't tell of a fault", "2 * u32::from(self.fault)", "0 * u32::from(self.fault)", EXCHANGE),
+    Planted("011 is a return jump", "op == 0o01 && i != 0", "op == 0o01 && i > 1", r"\?011"),
+    Planted("an instruction may cross a word's end", "if self.parcel == 3 {", "if self.parcel == 4 {", r"\?straddle"),
+)

@@ -1,0 +1,49 @@
+"""What the words of a command line stand for."""
+
+import argparse
+from pathlib import Path
+
+from .faults import BadInput
+
+# How long a run of an emulator may take where nothing is said, and at most.
+SECONDS, MOST_SECONDS = 20, 86400
+
+
+def number(word, digits=6):
+    """A number of decks, of at most so many digits."""
+    if not (word.isascii() and word.isdecimal() and len(word) <= digits):
+        raise argparse.ArgumentTypeError(f"{word} is no number of up to {digits} decimal digits")
+    return int(word)
+
+
+def count(word):
+    """A number of steps, at least 1."""
+    if not number(word):
+        raise argparse.ArgumentTypeError(f"{word} is no number above 0")
+    return int(word)
+
+
+def seed(word):
+    """A number from which a deck is drawn."""
+    return number(word, 18)
+
+
+def seconds(word):
+    """A time, in seconds."""
+    try:
+        found = float(word)
+    except ValueError:
+        found = 0
+    if not 0 < found <= MOST_SECONDS:
+        raise argparse.ArgumentTypeError(f"{word} is no time from 0 to {MOST_SECONDS} seconds")
+    return found
+
+
+def bytes_of(file):
+    """What a file has.
+
+    Raises BadInput where it can't be read."""
+    try:
+        return Path(file).read_bytes()
+    except (OSError, ValueError) as fault:
+        raise BadInput(f"{file}: {getattr(fault, 'strerror', None) or fault}") from None

@@ -1,0 +1,106 @@
+"""Finds the step of a log after which an emulator's dump differs from that of `replay`."""
+
+from dataclasses import dataclass
+from functools import cached_property
+
+from .dumps import Dump
+from .faults import Failure
+from .steps import Steps
+
+
+class Outcome:
+    """What came of the first steps of a log: the dump of `replay`, and the emulator's, or why there is none."""
+
+    def __init__(self, proved, came, fault=""):
+        self.proved, self.came, self.fault = proved, came, fault
+        self.is_same = not fault and came.lines == proved.lines
+
+    @cached_property
+    def judged(self):
+        """Where the dumps differ, and why the emulator's is none. That is asked for at the step that is found alone,
+        since before it large memories may differ in each word."""
+        if self.fault:
+            return (), self.fault
+        try:
+            return self.proved.differences(self.came), ""
+        except Failure as failure:
+            return (), str(failure)
+
+    @property
+    def differences(self):
+        """Where the dumps differ."""
+        return self.judged[0]
+
+    @property
+    def failure(self):
+        """What the emulator did instead of a dump, if it did."""
+        return self.judged[1]
+
+
+@dataclass(frozen=True)
+class Found:
+    """The step after which the dumps differ while they agree before it, and what came of it. Step 0 is the booted
+    machine, before all others."""
+
+    step: int
+    outcome: Outcome
+
+
+class Replayed:
+    """A deck with a log, and what `replay` prints for its beginnings. An emulator gets the deck in `file`."""
+
+    def __init__(self, proved, given, log, file):
+        """Asks for the dump after the whole log, which is kept, since each comparison begins with it.
+
+        Raises BadInput where the program refuses the log."""
+        self.proved, self.given, self.file = proved, given, file
+        self.whole, self.steps = proved.dump(given, log), Steps(log)
+        file.write_bytes(given.text)
+
+    def dump(self, count):
+        """The dump after so many steps."""
+        return self.whole if count == len(self.steps) else self.proved.dump(self.given, self.steps.beginning(count))
+
+
+class Comparison:
+    """An emulator beside `replay`, on one deck with one log."""
+
+    def __init__(self, replayed, emulator):
+        self.replayed, self.emulator, self.steps = replayed, emulator, replayed.steps
+
+    def outcome(self, count):
+        """What comes of so many steps."""
+        log, proved = self.steps.beginning(count), self.replayed.dump(count)
+        try:
+            printed = self.emulator.printed(log, self.replayed.file, self.replayed.given.most_printed(log))
+        except Failure as failure:
+            return Outcome(proved, None, str(failure))
+        return Outcome(proved, Dump(printed))
+
+    def find(self, every=None):
+        """The step after which the dumps differ, and what came of it; none where they agree after the whole log and,
+        with `every`, after each so many steps."""
+        good, whole = None, len(self.steps)
+        for count in [*(range(every, whole, every) if every else ()), whole]:
+            outcome = self.outcome(count)
+            if not outcome.is_same:
+                return self.halve(good, Found(count, outcome))
+            good = count
+        return None
+
+    def halve(self, good, found):
+        """Goes from a number of steps after which the dumps agree, if there is one yet, and one after which they
+        differ, to two that are neighbours."""
+        if good is None:
+            booted = self.outcome(0)
+            if not booted.is_same:
+                return Found(0, booted)
+        good = good or 0
+        while found.step - good > 1:
+            middle = (good + found.step) // 2
+            outcome = self.outcome(middle)
+            if outcome.is_same:
+                good = middle
+            else:
+                found = Found(middle, outcome)
+        return found

@@ -1,0 +1,20 @@
+"""The kinds of drawn decks."""
+
+from .branching import branches
+from .draws import Draws
+from .exchanging import exchanges
+from .faulting import faults
+from .straight import references, registers
+
+KINDS = {kind.__name__: kind for kind in (registers, references, branches, faults, exchanges)}
+
+
+def kind_of(seed):
+    """The kind that a seed has where none is named: seeds take turns."""
+    return list(KINDS)[seed % len(KINDS)]
+
+
+def drawn_deck(seed, kind=None):
+    """The text of the deck that is drawn from a seed."""
+    kind = kind or kind_of(seed)
+    return KINDS[kind](Draws(f"{kind} {seed}"))
