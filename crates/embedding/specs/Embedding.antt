@@ -1,0 +1,83 @@
+-- What calls from C hand over: as much of what a command prints as there is room for, how long it is, and the exit
+-- status.
+-- Source: ours.
+use Rattle.std.specs.Prelude.{◌≡◌, ◌≤◌, ◌⊎◌, ℕ, ◌++◌, List, [], length, take, drop, min, Option, Some, None}
+use Rattle.std.specs.Prelude.{Result, Ok, Err, IsUtf8, false}
+use Rattle.instructions.specs.declared.refusal.Refusal.{Refusal}
+use Rattle.instructions.specs.declared.refusal.Refusal.TheVariants as refusals
+use Rattle.sequential.specs.declared.state.State.{State}
+use Rattle.deck.specs.Deck.{deck}
+use Rattle.deck.specs.Reading.{is_read_failure}
+use Rattle.job_deck.specs.Listing.{Lists}
+use Rattle.job_deck.specs.Replaying.{Replays}
+use Rattle.job_deck.specs.SessionResult.{Performs}
+use Rattle.operator_terms.specs.Status.{status_of, code_of, fault_of, fault_status}
+use Rattle.operator_terms.specs.declared.fault.ProgramFault.{ProgramFault}
+use Rattle.operator_terms.specs.declared.fault.ProgramFault.TheVariants as faults
+use Rattle.operator_terms.specs.declared.status.Status.{Status}
+use Rattle.operator_terms.specs.declared.status.Status.TheVariants.{Stopped, Usage}
+use Rattle.embedding.specs.declared.outcome.Outcome.{Outcome}
+
+-- why a command ends at this refusal: it writes to memory, so a write fails where memory runs out
+abbrev pub fault_in_memory : Refusal → ProgramFault
+fault_in_memory refusals.Write = faults.OutOfMemory
+fault_in_memory other = fault_of other
+
+-- the exit status of a command that ends so
+abbrev pub end_code : Result Status ProgramFault → ℕ
+end_code (Ok status) = code_of status
+end_code (Err fault) = code_of (fault_status fault)
+
+-- as much of a text as there is room for, and the bytes after it as they were
+abbrev pub filled : List ℕ → List ℕ → List ℕ
+filled text room = take (min (length text) (length room)) text ++ drop (min (length text) (length room)) room
+
+-- a call hands over this text and this end
+pub record HandsOver (outcome : Outcome) (ended : Result Status ProgramFault) (text old new : List ℕ) : Type 0 where
+  -- as much of the text as there is room for
+  pub output : new ≡ filled text old
+  pub printed : outcome.printed ≡ length text
+  pub status : outcome.status ≡ end_code ended
+
+-- how a command ends that says nothing of the machine
+abbrev pub plain_end : Result (Unit {0}) Refusal → Result Status ProgramFault
+plain_end (Ok x) = Ok Stopped
+plain_end (Err refusal) = Err (fault_in_memory refusal)
+
+-- how a replay ends
+abbrev pub replay_end : Result (Option State) Refusal → Result Status ProgramFault
+replay_end (Ok (Some s)) = Ok (status_of s.fault s.halt)
+replay_end (Ok None) = Err faults.BadLog
+replay_end (Err refusal) = Err (fault_in_memory refusal)
+
+-- what a call hands over that lists the deck of these bytes; no read of them fails
+abbrev pub IsListed : List ℕ → Outcome → List ℕ → List ℕ → Type 0
+IsListed input outcome old new =
+    (found : Result (Unit {0}) Refusal) × (rest : List ℕ) × (text : List ℕ)
+    × Lists found (deck input) rest (Some []) (Some text) × (is_read_failure found ≡ false)
+    × HandsOver outcome (plain_end found) text old new
+
+-- what a call hands over that replays the log of this text on the deck of these bytes
+abbrev pub Replayed : List ℕ → List ℕ → Outcome → List ℕ → List ℕ → Type 0
+Replayed input log outcome old new =
+    (found : Result (Option State) Refusal) × (rest : List ℕ) × (text : List ℕ)
+    × Replays found (deck input) rest log (Some []) (Some text) × (is_read_failure found ≡ false)
+    × HandsOver outcome (replay_end found) text old new
+
+-- the same for the bytes of a log: bytes that aren't a text are no log
+abbrev pub IsReplayed : List ℕ → List ℕ → Outcome → List ℕ → List ℕ → Type 0
+IsReplayed input log outcome old new =
+    Replayed input log outcome old new ⊎ (¬ (IsUtf8 log) × HandsOver outcome (Err faults.BadLog) [] old new)
+
+-- what a call hands over that answers the events of the schedule after the deck of these bytes
+abbrev pub Performed : List ℕ → ℕ → Outcome → List ℕ → List ℕ → Type 0
+Performed input budget outcome old new =
+    (found : Result (Unit {0}) Refusal) × (rest : List ℕ) × (text : List ℕ)
+    × Performs found budget (deck input) rest (Some []) (Some text) × (is_read_failure found ≡ false)
+    × HandsOver outcome (plain_end found) text old new
+
+-- the same for any number as a budget: one that may be none is refused
+abbrev pub IsSession : List ℕ → ℕ → Outcome → List ℕ → List ℕ → Type 0
+IsSession input budget outcome old new =
+    Performed input budget outcome old new
+    ⊎ (¬ ((1 ≤ budget) × (budget ≤ 10000000)) × HandsOver outcome (Ok Usage) [] old new)

@@ -1,0 +1,3 @@
+-- What calls from C hand over.
+-- Source: ours.
+pub mod Embedding

@@ -1,0 +1,113 @@
+ghost use Rattle.std.specs.Prelude.{◌≡◌};
+ghost use Rattle.embedding.specs.Embedding.{IsListed, Replayed, IsReplayed, Performed, IsSession, fault_in_memory};
+
+use crate::input_bytes::InputBytes;
+use crate::outcome::{Outcome, hand_over};
+use instruction_table::Refusal;
+use job_deck::{CheckedWriter, events_to, list_to, replay_to};
+use operator_terms::{Budget, ProgramFault, Status, end_status};
+use std::alloc::Global;
+
+/// Why a command ends where this is refused. It writes to memory, so a write fails where memory runs out.
+fn fault_in_memory(refusal: Refusal) -> ProgramFault
+    ensures { result ≡ fault_in_memory refusal }
+{
+    match refusal {
+        Refusal::Write => ProgramFault::OutOfMemory,
+        other => ProgramFault::of(other),
+    }
+}
+
+/// Lists the deck that these bytes are.
+pub fn list_bytes(alloc: Global, input: &[u8], output: &mut [u8], line: &mut [u8]) -> Outcome
+    ensures { IsListed input.now result output.old output.new }
+{
+    let mut bytes = InputBytes::new(input);
+    let mut text = Vec::new(alloc);
+    let mut writer = CheckedWriter::new(&mut text);
+    let result = list_to(alloc, &mut bytes, &mut writer);
+    // No effect at run time. The proof reads what the text holds from this use.
+    let _ = &*writer.into_inner();
+    let ended = match result {
+        Ok(()) => Ok(Status::Stopped),
+        Err(refusal) => Err(fault_in_memory(refusal)),
+    };
+    hand_over(ended, text.as_slice(), output, line)
+}
+
+/// Replays the log of this text on the deck that these bytes are.
+fn replay_text(
+    alloc: Global,
+    input: &[u8],
+    log: &str,
+    output: &mut [u8],
+    line: &mut [u8],
+) -> Outcome
+    ensures { Replayed input.now log.now result output.old output.new }
+{
+    let mut bytes = InputBytes::new(input);
+    let mut text = Vec::new(alloc);
+    let mut writer = CheckedWriter::new(&mut text);
+    let result = replay_to(alloc, &mut bytes, &mut writer, log);
+    let _ = &*writer.into_inner();
+    let ended = match result {
+        Ok(Some(state)) => Ok(end_status(&state)),
+        Ok(None) => Err(ProgramFault::BadLog),
+        Err(refusal) => Err(fault_in_memory(refusal)),
+    };
+    hand_over(ended, text.as_slice(), output, line)
+}
+
+/// Replays the log that these bytes are, if they are a text.
+pub fn replay_bytes(
+    alloc: Global,
+    input: &[u8],
+    log: &[u8],
+    output: &mut [u8],
+    line: &mut [u8],
+) -> Outcome
+    ensures { IsReplayed input.now log.now result output.old output.new }
+{
+    match std::str::from_utf8(log) {
+        Ok(log) => replay_text(alloc, input, log, output, line),
+        Err(_) => hand_over(Err(ProgramFault::BadLog), &[], output, line),
+    }
+}
+
+/// Answers the events of the deck and schedule that these bytes are.
+fn session(
+    alloc: Global,
+    input: &[u8],
+    budget: Budget,
+    output: &mut [u8],
+    line: &mut [u8],
+) -> Outcome
+    ensures { Performed input.now budget result output.old output.new }
+{
+    let mut bytes = InputBytes::new(input);
+    let mut text = Vec::new(alloc);
+    let mut writer = CheckedWriter::new(&mut text);
+    let result = events_to(alloc, &mut bytes, &mut writer, budget.get());
+    let _ = &*writer.into_inner();
+    let ended = match result {
+        Ok(()) => Ok(Status::Stopped),
+        Err(refusal) => Err(fault_in_memory(refusal)),
+    };
+    hand_over(ended, text.as_slice(), output, line)
+}
+
+/// The same with a budget of so many instructions, if that may be one.
+pub fn session_of_bytes(
+    alloc: Global,
+    input: &[u8],
+    budget: u64,
+    output: &mut [u8],
+    line: &mut [u8],
+) -> Outcome
+    ensures { IsSession input.now budget result output.old output.new }
+{
+    match Budget::new(budget) {
+        Some(budget) => session(alloc, input, budget, output, line),
+        None => hand_over(Ok(Status::Usage), &[], output, line),
+    }
+}

@@ -1,0 +1,178 @@
+"""Proves a crate with all crates on which it stands, and builds it, each crate over what those below it state.
+
+tools/build-program builds the program by it, tools/build-library the static library for C.
+"""
+
+import os
+import re
+import shutil
+import signal
+import sys
+import time
+from concurrent.futures import FIRST_COMPLETED, ThreadPoolExecutor, wait
+from dataclasses import dataclass
+from pathlib import Path
+
+import host
+from commands import run, stop_all
+from crates import Unreadable, checker
+
+# What a verdict may not mention: C code, functions that may not return, and parts that were let pass without proof.
+EXCUSES = re.compile(r" (foreign|hides|partial|may-abort|may-serve|bugs|holes)=")
+# A crate takes about as long as so many lines before it comes to any of its own.
+LINES_BEFORE = 400
+LINES_OF_A_FAULT = 40
+LEAST_URGENT = 19
+
+
+class Unproved(Exception):
+    """A crate that isn't proved, or what isn't linked. Its text is for the user."""
+
+
+@dataclass(frozen=True)
+class Product:
+    """What the crate at the top is built into: the source that the checker reads, how the file's name ends, and the
+    words that ask for it."""
+
+    source: str
+    ending: str
+    words: tuple = ()
+
+
+PROGRAM = Product("main.rt", ".o")
+LIBRARY = Product("lib.rt", ".a", ("--crate-type", "staticlib"))
+
+
+def tell(words):
+    print(f"cdc6600: {words}", file=sys.stderr, flush=True)
+
+
+class Plan:
+    """The crates to prove, lowest first, each with its work in lines, and how urgent it is. Those that are given make
+    no work."""
+
+    def __init__(self, table, top, given=()):
+        self.crates = [*table.below(top), top]
+        self.uses = {name: [it for it in table.uses[name] if it in self.crates] for name in self.crates}
+        self.work = {name: LINES_BEFORE + lines_of(table.folder(name)) for name in self.crates}
+        self.work.update((name, 0) for name in given)
+        ahead, behind = {}, {}
+        for name in self.crates:
+            ahead[name] = max((ahead[it] + self.work[it] for it in self.uses[name]), default=0)
+        for name in reversed(self.crates):
+            above = [it for it in self.crates if name in self.uses[it]]
+            behind[name] = self.work[name] + max((behind[it] for it in above), default=0)
+        longest = max(behind.values())
+        # How much later than it could a crate may begin and hold up nothing, in twentieths of the whole.
+        slack = {name: 20 * (longest - ahead[name] - behind[name]) // longest for name in self.crates}
+        self.nice = {name: min(LEAST_URGENT, slack[name]) for name in self.crates}
+
+    def minutes_left(self, proved, seconds):
+        """About how long it will still take, if a line of the other crates takes as long as one of those proved."""
+        total, done = sum(self.work.values()), sum(self.work[name] for name in proved)
+        return int(seconds * (total - done) / done / 60) + 1
+
+
+def lines_of(folder):
+    """The lines of a crate's code, without its tests."""
+    files = (file for file in (folder / "src").rglob("*.rt") if "test" not in file.name)
+    return sum(len(file.read_bytes().splitlines()) for file in files)
+
+
+class Building:
+    """Proves the crate at the top and those below it, each into a folder of its own in the room. The libraries that are
+    given are proved already."""
+
+    def __init__(self, table, top, product, room, given=None):
+        self.table, self.top, self.product, self.room = table, top, product, Path(room)
+        self.kit, self.given, self.begun = checker().parent.parent, given or {}, time.monotonic()
+        self.plan, self.proved = Plan(table, top, self.given), set(self.given)
+
+    def made(self, name):
+        """What a crate is built into."""
+        if name in self.given:
+            return self.given[name]
+        return self.room / name / f"{name}{self.product.ending if name == self.top else '.rlib'}"
+
+    def words(self, name):
+        """The words by which the checker proves a crate and builds it over the libraries below it."""
+        below, folder = self.table.below(name), self.table.folder(name)
+        root = folder / "src" / (self.product.source if name == self.top else "lib.rt")
+        found = ["nice", "-n", str(self.plan.nice[name]), str(checker()), "build", "--crate-name", name, str(root)]
+        for it in ["std", *self.table.uses[name]]:
+            found += ["--extern", f"{it}={self.made(it) if it in below else f'{self.kit}/rlibs/{it}.rlib'}"]
+        for it in below:
+            found += ["-L", f"dependency={self.made(it).parent}"]
+        found += ["-L", f"dependency={self.kit}/rlibs", "--logic-built", f"{self.kit}/logic_built"]
+        found += ["--antt-project", f"{self.kit}/rattle/logic/antt-project.json", "--jobs", str(self.jobs(name))]
+        compiling = ["--toolchain", f"{self.kit}/toolchain", "--backend", "llvm", *self.product.words]
+        found += compiling if name == self.top else ["--statements"]
+        return [*found, "-o", str(self.made(name))]
+
+    def jobs(self, name):
+        """How many processes a check may use. With several it takes a fourth more of processor time, so only those
+        have them for which others wait."""
+        return 1 if self.plan.nice[name] else host.places()
+
+    def prove(self, name):
+        """Proves and builds a crate.
+
+        Raises Unproved with the end of what the checker said, where it isn't proved."""
+        (self.room / name).mkdir()
+        ran = run(self.words(name), self.room / name)
+        lines = [line for line in ran.said.rstrip().split("\n") if not line.startswith("statements ")]
+        verdict = lines[-1] if lines[-1].startswith("logic=proved ") else ""
+        if ran.status or not verdict or EXCUSES.search(verdict):
+            raise Unproved("\n".join([*lines[-LINES_OF_A_FAULT:], f"cdc6600: {name} isn't proved"]))
+
+    def tell(self, name):
+        """Tells that a crate is proved, and about how long the others will take."""
+        self.proved.add(name)
+        many, total = len(self.proved), len(self.plan.crates)
+        minutes = self.plan.minutes_left(self.proved, time.monotonic() - self.begun)
+        left = "" if many == total else f"; about {minutes} minutes left" if minutes > 1 else "; about a minute left"
+        tell(f"{name} is proved, {many} of {total} crates{left}")
+
+    def prove_all(self):
+        """Proves each crate once those below it are proved, as many side by side as there is memory for."""
+        left, running = [name for name in self.plan.crates if name not in self.given], {}
+        with ThreadPoolExecutor(len(left)) as pool:
+            try:
+                while left or running:
+                    for name in self.ready(left, not running):
+                        left.remove(name)
+                        running[pool.submit(self.prove, name)] = name
+                    for ended in wait(running, return_when=FIRST_COMPLETED).done:
+                        name = running.pop(ended)
+                        ended.result()
+                        self.tell(name)
+            except BaseException:
+                stop_all()
+                raise
+
+    def ready(self, left, is_first):
+        """The crates to begin with now, the most urgent ones first; where memory is short, one if none runs."""
+        found = [name for name in left if self.proved.issuperset(self.plan.uses[name])]
+        room = max(host.free_memory() // host.NEEDED, 1 if is_first else 0)
+        return sorted(found, key=lambda it: self.plan.nice[it])[:room]
+
+
+def put(made, file, begun):
+    """Puts what was made where a file is to stand. It gets the time at which it was begun, so that a source that was
+    changed meanwhile is newer."""
+    file.parent.mkdir(parents=True, exist_ok=True)
+    part = file.with_name(f"{file.name}.new")
+    shutil.copy(made, part)
+    os.utime(part, (begun, begun))
+    part.replace(file)
+
+
+def end(main):
+    """Ends a tool that builds with the status of its work. A signal ends it too, with all that it has started."""
+    for number in (signal.SIGTERM, signal.SIGHUP, signal.SIGINT):
+        signal.signal(number, lambda *_: sys.exit(130))
+    try:
+        sys.exit(main())
+    except (Unproved, Unreadable) as reason:
+        print(reason, file=sys.stderr)
+        sys.exit(1)
