@@ -17,8 +17,10 @@ The parts, in their order:
   (tools/wrong-bodies, which keeps what it tried in the user's cache folder);
 - decks (tools/checks): what the program prints for them, for the commands of the pages, for worked schedules, for the
   largest decks, for those that are cut and bent, and where calls fail, when requests of both kinds are made, and which
-  events take memory; then that forgotten tokens are refused, and that `./cdc6600` builds no program of which a crate
-  isn't proved.
+  events take memory; that a run ends soon beside other work; that emulators are compared with it, that pages of sessions say what the machine does, that a
+  machine is driven by hand, installed, run many times and called from C; then that forgotten tokens are refused, and
+  that `./cdc6600` builds no program of which a crate isn't proved. A check that needs a program which isn't installed
+  is left out, and that is told.
 
 A small check and a check of decks that finds nothing says nothing. Where `rt ci` fails nothing more is tried.
 """
@@ -29,16 +31,21 @@ import resource
 import subprocess
 import sys
 import time
-
-sys.dont_write_bytecode = True
-
 from concurrent.futures import ThreadPoolExecutor
 from pathlib import Path
 
 ROOT = Path(__file__).resolve().parent.parent
+sys.dont_write_bytecode = True
+sys.path.insert(0, str(ROOT / "tools"))
+
+from shared.debian import missing  # noqa: E402
+
 SMALL = (".ci/definitions", ".ci/safety", ".ci/examples", ".ci/sizes", ".ci/words")
 BODIES = ("tools/wrong-bodies-test", "tools/wrong-bodies")
-CHECKS = ("decks", "pages", "schedules", "both-kinds", "large", "mutations", "failures", "allocations")
+CHECKS = (
+    "decks", "pages", "schedules", "both-kinds", "busy", "large", "mutations", "failures", "allocations", "emulators",
+    "random-sessions", "operate", "browser", "progress", "habits", "many-jobs", "embedding",
+)
 DECKS = tuple(f"tools/checks/{name}" for name in CHECKS)
 TOOLS = (".ci/spent-tokens", "tools/build-program-test")
 # The page whose table says what each of them checks.
@@ -135,6 +142,19 @@ def bodies(is_anew):
     return passed + tried - let_through, failed + let_through
 
 
+def is_ready(command):
+    """Whether the programs are installed that a check needs; it is told which one isn't."""
+    absent = missing(command)
+    if absent:
+        print(f"{command} is left out: {' and '.join(absent)} isn't installed", flush=True)
+    return not absent
+
+
+def decks():
+    """The checks of decks, without those that need what isn't installed."""
+    return silent([command for command in DECKS + TOOLS if is_ready(command)])
+
+
 def changed():
     """What changed since the last look, by the work that was kept of it."""
     ended = subprocess.run(["rt", "all", "check"], check=False).returncode
@@ -148,7 +168,7 @@ def whole(gate, is_anew):
         gate.part("proofs and tests", lambda: proofs(is_anew))
     if not gate.failed:
         gate.part("wrong bodies", lambda: bodies(is_anew))
-        gate.part("decks", lambda: silent(DECKS + TOOLS))
+        gate.part("decks", decks)
 
 
 def quick(gate):

@@ -7,7 +7,7 @@ use std::alloc::{AllocError, Global};
 /// What `--version` prints after the program's name.
 const VERSION: &str = "0.1.0";
 
-/// The end of the text that `--help` prints.
+/// The end of the text that `--help` prints for the program; those for its commands follow.
 const AFTER_HELP: &str = "\
 Example:
   cdc6600 run < decks/two-adds.deck
@@ -19,10 +19,34 @@ Exit status:
   3  the program was halted by a refused opcode, a straddling instruction or a fetch out of range
   4  the machine has an address fault
   5  the budget is used up, or the log has no more
-  6  no memory was to be had
+  6  memory ran out
   7  a read or a write failed
 
 Decks, schedules, logs and dumps are described in docs/formats.md.";
+
+const AFTER_RUN: &str = "\
+Example:
+  cdc6600 run --budget 3 < decks/two-adds.deck
+
+The exit statuses are those that cdc6600 --help names.";
+
+const AFTER_REPLAY: &str = "\
+Example:
+  cdc6600 replay \"E40 I4\" < decks/two-adds.deck
+
+The exit statuses are those that cdc6600 --help names.";
+
+const AFTER_EVENTS: &str = "\
+Example:
+  cdc6600 events < decks/sessions/conflicts.session
+
+Exit status: 0 once the last line is answered, else 1, 2, 6 or 7 as cdc6600 --help names them.";
+
+const AFTER_LIST: &str = "\
+Example:
+  cdc6600 list < decks/two-adds.deck
+
+Exit status: 0 once all is listed, else 1, 2, 6 or 7 as cdc6600 --help names them.";
 
 /// What the command line asks for.
 #[derive(Clone, Copy, Debug, Drop, PartialEq, Eq)]
@@ -52,6 +76,7 @@ fn run_command<'a>(alloc: Global) -> Result<Command<'a>, AllocError> {
     Command::new(alloc, "run")
         .about("Runs the deck on standard input and prints the machine's dump")
         .override_usage("cdc6600 run [--budget N]")
+        .after_help(AFTER_RUN)
         .arg(budget_option(alloc))
 }
 
@@ -65,6 +90,7 @@ fn replay_command<'a>(alloc: Global) -> Result<Command<'a>, AllocError> {
             "Goes through LOG on the deck on standard input, one instruction at a time, and prints the machine's dump",
         )
         .override_usage("cdc6600 replay LOG")
+        .after_help(AFTER_REPLAY)
         .arg(log)
 }
 
@@ -75,6 +101,7 @@ fn events_command<'a>(alloc: Global) -> Result<Command<'a>, AllocError> {
             "Makes the events of the schedule after the deck on standard input, one a line, and answers each",
         )
         .override_usage("cdc6600 events [--budget N]")
+        .after_help(AFTER_EVENTS)
         .arg(budget_option(alloc))
 }
 
@@ -83,6 +110,7 @@ fn list_command<'a>(alloc: Global) -> Command<'a> {
     Command::new(alloc, "list")
         .about("Prints the words of the deck on standard input with their instructions")
         .override_usage("cdc6600 list")
+        .after_help(AFTER_LIST)
 }
 
 /// The program, still without its commands. `help` is no command of its own; `--help` is an option of each.

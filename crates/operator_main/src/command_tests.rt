@@ -2,9 +2,11 @@
 //! calls.
 
 use super::program::program;
+use super::progress::{may_take_long, show};
 use super::test_program::{Case, TWO_ADDS, TWO_ADDS_DUMP, expect, words};
 use std::process::Abort;
 use std::sync::Wait;
+use std::sync::atomic::AtomicU64;
 use std::test::Fail;
 use std::thread::Threads;
 
@@ -109,6 +111,19 @@ fn left_by(
         &mut faults,
     );
     Ok((status, output, faults, input.len()))
+}
+
+/// A run and a replay may take long; nothing is shown of work that has ended.
+#[test]
+fn shows_nothing_at_the_end(rt: HostRuntime) -> Result<(), Fail> {
+    for (command, is_long) in [("run", true), ("replay", true), ("events", false)].iter() {
+        let words = words(rt.alloc(), &[*command])?;
+        assert_eq!(rt; may_take_long(words.as_slice()), *is_long);
+    }
+    let mut shown = Vec::new(rt.alloc());
+    show(&rt, &mut shown, &AtomicU64::new(1));
+    assert!(rt; shown.is_empty());
+    Ok(())
 }
 
 /// Nothing is read of a deck.

@@ -3,17 +3,20 @@
 //!
 //! Its own contract promises nothing more than that it is safe; `deck_run` and `job_deck` promise
 //! what it prints. `main` hands the words of the command line to `program::program`, which answers
-//! the exit status. Begin there.
+//! the exit status. Begin there. `progress` shows at a terminal that a long run goes on.
 //!
 //! The tests beside it call `program`; their first table is `CASES` in `command_tests`, a call of
 //! each command with all that it prints.
 #![tactic(auto)]
 
 mod program;
+mod progress;
 
 use operator_terms::ProgramFault;
-use std::env;
+use std::io::IsTerminal;
 use std::process::ExitCode;
+use std::sync::atomic::{AtomicU64, Ordering};
+use std::{env, thread};
 
 fn main(rt: HostRuntime) -> ExitCode {
     let mut stderr = rt.stderr();
@@ -25,14 +28,29 @@ fn main(rt: HostRuntime) -> ExitCode {
     let Ok(words) = words.collect::<Vec<String>>(rt.alloc()) else {
         return ExitCode::from(program::report_fault(&mut stderr, ProgramFault::OutOfMemory));
     };
-    ExitCode::from(program::program(
-        &rt,
-        rt.alloc(),
-        words.as_slice(),
-        &mut rt.stdin(),
-        &mut rt.stdout(),
-        &mut stderr,
-    ))
+    // Somebody who types a deck isn't told how long that takes.
+    let is_shown = progress::may_take_long(words.as_slice())
+        && stderr.is_terminal()
+        && !rt.stdin().is_terminal();
+    let ended = AtomicU64::new(0);
+    thread::scope(thread::scope_env(), &rt, |scope| {
+        if is_shown {
+            let mut terminal = rt.stderr();
+            let (runtime, ended) = (&rt, &ended);
+            let _ = scope.spawn(move || progress::show(runtime, &mut terminal, ended));
+        }
+        let status = program::program(
+            &rt,
+            rt.alloc(),
+            words.as_slice(),
+            &mut rt.stdin(),
+            &mut rt.stdout(),
+            &mut stderr,
+        );
+        ended.store(1, Ordering::SeqCst);
+        ended.wake_all();
+        ExitCode::from(status)
+    })
 }
 
 #[cfg(test)]
