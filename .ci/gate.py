@@ -17,10 +17,10 @@ The parts, in their order:
   (tools/wrong-bodies, which keeps what it tried in the user's cache folder);
 - decks (tools/checks): what the program prints for them, for the commands of the pages, for worked schedules, for the
   largest decks, for those that are cut and bent, and where calls fail, when requests of both kinds are made, and which
-  events take memory; that a run ends soon beside other work; that emulators are compared with it, that pages of sessions say what the machine does, that a
-  machine is driven by hand, installed, run many times and called from C; then that forgotten tokens are refused, and
-  that `./cdc6600` builds no program of which a crate isn't proved. A check that needs a program which isn't installed
-  is left out, and that is told.
+  events take memory; that a run ends soon beside other work; that emulators are compared with it, that pages of
+  sessions say what the machine does, that a machine is driven by hand, installed, run many times and called from C;
+  then that forgotten tokens are refused, and that `./cdc6600` builds no program of which a crate isn't proved. A check
+  that needs a program which isn't installed is left out, and that is told.
 
 A small check and a check of decks that finds nothing says nothing. Where `rt ci` fails nothing more is tried.
 """
