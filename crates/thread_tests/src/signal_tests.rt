@@ -233,25 +233,27 @@ fn adds_what_was_told(rt: HostRuntime) {
     assert_eq!(rt; told, both);
 }
 
-/// A wait ends where its signal is raised, and not before, on one processor and on several.
+/// A wait ends where its signal is raised, and not before, on one processor and on several, and after many waits in
+/// vain too.
 #[test]
 fn waits_end(rt: HostRuntime) -> Result<(), Fail> {
     let machine = booted(rt.alloc(), &[])?;
     let ground = Ground::new(rt.alloc())?;
     assert_eq!(rt;
         wait_and_raise::<Brand, _>(&rt, rt.alloc(), ground, machine)?,
-        [false, true, false]
+        [false, true, false, true]
     );
     Ok(())
 }
 
-/// Whether a signal was seen to be raised before it was, afterwards, and after a wait for it.
+/// Whether a signal was seen to be raised before it was, and afterwards; then, on several processors, whether it was
+/// seen to be raised once more in many waits before it was, and afterwards.
 fn wait_and_raise<K: Naming, R: Wait>(
     rt: &R,
     alloc: Global,
     ground: Ground,
     machine: Machine,
-) -> Result<[bool; 3], Refusal>
+) -> Result<[bool; 4], Refusal>
     requires { ground ≡ K.table }
 {
     let (shared, seat, _) = opened::<K>(alloc, ground, machine)?;
@@ -265,7 +267,19 @@ fn wait_and_raise<K: Naming, R: Wait>(
     signals.run_side_by_side();
     let mut wait = signals.waiting();
     wait.until_raised(rt, &signals.memory, 0);
-    Ok([before, after, wait.is_raised_soon(&signals.memory, 1)])
+    for _ in 0..70 {
+        wait.until_raised(rt, &signals.memory, 1);
+    }
+    let in_vain = wait.is_raised_soon(&signals.memory, 1);
+    signals.memory.raise();
+    wait.until_raised(rt, &signals.memory, 1);
+    wait.reset();
+    Ok([
+        before,
+        after,
+        in_vain,
+        wait.is_raised_soon(&signals.memory, 1),
+    ])
 }
 
 /// Sleeps until a signal was raised, and answers how often it was.
