@@ -4,7 +4,7 @@
 //! Each schedule is made in every way in which events are made: as the lines of a session, one by
 //! one, as one list, and by the calls of a machine under its lock. The first table is `SCHEDULES`
 //! in `register_schedules`; `schedule` has what a row says, and `schedule_tests` makes each row.
-//! `decks/schedules` gives the same rows to the program.
+//! `tools/checks/schedules` gives the same rows to the program.
 #![tactic(auto)]
 
 #[cfg(test)]
