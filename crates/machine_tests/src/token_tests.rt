@@ -209,6 +209,26 @@ fn value_of_another_machine(rt: HostRuntime) -> Result<(), Fail> {
     Ok(())
 }
 
+/// Whether the value of the first reservation of a word, which Increment1 has, makes a reference to memory.
+fn refers(alloc: Global, code: &str) -> Option<bool> {
+    let mut machine = issued_one(alloc, code)?;
+    let value = computed(&mut machine)?;
+    let has_reference = value.has_reference();
+    value.abandon().leave();
+    Some(has_reference)
+}
+
+/// SX1 B0+5 and SA0 B0+5 make no reference, SA1 B0+5 and SA6 B0+5 make one.
+#[test]
+fn values_with_references(rt: HostRuntime) -> Result<(), Fail> {
+    let set = refers(rt.alloc(), FIVE).ok_or("set")?;
+    let addressed = refers(rt.alloc(), "51000000050000000000").ok_or("addressed")?;
+    let loaded = refers(rt.alloc(), "51100000050000000000").ok_or("loaded")?;
+    let stored = refers(rt.alloc(), "51600000050000000000").ok_or("stored")?;
+    assert!(rt; !set && !addressed && loaded && stored);
+    Ok(())
+}
+
 /// Whether the seats are given out, which are left.
 fn are_given(machine: &mut Machine) -> bool {
     match seat_of_increment1(machine) {
