@@ -9,13 +9,14 @@ use operator_terms::{Budget, ProgramFault, Status, end_status};
 use std::alloc::Global;
 use std::sync::Wait;
 use std::thread::Threads;
+use std::time::Clock;
 
 /// Runs a deck, prints the machine's dump and hands it on.
 ///
 /// # Errors
 /// `OutOfMemory`, also where a thread couldn't be started, `Stuck`, and `Write`. At a failed write a beginning of a
 /// dump was written; at the others nothing was.
-fn print_run<T: Threads + Wait + Sync, O: Output>(
+fn print_run<T: Threads + Wait + Clock + Sync, O: Output>(
     rt: &T,
     alloc: Global,
     output: &mut O,
@@ -40,7 +41,7 @@ fn print_run<T: Threads + Wait + Sync, O: Output>(
 /// `Deck` with a line and its fault, `Read`, `OutOfMemory`, also where a thread couldn't be started, `Stuck` where the
 /// machine refused a step before the run's end, and `Write`. At a failed write a beginning of a dump was written; at
 /// the others nothing was.
-pub fn run_deck<T: Threads + Wait + Sync, I: Input, O: Output>(
+pub fn run_deck<T: Threads + Wait + Clock + Sync, I: Input, O: Output>(
     rt: &T,
     alloc: Global,
     input: &mut I,

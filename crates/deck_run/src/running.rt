@@ -11,7 +11,8 @@ use operator_terms::{Budget, ProgramFault};
 use std::alloc::{AllocError, Global};
 use std::sync::Wait;
 use std::thread::Threads;
-use unit_workers::{Orders, run_crew};
+use std::time::Clock;
+use unit_workers::{Gates, Open, Orders, run_threads};
 
 /// What a run of this deck has to do: it starts with the package of `start`, and makes the requests of the `ask` lines,
 /// after so many instructions or at any time.
@@ -36,7 +37,7 @@ fn orders(alloc: Global, deck: &Deck) -> Result<Orders, AllocError>
     })
 }
 
-/// What `run_crew` gets for a run of a deck: a machine that was just booted with the deck's memory and the budget,
+/// What `run_threads` gets for a run of a deck: a machine that was just booted with the deck's memory and the budget,
 /// and the deck's orders.
 ///
 /// # Errors
@@ -57,13 +58,26 @@ fn prepared(alloc: Global, deck: &Deck, budget: Budget) -> Result<(Machine, Orde
     }
 }
 
+/// Gates that hold up nobody.
+fn open_gates() -> Gates<Open> {
+    Gates {
+        branch: Open,
+        boolean: Open,
+        shift: Open,
+        long_add: Open,
+        divide: Open,
+        increment1: Open,
+        increment2: Open,
+    }
+}
+
 /// Boots a machine with a deck's memory and runs it to the end by threads, with the deck's requests for exchanges. The
 /// answered machine has come to its state by its log on that memory, and has just this budget.
 ///
 /// # Errors
 /// `OutOfMemory`, also where a thread couldn't be started, and `Stuck` where the machine refused a step before the
 /// run's end.
-pub fn run<T: Threads + Wait + Sync>(
+pub fn run<T: Threads + Wait + Clock + Sync>(
     rt: &T,
     alloc: Global,
     deck: &Deck,
@@ -76,7 +90,7 @@ pub fn run<T: Threads + Wait + Sync>(
     let Ok((machine, orders)) = prepared(alloc, deck, budget) else {
         return Err(ProgramFault::OutOfMemory);
     };
-    match run_crew(rt, alloc, machine, &orders) {
+    match run_threads(rt, alloc, machine, &orders, open_gates()) {
         Ok(ended) => Ok(ended.snapshot),
         Err(Refusal::OutOfMemory) => Err(ProgramFault::OutOfMemory),
         Err(_) => Err(ProgramFault::Stuck),

@@ -30,19 +30,19 @@ pub struct MachineGuard<'a, K: Naming> {
 }
 
 impl<'a, K: Naming> MachineGuard<'a, K> {
-    /// Gives the lock back, and answers what was done meanwhile, for `Signals::tell`.
-    pub fn hand_back(self) -> Told {
-        drop(self.locked);
-        self.told
-    }
-
-    /// Gives the lock back, and tells those who wait what was done.
+    /// Releases the lock, and then wakes the threads that wait for the events that were made.
     pub fn release(self) {
-        let signals = self.signals;
-        signals.tell(&self.hand_back());
+        let MachineGuard {
+            locked,
+            word: _,
+            signals,
+            told,
+        } = self;
+        drop(locked);
+        signals.tell(&told);
     }
 
-    /// Memory's worker is to be told that something may be left for it.
+    /// The release is to wake the storage worker: a reference was made.
     pub fn leave_to_memory(&mut self) {
         self.told.referred = true;
     }
@@ -181,6 +181,11 @@ impl<'a, K: Naming> MachineGuard<'a, K> {
         ensures { IfErr result (λ refusal. is_nothing refusal ≡ true) }
     {
         self.make(Event::BankFree(bank))
+    }
+
+    /// The next event that works on the oldest pending instruction, as `Machine::next_work`.
+    pub fn next_work(&self) -> Option<Event> {
+        self.locked.next_work()
     }
 
     /// Whether no issued instruction has an effect still to come.

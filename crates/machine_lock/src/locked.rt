@@ -11,6 +11,7 @@ ghost use Rattle.program_order.specs.Refusals.{is_ask_refusal};
 ghost use Rattle.program_order.specs.Run.{IsAnswer, settled};
 ghost use Rattle.program_order.specs.Invariant.{IsReplay};
 ghost use Rattle.machine.specs.Tokens.{one_more};
+ghost use Rattle.program_order.specs.Drain.{next_of};
 ghost use Rattle.program_order.specs.Events.{after};
 ghost use Rattle.machine_lock.specs.CallerKnowledge.{IsMade, Learnt, HasReplay, IsNoteOf, IsWhyOf, IsWordOf, note_in};
 ghost use Rattle.machine_lock.specs.CallerKnowledge.{word_in};
@@ -332,6 +333,13 @@ impl<K: Naming> Locked<K> {
     {
         compare(word, &mut self.pass, seen, &self.machine);
         self.machine.snapshot()
+    }
+
+    /// The next event that works on the oldest pending instruction.
+    pub(crate) fn next_work(&self) -> Option<Event>
+        ensures next { result ≡ next_of self.now.processor.pending self.now.processor.busy }
+    {
+        self.machine.next_work()
     }
 
     /// Whether no issued instruction has an effect still to come.

@@ -9,6 +9,7 @@ use std::sync::Wait;
 use std::sync::atomic::AtomicU64;
 use std::test::Fail;
 use std::thread::Threads;
+use std::time::Clock;
 
 /// The lines of the deck's words.
 const TWO_ADDS_LIST: &[u8] = b"\
@@ -94,7 +95,7 @@ const USAGES: [Usage<'static>; 17] = [
 
 /// The exit status, what is printed and what is told with these arguments, and how much of the input is left.
 fn left_by(
-    rt: &(impl Abort + AllocGlobal + Threads + Wait + Sync),
+    rt: &(impl Abort + AllocGlobal + Threads + Wait + Clock + Sync),
     arguments: &[&str],
     input: &[u8],
 ) -> Result<(u8, Vec<u8>, Vec<u8>, usize), Fail> {

@@ -10,6 +10,7 @@ use std::io;
 use std::io::{BufReader, BufWriter, Read, Write};
 use std::sync::Wait;
 use std::thread::Threads;
+use std::time::Clock;
 
 /// More bytes than a fault line has; the longest is that of a step that the machine refused.
 const FAULT_LINE: usize = 64;
@@ -50,7 +51,7 @@ fn report_usage<W: Write, F: Write>(output: &mut W, faults: &mut F, error: Error
 
 /// Does what is asked, with buffers between, so that neither a byte that is read nor a piece that is
 /// written costs a call of the system.
-fn perform<T: Threads + Wait + Sync, R: Read, W: Write>(
+fn perform<T: Threads + Wait + Clock + Sync, R: Read, W: Write>(
     rt: &T,
     alloc: Global,
     request: Request<'_>,
@@ -81,7 +82,7 @@ fn perform<T: Threads + Wait + Sync, R: Read, W: Write>(
 
 /// The whole program, over its arguments without the program's name, its input, output and fault
 /// stream. It answers the exit status, which a failed write to the fault stream doesn't change.
-pub fn program<T: Threads + Wait + Sync, R: Read, W: Write, F: Write>(
+pub fn program<T: Threads + Wait + Clock + Sync, R: Read, W: Write, F: Write>(
     rt: &T,
     alloc: Global,
     words: &[String],

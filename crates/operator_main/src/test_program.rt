@@ -6,6 +6,7 @@ use std::process::Abort;
 use std::sync::Wait;
 use std::test::Fail;
 use std::thread::Threads;
+use std::time::Clock;
 
 pub fn words(alloc: Global, texts: &[&str]) -> Result<Vec<String>, AllocError> {
     let mut all = Vec::new(alloc);
@@ -17,7 +18,7 @@ pub fn words(alloc: Global, texts: &[&str]) -> Result<Vec<String>, AllocError> {
 
 /// The program's status with these arguments and this input, what it prints and what it says of faults.
 pub fn called(
-    rt: &(impl Abort + AllocGlobal + Threads + Wait + Sync),
+    rt: &(impl Abort + AllocGlobal + Threads + Wait + Clock + Sync),
     texts: &[&str],
     input: &[u8],
 ) -> Result<(u8, Vec<u8>, Vec<u8>), Fail> {
@@ -52,7 +53,7 @@ pub struct Case<'a> {
 
 /// The call ends as the case says.
 pub fn expect(
-    rt: &(impl Abort + AllocGlobal + Threads + Wait + Sync),
+    rt: &(impl Abort + AllocGlobal + Threads + Wait + Clock + Sync),
     case: &Case<'_>,
 ) -> Result<(), Fail> {
     let (status, printed, told) = called(rt, case.arguments, case.input)?;

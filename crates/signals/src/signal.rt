@@ -1,4 +1,4 @@
-//! A count by which a thread sees that something was done since it last tried.
+//! A count that wakes its thread.
 
 use crate::told::Told;
 use crossbeam_utils::CachePadded;
@@ -6,30 +6,31 @@ use std::sync::Wait;
 use std::sync::atomic::{AtomicBool, AtomicU64, Ordering};
 use std::time::Duration;
 
-/// What whoever raises a signal writes and reads.
+/// The part of a signal that the other threads write.
 #[derive(Drop)]
 struct Raises {
     count: AtomicU64,
-    /// How many threads sleep until it is raised.
+    /// How many threads sleep until the count is raised.
     sleepers: AtomicU64,
 }
 
-/// What its thread waits for. Only that thread writes it.
+/// The changes that the signal's thread waits for. Only that thread writes them.
 #[derive(Drop)]
 struct Awaited {
     change: AtomicBool,
     read: AtomicBool,
 }
 
-/// A count that is raised where something was done for which its thread waits. What others write and what its thread
-/// writes have a cache line of their own each, since many threads look at them.
+/// A count that other threads raise after a change that its thread waits for. Many threads look at both parts, so each
+/// part has a cache line of its own.
 #[derive(Drop)]
 pub struct Signal {
     raises: CachePadded<Raises>,
     awaited: CachePadded<Awaited>,
 }
 
-/// Sets a flag that only this thread sets: where it stands so already, no other thread has to read it anew.
+/// Sets a flag that only this thread sets. A flag that has the value already isn't written, so that the other threads
+/// keep their copies of its cache line.
 fn set(flag: &AtomicBool, value: bool) {
     if flag.load(Ordering::SeqCst) != value {
         flag.store(value, Ordering::SeqCst);
@@ -50,12 +51,12 @@ impl Signal {
         }
     }
 
-    /// How often it was raised.
+    /// The number of times that it was raised.
     pub fn count(&self) -> u64 {
         self.raises.count.load(Ordering::SeqCst)
     }
 
-    /// Counts one more, and wakes the threads that sleep until it does.
+    /// Raises the count by one and wakes the threads that sleep on it.
     pub fn raise(&self) {
         self.raises.count.fetch_add(1, Ordering::SeqCst);
         if self.raises.sleepers.load(Ordering::SeqCst) != 0 {
@@ -63,18 +64,24 @@ impl Signal {
         }
     }
 
-    /// Its thread waits until something changes, or waits no more. A thread that was refused an event says so before
-    /// it gives the lock back, so that whoever makes the next one tells it.
+    /// Registers whether its thread waits for a change: a store, an acceptance or a return. A thread whose event is
+    /// refused registers before it releases the lock, so that no later change is missed.
     pub fn await_change(&self, waits: bool) {
         set(&self.awaited.change, waits);
     }
 
-    /// Its thread waits until operands are read, or waits no more.
+    /// Registers whether its thread waits until a unit reads its operands.
     pub fn await_read(&self, waits: bool) {
         set(&self.awaited.read, waits);
     }
 
-    /// Raises the count where something was done for which its thread waits.
+    /// Registers that its thread waits for nothing.
+    pub fn await_nothing(&self) {
+        self.await_change(false);
+        self.await_read(false);
+    }
+
+    /// Raises the count if its thread waits for one of these changes.
     pub fn tell(&self, told: &Told) {
         if told.changed && self.awaited.change.load(Ordering::SeqCst)
             || told.read && self.awaited.read.load(Ordering::SeqCst)
@@ -83,9 +90,10 @@ impl Signal {
         }
     }
 
-    /// Sleeps while the count is the one that was seen, for a millisecond at most.
+    /// Sleeps while the count is `seen`, for a millisecond at most.
     pub fn sleep<R: Wait>(&self, rt: &R, seen: u64) {
-        // Once the sleeper is counted here, a thread that raises the count wakes it; one that did so before changed it.
+        // A thread that raises the count after this line finds the sleeper and wakes it. One that raised it before has
+        // changed the count, and the thread doesn't fall asleep.
         self.raises.sleepers.fetch_add(1, Ordering::SeqCst);
         let low = seen % (1 << 32);
         self.raises

@@ -1,59 +1,64 @@
-//! A count for each thread of a run.
+//! A signal for each thread of a run.
 
 use crate::signal::Signal;
 use crate::told::Told;
 use crate::waiting::Waiting;
+use crossbeam_utils::CachePadded;
 use instructions::Unit;
 use per_unit::PerUnit;
-use std::sync::atomic::{AtomicBool, Ordering};
+use std::sync::atomic::{AtomicU32, Ordering};
 
-/// What the threads that drive a machine tell one another.
+/// The looks of a wait if the number of processors isn't known.
+const FEW_LOOKS: u32 = 8;
+
+/// The signals of the threads that drive a machine.
 #[derive(Drop)]
 pub struct Signals {
-    /// For the thread that issues: what its issue was refused for may be over, or an exchange was asked for.
+    /// For the issuing thread: the cause of the last refusal may be gone, or an exchange was asked for.
     pub issuing: Signal,
-    /// For the thread that makes requests at any time: an exchange was made.
+    /// For the thread that makes the requests at any time: an exchange was made.
     pub requests: Signal,
-    /// For the worker for memory: something may be left for it, or what a load waits for was read.
+    /// For the storage worker: a reference was made, or the operands were read that hold up a load's return.
     pub memory: Signal,
     workers: PerUnit<Signal>,
-    /// Whether there are several processors for the threads.
-    side_by_side: AtomicBool,
+    /// How often a waiting thread looks before it sleeps. Every thread reads it, and `Pace` writes it.
+    looks: CachePadded<AtomicU32>,
 }
 
 impl Signals {
-    /// Nothing was told yet.
+    /// Signals that nobody has raised yet.
     pub fn new() -> Signals {
         Signals {
             issuing: Signal::new(),
             requests: Signal::new(),
             memory: Signal::new(),
             workers: PerUnit::units().map(|_| Signal::new()),
-            side_by_side: AtomicBool::new(false),
+            looks: CachePadded::new(AtomicU32::new(FEW_LOOKS)),
         }
     }
 
-    /// There are several processors for the threads, so some of them run at the same time.
-    pub fn run_side_by_side(&self) {
-        self.side_by_side.store(true, Ordering::SeqCst);
+    /// How often a waiting thread looks before it sleeps.
+    pub(crate) fn looks(&self) -> u32 {
+        self.looks.load(Ordering::SeqCst)
     }
 
-    /// How a thread waits that issues or serves units. These two wait for each other most of the time.
-    pub fn waiting(&self) -> Waiting {
-        if self.side_by_side.load(Ordering::SeqCst) {
-            Waiting::beside_others()
-        } else {
-            Waiting::new()
-        }
+    /// Sets how often a waiting thread looks before it sleeps.
+    pub(crate) fn set_looks(&self, looks: u32) {
+        self.looks.store(looks, Ordering::SeqCst);
     }
 
-    /// For the worker of this unit: a reservation was sent to it, or what its reservation waits for may have come.
-    /// Units that are never reserved share that of Branch.
+    /// The waits of a thread of the run.
+    pub fn waiting(&self) -> Waiting<'_> {
+        Waiting::new(self)
+    }
+
+    /// For the worker of this unit: a note was sent to it, or the cause of the last refusal may be gone. Units that are
+    /// never reserved share the signal of Branch.
     pub fn worker(&self, unit: Unit) -> &Signal {
         self.workers.get(unit).unwrap_or(&self.workers.branch)
     }
 
-    /// Raises the counts of those that wait for what was done.
+    /// Wakes the threads that wait for these events.
     pub fn tell(&self, told: &Told) {
         if told.changed || told.read {
             let _ = self.workers.each().map(|signal| signal.tell(told));
@@ -68,7 +73,7 @@ impl Signals {
         }
     }
 
-    /// All threads that wait have to look again.
+    /// Wakes all threads.
     pub fn raise_all(&self) {
         let _ = self.workers.each().map(|signal| signal.raise());
         self.issuing.raise();

@@ -4,7 +4,7 @@ ghost use Rattle.std.specs.Prelude.{◌≡◌};
 use crate::fixtures::{FIRST, booted, leave, note};
 use instruction_table::{Refusal, Unit};
 use machine::{Machine, Note, Seat};
-use machine_lock::{Ground, Naming, Seen, Shared, Signal, Told};
+use machine_lock::{Ground, Naming, Seen, Shared, Signal, Signals, Told};
 use std::alloc::Global;
 use std::marker::Brand;
 use std::sync::Wait;
@@ -65,7 +65,7 @@ fn served<K: Naming, R: Wait>(
 }
 
 /// A machine under its lock, with the seat of Increment1; the others are left.
-fn opened<K: Naming>(
+pub(crate) fn opened<K: Naming>(
     alloc: Global,
     ground: Ground,
     machine: Machine,
@@ -214,72 +214,53 @@ fn told_by_turns<K: Naming, R: Wait>(
     Ok(counts)
 }
 
-/// What was done in two holds of the lock is told together.
-#[test]
-fn adds_what_was_told(rt: HostRuntime) {
-    let mut told = Told {
-        changed: true,
-        ..Told::default()
-    };
-    told.add(&Told {
-        read: true,
-        ..Told::default()
-    });
-    let both = Told {
-        changed: true,
-        read: true,
-        ..Told::default()
-    };
-    assert_eq!(rt; told, both);
-}
-
-/// A wait ends where its signal is raised, and not before, on one processor and on several, and after many waits in
-/// vain too.
+/// A wait ends if its signal is raised, and also if nobody raises it; then it can be repeated.
 #[test]
 fn waits_end(rt: HostRuntime) -> Result<(), Fail> {
     let machine = booted(rt.alloc(), &[])?;
     let ground = Ground::new(rt.alloc())?;
     assert_eq!(rt;
         wait_and_raise::<Brand, _>(&rt, rt.alloc(), ground, machine)?,
-        [false, true, false, true]
+        [0, 1, 1, 2]
     );
     Ok(())
 }
 
-/// Whether a signal was seen to be raised before it was, and afterwards; then, on several processors, whether it was
-/// seen to be raised once more in many waits before it was, and afterwards.
-fn wait_and_raise<K: Naming, R: Wait>(
+/// The counts of a signal: after a wait in vain, after a wait for it that another thread has ended, after many waits in
+/// vain, and after one more wait that another thread has ended.
+fn wait_and_raise<K: Naming, R: Threads + Wait + Sync>(
     rt: &R,
     alloc: Global,
     ground: Ground,
     machine: Machine,
-) -> Result<[bool; 4], Refusal>
+) -> Result<[u64; 4], Refusal>
     requires { ground ≡ K.table }
 {
     let (shared, seat, _) = opened::<K>(alloc, ground, machine)?;
     seat.leave();
-    let signals = shared.signals();
+    let (signals, signal) = (shared.signals(), &shared.signals().memory);
     let mut wait = signals.waiting();
-    let before = wait.is_raised_soon(&signals.memory, 0);
-    signals.memory.raise();
-    wait.reset();
-    let after = wait.is_raised_soon(&signals.memory, 0);
-    signals.run_side_by_side();
-    let mut wait = signals.waiting();
-    wait.until_raised(rt, &signals.memory, 0);
+    wait.until_raised(rt, signal, 0);
+    let in_vain = signal.count();
+    let (raised, ()) = join(rt, || next_count(rt, signals, 0), || signal.raise());
     for _ in 0..70 {
-        wait.until_raised(rt, &signals.memory, 1);
+        wait.until_raised(rt, signal, 1);
     }
-    let in_vain = wait.is_raised_soon(&signals.memory, 1);
-    signals.memory.raise();
-    wait.until_raised(rt, &signals.memory, 1);
-    wait.reset();
-    Ok([
-        before,
-        after,
-        in_vain,
-        wait.is_raised_soon(&signals.memory, 1),
-    ])
+    let unchanged = signal.count();
+    let (again, ()) = join(rt, || next_count(rt, signals, 1), || signal.raise());
+    Ok([in_vain, raised, unchanged, again])
+}
+
+/// Waits until the count of memory's signal is another than this one, and answers which.
+fn next_count<R: Wait>(rt: &R, signals: &Signals, count: u64) -> u64 {
+    let mut wait = signals.waiting();
+    for _ in rt.forever() {
+        if signals.memory.count() != count {
+            return signals.memory.count();
+        }
+        wait.until_raised(rt, &signals.memory, count);
+    }
+    unreachable!()
 }
 
 /// Sleeps until a signal was raised, and answers how often it was.

@@ -5,6 +5,7 @@ ghost use Rattle.std.specs.Prelude.{◌≡◌};
 use crate::fixtures::{Wanted, Words, are, booted, booted_over, is_empty, note, word, x};
 use crate::lock_tests::leave_all;
 use crate::queue_tests::{Sending, Taking};
+use crate::signal_tests::opened;
 use instruction_table::{Digit, Halt, Refusal, Reg, Unit};
 use machine::{Event, Machine, Note, Seat};
 use machine_lock::{Ground, Naming, Seen, Shared};
@@ -17,8 +18,9 @@ use std::sync::atomic::{AtomicU64, Ordering};
 use std::test::Fail;
 use std::thread;
 use std::thread::Threads;
+use std::time::Clock;
 use unit_queue::lane;
-use unit_workers::{Ended, Gate, Gates, Open, Orders, Tally, run_crew, run_threads, serve, worker};
+use unit_workers::{Ended, Gate, Gates, Open, Orders, Tally, run_threads, serve, worker};
 
 fn orders(alloc: Global) -> Orders {
     Orders {
@@ -239,7 +241,7 @@ fn is_end_of(ended: &Ended, run: &Run<'_>) -> bool {
 }
 
 /// Whether a run with these gates ends as it is to.
-fn ends<G: Gate + Send, R: Threads + Wait + Sync>(
+fn ends<G: Gate + Send, R: Threads + Wait + Clock + Sync>(
     rt: &R,
     alloc: Global,
     run: &Run<'_>,
@@ -249,17 +251,6 @@ fn ends<G: Gate + Send, R: Threads + Wait + Sync>(
         return false;
     };
     match run_threads(rt, alloc, machine, &orders(alloc), gates) {
-        Ok(ended) => is_end_of(&ended, run),
-        Err(_) => false,
-    }
-}
-
-/// Whether a run with one thread for all units ends as it is to.
-fn ends_by_a_crew<R: Threads + Wait + Sync>(rt: &R, alloc: Global, run: &Run<'_>) -> bool {
-    let Ok(machine) = booted_over(alloc, &REGISTERS, run.words) else {
-        return false;
-    };
-    match run_crew(rt, alloc, machine, &orders(alloc)) {
         Ok(ended) => is_end_of(&ended, run),
         Err(_) => false,
     }
@@ -354,7 +345,7 @@ fn holds_of(alloc: Global, run: &Run<'_>) -> Result<Vec<Hold>, AllocError> {
 }
 
 /// Whether a run in which these are held ends as it is to, and they went on when the others were stored.
-fn ends_held<R: Threads + Wait + Sync>(
+fn ends_held<R: Threads + Wait + Clock + Sync>(
     rt: &R,
     alloc: Global,
     run: &Run<'_>,
@@ -385,11 +376,66 @@ fn runs(rt: HostRuntime) -> Result<(), Fail> {
     Ok(())
 }
 
-#[test]
-fn runs_by_a_crew(rt: HostRuntime) -> Result<(), Fail> {
-    for run in &RUNS {
-        assert!(rt; ends_by_a_crew(&rt, rt.alloc(), run), "{}", run.name);
+/// A gate that holds each reservation before it is computed until seven are at their gates.
+#[derive(Drop)]
+struct Meeting<'a> {
+    /// How many reservations are at their gates.
+    arrived: &'a AtomicU64,
+    /// How many went on when all seven were there, and not because they had waited for a million turns.
+    met: &'a AtomicU64,
+}
+
+impl Gate for Meeting<'_> {
+    fn before(&mut self, _unit: Unit, _number: u64) {
+        self.arrived.fetch_add(1, Ordering::SeqCst);
+        for _ in 0..1_000_000u32 {
+            if self.arrived.load(Ordering::SeqCst) >= 7 {
+                self.met.fetch_add(1, Ordering::SeqCst);
+                return;
+            }
+            thread::yield_now();
+        }
     }
+
+    fn stored(&mut self, _unit: Unit, _number: u64) {}
+}
+
+/// Seven instructions, one for each unit in use, none of which awaits the result of another.
+const SEVEN_UNITS: Run<'static> = Run {
+    name: "BX1 X2, LX3 1, IX4 X2+X7, CX5 X2, SX6 B0+B0, SB3 B0+B0 and JP 2 compute at the same time",
+    words: &[
+        (0o100, "10120203013642747502"),
+        (0o101, "76600663000200000002"),
+    ],
+    holds: &[],
+    issues: 8,
+    stored: [1, 1, 1, 1, 1, 2],
+    x: &[(1, "6"), (3, "10"), (4, "11"), (5, "2"), (6, "0")],
+    a: &[],
+};
+
+/// All seven units compute at the same moment of one run: none goes on before each has its operands.
+#[test]
+fn seven_units_at_once(rt: HostRuntime) -> Result<(), Fail> {
+    let (arrived, met) = (AtomicU64::new(0), AtomicU64::new(0));
+    let gate = || Meeting {
+        arrived: &arrived,
+        met: &met,
+    };
+    let gates = Gates {
+        branch: gate(),
+        boolean: gate(),
+        shift: gate(),
+        long_add: gate(),
+        divide: gate(),
+        increment1: gate(),
+        increment2: gate(),
+    };
+    assert!(rt;
+        ends(&rt, rt.alloc(), &SEVEN_UNITS, gates) && met.load(Ordering::SeqCst) == 7,
+        "{}",
+        SEVEN_UNITS.name
+    );
     Ok(())
 }
 
@@ -443,7 +489,7 @@ fn sleepers_get_on(rt: HostRuntime) -> Result<(), Fail> {
 
 /// Runs BX1 X2, LX3 1, NO, NO and a stop, with an exchange for the package at 60, which begins at the stop: after so
 /// many instructions, or at any time.
-fn exchanging<R: Threads + Wait + Sync>(
+fn exchanging<R: Threads + Wait + Clock + Sync>(
     rt: &R,
     alloc: Global,
     after: Option<u64>,
@@ -658,6 +704,50 @@ fn serves_once<K: Naming, R: Wait>(
     let (boolean, is_again) = serve(rt, &shared, note(Unit::Boolean, 1), boolean, &mut gate);
     let counts = [boolean.leave(), gate.before, gate.stored];
     Ok((started, [is_never, is_other, is_own, is_again], counts))
+}
+
+/// Whether the reservation was stored, whether the machine is drained then, and the answer to an acceptance from the
+/// hopper's place 0.
+type Referred = (bool, bool, Result<(), Refusal>);
+
+/// Issues twice, and serves the reservation of Increment1 that has this number.
+fn serve_increment<K: Naming, R: Wait>(
+    rt: &R,
+    alloc: Global,
+    ground: Ground,
+    machine: Machine,
+    number: u64,
+) -> Result<Referred, Refusal>
+    requires { ground ≡ K.table }
+{
+    let (shared, increment1, mut seen) = opened::<K>(alloc, ground, machine)?;
+    let started = start(rt, &shared, &mut seen);
+    let note = note(Unit::Increment1, number);
+    let (increment1, is_stored) = serve(rt, &shared, note, increment1, &mut Open);
+    increment1.leave();
+    started?;
+    let is_drained = shared.drained(rt);
+    Ok((is_stored, is_drained, shared.accept(rt, 0)))
+}
+
+/// The reference of SA1 B0+17, before which nothing is pending, goes through memory at its store.
+#[test]
+fn takes_its_own_reference(rt: HostRuntime) -> Result<(), Fail> {
+    let machine = booted(rt.alloc(), &[(0o100, "51100000174600046000")])?;
+    let ground = Ground::new(rt.alloc())?;
+    let referred = serve_increment::<Brand, _>(&rt, rt.alloc(), ground, machine, 1)?;
+    assert_eq!(rt; referred, (true, true, Err(Refusal::Nothing)));
+    Ok(())
+}
+
+/// The reference of SA3 B0+17, before which BX1 X2 is pending, is left in the hopper for the storage worker.
+#[test]
+fn leaves_a_later_reference(rt: HostRuntime) -> Result<(), Fail> {
+    let machine = booted(rt.alloc(), &[(0o100, "10120513000001746000")])?;
+    let ground = Ground::new(rt.alloc())?;
+    let referred = serve_increment::<Brand, _>(&rt, rt.alloc(), ground, machine, 2)?;
+    assert_eq!(rt; referred, (true, false, Ok(())));
+    Ok(())
 }
 
 /// A worker serves what its lane has, until it is closed, and its tally settles.

@@ -1,4 +1,2 @@
-pub mod Accounts
-pub mod AllUnits
 pub mod NotesTaken
 pub mod Sent

@@ -1,4 +1,2 @@
--- The definitions of a reservation's service, of what workers count, and of what stays of a worker. Source: ours.
-pub mod Services
+-- The definitions of what workers count. Source: ours.
 pub mod Tallies
-pub mod Workers

@@ -1,3 +1,4 @@
--- The definitions of what workers count, of how the seen log grows, and of when a run ends. Source: ours.
+-- The definitions of how the seen log grows, of when a run ends, and of its tallies. Source: ours.
 pub mod Ending
 pub mod Onward
+pub mod Settled

@@ -40,10 +40,9 @@ fn ask_in_turn<K: Naming, R: Wait>(
     shared: &Shared<K>,
     seen: &mut Seen<K>,
     at: u32,
-    wait: &mut Waiting,
+    wait: &mut Waiting<'_>,
 ) -> Result<bool, Refusal> {
     let exchanges = &shared.signals().requests;
-    wait.reset();
     for _ in rt.forever() {
         let count = exchanges.count();
         match shared.ask(rt, seen, at) {
@@ -69,7 +68,7 @@ fn ask_each<K: Naming, R: Wait>(
     seen: &mut Seen<K>,
     free: &FreeRequests<'_>,
 ) -> Result<(), Refusal> {
-    let mut wait = Waiting::new();
+    let mut wait = shared.signals().waiting();
     for at in free.packages {
         if !ask_in_turn(rt, shared, seen, *at, &mut wait)? {
             break;
@@ -79,8 +78,22 @@ fn ask_each<K: Naming, R: Wait>(
     Ok(())
 }
 
-/// Makes the requests one after another, and gives back what has been seen. None is left then, whether all were made
-/// or not.
+/// Waits until the machine's users are told to end.
+fn wait_for_end<K: Naming, R: Wait>(rt: &R, shared: &Shared<K>) {
+    let exchanges = &shared.signals().requests;
+    let mut wait = shared.signals().waiting();
+    for _ in rt.forever() {
+        let count = exchanges.count();
+        if shared.ended(rt) {
+            return;
+        }
+        wait.until_raised(rt, exchanges, count);
+    }
+    unreachable!()
+}
+
+/// Makes the requests one after another. Then none is left, whether all were made or not. It returns at the run's end,
+/// and gives back what has been seen.
 ///
 /// # Errors
 /// What was refused, except what the events of others can help against.
@@ -93,6 +106,7 @@ pub fn ask_all<K: Naming, R: Wait>(
     let asked = ask_each(rt, shared, &mut seen, free);
     free.left.store(0, Ordering::SeqCst);
     shared.signals().issuing.raise();
+    wait_for_end(rt, shared);
     match asked {
         Ok(()) => Ok(seen),
         Err(refusal) => Err(refusal),

@@ -11,7 +11,11 @@ use exchange_requests::{Ask, Requests};
 use instruction_table::Refusal;
 use machine::Note;
 use machine_lock::{MachineGuard, Naming, Seen, Shared};
+use signals::Pace;
 use std::sync::Wait;
+use std::thread;
+use std::thread::Threads;
+use std::time::Clock;
 
 /// The reservations of one hold of the lock: a unit has one at most, as nobody stores meanwhile. An `ArrayVec` wants
 /// elements that have a value by default, which a note has not.
@@ -245,11 +249,11 @@ pub fn begin<K: Naming, R: Wait>(
     Ok(())
 }
 
-/// Goes on to the run's end. Where nothing can be done it waits until others stored.
+/// Issues and makes exchanges up to the run's end. If nothing can be done it waits for the events of others.
 ///
 /// # Errors
-/// What was refused before.
-pub fn conduct<K: Naming, R: Wait>(
+/// The first refusal that ends no run.
+pub fn conduct<K: Naming, R: Threads + Wait + Clock>(
     rt: &R,
     shared: &Shared<K>,
     seen: &mut Seen<K>,
@@ -258,13 +262,17 @@ pub fn conduct<K: Naming, R: Wait>(
 ) -> Result<(), Refusal>
     ensures onward { GoesOnFrom seen.old seen.new }
 {
-    let issuing = &shared.signals().issuing;
-    let mut wait = shared.signals().waiting();
+    let signals = shared.signals();
+    let mut wait = signals.waiting();
+    let mut pace = Pace::new(signals, thread::available_parallelism(rt).ok());
     for _ in rt.forever() {
-        let count = issuing.count();
+        let count = signals.issuing.count();
         match step(rt, shared, seen, &mut pending, lanes)? {
-            Progress::GoesOn => wait.reset(),
-            Progress::Waits => wait.until_raised(rt, issuing, count),
+            Progress::GoesOn => {}
+            Progress::Waits => {
+                wait.until_raised(rt, &signals.issuing, count);
+                pace.waited(rt);
+            }
             Progress::Ends => return Ok(()),
         }
     }

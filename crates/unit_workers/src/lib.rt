@@ -1,11 +1,11 @@
-//! Threads that drive a machine under its lock: those that serve its units, one for memory, one that makes the
-//! requests at any time, and the one that issues. So units work while others issue, as those of the 6600 did
-//! (Thornton, functional units). Which thread does what is this project's choice.
+//! Ten threads that drive a machine under its lock: one for each of the seven units, one for memory, one that makes the
+//! requests at any time, and the calling thread, which issues. So units compute at the same time, as those of the 6600
+//! did (Thornton, functional units). Which thread does what is this project's choice.
 //!
-//! Callers rely on `run_crew` and `run_threads`: each ends with a snapshot of the machine that it was given, with
-//! that machine's boot memory and budget, whose log begins with that machine's and keeps to the budget. Nothing
-//! promises that a run ends. Begin with `run_crew` in `threaded_run`; `issuing` issues, `worker_lanes` starts those
-//! that serve the units. What one of these does with a reservation is `unit_serving`'s.
+//! Callers rely on `run_threads`: it ends with a snapshot of the machine that it was given, with that machine's boot
+//! memory and budget, whose log begins with that machine's and keeps to the budget. Nothing promises that a run ends.
+//! Begin with `run_threads` in `threaded_run`; `issuing` issues, `worker_lanes` starts the workers of the units, and
+//! `asking` makes the requests at any time. `unit_serving` has what a worker does with a reservation.
 #![tactic(auto)]
 
 mod asking;
@@ -13,5 +13,5 @@ mod issuing;
 mod threaded_run;
 mod worker_lanes;
 
-pub use threaded_run::{Ended, Orders, run_crew, run_threads};
+pub use threaded_run::{Ended, Orders, run_threads};
 pub use unit_serving::{Gate, Gates, Open, Tally, serve, storage_worker, worker};

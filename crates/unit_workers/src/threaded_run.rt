@@ -1,24 +1,28 @@
 //! A whole run by threads.
-ghost use Rattle.std.specs.Prelude.{◌≡◌, ◌≤◌, [], IfOk, Ok};
+ghost use Rattle.std.specs.Prelude.{◌≡◌, ◌≤◌, [], IfOk, IfSome, Ok, map};
 ghost use Rattle.sequential.specs.Log.{issued};
 ghost use Rattle.machine_lock.specs.CallerKnowledge.{booted_by, known, StartsWith};
 ghost use Rattle.unit_workers.specs.Onward.{EndsFrom};
+ghost use Rattle.per_unit.specs.Units.{Each, in_order, paired};
+ghost use Rattle.unit_workers.specs.Settled.{in_use, IsSettled, AreSettled};
 
 use crate::asking::{FreeRequests, ask_all};
 use crate::issuing::{PendingRequests, begin, conduct};
-use crate::worker_lanes::{LaneEnds, WorkerLanes, open_lanes};
+use crate::worker_lanes::{LaneEnds, Settled, WorkerLanes, open_lanes};
 use exchange_requests::{Ask, Requests};
 use instruction_table::Refusal;
-use machine::{Machine, Seat, Snapshot};
+use machine::{Machine, Seat};
 use machine_lock::{Ground, Naming, Seen, Shared};
 use per_unit::PerUnit;
 use std::alloc::Global;
 use std::marker::Brand;
-use std::num::NonZeroUsize;
+use std::snapshot::Snapshot;
 use std::sync::Wait;
+use std::thread;
 use std::thread::{Scope, Threads};
-use std::{io, thread};
-use unit_serving::{Gate, Gates, Open, Tally, storage_worker};
+use std::time::Clock;
+use unit_queue::SendPass;
+use unit_serving::{Gate, Gates, Tally, storage_worker};
 
 /// What a run by threads has to do: the package with which it starts, and the exchanges for which it asks.
 #[derive(Drop)]
@@ -32,14 +36,17 @@ pub struct Orders {
     pub free: Vec<u32>,
 }
 
-/// What a run by threads leaves: the drained machine, and what each unit's worker did.
+/// The outcome of a run by threads: the drained machine, and the tallies of the units' workers.
 #[derive(Drop)]
 pub struct Ended {
     /// The drained machine.
-    pub snapshot: Snapshot,
-    /// What the workers did, in the order of the units' numbers: Branch, Boolean, Shift, LongAdd, Divide, Increment1,
-    /// Increment2.
+    pub snapshot: machine::Snapshot,
+    /// The tallies in the order of the units' numbers: Branch, Boolean, Shift, LongAdd, Divide, Increment1, Increment2.
+    /// Each worker took all notes that were sent to it.
     pub tallies: [Tally; 7],
+    /// The sending ends of the lanes as they were closed, for contracts alone.
+    pub sent: PerUnit<Snapshot<SendPass>>,
+    ghost settled: { AreSettled (map (λ sender. sender.value) (in_order sent)) tallies },
 }
 
 /// The machine at a run's end, after all of its threads. The two that asked for exchanges meet, so that the snapshot
@@ -53,7 +60,7 @@ fn closing<K: Naming, R: Wait>(
     conducted: Result<(), Refusal>,
     asked: Result<Seen<K>, Refusal>,
     mut seen: Seen<K>,
-) -> Result<Snapshot, Refusal>
+) -> Result<machine::Snapshot, Refusal>
     ensures onward { IfOk result (λ snapshot. EndsFrom seen snapshot) }
 {
     conducted?;
@@ -62,28 +69,35 @@ fn closing<K: Naming, R: Wait>(
     shared.snapshot(rt, &mut seen)
 }
 
-/// What a run ends with.
+/// The outcome of a run with this snapshot and these tallies.
 ///
 /// # Errors
-/// What was refused, and `OutOfMemory` where a worker's thread couldn't be started.
+/// What was refused, and `OutOfMemory` if a worker's thread couldn't be started.
 fn with_tallies(
-    snapshot: Result<Snapshot, Refusal>,
-    tallies: Option<[Tally; 7]>,
+    snapshot: Result<machine::Snapshot, Refusal>,
+    settled: Option<Settled>,
 ) -> Result<Ended, Refusal>
+    requires { IfSome settled (λ ended. Each (λ one tally. IsSettled one.0 one.1.value tally)
+        (paired in_use ended.0) ended.1) }
     ensures snapshot { IfOk result (λ ended. snapshot ≡ Ok ended.snapshot) }
 {
     let snapshot = snapshot?;
-    let Some(tallies) = tallies else {
+    let Some((sent, tallies)) = settled else {
         return Err(Refusal::OutOfMemory);
     };
-    Ok(Ended { snapshot, tallies })
+    let tallies = tallies.into_array();
+    Ok(Ended {
+        snapshot,
+        tallies,
+        sent,
+    })
 }
 
 /// What the threads of a run get.
 #[derive(Drop)]
 struct Tasks<'a, K: Naming, G: Gate> {
-    /// What the workers call, if each has a thread of its own.
-    gates: Option<Gates<G>>,
+    /// What the workers call.
+    gates: Gates<G>,
     /// The exchanges to ask for.
     pending: PendingRequests<'a>,
     /// What the issuing thread has seen.
@@ -97,7 +111,13 @@ struct Tasks<'a, K: Naming, G: Gate> {
 ///
 /// # Errors
 /// What the machine refuses, and `OutOfMemory`, also where a thread couldn't be started.
-fn run_in<'s, E, K: Naming + Send + Sync + 's, G: Gate + Send + 's, R: Threads + Wait + Sync>(
+fn run_in<
+    's,
+    E,
+    K: Naming + Send + Sync + 's,
+    G: Gate + Send + 's,
+    R: Threads + Wait + Clock + Sync,
+>(
     scope: &Scope<'s, E>,
     rt: &'s R,
     shared: &'s Shared<K>,
@@ -114,10 +134,7 @@ fn run_in<'s, E, K: Naming + Send + Sync + 's, G: Gate + Send + 's, R: Threads +
         other,
     } = tasks;
     let free = pending.free();
-    let mut lanes = match gates {
-        Some(gates) => WorkerLanes::start(scope, rt, shared, ends, holders, gates),
-        None => WorkerLanes::start_crew(scope, rt, shared, ends, holders),
-    };
+    let mut lanes = WorkerLanes::start(scope, rt, shared, ends, holders, gates);
     let storing = scope.spawn(move || storage_worker(rt, shared)).ok();
     let asking = scope.spawn(move || ask_all(rt, shared, other, free)).ok();
     let conducted = if lanes.are_served() && storing.is_some() && asking.is_some() {
@@ -127,7 +144,7 @@ fn run_in<'s, E, K: Naming + Send + Sync + 's, G: Gate + Send + 's, R: Threads +
     };
     lanes.close(rt);
     shared.end(rt);
-    let tallies = lanes.end(rt);
+    let settled = lanes.end(rt);
     if let Some(storing) = storing {
         storing.join(rt);
     }
@@ -135,14 +152,14 @@ fn run_in<'s, E, K: Naming + Send + Sync + 's, G: Gate + Send + 's, R: Threads +
         Some(asking) => asking.join(rt),
         None => Err(Refusal::OutOfMemory),
     };
-    with_tallies(closing(rt, shared, conducted, asked, seen), tallies)
+    with_tallies(closing(rt, shared, conducted, asked, seen), settled)
 }
 
 /// Makes the lanes, and runs.
 ///
 /// # Errors
 /// What the machine refuses, and `OutOfMemory`, also where a thread couldn't be started.
-fn run_lanes<K: Naming + Send + Sync, G: Gate + Send, R: Threads + Wait + Sync>(
+fn run_lanes<K: Naming + Send + Sync, G: Gate + Send, R: Threads + Wait + Clock + Sync>(
     rt: &R,
     alloc: Global,
     shared: &Shared<K>,
@@ -168,12 +185,12 @@ fn run_lanes<K: Naming + Send + Sync, G: Gate + Send, R: Threads + Wait + Sync>(
 ///
 /// # Errors
 /// What the machine refuses, and `OutOfMemory`, also where a thread couldn't be started.
-fn run_from_start<K: Naming + Send + Sync, G: Gate + Send, R: Threads + Wait + Sync>(
+fn run_from_start<K: Naming + Send + Sync, G: Gate + Send, R: Threads + Wait + Clock + Sync>(
     rt: &R,
     alloc: Global,
     shared: &Shared<K>,
     holders: &mut PerUnit<Option<Seat>>,
-    gates: Option<Gates<G>>,
+    gates: Gates<G>,
     pending: PendingRequests<'_>,
     mut seen: Seen<K>,
 ) -> Result<Ended, Refusal>
@@ -191,34 +208,23 @@ fn run_from_start<K: Naming + Send + Sync, G: Gate + Send, R: Threads + Wait + S
     run_lanes(rt, alloc, shared, holders, tasks)
 }
 
-/// Whether there is more than one processor, as far as is known.
-fn are_several(processors: io::Result<NonZeroUsize>) -> bool {
-    match processors {
-        Ok(processors) => processors.get() > 1,
-        Err(_) => false,
-    }
-}
-
 /// Runs a machine beside a progress word.
 ///
 /// # Errors
 /// What the machine refuses; `Nothing` where the machine's seats were given out before; `OutOfMemory`, also where a
 /// thread couldn't be started.
-fn run_beside<K: Naming + Send + Sync, G: Gate + Send, R: Threads + Wait + Sync>(
+fn run_beside<K: Naming + Send + Sync, G: Gate + Send, R: Threads + Wait + Clock + Sync>(
     rt: &R,
     alloc: Global,
     ground: Ground,
     machine: Machine,
-    gates: Option<Gates<G>>,
+    gates: Gates<G>,
     pending: PendingRequests<'_>,
 ) -> Result<Ended, Refusal>
     requires { ground ≡ K.table }
     ensures onward { IfOk result (λ ended. EndsFrom (known (booted_by machine) machine.log []) ended.snapshot) }
 {
     let (shared, seats, seen) = Shared::<K>::open(alloc, ground, machine)?;
-    if are_several(thread::available_parallelism(rt)) {
-        shared.signals().run_side_by_side();
-    }
     let mut holders = PerUnit::from_array(seats).map(|seat| Some(seat));
     let ended = run_from_start(rt, alloc, &shared, &mut holders, gates, pending, seen);
     let _ = holders.map(leave);
@@ -232,30 +238,6 @@ fn leave(holder: Option<Seat>) {
     }
 }
 
-/// Runs a machine, by a thread for each unit where there are gates for them, and else by one for all.
-///
-/// # Errors
-/// As those of `run_threads`.
-fn run_machine<G: Gate + Send, R: Threads + Wait + Sync>(
-    rt: &R,
-    alloc: Global,
-    machine: Machine,
-    orders: &Orders,
-    gates: Option<Gates<G>>,
-) -> Result<Ended, Refusal>
-    ensures onward { IfOk result (λ ended. EndsFrom (known (booted_by machine) machine.log []) ended.snapshot) }
-{
-    let Ok(requests) = Requests::new(alloc, orders.start, orders.after.as_slice()) else {
-        return Err(Refusal::OutOfMemory);
-    };
-    let ground = Ground::new(alloc)?;
-    let free = FreeRequests::new(orders.free.as_slice());
-    let mut machine = machine;
-    machine.drain();
-    let pending = PendingRequests::new(requests, &free);
-    run_beside::<Brand, _, _>(rt, alloc, ground, machine, gates, pending)
-}
-
 /// Runs a machine by threads: one for each of the seven units, one for memory, one that makes the requests at any time,
 /// and this one, which issues. The run starts with the exchange for the package at `orders.start`. It ends where the
 /// machine is drained and either it is halted, faulted or out of budget, no request waits, none is due and none at any
@@ -267,7 +249,7 @@ fn run_machine<G: Gate + Send, R: Threads + Wait + Sync>(
 /// # Errors
 /// What the machine refuses before; `Nothing` where the machine's seats were given out before; `OutOfMemory`, also
 /// where a thread couldn't be started. All threads have ended then, and all seats are left.
-pub fn run_threads<G: Gate + Send, R: Threads + Wait + Sync>(
+pub fn run_threads<G: Gate + Send, R: Threads + Wait + Clock + Sync>(
     rt: &R,
     alloc: Global,
     machine: Machine,
@@ -279,24 +261,13 @@ pub fn run_threads<G: Gate + Send, R: Threads + Wait + Sync>(
     ensures budget { IfOk result (λ ended. ended.snapshot.budget ≡ machine.budget) }
     ensures within { IfOk result (λ ended. issued ended.snapshot.log ≤ machine.budget) }
 {
-    run_machine(rt, alloc, machine, orders, Some(gates))
-}
-
-/// Runs a machine as `run_threads`, but by a crew: one thread for the workers of all seven units, whose gates hold up
-/// nobody. It takes less time: a thread for each unit mostly waits, or is switched to.
-///
-/// # Errors
-/// As those of `run_threads`.
-pub fn run_crew<R: Threads + Wait + Sync>(
-    rt: &R,
-    alloc: Global,
-    machine: Machine,
-    orders: &Orders,
-) -> Result<Ended, Refusal>
-    ensures memory { IfOk result (λ ended. ended.snapshot.boot_memory ≡ machine.boot_memory) }
-    ensures log { IfOk result (λ ended. StartsWith ended.snapshot.log machine.log) }
-    ensures budget { IfOk result (λ ended. ended.snapshot.budget ≡ machine.budget) }
-    ensures within { IfOk result (λ ended. issued ended.snapshot.log ≤ machine.budget) }
-{
-    run_machine::<Open, R>(rt, alloc, machine, orders, None)
+    let Ok(requests) = Requests::new(alloc, orders.start, orders.after.as_slice()) else {
+        return Err(Refusal::OutOfMemory);
+    };
+    let ground = Ground::new(alloc)?;
+    let free = FreeRequests::new(orders.free.as_slice());
+    let mut machine = machine;
+    machine.drain();
+    let pending = PendingRequests::new(requests, &free);
+    run_beside::<Brand, _, _>(rt, alloc, ground, machine, gates, pending)
 }

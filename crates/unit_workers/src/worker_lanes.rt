@@ -1,6 +1,8 @@
-//! The lanes of the seven units with their ends, and the threads that serve them.
+//! The lanes of the seven units with their ends, and the workers' threads that serve them.
 ghost use Rattle.std.specs.Prelude.{◌≡◌, IfSome};
 ghost use Rattle.std.specs.Option.{ForSome};
+ghost use Rattle.per_unit.specs.Units.{Each, paired};
+ghost use Rattle.unit_workers.specs.Settled.{in_use, IsSettled};
 
 use crossbeam_utils::Backoff;
 use instruction_table::Unit;
@@ -11,9 +13,9 @@ use signals::Signals;
 use std::alloc::Global;
 use std::snapshot::Snapshot;
 use std::sync::Wait;
-use std::thread::{JoinHandle, Promise, PromisedHandle, Scope, Threads};
+use std::thread::{Promise, PromisedHandle, Scope, Threads};
 use unit_queue::{Lane, SendPass, TakePass, lane};
-use unit_serving::{Gate, Gates, LaneReceiver, Tally, crew, crew_signal, worker};
+use unit_serving::{Gate, Gates, Tally, worker};
 
 /// The tally that a worker's thread gives is of this lane.
 #[derive(Drop)]
@@ -27,6 +29,9 @@ impl Promise<Option<Tally>> for TallyOfLane {
 
 pub type Worker = PromisedHandle<Option<Tally>, TallyOfLane>;
 
+/// What was sent on the lane of each unit, and the tallies of the units' workers.
+pub type Settled = (PerUnit<Snapshot<SendPass>>, PerUnit<Tally>);
+
 /// A lane with its two ends.
 #[derive(Drop)]
 pub struct LaneEnds<'a> {
@@ -37,20 +42,28 @@ pub struct LaneEnds<'a> {
     ghost takes: { taker.id ≡ lane.now.id },
 }
 
-/// A lane to send on, with the worker that takes from it, if one was started for it alone.
+/// A lane with its end for taking.
+#[derive(Drop)]
+struct LaneReceiver<'a> {
+    lane: &'a Lane,
+    taker: TakePass,
+    ghost takes: { taker.id ≡ lane.now.id },
+}
+
+/// A lane to send on, with the worker that takes from it, if its thread could be started.
 #[derive(Drop)]
 pub struct WorkerLane<'a> {
     lane: &'a Lane,
     sender: SendPass,
     started: Option<Worker>,
-    /// It is never reset, so after the first few pauses each one lets others run.
+    /// The pauses while the lane is full. A run never fills a lane: it holds one note of its unit and `Closed` at most.
     backoff: Backoff,
     ghost sends: { sender.id ≡ lane.now.id },
     ghost serves: { ForSome started (λ h. h.promise.0.value.id ≡ lane.now.id) },
 }
 
-/// What a worker's thread does. A closure can't hold a seat, which must be spent, so the seat is taken from a holder
-/// that the thread is lent. None where no seat is there.
+/// The work of a worker's thread. A closure can't hold a seat, which must be spent, so the thread borrows a holder and
+/// takes the seat out of it. `None` if the holder is empty.
 fn work<K: Naming, G: Gate, R: Wait>(
     rt: &R,
     shared: &Shared<K>,
@@ -60,12 +73,12 @@ fn work<K: Naming, G: Gate, R: Wait>(
 ) -> Option<Tally>
     ensures { IfSome result (λ t. t.pass.id ≡ receiver.entry.lane.now.id) }
 {
-    let LaneReceiver { lane, pass } = receiver;
+    let LaneReceiver { lane, taker } = receiver;
     let seat = holder.take()?;
-    Some(worker(rt, shared, lane, pass, seat, &mut gate))
+    Some(worker(rt, shared, lane, taker, seat, &mut gate))
 }
 
-/// Starts a worker's thread. None where that couldn't be done.
+/// Starts a worker's thread. `None` if the thread couldn't be started.
 fn start_at<'s, E, K: Naming + Send + Sync + 's, G: Gate + Send + 's, R: Threads + Wait + Sync>(
     scope: &Scope<'s, E>,
     rt: &'s R,
@@ -124,7 +137,7 @@ impl<'a> LaneEnds<'a> {
             scope,
             rt,
             shared,
-            LaneReceiver::of(lane, taker),
+            LaneReceiver { lane, taker },
             holder,
             gate,
         );
@@ -134,22 +147,6 @@ impl<'a> LaneEnds<'a> {
             started,
             backoff: Backoff::new(),
         }
-    }
-
-    /// The lane to send on, without a worker of its own, and the lane to take from.
-    fn split(self) -> (WorkerLane<'a>, LaneReceiver<'a>) {
-        let LaneEnds {
-            lane,
-            sender,
-            taker,
-        } = self;
-        let sending = WorkerLane {
-            lane,
-            sender,
-            started: None,
-            backoff: Backoff::new(),
-        };
-        (sending, LaneReceiver::of(lane, taker))
     }
 }
 
@@ -181,8 +178,12 @@ impl<'a> WorkerLane<'a> {
         unreachable!()
     }
 
-    /// Waits for the lane's worker, and settles its tally. None where no thread could be started.
-    pub fn end<R: Threads + Wait>(self, rt: &R) -> Option<Tally> {
+    /// Waits for the lane's worker, and settles its tally with the sending end, which is kept for contracts alone. `None`
+    /// if the worker's thread couldn't be started. Its seat came out of an array of values that must be spent, of which
+    /// nothing is known, so its unit is compared.
+    pub fn end<R: Threads + Wait>(self, rt: &R, unit: Unit) -> Option<(Snapshot<SendPass>, Tally)>
+        ensures { IfSome result (λ ended. IsSettled unit ended.0.value ended.1) }
+    {
         let WorkerLane {
             lane,
             sender,
@@ -190,8 +191,12 @@ impl<'a> WorkerLane<'a> {
             backoff: _,
         } = self;
         let mut tally = started?.join(rt)?;
+        if tally.unit() != unit {
+            return None;
+        }
+        let sent = Snapshot::of(&sender);
         tally.settle(rt, lane, sender);
-        Some(tally)
+        Some((sent, tally))
     }
 }
 
@@ -206,16 +211,14 @@ pub fn open_lanes<'a>(
         .complete()
 }
 
-/// The lanes of all units to send on, with the threads that serve them: one for each lane, or one for all.
+/// The lanes of all units to send on, with their workers.
 #[derive(Drop)]
 pub struct WorkerLanes<'a> {
     lanes: PerUnit<WorkerLane<'a>>,
-    /// The thread that serves all lanes, if one does.
-    crew: Option<JoinHandle<Option<PerUnit<Tally>>>>,
 }
 
 impl<'a> WorkerLanes<'a> {
-    /// Starts the worker of each lane, in a thread of its own, which finds its seat in the holder of its unit.
+    /// Starts the worker of each lane in a thread of its own. The worker finds its seat in the holder of its unit.
     pub fn start<E, K: Naming + Send + Sync + 'a, G: Gate + Send + 'a, R: Threads + Wait + Sync>(
         scope: &Scope<'a, E>,
         rt: &'a R,
@@ -228,45 +231,26 @@ impl<'a> WorkerLanes<'a> {
             holders.each_mut().zip(gates.into_each()),
             |ends, (holder, gate)| ends.start(scope, rt, shared, holder, gate),
         );
-        WorkerLanes { lanes, crew: None }
+        WorkerLanes { lanes }
     }
 
-    /// Starts one thread for the workers of all lanes, which finds their seats in the holders.
-    pub fn start_crew<E, K: Naming + Send + Sync + 'a, R: Threads + Wait + Sync>(
-        scope: &Scope<'a, E>,
-        rt: &'a R,
-        shared: &'a Shared<K>,
-        ends: PerUnit<LaneEnds<'a>>,
-        holders: &'a mut PerUnit<Option<Seat>>,
-    ) -> WorkerLanes<'a> {
-        let (lanes, receivers) = ends.map(|ends| ends.split()).unzip();
-        let crew = scope
-            .spawn(move || crew(rt, shared, receivers, holders))
-            .ok();
-        WorkerLanes { lanes, crew }
-    }
-
-    /// Whether each lane is served.
+    /// Whether each lane has its worker.
     pub fn are_served(&self) -> bool {
-        self.crew.is_some()
-            || self.lanes.each().map(|lane| lane.is_served()).into_array() == [true; 7]
+        self.lanes.each().map(|lane| lane.is_served()).into_array() == [true; 7]
     }
 
-    /// Sends a note on the lane of its unit. A unit that is never reserved has none.
+    /// Sends a note on the lane of its unit. A unit that is never reserved has no lane.
     fn send<R: Wait>(&mut self, rt: &R, note: Note) {
         if let Some(lane) = self.lanes.get_mut(note.unit) {
             lane.send(rt, note);
         }
     }
 
-    /// Sends each of the notes on the lane of its unit, and tells those who serve them.
+    /// Sends each note on the lane of its unit, and wakes that unit's worker.
     pub fn send_all<R: Wait>(&mut self, rt: &R, signals: &Signals, notes: &[Option<Note>]) {
         for note in notes.iter().flatten() {
             self.send(rt, *note);
             signals.worker(note.unit).raise();
-        }
-        if self.crew.is_some() && !notes.is_empty() {
-            crew_signal(signals).raise();
         }
     }
 
@@ -275,22 +259,21 @@ impl<'a> WorkerLanes<'a> {
         let _ = self.lanes.each_mut().map(|lane| lane.close(rt));
     }
 
-    /// Waits for all workers, and gives their tallies in the order of the units' numbers. Those of threads of their own
-    /// are settled. None where a thread couldn't be started.
-    pub fn end<R: Threads + Wait>(self, rt: &R) -> Option<[Tally; 7]> {
-        let WorkerLanes { lanes, crew } = self;
-        if let Some(crew) = crew {
-            return Some(crew.join(rt)?.into_array());
-        }
-        let tallies = PerUnit {
-            branch: lanes.branch.end(rt),
-            boolean: lanes.boolean.end(rt),
-            shift: lanes.shift.end(rt),
-            long_add: lanes.long_add.end(rt),
-            divide: lanes.divide.end(rt),
-            increment1: lanes.increment1.end(rt),
-            increment2: lanes.increment2.end(rt),
+    /// Waits for all workers, and settles their tallies. `None` if a worker couldn't be started.
+    pub fn end<R: Threads + Wait>(self, rt: &R) -> Option<Settled>
+        ensures { IfSome result (λ ended. Each (λ one tally. IsSettled one.0 one.1.value tally)
+            (paired in_use ended.0) ended.1) }
+    {
+        let WorkerLanes { lanes } = self;
+        let ended = PerUnit {
+            branch: lanes.branch.end(rt, Unit::Branch),
+            boolean: lanes.boolean.end(rt, Unit::Boolean),
+            shift: lanes.shift.end(rt, Unit::Shift),
+            long_add: lanes.long_add.end(rt, Unit::LongAdd),
+            divide: lanes.divide.end(rt, Unit::Divide),
+            increment1: lanes.increment1.end(rt, Unit::Increment1),
+            increment2: lanes.increment2.end(rt, Unit::Increment2),
         };
-        Some(tallies.complete()?.into_array())
+        Some(ended.complete()?.unzip())
     }
 }

@@ -14,15 +14,16 @@ unfolding boot_processor
 booted_budget w memory budget h = ap (λ (x : Processor). x.budget) h
 
 -- the snapshot's boot memory is the machine's, which is the deck's, and its budget is the machine's too
-pub returns-in-Ok-run_crew-clause-ran : goal.returns-in-Ok-run_crew-clause-ran
-returns-in-Ok-run_crew-clause-ran g c =
-    let ended = c.in-Ok-run_crew.ensures in
+pub returns-in-Ok-run_threads-clause-ran : goal.returns-in-Ok-run_threads-clause-ran
+returns-in-Ok-run_threads-clause-ran g c =
+    let ended = c.in-Ok-run_threads.ensures in
     let booted = c.in-Ok.ensures.machine in
-    run_on c.args.deck.now.image.memory c.in-Ok-run_crew.ended.snapshot.boot_memory c.args.budget _ _
+    run_on c.args.deck.now.image.memory c.in-Ok-run_threads.ended.snapshot.boot_memory c.args.budget _ _
     (ended.memory ∙ booted_memory _ _ _ booted)
-    (subst (λ (n : ℕ). issued c.in-Ok-run_crew.ended.snapshot.log ≤ n) (booted_budget _ _ _ booted) ended.within)
+    (subst (λ (n : ℕ). issued c.in-Ok-run_threads.ended.snapshot.log ≤ n) (booted_budget _ _ _ booted)
+    ended.within)
     (search rules)
 
-pub returns-in-Ok-run_crew-clause-budget : goal.returns-in-Ok-run_crew-clause-budget
-returns-in-Ok-run_crew-clause-budget g c =
-    c.in-Ok-run_crew.ensures.budget ∙ booted_budget _ _ _ c.in-Ok.ensures.machine
+pub returns-in-Ok-run_threads-clause-budget : goal.returns-in-Ok-run_threads-clause-budget
+returns-in-Ok-run_threads-clause-budget g c =
+    c.in-Ok-run_threads.ensures.budget ∙ booted_budget _ _ _ c.in-Ok.ensures.machine

@@ -1,18 +1,60 @@
-use Rattle.std.proofs.Common.{◌≡◌, ◌+◌, ◌∙◌, sym, subst}
-use Rattle.unit_queue.specs.Lanes.{TakeEnd}
-use Rattle.unit_serving.specs.Tallies.{notes_in}
-use Rattle.unit_serving.specs.Workers.{IsMore}
-use Rattle.unit_serving.proofs.Accounts.{both, served}
+use Rattle.std.proofs.Common.{◌≡◌, ◌++◌, ◌∷◌, [], ap, ◌∙◌, arith}
+use Rattle.std.specs.Prelude.{suc}
+use Rattle.unit_queue.specs.declared.item.Item.TheVariants.{Work, Closed}
+use Rattle.machine.specs.Tokens.{Seating}
+use Rattle.unit_serving.proofs.NotesTaken.{notes_in-push, more, stored, note_counted}
 use Rattle.unit_serving.proofs.unit_worker.worker.Goals as goal
 
--- what was taken before this step, and in it
-pub returns-in-Ok-clause-notes : goal.returns-in-Ok-clause-notes
-returns-in-Ok-clause-notes g c =
+-- the note is strange, and its seat is as it was
+pub loop-preserved-then-not-is_stored : goal.loop-preserved-then-not-is_stored
+loop-preserved-then-not-is_stored g c =
     let i = c.loop.invariant in
-    let tally = c.in-Ok.tally in
-    let last = c.step.result.post.receiver.pass.got in
-    let taken = both c.args.pass.got c.loop.at.post.receiver.pass.got last i.taken c.step.ensures.taken in
-    served c.args.pass.got tally.pass.got tally.stored tally.strange
-    (subst (λ (p : TakeEnd). IsMore c.args.pass.got p.got) (sym c.in-Ok.ensures.1) taken)
-    (subst (λ (p : TakeEnd). tally.stored + tally.strange + notes_in p.got ≡ notes_in tally.pass.got)
-    (c.step.ensures.same.2 ∙ i.first) c.in-Ok.ensures.0.3)
+    let back = c.serve_with-back.result.0 in
+    let same : back ≡ c.loop.at = rw c.if-not-is_stored.true at c.serve_with-back.ensures in
+    let count = ap (λ (u : Seating). u.stored) same in
+    let one = c.one_more-strange.ensures in
+    let got : c.take.new.pass.got ≡ c.loop.from.got ++ Work c.in-Some-Work.note ∷ [] =
+    c.in-Some-Work.ensures.got ∙ ap (λ x. c.loop.from.got ++ x ∷ []) c.in-Some-Work.field-0-is in
+    record {
+      lane = c.in-Some-Work.ensures.lane ∙ i.lane;
+      unit = ap (λ (u : Seating). u.unit) same ∙ i.unit;
+      before = i.before;
+      notes = note_counted c.args.pass.got c.loop.from.got c.take.new.pass.got c.in-Some-Work.note
+          c.stored-before.result c.loop.at.stored c.loop.strange back.stored c.one_more-strange.result i.notes got
+          (omega (arith, count, one)) (omega (arith, count));
+    }
+
+-- the note is stored, and its seat has counted it
+pub loop-preserved-else-not-is_stored : goal.loop-preserved-else-not-is_stored
+loop-preserved-else-not-is_stored g c =
+    let i = c.loop.invariant in
+    let back = c.serve_with-back.result.0 in
+    let is : back ≡ record c.loop.at { stored = suc c.loop.at.stored; last = c.in-Some-Work.note.number } =
+    rw c.if-not-is_stored.false at c.serve_with-back.ensures in
+    let s = stored c.loop.at back c.in-Some-Work.note.number is in
+    let count = s.1 in
+    let got : c.take.new.pass.got ≡ c.loop.from.got ++ Work c.in-Some-Work.note ∷ [] =
+    c.in-Some-Work.ensures.got ∙ ap (λ x. c.loop.from.got ++ x ∷ []) c.in-Some-Work.field-0-is in
+    record {
+      lane = c.in-Some-Work.ensures.lane ∙ i.lane;
+      unit = s.0 ∙ i.unit;
+      before = i.before;
+      notes = note_counted c.args.pass.got c.loop.from.got c.take.new.pass.got c.in-Some-Work.note
+          c.stored-before.result c.loop.at.stored c.loop.strange back.stored c.loop.strange i.notes got
+          (omega (arith, count)) (omega (arith, count));
+    }
+
+-- what closes the lane is no note
+pub returns-in-Some-Closed-clause-notes : goal.returns-in-Some-Closed-clause-notes
+returns-in-Some-Closed-clause-notes g c =
+    let i = c.loop.invariant in
+    let got : c.take.new.pass.got ≡ c.loop.from.got ++ Closed ∷ [] =
+    c.in-Some-Closed.ensures.got ∙ ap (λ x. c.loop.from.got ++ x ∷ []) c.in-Some-Closed.field-0-is in
+    let l = c.leave.ensures in
+    let longer = notes_in-push i.notes.0 Closed in
+    let sum = i.notes.2 in
+    let least = i.notes.3 in (
+      i.notes.0 ++ Closed ∷ [],
+      more c.args.pass.got c.loop.from.got c.take.new.pass.got i.notes.0 Closed i.notes.1 got,
+      (omega (arith, l, longer, sum, least)),
+    )
