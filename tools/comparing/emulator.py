@@ -7,7 +7,7 @@ import signal
 import subprocess
 import time
 
-from .faults import IS_OVER, BadInput, Failure
+from .faults import IS_OVER, LEAVING, BadInput, Failure
 
 # The statuses that go with a dump, as those of `cdc6600 replay`.
 DUMPED = (0, 3, 4, 5)
@@ -107,7 +107,7 @@ class Emulator:
         """What it prints, which has at most so many bytes.
 
         Raises Failure where it doesn't end, dies, or prints nothing."""
-        with self.start(log, deck) as process:
+        with LEAVING.later(), self.start(log, deck) as process:
             try:
                 reading = Reading(process, self.seconds, most)
                 reading.to_end()

@@ -3,6 +3,7 @@
 import signal
 import sys
 import threading
+from contextlib import contextmanager
 
 from shared import ending
 
@@ -19,10 +20,36 @@ class Failure(Exception):
     """What an emulator does where it prints no dump. Its text follows the name of its command."""
 
 
-def leave(number, _):
-    """Ends the tool by a signal, quietly, and the commands that it runs with it."""
-    IS_OVER.set()
-    sys.exit(128 + number)
+class Leaving:
+    """How a signal ends the tool: quietly, and with the commands that it runs. Nothing interrupts the main thread while
+    it starts a command and waits for its end: the command is ended first, since it looks whether the tool is over."""
+
+    def __init__(self):
+        self.number, self.is_later = 0, False
+
+    def leave(self, number, _):
+        """Ends the tool by a signal."""
+        self.number = number
+        IS_OVER.set()
+        if not self.is_later:
+            sys.exit(128 + number)
+
+    @contextmanager
+    def later(self):
+        """Within it a signal to the main thread waits. Other threads get none."""
+        if threading.current_thread() is not threading.main_thread():
+            yield
+            return
+        self.is_later = True
+        try:
+            yield
+        finally:
+            self.is_later = False
+            if self.number:
+                sys.exit(128 + self.number)
+
+
+LEAVING = Leaving()
 
 
 def read_all(main):
@@ -38,6 +65,6 @@ def read_all(main):
 def ended(tool, main):
     """Goes through a tool's main function; its exit status."""
     for number in (signal.SIGINT, signal.SIGTERM):
-        signal.signal(number, leave)
+        signal.signal(number, LEAVING.leave)
     sys.stdout.reconfigure(errors="backslashreplace")
     return ending.ended(tool, lambda: read_all(main), BadInput, status=BAD_INPUT)
