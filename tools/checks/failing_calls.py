@@ -8,6 +8,7 @@ from itertools import count
 from pathlib import Path
 
 from shared.program import Program
+from shared.waiting import Missing, run
 
 SOURCE = Path(__file__).resolve().with_suffix(".c")
 
@@ -24,8 +25,8 @@ class Failing:
         """Builds the library, or ends this process with a line that says why it can't."""
         words = [compiler, "-O1", "-shared", "-fPIC", "-o", self.library, SOURCE, "-ldl"]
         try:
-            subprocess.run(words, check=True)
-        except (OSError, subprocess.CalledProcessError) as fault:
+            run(words).check_returncode()
+        except (OSError, subprocess.CalledProcessError, Missing) as fault:
             sys.exit(f"{SOURCE.name}: it could not be built: {fault}")
 
     def run(self, words, text, call="", at=0, later=False, short=False):

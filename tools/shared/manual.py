@@ -1,9 +1,10 @@
 """A manual page, read as `man` shows it with lines of any length."""
 
 import os
-import subprocess
 from functools import cached_property
 from pathlib import Path
+
+from .waiting import run
 
 # Where the tag of an entry begins in a line, and its text; a longer tag has a line of its own.
 TAG, TEXT = 7, 14
@@ -20,7 +21,7 @@ class Manual:
     def faults(self):
         """What `man` says of the page's form, a line each."""
         words = ["man", "--warnings", "-E", "UTF-8", "-l", "-Tutf8", "-Z", str(self.file)]
-        ran = subprocess.run(words, capture_output=True, text=True, errors="replace", check=False)
+        ran = run(words, capture_output=True, text=True, errors="replace")
         silent = [] if ran.returncode == 0 else [f"man ends with status {ran.returncode}"]
         return ran.stderr.splitlines() or silent
 
@@ -29,7 +30,7 @@ class Manual:
         """The lines of each section by its head."""
         environment = {**os.environ, "LC_ALL": "C", "MANWIDTH": WIDTH, "MANPAGER": "cat"}
         words = ["man", "--no-hyphenation", "--no-justification", "-l", str(self.file)]
-        ran = subprocess.run(words, capture_output=True, text=True, errors="replace", env=environment, check=False)
+        ran = run(words, capture_output=True, text=True, errors="replace", env=environment)
         found, lines = {}, []
         for line in ran.stdout.splitlines()[1:-1]:
             if line[:1].strip():

@@ -1,4 +1,4 @@
-"""The program cdc6600, run with a time limit."""
+"""The program cdc6600, run with a time limit that only a run without end exceeds."""
 
 import os
 import subprocess
@@ -6,10 +6,10 @@ import sys
 from pathlib import Path
 from typing import NamedTuple
 
+from .waiting import MINUTES
+
 ROOT = Path(__file__).resolve().parents[2]
 BUILT = ROOT / "crates/operator_main/out/operator_main"
-# A run that takes longer has failed.
-SECONDS = 60
 
 
 class Ran(NamedTuple):
@@ -48,17 +48,17 @@ class Program:
     def __init__(self, path=None):
         self.path = path or program_path()
 
-    def run(self, words, text=b"", seconds=SECONDS, environment=None):
-        """Runs it with these words and this standard input. A run that doesn't end in time is ended, and its status is
-        that of `timeout`, 124.
+    def run(self, words, text=b"", minutes=MINUTES, environment=None):
+        """Runs it with these words and this standard input. A run that doesn't end within so many minutes is killed,
+        and its status is that of `timeout`, 124.
 
         Raises NoProgram where there is none."""
         try:
             ran = subprocess.run(
-                [self.path, *words], input=text, capture_output=True, timeout=seconds, env=environment, check=False
+                [self.path, *words], input=text, capture_output=True, timeout=60 * minutes, env=environment, check=False
             )
         except subprocess.TimeoutExpired:
-            return Ran(124, b"", b"it didn't end in %d seconds\n" % seconds)
+            return Ran(124, b"", b"waited %d minutes for its end\n" % minutes)
         except OSError as fault:
             raise NoProgram(self.path, fault.strerror) from None
         return Ran(ran.returncode, ran.stdout, ran.stderr)
