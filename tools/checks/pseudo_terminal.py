@@ -8,19 +8,16 @@ import fcntl
 import os
 import pty
 import select
+import signal
 import struct
 import subprocess
 import termios
-import time
+
+from shared.waiting import Missing, wait_until
 
 COLUMNS, LINES = 80, 24
-SECONDS = 20
 KEYS = {"Up": "\x1bA", "Down": "\x1bB", "Left": "\x1bD", "Enter": "\r", "Redraw": "\x0c", "Closed": "\x04",
         "Interrupt": "\x03"}
-
-
-class Missing(Exception):
-    """What was awaited and didn't come."""
 
 
 class Screen:
@@ -88,7 +85,7 @@ class Terminal:
     """A program in a pseudo terminal of some size."""
 
     def __init__(self, words, environment, kind="vt52", columns=COLUMNS, lines=LINES):
-        self.own, self.other = pty.openpty()
+        self.name, (self.own, self.other) = " ".join(map(str, words)), pty.openpty()
         fcntl.ioctl(self.own, termios.TIOCSWINSZ, struct.pack("HHHH", lines, columns, 0, 0))
         self.before, self.screen, self.written = termios.tcgetattr(self.other), Screen(), ""
         own = {**os.environ, **environment, "TERM": kind}
@@ -96,7 +93,7 @@ class Terminal:
             own.pop(name, None)
         self.process = subprocess.Popen(
             words, stdin=self.other, stdout=self.other, stderr=subprocess.PIPE, env=own, start_new_session=True,
-            preexec_fn=lambda: fcntl.ioctl(0, termios.TIOCSCTTY, 0),
+            preexec_fn=begin_session,
         )
 
     @property
@@ -105,7 +102,7 @@ class Terminal:
         return termios.tcgetattr(self.other) == self.before
 
     def read(self, seconds):
-        """Reads what the program writes, for some seconds at most; whether there was anything."""
+        """Reads what the program writes next, if it comes within these seconds; whether there was anything."""
         if not select.select([self.own], [], [], seconds)[0]:
             return False
         text = os.read(self.own, 65536).decode("latin-1")
@@ -113,14 +110,38 @@ class Terminal:
         self.screen.feed(text)
         return True
 
+    @property
+    def is_over(self):
+        """Whether the program has ended, and all that it wrote is read."""
+        return self.process.poll() is not None and not self.read(0)
+
     def wait(self, *wanted):
-        """Reads until all of these texts are on the screen, and a line may be typed."""
-        limit = time.monotonic() + SECONDS
-        while not (self.screen.awaits_line and all(text in self.screen.said for text in wanted)):
-            if time.monotonic() > limit or self.process.poll() is not None and not self.read(0):
-                missing = [text for text in wanted if text not in self.screen.said]
-                raise Missing(f"{missing or 'the end of it'} isn't shown, but {self.screen.said!r}")
-            self.read(0.1)
+        """Reads until all of these texts are on the screen, and a line may be typed.
+
+        Raises Missing if they don't come, or the program ends before."""
+        def is_shown():
+            return self.screen.awaits_line and all(text in self.screen.said for text in wanted)
+
+        def what():
+            texts = [text for text in wanted if text not in self.screen.said]
+            return f"{texts or 'a line to type'} on the screen, which shows {self.screen.said!r}"
+
+        self.read_until(is_shown, what)
+
+    def wait_for_written(self, text):
+        """Reads until the program has written a text, on a terminal of any kind.
+
+        Raises Missing if it doesn't come, or the program ends before."""
+        self.read_until(lambda: text in self.written, lambda: f"{text!r} among {self.written[-200:]!r}")
+
+    def read_until(self, holds, what):
+        """Reads what the program writes until a condition holds.
+
+        Raises Missing if it never does, or the program ends before."""
+        wait_until(lambda: holds() or self.is_over, lambda: f"{what()}, of {self.name}", pause=self.read)
+        if not holds():
+            told = self.process.stderr.read().decode("latin-1")
+            raise Missing(f"{self.name} ended, told {told!r}, and there is no {what()}")
 
     def press(self, *names):
         """Presses keys by their names."""
@@ -132,13 +153,8 @@ class Terminal:
 
     def end(self):
         """Waits for the program's end; its status, and what it wrote to standard error."""
-        limit = time.monotonic() + SECONDS
-        while self.process.poll() is None and time.monotonic() < limit:
-            self.read(0.05)
-        while self.read(0):
-            pass
-        if self.process.poll() is None:
-            self.process.kill()
+        what = f"the end of {self.name}"
+        wait_until(lambda: self.is_over, lambda: f"{what}; the screen has {self.screen.said!r}", pause=self.read)
         return self.process.wait(), self.process.stderr.read().decode("latin-1")
 
     def close(self):
@@ -149,3 +165,10 @@ class Terminal:
         self.process.stderr.close()
         os.close(self.own)
         os.close(self.other)
+
+
+def begin_session():
+    """Makes the terminal that of the new session, and an interrupt end what runs there, as at a login. A check that was
+    started in the background may have inherited that interrupts are ignored."""
+    fcntl.ioctl(0, termios.TIOCSCTTY, 0)
+    signal.signal(signal.SIGINT, signal.SIG_DFL)

@@ -5,9 +5,8 @@ import select
 import subprocess
 
 from drawing.following import Fault
+from shared.waiting import MINUTES, SECONDS
 
-# An answer that takes longer doesn't come any more.
-SECONDS = 20
 # What a pipe takes at once, so that a write never waits.
 PIECE = 4096
 
@@ -48,7 +47,7 @@ class Conversation:
         data = text.encode("latin-1")
         while data:
             if not select.select([], [self.process.stdin], [], SECONDS)[1]:
-                raise Fault(self.path, f"it reads nothing for {SECONDS} seconds")
+                raise Fault(self.path, f"it reads nothing for {MINUTES} minutes")
             try:
                 data = data[os.write(self.process.stdin.fileno(), data[:PIECE]) :]
             except BrokenPipeError:
@@ -57,7 +56,7 @@ class Conversation:
     def read(self):
         """What the program prints next; nothing at its end."""
         if not select.select([self.process.stdout], [], [], SECONDS)[0]:
-            raise Fault(self.path, f"it prints nothing for {SECONDS} seconds")
+            raise Fault(self.path, f"it prints nothing for {MINUTES} minutes")
         return os.read(self.process.stdout.fileno(), 65536)
 
     def ended(self):
