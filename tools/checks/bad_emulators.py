@@ -2,6 +2,9 @@
 
 from dataclasses import dataclass
 
+# The seconds of a sleep that nothing waits for.
+FOREVER = 9999
+HANGS = f"sleep {FOREVER}"
 # A script that is right up to a step of the log E40 I6, and does something else from there on.
 FROM_STEP_5 = 'case $1 in *I[456]) {};; *) exec {{plain}} "$1";; esac'
 BOOTED = "with the log none: the machine as it is booted"
@@ -10,7 +13,8 @@ STEP_5 = "with the log E40 I4: step 5, instruction 4: IX4 X2-X1, at P 000001 PAR
 
 @dataclass(frozen=True)
 class Bad:
-    """A script of the shell, in which `{plain}` stands for the plain interpreter, and what is told after its name."""
+    """A script of the shell, in which `{plain}` stands for the plain interpreter, and what is told after its name, in
+    which `{limit}` stands for the seconds that it may take."""
 
     script: str
     told: str
@@ -20,12 +24,17 @@ class Bad:
         """Whether it prints no dump of the booted machine either."""
         return self.told.endswith(BOOTED)
 
+    @property
+    def hangs(self):
+        """Whether it comes to no end."""
+        return "{limit}" in self.told
+
 
 BAD = (
-    Bad("sleep 60", f"doesn't end in 2 seconds, {BOOTED}"),
-    Bad("sleep 60 & echo begun; wait", f"doesn't end in 2 seconds, {BOOTED}"),
-    Bad("exec >&- 2>&-; sleep 60", f"doesn't end in 2 seconds, {BOOTED}"),
-    Bad(FROM_STEP_5.format("sleep 60"), f"doesn't end in 2 seconds, {STEP_5}"),
+    Bad(HANGS, f"doesn't end in {{limit}} seconds, {BOOTED}"),
+    Bad(f"{HANGS} & echo begun; wait", f"doesn't end in {{limit}} seconds, {BOOTED}"),
+    Bad(f"exec >&- 2>&-; {HANGS}", f"doesn't end in {{limit}} seconds, {BOOTED}"),
+    Bad(FROM_STEP_5.format(HANGS), f"doesn't end in {{limit}} seconds, {STEP_5}"),
     Bad("exit 0", f"prints nothing, {BOOTED}"),
     Bad(FROM_STEP_5.format("exit 5"), f"prints nothing, {STEP_5}"),
     Bad("echo hello", f"prints no dump: line 1 is `hello`, where a line of P is to be, {BOOTED}"),
