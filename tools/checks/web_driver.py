@@ -8,15 +8,20 @@ import re
 import select
 import shutil
 import subprocess
-import sys
-import time
+from contextlib import suppress
 from pathlib import Path
 
-SECONDS = 60
+from shared.waiting import MINUTES, SECONDS, Missing, wait_until
+
+# How often the driver tries to start the browser: it gives up after a minute each time.
+ATTEMPTS = 5
 # The keys that have names, by WebDriver.
 KEYS = {"Left": "\ue012", "Right": "\ue014", "Home": "\ue011", "End": "\ue010", "Tab": "\ue004", "Enter": "\ue007"}
 ELEMENT = "element-6066-11e4-a52e-4f735466cecf"
 STARTED = re.compile(rb"started successfully on port (\d+)")
+IS_SHOWN_AS = """
+return matchMedia(arguments[0]).matches || !document.querySelector("meta[name=viewport]");
+"""
 
 
 class Refused(Exception):
@@ -29,13 +34,20 @@ class Browser:
     def __init__(self):
         words = ["chromedriver", "--port=0"]
         self.driver = subprocess.Popen(words, stdout=subprocess.PIPE, stderr=subprocess.DEVNULL, process_group=0)
-        self.path = ""
+        self.path, self.said = "", b""
         try:
             self.connection = http.client.HTTPConnection("127.0.0.1", self.port(), timeout=SECONDS)
-            self.path = f"/session/{self.begin()}"
+            self.path = f"/session/{self.begin_at_last()}"
         except BaseException:
             self.close()
             raise
+
+    def begin_at_last(self):
+        """Begins the browser, by a further attempt if the driver gives one up; the name of its session."""
+        for _ in range(1, ATTEMPTS):
+            with suppress(Refused):
+                return self.begin()
+        return self.begin()
 
     def begin(self):
         """Begins the browser; the name of its session."""
@@ -43,24 +55,30 @@ class Browser:
         options["perfLoggingPrefs"] = {"enableNetwork": True, "enablePage": False}
         logs = {"performance": "ALL", "browser": "ALL"}
         wanted = {"browserName": "chrome", "goog:chromeOptions": options, "goog:loggingPrefs": logs}
+        wanted["timeouts"] = {"script": 1000 * SECONDS, "pageLoad": 1000 * SECONDS}
         return self.post("/session", capabilities={"alwaysMatch": wanted})["sessionId"]
 
     def port(self):
         """The port on which the driver listens."""
-        begun, said = time.monotonic(), b""
-        while not STARTED.search(said):
-            ready = select.select([self.driver.stdout], [], [], 1)[0]
-            part = os.read(self.driver.stdout.fileno(), 4096) if ready else b""
-            said += part
-            if time.monotonic() - begun > SECONDS or ready and not part:
+        return int(wait_until(self.started, lambda: f"chromedriver to start: {self.said!r}")[1])
+
+    def started(self):
+        """Reads what the driver says next; the line that tells its port, once it is there."""
+        if select.select([self.driver.stdout], [], [], 0)[0]:
+            part = os.read(self.driver.stdout.fileno(), 4096)
+            if not part:
                 raise Refused("chromedriver doesn't start")
-        return int(STARTED.search(said)[1])
+            self.said += part
+        return STARTED.search(self.said)
 
     def call(self, method, path, body):
         """Gives the driver a command; what it answers."""
         text = None if body is None else json.dumps(body)
-        self.connection.request(method, self.path + path, text, {"Content-Type": "application/json"})
-        value = json.loads(self.connection.getresponse().read())["value"]
+        try:
+            self.connection.request(method, self.path + path, text, {"Content-Type": "application/json"})
+            value = json.loads(self.connection.getresponse().read())["value"]
+        except TimeoutError:
+            raise Missing(f"waited {MINUTES} minutes for the answer to {method} {path}: {text}") from None
         if isinstance(value, dict) and "error" in value:
             raise Refused(f"{value['error']}: {value['message'].splitlines()[0]}")
         return value
@@ -100,11 +118,14 @@ class Browser:
         return self.post("/goog/cdp/execute", cmd=name, params=values)
 
     def show_as(self, width, height, scheme="light", media="screen", scale=1):
-        """Shows the page in a window of this size, in this scheme, on a screen or on paper."""
+        """Shows the page in a window of this size, in this scheme, on a screen or on paper, and waits until it is shown
+        so. The empty page before all others has a width of its own."""
         size = {"width": width, "height": height, "deviceScaleFactor": scale, "mobile": width < 600}
         self.command("Emulation.setDeviceMetricsOverride", **size)
         features = [{"name": "prefers-color-scheme", "value": scheme}]
         self.command("Emulation.setEmulatedMedia", media=media, features=features)
+        look = f"{media} and (width: {width}px) and (height: {height}px) and (prefers-color-scheme: {scheme})"
+        wait_until(lambda: self.run(IS_SHOWN_AS, look), f"the page to be shown as {look}")
 
     def use_scripts(self, is_used):
         """Whether pages that are opened from now on run their scripts."""
@@ -131,5 +152,5 @@ class Browser:
                 self.call("DELETE", "", None)
         finally:
             self.driver.terminate()
-            self.driver.wait(SECONDS)
+            wait_until(lambda: self.driver.poll() is not None, "the end of chromedriver")
             self.driver.stdout.close()
