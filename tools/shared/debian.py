@@ -6,6 +6,7 @@ import subprocess
 import sys
 
 from shared.program import called
+from shared.waiting import Missing, run
 
 NEEDED = {
     "tools/checks/browser": ("chromium", "chromedriver"), "tools/checks/emulators": ("rustc",),
@@ -15,8 +16,8 @@ PACKAGES = {
     "cc": ("gcc", "libc6-dev"), "chromedriver": ("chromium-driver",), "chromium": ("chromium",), "man": ("man-db",),
     "rustc": ("rustc",),
 }
-# How many seconds an installation waits for another one.
-PATIENCE = 600
+# How many seconds an installation waits for another one, and how many minutes it may take.
+PATIENCE, MINUTES = 600, 30
 
 
 def missing(check):
@@ -33,8 +34,12 @@ def provide():
     packages = [package for program in wanted for package in PACKAGES[program]]
     if os.geteuid() != 0 or not shutil.which("apt-get"):
         sys.exit(f"{called()}: {' and '.join(wanted)} missing: apt-get install {' '.join(packages)}")
-    quiet = {"stdin": subprocess.DEVNULL, "stdout": subprocess.DEVNULL, "stderr": subprocess.DEVNULL, "check": False}
+    quiet = {"stdin": subprocess.DEVNULL, "stdout": subprocess.DEVNULL, "stderr": subprocess.DEVNULL}
     quiet["env"] = {**os.environ, "DEBIAN_FRONTEND": "noninteractive"}
     for words in (["update"], ["install", "-y", "--no-install-recommends", *packages]):
-        if subprocess.run(["apt-get", "-o", f"DPkg::Lock::Timeout={PATIENCE}", *words], **quiet).returncode:
+        try:
+            status = run(["apt-get", "-o", f"DPkg::Lock::Timeout={PATIENCE}", *words], MINUTES, **quiet).returncode
+        except Missing as fault:
+            sys.exit(f"{called()}: {fault}")
+        if status:
             sys.exit(f"{called()}: apt-get {' '.join(words)} failed")
