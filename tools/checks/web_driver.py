@@ -11,10 +11,12 @@ import subprocess
 from contextlib import suppress
 from pathlib import Path
 
-from shared.waiting import MINUTES, SECONDS, Missing, wait_until
+from shared.waiting import wait_for_stream, wait_until
 
 # How often the driver tries to start the browser: it gives up after a minute each time.
 ATTEMPTS = 5
+# The milliseconds after which the driver gives up a page or a script: a day, which no wait here takes.
+LIMIT = 86_400_000
 # The keys that have names, by WebDriver.
 KEYS = {"Left": "\ue012", "Right": "\ue014", "Home": "\ue011", "End": "\ue010", "Tab": "\ue004", "Enter": "\ue007"}
 ELEMENT = "element-6066-11e4-a52e-4f735466cecf"
@@ -36,7 +38,7 @@ class Browser:
         self.driver = subprocess.Popen(words, stdout=subprocess.PIPE, stderr=subprocess.DEVNULL, process_group=0)
         self.path, self.said = "", b""
         try:
-            self.connection = http.client.HTTPConnection("127.0.0.1", self.port(), timeout=SECONDS)
+            self.connection = http.client.HTTPConnection("127.0.0.1", self.port())
             self.path = f"/session/{self.begin_at_last()}"
         except BaseException:
             self.close()
@@ -55,7 +57,7 @@ class Browser:
         options["perfLoggingPrefs"] = {"enableNetwork": True, "enablePage": False}
         logs = {"performance": "ALL", "browser": "ALL"}
         wanted = {"browserName": "chrome", "goog:chromeOptions": options, "goog:loggingPrefs": logs}
-        wanted["timeouts"] = {"script": 1000 * SECONDS, "pageLoad": 1000 * SECONDS}
+        wanted["timeouts"] = {"script": LIMIT, "pageLoad": LIMIT}
         return self.post("/session", capabilities={"alwaysMatch": wanted})["sessionId"]
 
     def port(self):
@@ -74,11 +76,9 @@ class Browser:
     def call(self, method, path, body):
         """Gives the driver a command; what it answers."""
         text = None if body is None else json.dumps(body)
-        try:
-            self.connection.request(method, self.path + path, text, {"Content-Type": "application/json"})
-            value = json.loads(self.connection.getresponse().read())["value"]
-        except TimeoutError:
-            raise Missing(f"waited {MINUTES} minutes for the answer to {method} {path}: {text}") from None
+        self.connection.request(method, self.path + path, text, {"Content-Type": "application/json"})
+        wait_for_stream(f"the driver's answer to {method} {path}: {text}", reading=[self.connection.sock])
+        value = json.loads(self.connection.getresponse().read())["value"]
         if isinstance(value, dict) and "error" in value:
             raise Refused(f"{value['error']}: {value['message'].splitlines()[0]}")
         return value

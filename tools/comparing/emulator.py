@@ -5,7 +5,8 @@ import selectors
 import shlex
 import signal
 import subprocess
-import time
+
+from shared.waiting import Clock
 
 from .faults import IS_OVER, LEAVING, BadInput, Failure
 
@@ -21,7 +22,7 @@ class Reading:
     It waits for the end by a descriptor of the process, whose number stays its own until it is ended with its group."""
 
     def __init__(self, process, seconds, most):
-        self.seconds, self.most, self.end = seconds, most, time.monotonic() + seconds
+        self.seconds, self.most, self.clock = seconds, most, Clock()
         self.printed, self.said, self.process = bytearray(), bytearray(), os.pidfd_open(process.pid)
         kept = ((self.process, None), (process.stdout, (self.printed, most + 1)), (process.stderr, (self.said, SAID)))
         self.streams = selectors.DefaultSelector()
@@ -30,8 +31,8 @@ class Reading:
 
     @property
     def left(self):
-        """The seconds that are left."""
-        return 0 if IS_OVER.is_set() else max(0, self.end - time.monotonic())
+        """The seconds that are left. Those in which the tool itself is stopped don't count."""
+        return 0 if IS_OVER.is_set() else max(0, self.seconds - self.clock.read())
 
     def take(self, key):
         """Takes what a stream has, and gives it up at its end. The descriptor of a process has nothing but its end."""

@@ -1,11 +1,10 @@
 """The program under `events`, asked one event after another."""
 
 import os
-import select
 import subprocess
 
 from drawing.following import Fault
-from shared.waiting import MINUTES, SECONDS
+from shared.waiting import Missing, wait_for_stream
 
 # What a pipe takes at once, so that a write never waits.
 PIECE = 4096
@@ -46,8 +45,7 @@ class Conversation:
         """Writes a text to the program."""
         data = text.encode("latin-1")
         while data:
-            if not select.select([], [self.process.stdin], [], SECONDS)[1]:
-                raise Fault(self.path, f"it reads nothing for {MINUTES} minutes")
+            self.wait("it to read", writing=[self.process.stdin])
             try:
                 data = data[os.write(self.process.stdin.fileno(), data[:PIECE]) :]
             except BrokenPipeError:
@@ -55,9 +53,15 @@ class Conversation:
 
     def read(self):
         """What the program prints next; nothing at its end."""
-        if not select.select([self.process.stdout], [], [], SECONDS)[0]:
-            raise Fault(self.path, f"it prints nothing for {MINUTES} minutes")
+        self.wait("it to print", reading=[self.process.stdout])
         return os.read(self.process.stdout.fileno(), 65536)
+
+    def wait(self, what, **streams):
+        """Waits until the program reads or prints. Raises Fault if it doesn't."""
+        try:
+            wait_for_stream(what, **streams)
+        except Missing as fault:
+            raise Fault(self.path, str(fault)) from None
 
     def ended(self):
         """Tells that the program has ended before it answered."""

@@ -6,7 +6,7 @@ import sys
 from pathlib import Path
 from typing import NamedTuple
 
-from .waiting import MINUTES
+from .waiting import MINUTES, Missing, finish
 
 ROOT = Path(__file__).resolve().parents[2]
 BUILT = ROOT / "crates/operator_main/out/operator_main"
@@ -53,15 +53,17 @@ class Program:
         and its status is that of `timeout`, 124.
 
         Raises NoProgram where there is none."""
+        pipes = {"stdin": subprocess.PIPE, "stdout": subprocess.PIPE, "stderr": subprocess.PIPE}
         try:
-            ran = subprocess.run(
-                [self.path, *words], input=text, capture_output=True, timeout=60 * minutes, env=environment, check=False
-            )
-        except subprocess.TimeoutExpired:
-            return Ran(124, b"", b"waited %d minutes for its end\n" % minutes)
+            process = subprocess.Popen([self.path, *words], **pipes, env=environment)
         except OSError as fault:
             raise NoProgram(self.path, fault.strerror) from None
-        return Ran(ran.returncode, ran.stdout, ran.stderr)
+        with process:
+            try:
+                printed, told = finish(process, self.path, text, minutes)
+            except Missing:
+                return Ran(124, b"", b"waited %d minutes for its end\n" % minutes)
+        return Ran(process.returncode, printed, told)
 
 
 def called():

@@ -1,20 +1,35 @@
 """Waiting for something, with a limit that only something that never happens exceeds.
 
 No check judges by how long something takes, since other work may hold up whatever it tries. It waits for what it
-expects, ten minutes at most if nothing else is said, and then says what it waited for.
+expects, ten minutes if nothing else is said, and then says what it waited for. A time in which the waiting process is
+stopped itself doesn't count.
 """
 
+import select
 import subprocess
 import time
+from contextlib import suppress
 
 MINUTES = 10
-SECONDS = 60 * MINUTES
-# The seconds between two tests of a condition.
-PAUSE = 0.02
+# The seconds between two tests of a condition, and between two looks at a process.
+PAUSE, LOOK = 0.02, 10
 
 
 class Missing(Exception):
     """Something that was waited for and didn't happen. Its text says what."""
+
+
+class Clock:
+    """Counts the seconds in which this process isn't stopped: from one reading to the next so many at most."""
+
+    def __init__(self, most=1):
+        self.most, self.counted, self.last = most, 0, time.monotonic()
+
+    def read(self):
+        """The seconds since it was made."""
+        before, self.last = self.last, time.monotonic()
+        self.counted += min(self.last - before, self.most)
+        return self.counted
 
 
 def wait_until(holds, what, minutes=MINUTES, pause=time.sleep):
@@ -22,10 +37,10 @@ def wait_until(holds, what, minutes=MINUTES, pause=time.sleep):
 
     Raises Missing if it doesn't hold within so many minutes. `what` says what is waited for: a text, or a function that
     is called for it at the end, when more is known."""
-    limit = time.monotonic() + 60 * minutes
+    clock = Clock()
     while True:
-        # A script that was held up itself tests once more after the limit.
-        is_last = time.monotonic() > limit
+        # The condition is tested once more after the limit.
+        is_last = clock.read() > 60 * minutes
         found = holds()
         if found:
             return found
@@ -34,14 +49,41 @@ def wait_until(holds, what, minutes=MINUTES, pause=time.sleep):
         pause(PAUSE)
 
 
-def run(words, minutes=MINUTES, **how):
-    """Runs a command to its end, as `subprocess.run` does with further arguments; how it ended.
+def wait_for_stream(what, reading=(), writing=()):
+    """Waits until one of some streams can be read or written.
+
+    Raises Missing if none can within MINUTES."""
+    def ready(seconds):
+        return any(select.select(reading, writing, [], seconds))
+
+    wait_until(lambda: ready(0), what, pause=ready)
+
+
+def finish(process, what, text=None, minutes=MINUTES):
+    """Gives a process this input, if there is some, and waits for its end; what it wrote to its pipes.
+
+    Raises Missing if it doesn't end within so many minutes, and kills it then."""
+    clock, given = Clock(LOOK), {"input": text}
+    try:
+        while clock.read() < 60 * minutes:
+            with suppress(subprocess.TimeoutExpired):
+                return process.communicate(**given, timeout=LOOK)
+            given = {}
+    finally:
+        if process.poll() is None:
+            process.kill()
+            process.wait()
+    raise Missing(f"waited {minutes} minutes for the end of {what}")
+
+
+def run(words, minutes=MINUTES, capture_output=False, **how):
+    """Runs a command to its end, with further arguments for `Popen`; how it ended, as `subprocess.run` has it.
 
     Raises Missing if it doesn't end within so many minutes."""
-    try:
-        return subprocess.run(words, timeout=60 * minutes, check=False, **how)
-    except subprocess.TimeoutExpired:
-        raise Missing(f"waited {minutes} minutes for the end of {' '.join(map(str, words))}") from None
+    pipes = {"stdout": subprocess.PIPE, "stderr": subprocess.PIPE} if capture_output else {}
+    with subprocess.Popen(words, **pipes, **how) as process:
+        printed, told = finish(process, " ".join(map(str, words)), None, minutes)
+    return subprocess.CompletedProcess(words, process.returncode, printed, told)
 
 
 def faults_found(work):
