@@ -39,20 +39,20 @@ class Browser:
         self.path, self.said = "", b""
         try:
             self.connection = http.client.HTTPConnection("127.0.0.1", self.port())
-            self.path = f"/session/{self.begin_at_last()}"
+            self.path = f"/session/{self.begin()}"
         except BaseException:
             self.close()
             raise
 
-    def begin_at_last(self):
+    def begin(self):
         """Begins the browser, by a further attempt if the driver gives one up; the name of its session."""
         for _ in range(1, ATTEMPTS):
             with suppress(Refused):
-                return self.begin()
-        return self.begin()
+                return self.new_session()
+        return self.new_session()
 
-    def begin(self):
-        """Begins the browser; the name of its session."""
+    def new_session(self):
+        """Asks the driver for a browser; the name of its session."""
         options = {"binary": shutil.which("chromium"), "args": ["--headless=new", "--no-sandbox", "--disable-gpu"]}
         options["perfLoggingPrefs"] = {"enableNetwork": True, "enablePage": False}
         logs = {"performance": "ALL", "browser": "ALL"}
