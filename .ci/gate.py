@@ -43,8 +43,8 @@ from shared.debian import missing  # noqa: E402
 SMALL = (".ci/definitions", ".ci/safety", ".ci/examples", ".ci/sizes", ".ci/words", ".ci/names", ".ci/layout")
 BODIES = ("tools/wrong-bodies-test", "tools/wrong-bodies")
 CHECKS = (
-    "decks", "pages", "schedules", "both-kinds", "busy", "threads", "large", "mutations", "failures", "allocations", "emulators",
-    "random-sessions", "operate", "browser", "progress", "habits", "many-jobs", "embedding",
+    "decks", "pages", "schedules", "both-kinds", "busy", "threads", "large", "mutations", "failures", "allocations",
+    "emulators", "random-sessions", "operate", "browser", "progress", "habits", "many-jobs", "embedding",
 )
 DECKS = tuple(f"tools/checks/{name}" for name in CHECKS)
 TOOLS = (".ci/spent-tokens", "tools/build-program-test")
