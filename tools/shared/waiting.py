@@ -9,6 +9,7 @@ import select
 import subprocess
 import time
 from contextlib import suppress
+from threading import Thread
 
 MINUTES = 10
 # The seconds between two tests of a condition, and between two looks at a process.
@@ -59,16 +60,25 @@ def wait_for_stream(what, reading=(), writing=()):
     wait_until(lambda: ready(0), what, pause=ready)
 
 
+def give(stream, text):
+    """Writes an input, as much of it as is read."""
+    with suppress(BrokenPipeError), stream:
+        stream.write(text)
+
+
 def finish(process, what, text=None, minutes=MINUTES):
     """Gives a process this input, if there is some, and waits for its end; what it wrote to its pipes.
 
     Raises Missing if it doesn't end within so many minutes, and kills it then."""
-    clock, given = Clock(LOOK), {"input": text}
+    clock = Clock(LOOK)
+    if text is not None:
+        # `communicate` writes no more of its input when it is called once more.
+        stream, process.stdin = process.stdin, None
+        Thread(target=give, args=(stream, text), daemon=True).start()
     try:
         while clock.read() < 60 * minutes:
             with suppress(subprocess.TimeoutExpired):
-                return process.communicate(**given, timeout=LOOK)
-            given = {}
+                return process.communicate(timeout=LOOK)
     finally:
         if process.poll() is None:
             process.kill()
