@@ -50,6 +50,8 @@ static struct cdc6600_outcome call(int function, uint8_t *to)
         return cdc6600_list(input, length, to, MOST, line, sizeof line);
     case 1:
         return cdc6600_replay(input, length, (const uint8_t *)logged, strlen(logged), to, MOST, line, sizeof line);
+    case 2:
+        return cdc6600_run(input, length, CDC6600_BUDGET, to, MOST, line, sizeof line);
     default:
         return cdc6600_events(input, length, CDC6600_BUDGET, to, MOST, line, sizeof line);
     }
@@ -59,7 +61,7 @@ static struct cdc6600_outcome call(int function, uint8_t *to)
 static int is_answered(int function, struct cdc6600_outcome came)
 {
     output[came.printed < MOST ? came.printed : MOST - 1] = 0;
-    return function == 2 && strstr((const char *)output, "E21 out of memory\n") != NULL;
+    return function == 3 && strstr((const char *)output, "E21 out of memory\n") != NULL;
 }
 
 /* Whether a call ends as it should where it was refused memory. */
@@ -103,7 +105,7 @@ int main(int count, char **words)
     logged = words[2];
     int faults = 0;
     for (refuses_later = 0; refuses_later < 2; refuses_later++) {
-        for (int function = 0; function < 3; function++) {
+        for (int function = 0; function < 4; function++) {
             faults += refuse_each(function);
         }
     }

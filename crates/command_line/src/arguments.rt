@@ -1,6 +1,6 @@
 use clap::builder::ValueParser;
 use clap::error::ErrorKind;
-use clap::{Arg, ArgMatches, Command, Error};
+use clap::{Arg, ArgAction, ArgMatches, Command, Error};
 use operator_terms::{Budget, LARGEST_BUDGET};
 use std::alloc::{AllocError, Global};
 
@@ -25,8 +25,9 @@ Exit status:
 Decks, schedules, logs and dumps are described in docs/formats.md.";
 
 const AFTER_RUN: &str = "\
-Example:
+Examples:
   cdc6600 run --budget 3 < decks/two-adds.deck
+  cdc6600 run --sequential < decks/two-adds.deck
 
 The exit statuses are those that cdc6600 --help names.";
 
@@ -51,8 +52,10 @@ Exit status: 0 once all is listed, else 1, 2, 6 or 7 as cdc6600 --help names the
 /// What the command line asks for.
 #[derive(Clone, Copy, Debug, Drop, PartialEq, Eq)]
 pub enum Request<'a> {
-    /// To run a deck, and to issue at most so many instructions.
+    /// To run a deck by threads, and to issue at most so many instructions.
     Run(Budget),
+    /// To run a deck one instruction at a time, and to do at most so many instructions.
+    RunSequentially(Budget),
     /// To go through this log on a deck.
     Replay(&'a str),
     /// To answer the events of a schedule, and to issue at most so many instructions.
@@ -71,12 +74,21 @@ fn budget_option<'a>(alloc: Global) -> Arg<'a> {
         .help("Issues at most N instructions")
 }
 
+/// The option `--sequential` of `run`.
+fn sequential_option<'a>(alloc: Global) -> Arg<'a> {
+    Arg::new(alloc, "sequential")
+        .long("sequential")
+        .action(ArgAction::SetTrue)
+        .help("Does one instruction at a time, without threads")
+}
+
 /// `run`.
 fn run_command<'a>(alloc: Global) -> Result<Command<'a>, AllocError> {
     Command::new(alloc, "run")
         .about("Runs the deck on standard input and prints the machine's dump")
-        .override_usage("cdc6600 run [--budget N]")
+        .override_usage("cdc6600 run [--sequential] [--budget N]")
         .after_help(AFTER_RUN)
+        .arg(sequential_option(alloc))?
         .arg(budget_option(alloc))
 }
 
@@ -139,10 +151,20 @@ fn budget(matches: &ArgMatches<'_>) -> Option<Budget> {
     Budget::new(matches.get_one::<u64>("budget")?)
 }
 
+/// What the words after `run` ask for.
+fn run_asked_for<'a>(matches: &ArgMatches<'_>) -> Option<Request<'a>> {
+    let budget = budget(matches)?;
+    if matches.get_flag("sequential") {
+        Some(Request::RunSequentially(budget))
+    } else {
+        Some(Request::Run(budget))
+    }
+}
+
 /// What the words that `clap` accepted ask for; None where they ask for nothing, which they never do.
 fn asked_for<'a>(matches: &ArgMatches<'a>) -> Option<Request<'a>> {
     match matches.subcommand()? {
-        ("run", run) => Some(Request::Run(budget(run)?)),
+        ("run", run) => run_asked_for(run),
         ("replay", replay) => Some(Request::Replay(replay.get_str("LOG")?)),
         ("events", events) => Some(Request::Events(budget(events)?)),
         ("list", _) => Some(Request::List),

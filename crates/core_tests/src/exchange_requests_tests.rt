@@ -44,3 +44,26 @@ fn waiting_request(rt: HostRuntime) -> Result<(), Fail> {
     );
     Ok(())
 }
+
+/// Several instructions at once, up to the next request and no further.
+#[test]
+fn requests_ahead(rt: HostRuntime) -> Result<(), Fail> {
+    let asks = [(0o60, 4)];
+    let mut requests = Requests::new(rt.alloc(), 0o40, asks.as_slice())?;
+    let first = requests.take_due();
+    requests.exchanged();
+    let ahead = requests.until_due();
+    requests.issued_many(3);
+    let (left, none) = (requests.until_due(), requests.take_due());
+    requests.issued_many(1);
+    let second = requests.take_due();
+    assert!(rt;
+        first == Some((0o40, 0))
+            && ahead == 4
+            && left == 1
+            && none.is_none()
+            && second == Some((0o60, 4))
+            && requests.until_due() == u64::MAX
+    );
+    Ok(())
+}

@@ -1,31 +1,16 @@
 -- A run of a deck: where it is at its end, and where no deck was read.
-use Rattle.std.proofs.Common.{◌≡◌, ◌≤◌, List, ℕ, Option, Some, Err, true, false, refl, subst, inl, inr}
+use Rattle.std.proofs.Common.{◌≡◌, List, ℕ, Option, Err, true, false, refl, inl, inr}
 use Rattle.std.proofs.KnownBytes.{Keeps-refl}
 use Rattle.instructions.specs.declared.refusal.Refusal.{Refusal}
 use Rattle.instructions.specs.declared.refusal.Refusal.TheVariants as refusals
-use Rattle.sequential.specs.declared.state.State.{State}
-use Rattle.sequential.specs.Log.{issued}
-use Rattle.sequential.specs.Replay.{LogStep, boot, replay}
-use Rattle.program_order.proofs.theorem.Headline.{replay_faulted}
 use Rattle.device_text.specs.Device.{Moves}
 use Rattle.device_text.proofs.Moving.{Moves-weaker}
 use Rattle.deck.specs.Deck.{Reading, deck}
 use Rattle.deck.specs.Reading.{GivesNoDeck, is_of_reading, is_read_failure}
 use Rattle.deck.specs.declared.deck.Deck.{Deck}
 use Rattle.operator_terms.specs.declared.fault.ProgramFault.{ProgramFault}
-use Rattle.deck_run.specs.Running.{IsRun, Runs, is_read_fault, is_write_fault}
+use Rattle.deck_run.specs.Running.{Runs, is_read_fault, is_write_fault}
 use Rattle.operator_terms.specs.Status.{fault_of}
-
--- a snapshot on this memory shows a run on it
-pub run_on : (memory other : List ℕ) (budget : ℕ) (log : List LogStep) (s : State) → other ≡ memory
-    → issued log ≤ budget → replay (boot other) log ≡ Some s → IsRun memory budget log s
-run_on memory other budget log s same within h =
-    let replays = subst (λ m. replay (boot m) log ≡ Some s) same h in
-    record {
-      replay = replays;
-      within = within;
-      fault = λ faulted. replay_faulted log memory s replays faulted;
-    }
 
 refused_there : (e : Refusal) (reading : Reading) (budget : ℕ) (rest : List ℕ) (old : Option (List ℕ))
     → GivesNoDeck e reading rest → Runs (Err (fault_of e)) reading budget rest old old

@@ -1,28 +1,22 @@
 -- What the program prints of a run and of a replay, and how it ends then.
 -- Source: ours.
-use Rattle.std.specs.Prelude.{◌≡◌, ◌≤◌, ◌⊎◌, ℕ, Bool, true, false, List, Option, Some, None, Result, Ok, Err}
+use Rattle.std.specs.Prelude.{◌≡◌, ◌⊎◌, ℕ, Bool, true, false, List, Option, Some, None, Result, Ok, Err}
 use Rattle.std.specs.Io.KnownBytes.{Keeps, Appends}
 use Rattle.instructions.specs.declared.refusal.Refusal.{Refusal}
 use Rattle.sequential.specs.declared.state.State.{State}
-use Rattle.sequential.specs.Log.{entries_of, issued}
-use Rattle.sequential.specs.Replay.{LogStep, boot, replay}
-use Rattle.program_order.specs.Headline.{IsFaultedRun}
+use Rattle.sequential.specs.Log.{entries_of}
+use Rattle.sequential.specs.Replay.{LogStep}
 use Rattle.device_text.specs.Device.{WritesFront}
 use Rattle.deck.specs.Deck.{Reading, Good, Bad}
 use Rattle.deck.specs.declared.deck.Deck.{Deck}
 use Rattle.job_deck.specs.Dump.{dump_text}
 use Rattle.job_deck.specs.Replaying.{Replays}
+use Rattle.sequential_job.specs.Running.{RunsSequentially}
+use Rattle.sequential_run.specs.Run.{IsRun}
 use Rattle.operator_terms.specs.declared.fault.ProgramFault.{ProgramFault}
 use Rattle.operator_terms.specs.declared.fault.ProgramFault.TheVariants as faults
 use Rattle.operator_terms.specs.declared.status.Status.{Status}
 use Rattle.operator_terms.specs.Status.{status_of, fault_of}
-
--- the log leads from boot with this memory to this state, and has no more instructions than the budget; and where the
--- state has the fault, the log is a beginning of the program's run that includes the faulting instruction
-pub record IsRun (memory : List ℕ) (budget : ℕ) (log : List LogStep) (s : State) : Type 0 where
-  pub replay : replay (boot memory) log ≡ Some s
-  pub within : issued log ≤ budget
-  pub fault : s.fault ≡ true → IsFaultedRun log memory s
 
 -- why a run has no end: no memory is left, or the machine refused a step
 abbrev pub EndsNoRun : ProgramFault → Type 0
@@ -48,6 +42,18 @@ Runs (Err faults.Read) reading budget rest old new = Keeps old new
 Runs (Err faults.OutOfMemory) reading budget rest old new = Keeps old new
 Runs result (Good deck n after) budget rest old new = (rest ≡ after) × PrintsRun result deck budget old new
 Runs result (Bad n fault after) budget rest old new = ⊥
+
+-- how the program ends after a sequential run: as the machine stands
+abbrev pub sequential_end : Result State Refusal → Result Status ProgramFault
+sequential_end (Ok s) = Ok (status_of s.fault s.halt)
+sequential_end (Err refusal) = Err (fault_of refusal)
+
+-- what the sequential run of a deck prints and leaves of the deck's bytes, and how the program ends then
+abbrev pub EndsSequentialRun : Result Status ProgramFault → Reading → ℕ → List ℕ → Option (List ℕ) → Option (List ℕ)
+    → Type 0
+EndsSequentialRun result reading budget rest old new =
+    (found : Result State Refusal) × RunsSequentially found reading budget rest old new
+    × (result ≡ sequential_end found)
 
 -- how the program ends after a replay: as the machine stands, or since the text was no log's
 abbrev pub replay_end : Result (Option State) Refusal → Result Status ProgramFault

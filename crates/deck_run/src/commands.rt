@@ -1,11 +1,12 @@
 ghost use Rattle.std.specs.Prelude.{◌≡◌, ◌||◌, OnOk, false};
 ghost use Rattle.deck.specs.Deck.{deck};
 ghost use Rattle.device_text.specs.Device.{Moves};
-ghost use Rattle.deck_run.specs.Running.{PrintsRun, Runs, EndsReplay, is_read_fault, is_write_fault};
+ghost use Rattle.deck_run.specs.Running.{PrintsRun, Runs, EndsReplay, EndsSequentialRun, is_read_fault, is_write_fault};
 
 use super::running::run;
 use job_deck::{Deck, Input, Output, dump_to, read_deck_from, replay_to};
 use operator_terms::{Budget, ProgramFault, Status, end_status};
+use sequential_job::run_to;
 use std::alloc::Global;
 use std::sync::Wait;
 use std::thread::Threads;
@@ -58,6 +59,28 @@ pub fn run_deck<T: Threads + Wait + Clock + Sync, I: Input, O: Output>(
         Ok((deck, _)) => print_run(rt, alloc, output, &deck, budget),
         Err(refused) => Err(ProgramFault::of(refused)),
     }
+}
+
+/// Reads a deck, runs it one instruction at a time, at most `budget` instructions, prints the machine's dump and hands
+/// it on.
+///
+/// # Errors
+/// `Deck` with a line and its fault, `OutOfMemory`, `Read`, and `Write`. At a failed write a beginning of the dump was
+/// written; at the others nothing was.
+pub fn run_deck_sequentially<I: Input, O: Output>(
+    alloc: Global,
+    input: &mut I,
+    output: &mut O,
+    budget: Budget,
+) -> Result<Status, ProgramFault>
+    ensures ran { Moves (I.remaining input.old) (I.remaining input.new)
+        (λ xs ys. EndsSequentialRun result (deck xs) budget ys (O.contents output.old) (O.contents output.new)) }
+    ensures read { I.has_failed input.new ≡ (I.has_failed input.old || is_read_fault result) }
+    ensures write { O.has_failed output.new ≡ (O.has_failed output.old || is_write_fault result) }
+    ensures handed_on { OnOk result (O.waits output.new ≡ false) }
+{
+    let state = run_to(alloc, input, output, budget.get())?;
+    Ok(end_status(&state))
 }
 
 /// Goes through a log on a deck, prints the dump and hands it on.

@@ -1,13 +1,16 @@
 //! A run of a deck by threads: a worker for each unit, one for memory, and this thread, which issues.
-ghost use Rattle.std.specs.Prelude.{◌≡◌, map, MatchResult, IfOk};
+ghost use Rattle.std.specs.Prelude.{◌≡◌, MatchResult, IfOk};
 ghost use Rattle.instructions.specs.declared.refusal.Refusal.TheVariants.{OutOfMemory};
 ghost use Rattle.program_order.specs.Processor.{boot_processor};
-ghost use Rattle.deck_run.specs.Running.{IsRun, EndsNoRun};
+ghost use Rattle.sequential_job.specs.Running.{asks_after};
+ghost use Rattle.sequential_run.specs.Run.{IsRun};
+ghost use Rattle.deck_run.specs.Running.{EndsNoRun};
 
 use instruction_table::Refusal;
 use job_deck::{Deck, booted};
 use machine::{Machine, Snapshot};
 use operator_terms::{Budget, ProgramFault};
+use sequential_job::asks_after;
 use std::alloc::{AllocError, Global};
 use std::sync::Wait;
 use std::thread::Threads;
@@ -19,20 +22,14 @@ use unit_workers::{Gates, Open, Orders, run_threads};
 ///
 /// # Errors
 /// Memory ran out.
-#[tactic(auto, using(std::proofs::lemmas::List::map_more))]
 fn orders(alloc: Global, deck: &Deck) -> Result<Orders, AllocError>
     ensures start { IfOk result (λ orders. orders.start ≡ deck.now.start) }
-    ensures after { IfOk result (λ orders. orders.after.items
-        ≡ map (λ ask. (ask.at, ask.after)) deck.now.asks) }
+    ensures after { IfOk result (λ orders. orders.after.items ≡ asks_after deck.now) }
     ensures free { IfOk result (λ orders. orders.free.items ≡ deck.now.free) }
 {
-    let mut after = Vec::new(alloc);
-    for ask in deck.asks.as_slice() {
-        after.push((ask.at, u64::from(ask.after)))?;
-    }
     Ok(Orders {
         start: deck.start,
-        after,
+        after: asks_after(alloc, deck)?,
         free: Vec::from_slice(alloc, deck.free.as_slice())?,
     })
 }
@@ -46,7 +43,7 @@ fn prepared(alloc: Global, deck: &Deck, budget: Budget) -> Result<(Machine, Orde
     ensures machine { MatchResult result (λ made. made.0 ≡ boot_processor deck.now.image.memory budget)
         (λ refusal. refusal ≡ OutOfMemory) }
     ensures start { IfOk result (λ made. made.1.start ≡ deck.now.start) }
-    ensures after { IfOk result (λ made. made.1.after.items ≡ map (λ ask. (ask.at, ask.after)) deck.now.asks) }
+    ensures after { IfOk result (λ made. made.1.after.items ≡ asks_after deck.now) }
     ensures free { IfOk result (λ made. made.1.free.items ≡ deck.now.free) }
 {
     let Ok(orders) = orders(alloc, deck) else {

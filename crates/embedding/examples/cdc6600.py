@@ -1,5 +1,6 @@
 #!/usr/bin/env python3
-"""Lists a deck by the library: `cdc6600.py LIBRARY DECK`, where LIBRARY is the file libcdc6600.so."""
+"""Runs a deck by the library and prints the dump: `cdc6600.py LIBRARY DECK`, where LIBRARY is the file
+libcdc6600.so."""
 
 import ctypes
 import sys
@@ -17,6 +18,10 @@ class Library:
 
     def __init__(self, file):
         self.library = ctypes.CDLL(str(file))
+
+    def run(self, deck, budget=1_000_000):
+        """Runs a deck, one instruction at a time."""
+        return self.call("cdc6600_run", deck, budget)
 
     def list(self, deck):
         """Lists a deck."""
@@ -48,7 +53,7 @@ class Library:
 def main():
     if len(sys.argv) != 3:
         sys.exit("usage: cdc6600.py LIBRARY DECK")
-    printed, told, status = Library(sys.argv[1]).list(Path(sys.argv[2]).read_bytes())
+    printed, told, status = Library(sys.argv[1]).run(Path(sys.argv[2]).read_bytes())
     sys.stdout.buffer.write(printed)
     sys.stderr.buffer.write(told)
     return status

@@ -28,12 +28,12 @@ extern "C" {
 
 /* The exit statuses of the program. */
 enum {
-    CDC6600_STOPPED = 0,       /* a replay ends with a stop; or all is printed */
+    CDC6600_STOPPED = 0,       /* a run or a replay ends with a stop; or all is printed */
     CDC6600_REFUSED = 1,       /* the deck or the schedule is refused */
     CDC6600_USAGE = 2,         /* the log or the budget is refused */
     CDC6600_HALTED = 3,        /* a refused opcode, a straddling instruction or a fetch out of range */
     CDC6600_ADDRESS_FAULT = 4, /* the machine has an address fault */
-    CDC6600_RUNNING = 5,       /* the log has no more */
+    CDC6600_RUNNING = 5,       /* the budget is used up, or the log has no more */
     CDC6600_OUT_OF_MEMORY = 6  /* memory ran out */
 };
 
@@ -49,6 +49,13 @@ struct cdc6600_outcome {
 struct cdc6600_outcome cdc6600_list(const uint8_t *input, size_t input_length,
                                     uint8_t *output, size_t output_capacity,
                                     uint8_t *line, size_t line_capacity);
+
+/* Runs the deck in input, one instruction at a time as `run --sequential` does, and dumps the machine. At most budget
+ * instructions are done. */
+struct cdc6600_outcome cdc6600_run(const uint8_t *input, size_t input_length,
+                                   uint64_t budget,
+                                   uint8_t *output, size_t output_capacity,
+                                   uint8_t *line, size_t line_capacity);
 
 /* Goes through the log on the deck in input, one instruction at a time, and dumps the machine. */
 struct cdc6600_outcome cdc6600_replay(const uint8_t *input, size_t input_length,

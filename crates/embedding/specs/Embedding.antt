@@ -11,6 +11,7 @@ use Rattle.deck.specs.Reading.{is_read_failure}
 use Rattle.job_deck.specs.Listing.{Lists}
 use Rattle.job_deck.specs.Replaying.{Replays}
 use Rattle.job_deck.specs.SessionResult.{Performs}
+use Rattle.sequential_job.specs.Running.{RunsSequentially}
 use Rattle.operator_terms.specs.Status.{status_of, code_of, fault_of, fault_status}
 use Rattle.operator_terms.specs.declared.fault.ProgramFault.{ProgramFault}
 use Rattle.operator_terms.specs.declared.fault.ProgramFault.TheVariants as faults
@@ -32,11 +33,17 @@ end_code (Err fault) = code_of (fault_status fault)
 abbrev pub filled : List ℕ → List ℕ → List ℕ
 filled text room = take (min (length text) (length room)) text ++ drop (min (length text) (length room)) room
 
+-- a fault line comes after a fault alone, and has at most 64 bytes
+abbrev pub IsTold : Result Status ProgramFault → ℕ → Type 0
+IsTold (Ok status) told = told ≡ 0
+IsTold (Err fault) told = told ≤ 64
+
 -- a call hands over this text and this end
 pub record HandsOver (outcome : Outcome) (ended : Result Status ProgramFault) (text old new : List ℕ) : Type 0 where
   -- as much of the text as there is room for
   pub output : new ≡ filled text old
   pub printed : outcome.printed ≡ length text
+  pub told : IsTold ended outcome.told
   pub status : outcome.status ≡ end_code ended
 
 -- how a command ends that says nothing of the machine
@@ -49,6 +56,11 @@ abbrev pub replay_end : Result (Option State) Refusal → Result Status ProgramF
 replay_end (Ok (Some s)) = Ok (status_of s.fault s.halt)
 replay_end (Ok None) = Err faults.BadLog
 replay_end (Err refusal) = Err (fault_in_memory refusal)
+
+-- how a sequential run ends
+abbrev pub run_end : Result State Refusal → Result Status ProgramFault
+run_end (Ok s) = Ok (status_of s.fault s.halt)
+run_end (Err refusal) = Err (fault_in_memory refusal)
 
 -- what a call hands over that lists the deck of these bytes; no read of them fails
 abbrev pub IsListed : List ℕ → Outcome → List ℕ → List ℕ → Type 0
@@ -69,6 +81,22 @@ abbrev pub IsReplayed : List ℕ → List ℕ → Outcome → List ℕ → List 
 IsReplayed input log outcome old new =
     Replayed input log outcome old new ⊎ (¬ (IsUtf8 log) × HandsOver outcome (Err faults.BadLog) [] old new)
 
+-- what a call hands over that runs the deck of these bytes one instruction at a time
+abbrev pub Ran : List ℕ → ℕ → Outcome → List ℕ → List ℕ → Type 0
+Ran input budget outcome old new =
+    (found : Result State Refusal) × (rest : List ℕ) × (text : List ℕ)
+    × RunsSequentially found (deck input) budget rest (Some []) (Some text) × (is_read_failure found ≡ false)
+    × HandsOver outcome (run_end found) text old new
+
+-- a number that may be no budget is refused
+abbrev pub RefusesBudget : ℕ → Outcome → List ℕ → List ℕ → Type 0
+RefusesBudget budget outcome old new =
+    ¬ ((1 ≤ budget) × (budget ≤ 10000000)) × HandsOver outcome (Ok Usage) [] old new
+
+-- the same for any number as a budget
+abbrev pub HasRun : List ℕ → ℕ → Outcome → List ℕ → List ℕ → Type 0
+HasRun input budget outcome old new = Ran input budget outcome old new ⊎ RefusesBudget budget outcome old new
+
 -- what a call hands over that answers the events of the schedule after the deck of these bytes
 abbrev pub Performed : List ℕ → ℕ → Outcome → List ℕ → List ℕ → Type 0
 Performed input budget outcome old new =
@@ -76,8 +104,6 @@ Performed input budget outcome old new =
     × Performs found budget (deck input) rest (Some []) (Some text) × (is_read_failure found ≡ false)
     × HandsOver outcome (plain_end found) text old new
 
--- the same for any number as a budget: one that may be none is refused
+-- the same for any number as a budget
 abbrev pub IsSession : List ℕ → ℕ → Outcome → List ℕ → List ℕ → Type 0
-IsSession input budget outcome old new =
-    Performed input budget outcome old new
-    ⊎ (¬ ((1 ≤ budget) × (budget ≤ 10000000)) × HandsOver outcome (Ok Usage) [] old new)
+IsSession input budget outcome old new = Performed input budget outcome old new ⊎ RefusesBudget budget outcome old new

@@ -1,11 +1,14 @@
-ghost use Rattle.std.specs.Prelude.{◌≡◌};
-ghost use Rattle.embedding.specs.Embedding.{IsListed, Replayed, IsReplayed, Performed, IsSession, fault_in_memory};
+ghost use Rattle.std.specs.Prelude.{◌≡◌, [], Ok};
+ghost use Rattle.embedding.specs.Embedding.{IsListed, Ran, HasRun, Replayed, IsReplayed, Performed, IsSession};
+ghost use Rattle.embedding.specs.Embedding.{HandsOver, fault_in_memory};
+ghost use Rattle.operator_terms.specs.declared.status.Status.TheVariants.{Usage};
 
 use crate::input_bytes::InputBytes;
 use crate::outcome::{Outcome, hand_over};
 use instruction_table::Refusal;
 use job_deck::{CheckedWriter, events_to, list_to, replay_to};
 use operator_terms::{Budget, ProgramFault, Status, end_status};
+use sequential_job::run_to;
 use std::alloc::Global;
 
 /// Why a command ends where this is refused. It writes to memory, so a write fails where memory runs out.
@@ -16,6 +19,13 @@ fn fault_in_memory(refusal: Refusal) -> ProgramFault
         Refusal::Write => ProgramFault::OutOfMemory,
         other => ProgramFault::of(other),
     }
+}
+
+/// Hands over that the command line is refused, because no budget has so many instructions.
+fn refuse_budget(output: &mut [u8], line: &mut [u8]) -> Outcome
+    ensures { HandsOver result (Ok Usage) [] output.old output.new }
+{
+    hand_over(Ok(Status::Usage), &[], output, line)
 }
 
 /// Lists the deck that these bytes are.
@@ -33,6 +43,44 @@ pub fn list_bytes(alloc: Global, input: &[u8], output: &mut [u8], line: &mut [u8
         Err(refusal) => Err(fault_in_memory(refusal)),
     };
     hand_over(ended, text.as_slice(), output, line)
+}
+
+/// Runs the deck that these bytes are, one instruction at a time.
+fn run_within(
+    alloc: Global,
+    input: &[u8],
+    budget: Budget,
+    output: &mut [u8],
+    line: &mut [u8],
+) -> Outcome
+    ensures { Ran input.now budget result output.old output.new }
+{
+    let mut bytes = InputBytes::new(input);
+    let mut text = Vec::new(alloc);
+    let mut writer = CheckedWriter::new(&mut text);
+    let result = run_to(alloc, &mut bytes, &mut writer, budget.get());
+    let _ = &*writer.into_inner();
+    let ended = match result {
+        Ok(state) => Ok(end_status(&state)),
+        Err(refusal) => Err(fault_in_memory(refusal)),
+    };
+    hand_over(ended, text.as_slice(), output, line)
+}
+
+/// The same with a budget of so many instructions, if that may be one.
+pub fn run_bytes(
+    alloc: Global,
+    input: &[u8],
+    budget: u64,
+    output: &mut [u8],
+    line: &mut [u8],
+) -> Outcome
+    ensures { HasRun input.now budget result output.old output.new }
+{
+    match Budget::new(budget) {
+        Some(budget) => run_within(alloc, input, budget, output, line),
+        None => refuse_budget(output, line),
+    }
 }
 
 /// Replays the log of this text on the deck that these bytes are.
@@ -108,6 +156,6 @@ pub fn session_of_bytes(
 {
     match Budget::new(budget) {
         Some(budget) => session(alloc, input, budget, output, line),
-        None => hand_over(Ok(Status::Usage), &[], output, line),
+        None => refuse_budget(output, line),
     }
 }

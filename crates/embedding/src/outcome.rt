@@ -1,4 +1,4 @@
-ghost use Rattle.std.specs.Prelude.{◌≡◌, length};
+ghost use Rattle.std.specs.Prelude.{◌≡◌, ◌≤◌, length};
 ghost use Rattle.embedding.specs.Embedding.{HandsOver, filled};
 
 use arrayvec::ArrayVec;
@@ -32,7 +32,9 @@ fn fill(text: &[u8], room: &mut [u8]) -> usize
 }
 
 /// Writes the fault line, as far as there is room for it. Answers how many bytes it has.
-fn tell(fault: &ProgramFault, line: &mut [u8]) -> usize {
+fn tell(fault: &ProgramFault, line: &mut [u8]) -> usize
+    ensures { result ≤ 64 }
+{
     let mut text = ArrayVec::<u8, FAULT_LINE>::new();
     let _ = writeln!(text, "cdc6600: {fault}");
     fill(text.as_slice(), line)

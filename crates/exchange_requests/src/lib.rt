@@ -14,8 +14,8 @@
 #![tactic(auto)]
 
 ghost use Rattle.std.specs.Prelude.{◌≡◌, ◌<◌, ◌+◌, ◌^◌, ◌++◌, ◌∷◌, ◌||◌, true, false, None, is_some, option_to_list};
-ghost use Rattle.std.specs.Prelude.{IfOk};
-ghost use Rattle.exchange_requests.specs.Requests.{KeepsTies, IsDue, StartsWithAny};
+ghost use Rattle.std.specs.Prelude.{IfOk, ℕ, ◌≤◌};
+ghost use Rattle.exchange_requests.specs.Requests.{IsInOrder, KeepsTies, IsDue, StartsWithAny};
 
 use std::alloc::{AllocError, Global};
 use std::collections::VecDeque;
@@ -55,6 +55,7 @@ impl Requests {
     /// Memory ran out.
     pub fn new(alloc: Global, start: u32, asks: &[Ask]) -> Result<Requests, AllocError>
         ensures left { IfOk result (λ requests. KeepsTies ((start, 0) ∷ asks.now) requests.asks) }
+        ensures order { IfOk result (λ requests. IsInOrder requests.asks) }
         ensures issued { IfOk result (λ requests. requests.issued ≡ 0) }
         ensures is_waiting { IfOk result (λ requests. requests.is_waiting ≡ false) }
     {
@@ -123,5 +124,25 @@ impl Requests {
         ensures issued { self.old.issued + 1 < 2 ^ 64 → self.new.issued ≡ self.old.issued + 1 }
     {
         self.issued = self.issued.saturating_add(1);
+    }
+
+    /// So many instructions were issued.
+    pub fn issued_many(&mut self, count: u64)
+        ensures left { self.new.asks ≡ self.old.asks }
+        ensures is_waiting { self.new.is_waiting ≡ self.old.is_waiting }
+        ensures issued { self.old.issued + count < 2 ^ 64 → self.new.issued ≡ self.old.issued + count }
+    {
+        self.issued = self.issued.saturating_add(count);
+    }
+
+    /// For how many more instructions no request comes due, if none is due now; the largest number where none is left.
+    pub fn until_due(&self) -> u64
+        ensures none { (more : ℕ) → more < result → IsDue self.now.asks (self.now.issued + more) None }
+        ensures some { IsDue self.now.asks self.now.issued None → 0 < result }
+    {
+        match self.left.front() {
+            Some(next) => next.1.saturating_sub(self.issued),
+            None => u64::MAX,
+        }
     }
 }

@@ -1,4 +1,4 @@
-//! A call of each of the four commands, with all that it prints, and what the command line may be. decks/ has further
+//! Calls of the four commands, with all that it prints, and what the command line may be. decks/ has further
 //! calls.
 
 use super::program::program;
@@ -19,10 +19,18 @@ const TWO_ADDS_LIST: &[u8] = b"\
     000100 71100000057120000003 SX1 B0+5; SX2 B0+3\n\
     000101 36312374214600000000 IX3 X1+X2; IX4 X2-X1; NO; PS\n";
 
-const CASES: [Case<'static>; 5] = [
+const CASES: [Case<'static>; 6] = [
     Case {
         name: "a run",
         arguments: &["run"],
+        input: TWO_ADDS,
+        status: 0,
+        printed: TWO_ADDS_DUMP,
+        told: b"",
+    },
+    Case {
+        name: "a run of one instruction at a time",
+        arguments: &["run", "--sequential"],
         input: TWO_ADDS,
         status: 0,
         printed: TWO_ADDS_DUMP,
@@ -73,7 +81,7 @@ fn commands(rt: HostRuntime) -> Result<(), Fail> {
 /// Arguments, the exit status, and how what is printed begins, at status 0 to standard output.
 type Usage<'a> = (&'a [&'a str], u8, &'a str);
 
-const USAGES: [Usage<'static>; 17] = [
+const USAGES: [Usage<'static>; 19] = [
     (&["--help"], 0, "A CDC 6600"),
     (&["--version"], 0, "cdc6600 0.1.0\n"),
     (&["run", "--help"], 0, "Runs the deck"),
@@ -86,11 +94,13 @@ const USAGES: [Usage<'static>; 17] = [
     (&["walk"], 2, "error: "),
     (&["help"], 2, "error: "),
     (&["run", "more"], 2, "error: "),
+    (&["run", "--sequential", "more"], 2, "error: "),
     (&["run", "--budget"], 2, "error: "),
     (&["run", "--budget", "0"], 2, "error: "),
     (&["run", "--budget", "10000001"], 2, "error: "),
     (&["run", "--budget", "3x"], 2, "error: "),
     (&["list", "--budget", "3"], 2, "error: "),
+    (&["events", "--sequential"], 2, "error: "),
 ];
 
 /// The exit status, what is printed and what is told with these arguments, and how much of the input is left.

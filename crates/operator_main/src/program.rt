@@ -2,7 +2,7 @@ use arrayvec::ArrayVec;
 use clap::Error;
 use clap::error::ErrorKind;
 use command_line::{Request, read_arguments};
-use deck_run::{replay_log, run_deck};
+use deck_run::{replay_log, run_deck, run_deck_sequentially};
 use job_deck::{CheckedBufReader, CheckedWriter, events_to, list_to};
 use operator_terms::{ProgramFault, Status};
 use std::alloc::Global;
@@ -68,6 +68,9 @@ fn perform<T: Threads + Wait + Clock + Sync, R: Read, W: Write>(
     let mut output = CheckedWriter::new(&mut writer);
     match request {
         Request::Run(budget) => run_deck(rt, alloc, &mut input, &mut output, budget),
+        Request::RunSequentially(budget) => {
+            run_deck_sequentially(alloc, &mut input, &mut output, budget)
+        }
         Request::Replay(log) => replay_log(alloc, &mut input, &mut output, log),
         Request::Events(budget) => {
             events_to(alloc, &mut input, &mut output, budget.get())?;

@@ -1,10 +1,10 @@
-//! Tests of the crates that read and print texts: `device_text`, `deck`, `job_deck` and
-//! `operator_terms`, by what they hand out. The crate hands out nothing itself.
+//! Tests of the crates that read and print texts: `device_text`, `deck`, `job_deck`, `sequential_job` and
+//! `operator_terms`, and of `sequential_run`, by what they hand out. The crate hands out nothing itself.
 //!
 //! The first table is `CODES` in `deck_tests`: the texts of a `code` line, with the word that they
-//! make. `session_tests` answers schedules, `printing_tests` has dumps, listings and logs, and
-//! `led_tests` a caller that knows a session's machine by contract alone. `fixtures` has devices
-//! that fail.
+//! make. `session_tests` answers schedules, `printing_tests` has dumps, listings and logs,
+//! `led_tests` a caller that knows a session's machine by contract alone, and `sequential_run_tests` runs one
+//! instruction at a time. `fixtures` has devices that fail.
 #![tactic(auto)]
 
 #[cfg(test)]
@@ -19,5 +19,7 @@ mod led_tests;
 mod operator_terms_tests;
 #[cfg(test)]
 mod printing_tests;
+#[cfg(test)]
+mod sequential_run_tests;
 #[cfg(test)]
 mod session_tests;

@@ -26,8 +26,8 @@ pub record IsSettled (kind : Unit) (sender : SendEnd) (tally : Tally) : Type 0 w
   pub lane : tally.pass.id ≡ sender.id
   pub items : tally.pass.got ≡ sender.sent
 
--- there is a tally for each unit in use, in the order of the units' numbers, and its worker took each item that was sent
--- on its lane, in order
+-- there is a tally for each unit in use, in the order of the units' numbers, and its worker took each item that was
+-- sent on its lane, in order
 pub record AreSettled (senders : List SendEnd) (tallies : List Tally) : Type 0 where
   pub units : map (λ (t : Tally). t.unit) tallies ≡ in_order in_use
   pub lanes : map (λ (t : Tally). t.pass.id) tallies ≡ map (λ (s : SendEnd). s.id) senders

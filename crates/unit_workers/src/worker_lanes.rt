@@ -178,9 +178,9 @@ impl<'a> WorkerLane<'a> {
         unreachable!()
     }
 
-    /// Waits for the lane's worker, and settles its tally with the sending end, which is kept for contracts alone. `None`
-    /// if the worker's thread couldn't be started. Its seat came out of an array of values that must be spent, of which
-    /// nothing is known, so its unit is compared.
+    /// Waits for the lane's worker, and settles its tally with the sending end, which is kept for contracts alone.
+    /// `None` if the worker's thread couldn't be started. Its seat came out of an array of values that must be spent,
+    /// of which nothing is known, so its unit is compared.
     pub fn end<R: Threads + Wait>(self, rt: &R, unit: Unit) -> Option<(Snapshot<SendPass>, Tally)>
         ensures { IfSome result (λ ended. IsSettled unit ended.0.value ended.1) }
     {

@@ -1,7 +1,7 @@
 use Rattle.std.proofs.Common.{◌≡◌, ◌≤◌, ℕ, List, ◌∙◌, ap, subst, rules}
 use Rattle.sequential.specs.Log.{issued}
 use Rattle.program_order.specs.Processor.{Processor, boot_processor}
-use Rattle.deck_run.proofs.Runs.{run_on}
+use Rattle.sequential_run.proofs.Ending.{run_on}
 use Rattle.deck_run.proofs.running.run.Goals as goal
 
 booted_memory : (w : Processor) (memory : List ℕ) (budget : ℕ) → w ≡ boot_processor memory budget

@@ -13,3 +13,8 @@ returns-clause-left c = rw c.from_vec.ensures.items
     (λ x. c.sort_by_key.ensures.stable (λ ask. ask.1) (answers_always _ _ _ (λ f a r g h. search rules)) x
     ∙ ap (filter _) (c.in_ok-extend_from_slice.ensures.items
     ∙ ap (λ l. l ++ c.args.asks.now) c.in_ok-all.ensures.items))
+
+pub returns-clause-order : goal.returns-clause-order
+returns-clause-order c = rw c.from_vec.ensures.items
+    (IsNonDecreasingBy-from_sort_by_key (λ ask. ask.1) _ c.in_ok-sort_by_key.ensures.sorted
+    (λ a r q k. search rules))

@@ -1,5 +1,5 @@
 use Rattle.std.proofs.Common.{◌≡◌, map, take}
-use Rattle.deck_run.proofs.running.orders.Given as goal
+use Rattle.sequential_job.proofs.running.asks_after.Given as goal
 
 -- the requests of the lines before this one
 abbrev pub invariant-loop-ask : goal.invariant-loop-ask

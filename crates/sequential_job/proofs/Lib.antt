@@ -1,0 +1,4 @@
+pub mod Unread
+pub mod Fitting
+pub mod Unfit
+pub mod Judged

@@ -1,0 +1,2 @@
+-- What a sequential run of a deck prints. Source: ours.
+pub mod Running

@@ -1,0 +1,129 @@
+//! A deck, its sequential run, and the dump.
+ghost use Rattle.std.specs.Prelude.{◌≡◌, ◌||◌, map, IfOk, MatchResult, OnOk, false};
+ghost use Rattle.deck.specs.Deck.{deck};
+ghost use Rattle.deck.specs.Reading.{is_read_failure};
+ghost use Rattle.device_text.specs.Device.{Moves, NothingWaits};
+ghost use Rattle.job_deck.specs.Listing.{is_write_failure};
+ghost use Rattle.sequential_job.specs.Running.{IsJobRun, IsWhyNoJobRun, PrintsSequentialRun, RunsSequentially};
+ghost use Rattle.sequential_job.specs.Running.{asks_after};
+
+use exchange_requests::Ask;
+use instruction_table::Refusal;
+use job_deck::{CheckedReader, CheckedWriter, Deck, Input, Output, dump_to, read_deck_from};
+use sequential::State;
+use sequential_run::Ended;
+use std::alloc::{AllocError, Global};
+use std::io::{Read, Write};
+
+/// The requests of the deck's lines `ask N after K`, each as the absolute address N of its package and the number K of
+/// instructions, in the order of the lines.
+///
+/// # Errors
+/// Memory ran out.
+#[tactic(auto, using(std::proofs::lemmas::List::map_more))]
+pub fn asks_after(alloc: Global, deck: &Deck) -> Result<Vec<Ask>, AllocError>
+    ensures { IfOk result (λ asks. asks.items ≡ asks_after deck.now) }
+{
+    let mut after = Vec::new(alloc);
+    for ask in deck.asks.as_slice() {
+        after.push((ask.at, u64::from(ask.after)))?;
+    }
+    Ok(after)
+}
+
+/// Runs a deck with at most `budget` instructions.
+///
+/// # Errors
+/// `OutOfMemory`, and `PackageRange` if the sixteen words of an exchange that comes next don't all lie in memory.
+fn run_deck(alloc: Global, deck: &Deck, budget: u64) -> Result<Ended, Refusal>
+    ensures { MatchResult result (λ ended. IsJobRun deck.now budget ended.log.steps ended.state)
+        (λ refusal. IsWhyNoJobRun deck.now budget refusal) }
+{
+    let Ok(after) = asks_after(alloc, deck) else {
+        return Err(Refusal::OutOfMemory);
+    };
+    let Ok(memory) = deck.image.memory().copy() else {
+        return Err(Refusal::OutOfMemory);
+    };
+    sequential_run::run(
+        alloc,
+        memory,
+        deck.start,
+        after.as_slice(),
+        deck.free.as_slice(),
+        budget,
+    )
+}
+
+/// Runs a deck, prints the machine's dump and hands it on.
+///
+/// # Errors
+/// As `run_deck`, and `Write` if a write fails.
+fn print_run<O: Output>(
+    alloc: Global,
+    output: &mut O,
+    deck: &Deck,
+    budget: u64,
+) -> Result<State, Refusal>
+    ensures printed { PrintsSequentialRun result deck.now budget (O.contents output.old) (O.contents output.new) }
+    ensures failure { O.has_failed output.new ≡ (O.has_failed output.old || is_write_failure result) }
+    ensures handed_on { OnOk result (O.waits output.new ≡ false) }
+    ensures kept { NothingWaits (is_write_failure result) (O.waits output.old) (O.waits output.new) }
+    ensures same { O.lender output.new ≡ O.lender output.old }
+{
+    let ended = match run_deck(alloc, deck, budget) {
+        Ok(ended) => ended,
+        Err(refusal) => return Err(refusal),
+    };
+    match dump_to(output, &ended.state, &ended.log, deck) {
+        Ok(()) => Ok(ended.state),
+        Err(_) => Err(Refusal::Write),
+    }
+}
+
+/// Reads a deck, runs it one instruction at a time, at most `budget` instructions, prints the machine's dump and hands
+/// it on. Returns the final state of the machine.
+///
+/// # Errors
+/// `Deck` with a line and its fault, `OutOfMemory`, and `Read` and `Write` if the device fails. At a failed write a
+/// beginning of the dump was written; at the others nothing was.
+pub fn run_to<I: Input, O: Output>(
+    alloc: Global,
+    input: &mut I,
+    output: &mut O,
+    budget: u64,
+) -> Result<State, Refusal>
+    ensures ran { Moves (I.remaining input.old) (I.remaining input.new)
+        (λ xs ys. RunsSequentially result (deck xs) budget ys (O.contents output.old) (O.contents output.new)) }
+    ensures read { I.has_failed input.new ≡ (I.has_failed input.old || is_read_failure result) }
+    ensures write { O.has_failed output.new ≡ (O.has_failed output.old || is_write_failure result) }
+    ensures handed_on { OnOk result (O.waits output.new ≡ false) }
+    ensures kept { NothingWaits (is_write_failure result) (O.waits output.old) (O.waits output.new) }
+    ensures input { I.lender input.new ≡ I.lender input.old }
+    ensures output { O.lender output.new ≡ O.lender output.old }
+{
+    let (deck, _) = read_deck_from(alloc, input)?;
+    print_run(alloc, output, &deck, budget)
+}
+
+/// The same from any reader to any writer.
+///
+/// # Errors
+/// As `run_to`.
+pub fn run<R: Read, W: Write>(
+    alloc: Global,
+    reader: &mut R,
+    writer: &mut W,
+    budget: u64,
+) -> Result<State, Refusal>
+    ensures { Moves (R.remaining reader.old) (R.remaining reader.new)
+        (λ xs ys. RunsSequentially result (deck xs) budget ys (W.contents writer.old) (W.contents writer.new)) }
+{
+    let mut input = CheckedReader::new(reader);
+    let mut output = CheckedWriter::new(writer);
+    let result = run_to(alloc, &mut input, &mut output, budget);
+    // No effect at run time. The proof reads what reader and writer hold from these uses.
+    let _ = &*input.into_inner();
+    let _ = &*output.into_inner();
+    result
+}

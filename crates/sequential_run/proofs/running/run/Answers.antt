@@ -1,0 +1,19 @@
+use Rattle.std.proofs.Common.{refl}
+use Rattle.sequential_run.proofs.Ending.{kept_begun, run_ended, run_on, run_replays}
+use Rattle.sequential_run.proofs.running.run.Goals as goal
+
+pub finish-requires : goal.finish-requires
+finish-requires c = record {
+  kept = kept_begun c.args.memory c.args.start c.args.after.now c.args.free.now c.args.budget c.in-Ok.course
+      c.in-Ok.ensures.begun;
+}
+
+pub returns-in-Ok-finish-clause-run : goal.returns-in-Ok-finish-clause-run
+returns-in-Ok-finish-clause-run c = run_ended c.args.memory c.args.start c.args.after.now c.args.free.now c.args.budget
+    c.in-Ok.course c.finish.new.course c.in-Ok.ensures.begun c.in-Ok-finish.ensures.ended
+
+pub returns-in-Ok-finish-clause-promised : goal.returns-in-Ok-finish-clause-promised
+returns-in-Ok-finish-clause-promised c =
+    run_on c.args.memory c.args.memory c.args.budget _ _ refl c.in-Ok-finish.ensures.within
+    (run_replays c.args.memory c.args.start c.args.after.now c.args.free.now c.args.budget _ _
+    (returns-in-Ok-finish-clause-run c))

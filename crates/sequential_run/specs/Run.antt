@@ -1,0 +1,70 @@
+-- What every run promises, and to what log and state a run by one instruction at a time comes.
+-- Source: ours.
+use Rattle.std.specs.Prelude.{◌≡◌, ◌≤◌, ℕ, true, false, List, ◌∷◌, length, Some}
+use Rattle.exchange_requests.specs.Requests.{IsInOrder, KeepsTies}
+use Rattle.instructions.specs.declared.refusal.Refusal.{Refusal}
+use Rattle.instructions.specs.declared.refusal.Refusal.TheVariants.{OutOfMemory, PackageRange}
+use Rattle.program_order.specs.Headline.{IsFaultedRun}
+use Rattle.relocation.specs.Relocation.{package_fits}
+use Rattle.sequential.specs.declared.state.State.{State}
+use Rattle.sequential.specs.Log.{issued}
+use Rattle.sequential.specs.Replay.{LogStep, boot, replay}
+use Rattle.sequential_run.specs.Turns.{Moment, Ends, Exchanges, begun, next_turn, turns}
+
+-- the log leads from boot with this memory to this state, and has no more instructions than the budget; and where the
+-- state has the fault, the log is a beginning of the program's run that includes the faulting instruction
+pub record IsRun (memory : List ℕ) (budget : ℕ) (log : List LogStep) (s : State) : Type 0 where
+  pub replay : replay (boot memory) log ≡ Some s
+  pub within : issued log ≤ budget
+  pub fault : s.fault ≡ true → IsFaultedRun log memory s
+
+-- after some turns a run comes to a moment at which it ends
+pub record EndsAt (budget : ℕ) (first last : Moment) : Type 0 where
+  pub count : ℕ
+  pub reached : turns budget count first ≡ last
+  pub ends : next_turn budget last ≡ Ends
+
+-- after some turns a run comes to an exchange whose sixteen words don't lie in memory
+pub record IsUnfit (budget : ℕ) (first : Moment) : Type 0 where
+  pub count : ℕ
+  pub last : Moment
+  pub reached : turns budget count first ≡ last
+  pub at : ℕ
+  pub exchanges : next_turn budget last ≡ Exchanges at
+  pub unfit : package_fits at (length last.state.memory) ≡ false
+
+-- why a run from this moment has no end: memory ran out, or E19, package range
+abbrev pub IsRefusedAfter : ℕ → Moment → Refusal → Type 0
+IsRefusedAfter budget first OutOfMemory = Unit {0}
+IsRefusedAfter budget first PackageRange = IsUnfit budget first
+IsRefusedAfter budget first other = ⊥
+
+-- the requests of a run in the order in which they are made: that for the first package, and the others by their
+-- numbers, and where these are equal, as they were given
+pub record AreOrdered (start : ℕ) (after asks : List (ℕ × ℕ)) : Type 0 where
+  pub in_order : IsInOrder asks
+  pub same : KeepsTies ((start, 0) ∷ after) asks
+
+-- a run of a memory, a first package, requests after so many instructions and at any time, and a budget ends with this
+-- log in this state
+pub record IsSequentialRun (memory : List ℕ) (start : ℕ) (after : List (ℕ × ℕ)) (free : List ℕ) (budget : ℕ)
+    (log : List LogStep) (s : State) : Type 0 where
+  pub asks : List (ℕ × ℕ)
+  pub ordered : AreOrdered start after asks
+  pub last : Moment
+  pub ends : EndsAt budget (begun memory asks free) last
+  pub log_is : log ≡ last.log
+  pub state_is : s ≡ last.state
+
+-- a run comes to an exchange whose sixteen words don't lie in memory
+pub record IsUnfitRun (memory : List ℕ) (start : ℕ) (after : List (ℕ × ℕ)) (free : List ℕ) (budget : ℕ)
+    : Type 0 where
+  pub asks : List (ℕ × ℕ)
+  pub ordered : AreOrdered start after asks
+  pub unfit : IsUnfit budget (begun memory asks free)
+
+-- why a run has no end: memory ran out, or E19, package range
+abbrev pub IsWhyNoRun : List ℕ → ℕ → List (ℕ × ℕ) → List ℕ → ℕ → Refusal → Type 0
+IsWhyNoRun memory start after free budget OutOfMemory = Unit {0}
+IsWhyNoRun memory start after free budget PackageRange = IsUnfitRun memory start after free budget
+IsWhyNoRun memory start after free budget other = ⊥

@@ -1,0 +1,165 @@
+//! How far a run has come, and the turns by which it goes on.
+ghost use Rattle.std.specs.Prelude.{◌≡◌, ◌≤◌, ◌<◌, ◌+◌, ◌^◌, ◌&&◌, nat_lt, ℕ, true, false, Some, None, is_some};
+ghost use Rattle.std.specs.Prelude.{MatchResult};
+ghost use Rattle.instructions.specs.declared.refusal.Refusal.TheVariants.{OutOfMemory};
+ghost use Rattle.sequential.specs.Log.{issued};
+ghost use Rattle.sequential_run.specs.Turns.{is_going, is_in_mid_word};
+ghost use Rattle.exchange_requests.specs.Requests.{IsDue};
+ghost use Rattle.sequential_run.specs.inner.Course.{IsKept, CanIssue, IsWhyRefused, IsIssued, Goes, Went, moment_of};
+
+use crate::stepping::{is_going, is_in_mid_word, issue_many};
+use exchange_requests::Requests;
+use instruction_table::Refusal;
+use sequential::{Log, State};
+use std::collections::VecDeque;
+
+/// A run on its way.
+#[derive(Drop)]
+pub struct Course {
+    /// The state of the machine.
+    pub state: State,
+    /// The instructions and exchanges that led to it.
+    pub log: Log,
+    /// The requests that name the number of instructions after which they are made.
+    pub requests: Requests,
+    /// The absolute addresses of packages whose requests may be made at any time, in their order.
+    pub free: VecDeque<u32>,
+    /// The absolute address of the package of the request that waits for its exchange.
+    pub waiting: Option<u32>,
+}
+
+impl Course {
+    /// Makes the exchange of the request that waits, with the package at `at`.
+    ///
+    /// # Errors
+    /// `OutOfMemory`, and `PackageRange` if the sixteen words of the package don't all lie in memory.
+    fn exchange(&mut self, budget: u64, at: u32) -> Result<(), Refusal>
+        requires kept { IsKept budget self.old }
+        requires waits { self.old.waiting ≡ Some at }
+        ensures gone { is_in_mid_word self.old.state ≡ false
+            → MatchResult result (λ _. Goes budget (moment_of self.old) (moment_of self.new))
+            (λ refusal. IsWhyRefused budget (moment_of self.old) refusal) }
+        ensures kept { MatchResult result (λ _. IsKept budget self.new) (λ _. true ≡ true) }
+    {
+        if self.log.reserve(1).is_err() {
+            return Err(Refusal::OutOfMemory);
+        }
+        match self.state.exchange(at) {
+            Ok(()) => {}
+            Err(refusal) => return Err(refusal),
+        }
+        self.log.exchanged(at);
+        self.requests.exchanged();
+        self.waiting = None;
+        Ok(())
+    }
+
+    /// Makes the next request that is due, or if none is, the next one that may be made at any time. False if there is
+    /// neither.
+    fn ask(&mut self, budget: u64) -> bool
+        requires kept { IsKept budget self.old }
+        requires idle { self.old.waiting ≡ None }
+        ensures gone { result ≡ true → Goes budget (moment_of self.old) (moment_of self.new) }
+        ensures same { result ≡ false → moment_of self.new ≡ moment_of self.old }
+        ensures can_issue { result ≡ false → CanIssue self.new }
+        ensures kept { IsKept budget self.new }
+    {
+        if let Some(ask) = self.requests.take_due() {
+            self.waiting = Some(ask.0);
+            return true;
+        }
+        if let Some(at) = self.free.pop_front() {
+            self.waiting = Some(at);
+            return true;
+        }
+        false
+    }
+
+    /// How many instructions to do before the next look at the requests, at most `left`. While a request waits it is
+    /// one, because its exchange may be possible after that.
+    fn next_issues(&self, left: u64) -> u64
+        ensures most { result ≤ left }
+        ensures some { CanIssue self.now → 0 < left → 0 < result }
+        ensures single { is_some self.now.waiting ≡ true → result ≤ 1 }
+        ensures quiet { is_some self.now.waiting ≡ false → (more : ℕ) → more < result
+            → IsDue self.now.requests.asks (self.now.requests.issued + more) None }
+    {
+        if self.waiting.is_some() {
+            return if left > 0 { 1 } else { 0 };
+        }
+        let until = self.requests.until_due();
+        if until < left { until } else { left }
+    }
+
+    /// Whether an instruction may be done: the machine runs without fault, and some of the budget is left.
+    fn may_issue(&self, budget: u64) -> bool
+        requires kept { IsKept budget self.now }
+        ensures { result ≡ (is_going self.now.state && nat_lt (issued self.now.log.steps) budget) }
+    {
+        is_going(&self.state) && self.log.issues() < budget
+    }
+
+    /// Does `count` instructions, or fewer if the machine halts or faults.
+    fn issue_some(&mut self, count: u64)
+        requires room { 0 < self.old.log.room }
+        requires count { issued self.old.log.steps + count < 2 ^ 64 }
+        requires counted { self.old.requests.issued ≡ issued self.old.log.steps }
+        ensures made { IsIssued count self.old self.new }
+    {
+        let made = issue_many(&mut self.state, count);
+        self.log.issued_many(made);
+        self.requests.issued_many(made);
+    }
+
+    /// Does instructions up to the next look at the requests. False if no instruction may be done: then the run has
+    /// ended.
+    ///
+    /// # Errors
+    /// `OutOfMemory`.
+    fn issue(&mut self, budget: u64) -> Result<bool, Refusal>
+        requires kept { IsKept budget self.old }
+        ensures gone { CanIssue self.old
+            → MatchResult result (λ on. Went budget on (moment_of self.old) (moment_of self.new))
+            (λ refusal. refusal ≡ OutOfMemory) }
+        ensures kept { MatchResult result (λ _. IsKept budget self.new) (λ _. true ≡ true) }
+    {
+        if !self.may_issue(budget) {
+            return Ok(false);
+        }
+        if self.log.reserve(1).is_err() {
+            return Err(Refusal::OutOfMemory);
+        }
+        let count = self.next_issues(budget - self.log.issues());
+        self.issue_some(count);
+        Ok(true)
+    }
+
+    /// Makes an exchange, makes a request, or does some instructions, whichever comes next. False if the run has ended.
+    ///
+    /// # Errors
+    /// `OutOfMemory`, and `PackageRange` if the sixteen words of the exchange that comes next don't all lie in memory.
+    pub fn turn(&mut self, budget: u64) -> Result<bool, Refusal>
+        requires kept { IsKept budget self.old }
+        ensures gone { MatchResult result (λ on. Went budget on (moment_of self.old) (moment_of self.new))
+            (λ refusal. IsWhyRefused budget (moment_of self.old) refusal) }
+        ensures kept { MatchResult result (λ _. IsKept budget self.new) (λ _. true ≡ true) }
+    {
+        match self.waiting {
+            Some(at) => {
+                if is_in_mid_word(&self.state) {
+                    return self.issue(budget);
+                }
+                match self.exchange(budget, at) {
+                    Ok(()) => Ok(true),
+                    Err(refusal) => Err(refusal),
+                }
+            }
+            None => {
+                if self.ask(budget) {
+                    return Ok(true);
+                }
+                self.issue(budget)
+            }
+        }
+    }
+}

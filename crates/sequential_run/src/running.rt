@@ -1,0 +1,98 @@
+//! A run from its boot to its end.
+ghost use Rattle.std.specs.Prelude.{◌≡◌, ◌≤◌, IfOk, MatchResult, true};
+ghost use Rattle.sequential.specs.Log.{issued};
+ghost use Rattle.sequential_run.specs.inner.Course.{IsKept, IsBegun, moment_of};
+ghost use Rattle.sequential_run.specs.Run.{IsRun, IsSequentialRun, IsWhyNoRun, EndsAt, IsRefusedAfter};
+
+use crate::course::Course;
+use exchange_requests::{Ask, Requests};
+use instruction_table::Refusal;
+use relocation::Storage;
+use sequential::{Log, State};
+use std::alloc::{AllocError, Global};
+use std::collections::VecDeque;
+
+/// What a run ends with.
+#[derive(Drop)]
+pub struct Ended {
+    /// The final state of the machine.
+    pub state: State,
+    /// The instructions and exchanges that led to it.
+    pub log: Log,
+}
+
+/// Boots the machine and puts the requests into their order.
+///
+/// # Errors
+/// Memory ran out.
+fn begin(
+    alloc: Global,
+    memory: Storage,
+    start: u32,
+    after: &[Ask],
+    free: &[u32],
+) -> Result<Course, AllocError>
+    ensures begun { IfOk result (λ course. IsBegun memory start after.now free.now course) }
+{
+    let requests = Requests::new(alloc, start, after)?;
+    let free = Vec::from_slice(alloc, free)?;
+    Ok(Course {
+        state: State::boot(memory),
+        log: Log::new(alloc),
+        requests,
+        free: VecDeque::from_vec(free),
+        waiting: None,
+    })
+}
+
+/// Takes turns until the run has ended.
+///
+/// # Errors
+/// As `Course::turn`.
+fn finish(course: &mut Course, budget: u64) -> Result<(), Refusal>
+    requires kept { IsKept budget course.old }
+    ensures ended { MatchResult result (λ _. EndsAt budget (moment_of course.old) (moment_of course.new))
+        (λ refusal. IsRefusedAfter budget (moment_of course.old) refusal) }
+    ensures within { MatchResult result (λ _. issued course.new.log.steps ≤ budget) (λ _. true ≡ true) }
+{
+    loop {
+        match course.turn(budget) {
+            Ok(true) => {}
+            Ok(false) => return Ok(()),
+            Err(refusal) => return Err(refusal),
+        }
+    }
+}
+
+/// Runs a program to its end, one instruction at a time. The machine is booted with `memory`, its first exchange is
+/// with the package at the absolute address `start`, and at most `budget` instructions are done. The requests of
+/// `after` are made after as many instructions as they name, those of `free`, absolute addresses of packages, at the
+/// first moment that allows it.
+///
+/// # Errors
+/// `OutOfMemory` if an allocation fails, and `PackageRange` if the sixteen words of an exchange that comes next don't
+/// all lie in memory.
+pub fn run(
+    alloc: Global,
+    memory: Storage,
+    start: u32,
+    after: &[Ask],
+    free: &[u32],
+    budget: u64,
+) -> Result<Ended, Refusal>
+    ensures run { MatchResult result
+        (λ ended. IsSequentialRun memory start after.now free.now budget ended.log.steps ended.state)
+        (λ refusal. IsWhyNoRun memory start after.now free.now budget refusal) }
+    ensures promised { IfOk result (λ ended. IsRun memory budget ended.log.steps ended.state) }
+{
+    let Ok(mut course) = begin(alloc, memory, start, after, free) else {
+        return Err(Refusal::OutOfMemory);
+    };
+    match finish(&mut course, budget) {
+        Ok(()) => Ok(Ended {
+            state: course.state,
+            log: course.log,
+        }),
+        Err(refusal) => Err(refusal),
+    }
+}
