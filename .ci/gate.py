@@ -8,8 +8,9 @@
 The parts, in their order:
 
 - small checks, which take seconds: that docs/definitions.md names what is there, docs/safety.md each public call,
-  docs/threads.md its example, docs/crates.md the sizes, docs/CHANGING.md the checks of the gate, that a word with one
-  meaning is used for nothing else, that what comments and pages name is there, and the layout of pages;
+  docs/threads.md its example, docs/crates.md the sizes, docs/CHANGING.md the checks of the gate, that a deck or a test
+  goes past each limit of the code, that a word with one meaning is used for nothing else, that what comments and pages
+  name is there, and the layout of pages;
 - `rt ci`: every proof from nothing, every test, the wrong bodies of `must-fail`, and the program's stored run. It keeps
   beside the kit what it proved and tried, by the sums of all that it read, and so proves and tries again only what
   changed, and what stands above that; tests and the program are run each time;
@@ -41,7 +42,9 @@ sys.path.insert(0, str(ROOT / "tools"))
 
 from shared.debian import missing  # noqa: E402
 
-SMALL = (".ci/definitions", ".ci/safety", ".ci/examples", ".ci/sizes", ".ci/words", ".ci/names", ".ci/layout")
+SMALL = (
+    ".ci/definitions", ".ci/safety", ".ci/examples", ".ci/sizes", ".ci/limits", ".ci/words", ".ci/names", ".ci/layout",
+)
 BODIES = ("tools/wrong-bodies-test", "tools/wrong-bodies")
 CHECKS = (
     "decks", "pages", "schedules", "both-kinds", "busy", "threads", "sequential", "large", "mutations", "failures",

@@ -8,6 +8,8 @@
  *     FAILING_SHORT   where it is set, a read or write moves one byte at most
  *     FAILING_MARK    a file, which is made when a call fails
  *     FAILING_COUNT   a file, to which the number of these calls is written at the program's end
+ *     FAILING_TRACE   a file, which gets a line before each write to standard output: the number of bytes written before
+ *                     it, and the number of these calls
  */
 #define _GNU_SOURCE
 #include <dlfcn.h>
@@ -31,6 +33,8 @@ static const char *failing = "";
 static unsigned long failing_at;
 static int failing_from, moves_one;
 static const char *mark, *counted;
+static int trace = -1;
+static unsigned long moved_out;
 static atomic_ulong calls;
 
 __attribute__((constructor)) static void begin(void) {
@@ -40,6 +44,8 @@ __attribute__((constructor)) static void begin(void) {
     moves_one = getenv("FAILING_SHORT") != NULL;
     mark = getenv("FAILING_MARK");
     counted = getenv("FAILING_COUNT");
+    const char *path = getenv("FAILING_TRACE");
+    trace = path ? (int)syscall(SYS_openat, AT_FDCWD, path, O_CREAT | O_WRONLY | O_TRUNC, 0600) : -1;
     failing = getenv("FAILING_CALL") ? getenv("FAILING_CALL") : "";
 }
 
@@ -106,9 +112,19 @@ ssize_t read(int file, void *bytes, size_t length) {
     return file == 0 && fails("read") ? failed() : syscall(SYS_read, file, bytes, moved(length));
 }
 
+/* Adds a line to the trace. It takes no memory. */
+static void add_line(void) {
+    char line[64];
+    int length = snprintf(line, sizeof line, "%lu %lu\n", moved_out, atomic_load(&calls));
+    syscall(SYS_write, trace, line, length);
+}
+
 static ssize_t written(int file, const void *bytes, size_t length) {
     if ((file == 1 && fails("write")) || (file == 2 && fails("told"))) return failed();
-    return syscall(SYS_write, file, bytes, moved(length));
+    if (file == 1 && trace >= 0) add_line();
+    ssize_t took = syscall(SYS_write, file, bytes, moved(length));
+    if (file == 1 && took > 0) moved_out += took;
+    return took;
 }
 
 ssize_t write(int file, const void *bytes, size_t length) { return written(file, bytes, length); }

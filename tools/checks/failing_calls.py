@@ -48,3 +48,14 @@ class Failing:
         number = int(counted.read_text(encoding="ascii"))
         counted.unlink()
         return ran, number
+
+    def allocations_by_line(self, words, text):
+        """How a run ended, and for each printed line how often memory was asked for before it was written. The run reads
+        a byte a call, so that a session writes each answer before it reads the next event."""
+        traced = self.folder / f"traced{next(self.runs)}"
+        how = {"FAILING_CALL": "memory", "FAILING_SHORT": "1", "FAILING_TRACE": str(traced)}
+        ran = self.program.run(words, text, environment=how | {"LD_PRELOAD": str(self.library)})
+        numbers = dict(map(int, line.split()) for line in traced.read_text(encoding="ascii").splitlines())
+        traced.unlink()
+        starts = [0, *(at + 1 for at, byte in enumerate(ran.printed) if byte == ord("\n"))]
+        return ran, [numbers[start] for start in starts[:-1]]
