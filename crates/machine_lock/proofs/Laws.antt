@@ -5,6 +5,9 @@ use Rattle.std.proofs.Common.{◌∙◌, subst, get_or, inl, inr}
 use Rattle.std.proofs.lemmas.List.{append-nil}
 use Rattle.std.specs.Prelude.{Result, Ok, Err, IfErr, IfOk, MatchResult}
 use Rattle.instructions.specs.declared.refusal.Refusal.{Refusal}
+use Rattle.instructions.specs.declared.refusal.Refusal.TheVariants.{Budget}
+use Rattle.sequential.specs.Log.{issued}
+use Rattle.program_order.specs.Invariant.{IsWithinBudget}
 use Rattle.sequential.specs.Replay.{LogStep, Issued, Exchanged, boot, replay}
 use Rattle.sequential.specs.UnitIssues.{taken}
 use Rattle.program_order.specs.declared.event.Done.{Done}
@@ -17,19 +20,28 @@ use Rattle.program_order.specs.Events.{after, allowed}
 use Rattle.program_order.specs.Headline.{exchange_step, made_steps}
 use Rattle.program_order.specs.Processor.{Processor, completed, replayed}
 use Rattle.program_order.specs.Run.{IsAnswer, answer_by, answer_of, done_by, settled}
+use Rattle.program_order.specs.Refusals.{may_refuse}
 use Rattle.program_order.specs.Telling.{IsNoted, IsWhy}
+use Rattle.machine_lock.proofs.Budgets.{exchange_budget, issue_budget}
+use Rattle.program_order.proofs.keeping.Numbering.{ok_done}
 use Rattle.program_order.proofs.keeping.Telling.{exchange_asked}
 use Rattle.program_order.proofs.theorem.Headline.{Books, books_after}
 use Rattle.program_order.proofs.theorem.Theorem.{made_allowed}
 use Rattle.atomic_table.specs.Table.{Me}
-use Rattle.machine_lock.specs.CallerKnowledge.{Known, known, StartsWith, IsMade, Learnt, note_in, word_in, IsNoteOf}
-use Rattle.machine_lock.specs.CallerKnowledge.{IsWhyOf}
-use Rattle.machine_lock.specs.CallerKnowledge.{Booted, booted_by, booted_with, HasReplay, IsWordOf}
+use Rattle.progress_word.specs.CallerKnowledge.{Known, known, StartsWith, IsMade, Learnt, note_in, word_in, IsNoteOf}
+use Rattle.progress_word.specs.CallerKnowledge.{IsWhyOf}
+use Rattle.progress_word.specs.CallerKnowledge.{Booted, booted_by, booted_with, HasReplay, IsWordOf}
+use Rattle.machine_lock.specs.Held.{IsAskedNext}
+use Rattle.machine_lock.specs.inner.LockInvariant.{IsAsked, next_after, only_refusal}
 use Rattle.machine_lock.specs.inner.LockInvariant.{IsCurrent, IsLogged, access_step, is_access, is_of_memory, last_step}
-use Rattle.machine_lock.specs.inner.Rules.{History, Knowing, history, past, keeper, caller, Continues}
-use Rattle.machine_lock.proofs.Lists.{last_step-push}
+use Rattle.progress_word.specs.inner.Rules.{History, Knowing, history, past, keeper, caller, Continues}
 
 -- ---- what an event leaves ----
+
+pub last_step-push : (xs : List LogStep) (x : LogStep) → last_step (xs ++ x ∷ []) ≡ x
+last_step-push [] x = refl
+last_step-push (y ∷ []) x = refl
+last_step-push (y ∷ z ∷ zs) x = last_step-push (z ∷ zs) x
 
 -- what was given at boot is as it was
 booted_as : {r : Option ℕ} {xs : List LogStep} (w v : Processor) → Books w v r xs → booted_by v ≡ booted_by w
@@ -133,6 +145,98 @@ logged_one_more h v a d o l = subst (λ (x : Result Done Refusal). IsLogged x h 
 at_present : (v : Processor) (k : Known) → IsCurrent v k → history k.booted k.log ≡ past v
 at_present v k c i = history (c.0 i) (c.1 i)
 
+-- ---- what a call that tells a part of an answer tells ----
+
+-- an event that is answered only that it was made
+abbrev pub is_plain : Event → Bool
+is_plain Issue = false
+is_plain (PpRead a) = false
+is_plain _ = true
+
+plain_made : (w : Processor) (e : Event) → is_plain e ≡ true → done_by w e ≡ DoneMade
+unfolding done_by
+plain_made w Issue h = absurd (cc)
+plain_made w (Read u) h = refl
+plain_made w (Finish u) h = refl
+plain_made w (Store u) h = refl
+plain_made w (Accept p) h = refl
+plain_made w (Return c) h = refl
+plain_made w (BankFree b) h = refl
+plain_made w (Ask n) h = refl
+plain_made w Exchange h = refl
+plain_made w (PpRead a) h = absurd (cc)
+plain_made w (PpWrite a v) h = refl
+
+-- its answer is told by whether it was made
+pub plain_told : (w : Processor) (e : Event) (a : Result Done Refusal) (d : Done) → is_plain e ≡ true → IsAnswer w e a
+    → a ≡ Ok d → IsAnswer w e (Ok DoneMade)
+plain_told w e a d p i o =
+    let k : IsAnswer w e (Ok d) = subst (IsAnswer w e) o i in
+    subst (λ x. IsAnswer w e (Ok x)) (ok_done w e d k (made_allowed w e d k) ∙ plain_made w e p) k
+
+memory_plain : (e : Event) → is_of_memory e ≡ true → is_plain e ≡ true
+memory_plain Issue h = absurd (cc)
+memory_plain (Read u) h = refl
+memory_plain (Finish u) h = refl
+memory_plain (Store u) h = refl
+memory_plain (Accept p) h = refl
+memory_plain (Return c) h = refl
+memory_plain (BankFree b) h = refl
+memory_plain (Ask n) h = refl
+memory_plain Exchange h = refl
+memory_plain (PpRead a) h = absurd (cc)
+memory_plain (PpWrite a v) h = refl
+
+pub memory_told : (w v : Processor) (e : Event) (a : Result Done Refusal) (d : Done) → IsAnswer v e a → a ≡ Ok d
+    → is_of_memory e ≡ true → v ≡ w → IsAnswer w e (Ok DoneMade)
+memory_told w v e a d i o m s =
+    subst (λ x. IsAnswer x e (Ok DoneMade)) s (plain_told v e a d (memory_plain e m) i o)
+
+pub ask_told : (w v : Processor) (n : ℕ) (a : Result Done Refusal) (d : Done) → IsAnswer v (Ask n) a → a ≡ Ok d
+    → v ≡ w → IsAnswer w (Ask n) (Ok DoneMade)
+ask_told w v n a d i o s = subst (λ x. IsAnswer x (Ask n) (Ok DoneMade)) s (plain_told v (Ask n) a d refl i o)
+
+pub exchange_told : (w v : Processor) (a : Result Done Refusal) (d : Done) → IsAnswer v Exchange a → a ≡ Ok d
+    → v ≡ w → IsAnswer w Exchange (Ok DoneMade)
+exchange_told w v a d i o s = subst (λ x. IsAnswer x Exchange (Ok DoneMade)) s (plain_told v Exchange a d refl i o)
+
+pub write_told : (w v : Processor) (at word : ℕ) (a : Result Done Refusal) (d : Done) → IsAnswer v (PpWrite at word) a
+    → a ≡ Ok d → v ≡ w → IsAnswer w (PpWrite at word) (Ok DoneMade)
+write_told w v at word a d i o s =
+    subst (λ x. IsAnswer x (PpWrite at word) (Ok DoneMade)) s (plain_told v (PpWrite at word) a d refl i o)
+
+-- the request that follows an exchange
+pub next_told : (w v : Processor) (next : Option ℕ) (x : Option (Result Done Refusal)) → IsAsked w next x v
+    → IsAskedNext w next (Ok (only_refusal x)) v
+unfolding settled
+next_told w v None None h = (refl, h)
+next_told w v None (Some a) h = absurd h
+next_told w v (Some n) None h = absurd h
+next_told w v (Some n) (Some (Ok d)) h = (plain_told w (Ask n) (Ok d) d refl h.0 refl, h.1)
+next_told w v (Some n) (Some (Err k)) h = h
+
+pub next_after_exchange : (w v u : Processor) (a : Result Done Refusal) (d : Done) (next : Option ℕ)
+    (x : Option (Result Done Refusal)) (r : Result (Unit {0}) Refusal)
+    → IsAsked (settled v Exchange a) (next_after a next) x u → a ≡ Ok d → v ≡ w → r ≡ only_refusal x
+    → IsAskedNext (settled w Exchange (Ok DoneMade)) next (Ok r) u
+unfolding settled
+next_after_exchange w v u a d next x r h o s t =
+    let k : IsAsked (after v Exchange) next x u =
+    subst (λ (y : Result Done Refusal). IsAsked (settled v Exchange y) (next_after y next) x u) o h in
+    subst (λ (y : Result (Unit {0}) Refusal). IsAskedNext (after w Exchange) next (Ok y) u) (sym t)
+    (subst (λ (y : Processor). IsAskedNext (after y Exchange) next (Ok (only_refusal x)) u) s
+    (next_told (after v Exchange) u next x k))
+
+-- an access that reads is told by its word
+pub read_told : (w v : Processor) (at : ℕ) (a : Result Done Refusal) (d : Done) (x : ℕ) → IsAnswer v (PpRead at) a
+    → a ≡ Ok d → x ≡ word_in d → v ≡ w → IsAnswer w (PpRead at) (Ok (Word x))
+unfolding done_by
+read_told w v at a d x i o h s =
+    let k : IsAnswer v (PpRead at) (Ok d) = subst (IsAnswer v (PpRead at)) o i in
+    let m = ok_done v (PpRead at) d k (made_allowed v (PpRead at) d k) in
+    subst (λ y. IsAnswer y (PpRead at) (Ok (Word x))) s
+    (subst (λ y. IsAnswer v (PpRead at) (Ok y)) (m ∙ ap Word (sym (h ∙ ap word_in m))) k)
+
 -- ---- an issue ----
 
 pub issued_past : (w v : Processor) (a : Result Done Refusal) (d : Done) → v ≡ settled w Issue a → a ≡ Ok d
@@ -159,6 +263,14 @@ done_issue w a d (inl h) o = by_refusal d (allowed w Issue) (sym o ∙ h)
     by_refusal DoneMade (Some x) k = cc
 done_issue w a d (inr h) o = let k = sym o ∙ h.want in cc
 
+-- it is told by its reservation
+pub issue_told : (w v : Processor) (a : Result Done Refusal) (d : Done) (n : Option Note) → IsAnswer v Issue a
+    → a ≡ Ok d → n ≡ note_in d → v ≡ w → IsAnswer w Issue (Ok (DoneIssue n))
+issue_told w v a d n i o h s =
+    let k : IsAnswer v Issue (Ok d) = subst (IsAnswer v Issue) o i in
+    subst (λ x. IsAnswer x Issue (Ok (DoneIssue n))) s
+    (subst (λ x. IsAnswer v Issue (Ok x)) (done_issue v a d i o ∙ ap DoneIssue (sym h)) k)
+
 -- what was answered is what an issue from the state to which the log led answers
 pub note_of : (w v : Processor) (a : Result Done Refusal) (d : Done) (k : Known) → replayed w ≡ Some (completed w)
     → IsAnswer w Issue a → v ≡ settled w Issue a → a ≡ Ok d
@@ -178,10 +290,15 @@ note_of w v a d k r i s o n h =
     )
 
 pub why_of : (w : Processor) (k : Known) (refusal : Refusal) → replayed w ≡ Some (completed w)
-    → history k.booted k.log ≡ past w → IsWhy (completed w) refusal → IsWhyOf k refusal
+    → history k.booted k.log ≡ past w → IsWhy (completed w) refusal → (refusal ≡ Budget → issued w.log ≡ w.budget)
+    → IsWhyOf k refusal
 unfolding replayed
-why_of w k refusal r h y =
-    (completed w, ap (λ (x : History). replay (boot x.booted.memory) x.log) h ∙ r, y)
+why_of w k refusal r h y b = record {
+  state = completed w;
+  led = ap (λ (x : History). replay (boot x.booted.memory) x.log) h ∙ r;
+  why = y;
+  budget = λ e. ap (λ (x : History). issued x.log) h ∙ b e ∙ sym (ap (λ (x : History). x.booted.budget) h);
+}
 
 pub issue_logged : (w v : Processor) (a : Result Done Refusal) (p : Me ℕ Knowing) → p ≡ (keeper (past w), [])
     → v ≡ settled w Issue a → IsLogged a p.0.seen v
@@ -193,16 +310,19 @@ issue_logged w v (Err k) p ep s = unlogged w v Issue k p ep s
 pub issue_seen : (w v : Processor) (a : Result Done Refusal) (old new : Known) → replayed w ≡ Some (completed w)
     → IsAnswer w Issue a → v ≡ settled w Issue a
     → ((n : Option Note) → a ≡ Ok (DoneIssue n) → IsNoted (completed w) (taken (boot v.boot_memory) v.log) n)
-    → IfErr a (λ k. IsWhy (completed w) k) → IsCurrent v new
+    → IfErr a (λ k. IsWhy (completed w) k) → IsWithinBudget v → IsCurrent v new
     → MatchResult a (λ d. IsMade (last_step v.log) old new) (λ k. Learnt old new)
     → MatchResult a (λ d. IsMade Issued old new × IsNoteOf new (note_in d)) (λ k. Learnt old new × IsWhyOf new k)
-issue_seen w v (Ok d) old new r i s n y c m =
+issue_seen w v (Ok d) old new r i s n y b c m =
     let p = issued_past w v (Ok d) d s refl in (
       subst (λ x. IsMade x old new) (last_is w v Issued p).last m,
       note_of w v (Ok d) d new r i s refl n (at_present v new c ∙ p),
     )
-issue_seen w v (Err k) old new r i s n y c m =
-    (m, why_of w new k r (at_present v new c ∙ refused_past w v Issue (Err k) k s refl) y)
+issue_seen w v (Err k) old new r i s n y b c m = (
+  m,
+  why_of w new k r (at_present v new c ∙ refused_past w v Issue (Err k) k s refl) y
+      (issue_budget w k i (subst IsWithinBudget (refused_same w v Issue (Err k) k s refl) b)),
+)
 
 -- ---- an exchange ----
 
@@ -240,14 +360,16 @@ exchange_logged w v (Err k) p ep i s = unlogged w v Exchange k p ep s
 -- what its caller has seen then
 pub exchange_seen : (w v : Processor) (asked : Option ℕ) (a : Result Done Refusal) (old new : Known)
     → asked ≡ w.request → replayed w ≡ Some (completed w) → IsAnswer w Exchange a → v ≡ settled w Exchange a
-    → IfErr a (λ k. IsWhy (completed w) k) → IsCurrent v new
+    → IfErr a (λ k. IsWhy (completed w) k) → IfErr a (λ k. may_refuse Exchange k ≡ true) → IsCurrent v new
     → MatchResult a (λ d. IsMade (last_step v.log) old new) (λ k. Learnt old new)
     → MatchResult a (λ d. (n : ℕ) × (asked ≡ Some n) × IsMade (Exchanged n) old new)
     (λ k. Learnt old new × IsWhyOf new k)
-exchange_seen w v asked (Ok d) old new q r i s y c m =
+exchange_seen w v asked (Ok d) old new q r i s y b c m =
     let l = last_exchange w v d i s in (l.n, q ∙ l.request, subst (λ x. IsMade x old new) l.step.last m)
-exchange_seen w v asked (Err k) old new q r i s y c m =
-    (m, why_of w new k r (at_present v new c ∙ refused_past w v Exchange (Err k) k s refl) y)
+exchange_seen w v asked (Err k) old new q r i s y b c m = (
+  m,
+  why_of w new k r (at_present v new c ∙ refused_past w v Exchange (Err k) k s refl) y (exchange_budget w k b),
+)
 
 -- ---- a peripheral access ----
 

@@ -1,4 +1,4 @@
--- The definitions of the machine under a lock: what its callers have seen, and what the lock keeps.
+-- The definitions of the machine under a lock: what the lock keeps, and what the guard's calls answer.
 -- Source: ours.
-pub mod CallerKnowledge
+pub mod Held
 pub mod inner

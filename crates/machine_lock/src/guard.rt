@@ -1,32 +1,85 @@
 //! The machine with its lock held.
-ghost use Rattle.std.specs.Prelude.{◌≡◌, ◌||◌, true, Ok, IfErr, IfOk, MatchResult};
-ghost use Rattle.instructions.specs.declared.refusal.Refusal.TheVariants.{Stranger};
-ghost use Rattle.sequential.specs.Replay.{Issued};
+ghost use Rattle.std.specs.Prelude.{◌≡◌, ◌≢◌, ◌≤◌, ◌||◌, ◌⊎◌, ℕ, true, Some, None, not, IfErr, IfOk, MatchResult};
+ghost use Rattle.instructions.specs.declared.refusal.Refusal.TheVariants.{NotDrained, OutOfMemory, Stranger};
+ghost use Rattle.sequential.specs.Log.{issued};
+ghost use Rattle.sequential.specs.Replay.{Issued, Exchanged, ReadAt, Wrote, boot, replay};
+ghost use Rattle.in_flight.specs.Lookup.{is_pending};
+ghost use Rattle.program_order.specs.declared.event.Done.TheVariants.{Issued as DoneIssue, Word as DoneWord};
+ghost use Rattle.program_order.specs.declared.event.Event.TheVariants.{Issue, Read, Finish, Store, Accept, Return};
+ghost use Rattle.program_order.specs.declared.event.Event.TheVariants.{BankFree, Ask, Exchange, PpRead, PpWrite};
+ghost use Rattle.program_order.specs.Drain.{next_of};
+ghost use Rattle.program_order.specs.Events.{after, allowed};
+ghost use Rattle.program_order.specs.Headline.{IsFaultedRun};
 ghost use Rattle.program_order.specs.Refusals.{is_nothing, is_stranger, is_issue_refusal, is_read_refusal};
 ghost use Rattle.program_order.specs.Refusals.{is_store_refusal, is_accept_refusal, is_return_refusal, is_ask_refusal};
-ghost use Rattle.program_order.specs.Refusals.{may_refuse};
-ghost use Rattle.machine.specs.Tokens.{one_more};
-ghost use Rattle.machine_lock.specs.CallerKnowledge.{IsMade, Learnt, HasReplay, IsNoteOf, IsWhyOf};
-ghost use Rattle.machine_lock.specs.inner.LockInvariant.{is_of_memory};
+ghost use Rattle.program_order.specs.Refusals.{is_access_refusal, is_exchange_refusal, may_refuse};
+ghost use Rattle.program_order.specs.Run.{IsAnswer, settled};
+ghost use Rattle.machine.specs.Tokens.{can_claim, finished_in, one_more, read_of, reading_in, refusal_to, refused};
+ghost use Rattle.machine.specs.Tokens.{slot, waits_in};
+ghost use Rattle.progress_word.specs.CallerKnowledge.{IsMade, Learnt, HasReplay, IsNoteOf, IsWhyOf, IsWordOf};
+ghost use Rattle.progress_word.specs.CallerKnowledge.{note_in, word_in};
+ghost use Rattle.machine_lock.specs.Held.{IsAskedNext, made_or_refused, told, with_processor};
+ghost use Rattle.machine_lock.specs.inner.LockInvariant.{is_of_memory, only_refusal};
 
-use crate::Seen;
 use crate::locked::Locked;
-use crate::rule::Naming;
-use crate::word::Word;
 use instruction_table::Refusal;
-use machine::{Computed, Done, Event, Finished, Loaded, Note, Reserved, Seat};
+use machine::{Answer, Computed, Done, Event, Finished, Loaded, Note, Reserved, Seat, Snapshot};
+use progress_word::{Naming, Seen, Word};
 use signals::{Signals, Told};
+use std::marker::Model;
 use std::sync::MutexGuard;
+use word60::Word60;
 
-/// The machine with its lock held: between two events that its holder makes there is none of another thread. Each call
-/// makes the event of that name of `Shared`, and says of it what that call says. `release` gives the lock back, and
-/// then tells those who wait for what was done; whoever is told before would only wait for the lock.
+/// The machine with its lock held: no other thread makes an event between two events of the guard's holder. Each call
+/// makes the event of the call of `Shared` with its name. Beside what that call promises, its contract states in full
+/// the answer and the machine after it. `release` releases the lock and then wakes the threads that wait for the events
+/// that were made; a thread woken earlier would only wait for the lock.
 #[derive(Drop)]
 pub struct MachineGuard<'a, K: Naming> {
     pub(crate) locked: MutexGuard<'a, Locked<K>>,
     pub(crate) word: &'a Word<K>,
     pub(crate) signals: &'a Signals,
     pub(crate) told: Told,
+}
+
+impl<'a, K: Naming> Model for MachineGuard<'a, K> {
+    ghost use Rattle.machine_lock.specs.Held.{Kept};
+
+    ghost Value = { Kept };
+
+    ghost view = { λ m. m.locked.value };
+}
+
+/// The reservation in the answer of an issue, if there is one.
+fn note_in(done: &Done) -> Option<Note>
+    ensures { result ≡ note_in done.now }
+{
+    match done {
+        Done::Issued(note) => *note,
+        Done::Word(_) => None,
+        Done::Made => None,
+    }
+}
+
+/// The word in the answer of a peripheral read, +0 in any other answer.
+fn word_in(done: &Done) -> Word60
+    ensures { result ≡ word_in done.now }
+{
+    match done {
+        Done::Word(word) => *word,
+        Done::Issued(_) => Word60::default(),
+        Done::Made => Word60::default(),
+    }
+}
+
+/// The refusal of a request, if there was a request and it was refused.
+fn only_refusal(answer: Option<Answer>) -> Result<(), Refusal>
+    ensures { result ≡ only_refusal answer }
+{
+    match answer {
+        Some(Err(refusal)) => Err(refusal),
+        Some(Ok(_)) | None => Ok(()),
+    }
 }
 
 impl<'a, K: Naming> MachineGuard<'a, K> {
@@ -43,7 +96,9 @@ impl<'a, K: Naming> MachineGuard<'a, K> {
     }
 
     /// The release is to wake the storage worker: a reference was made.
-    pub fn leave_to_memory(&mut self) {
+    pub fn leave_to_memory(&mut self)
+        ensures { self.new ≡ self.old }
+    {
         self.told.referred = true;
     }
 
@@ -51,17 +106,17 @@ impl<'a, K: Naming> MachineGuard<'a, K> {
     ///
     /// # Errors
     /// What an issue may refuse.
-    #[tactic(auto, unfolding(program_order::specs::Refusals::may_refuse))]
+    #[tactic(auto, unfolding(program_order::specs::Refusals::may_refuse, program_order::specs::Run::settled))]
     pub fn issue(&mut self, seen: &mut Seen<K>) -> Result<Option<Note>, Refusal>
+        ensures answer { IsAnswer self.old.processor Issue (told DoneIssue result) }
+        ensures after { self.new ≡ with_processor self.old (settled self.old.processor Issue (told DoneIssue result)) }
         ensures seen { MatchResult result (λ note. IsMade Issued seen.old seen.new × IsNoteOf seen.new note)
             (λ refusal. Learnt seen.old seen.new × IsWhyOf seen.new refusal) }
         ensures replayed { HasReplay seen.new }
         ensures named { IfErr result (λ refusal. is_issue_refusal refusal ≡ true) }
     {
         match self.locked.issue(self.word, seen) {
-            Ok(Done::Issued(note)) => Ok(note),
-            Ok(Done::Word(_)) => Ok(None),
-            Ok(Done::Made) => Ok(None),
+            Ok(done) => Ok(note_in(&done)),
             Err(refusal) => Err(refusal),
         }
     }
@@ -70,8 +125,11 @@ impl<'a, K: Naming> MachineGuard<'a, K> {
     ///
     /// # Errors
     /// What a request may refuse.
-    #[tactic(auto, unfolding(program_order::specs::Refusals::may_refuse))]
+    #[tactic(auto, unfolding(program_order::specs::Refusals::may_refuse, program_order::specs::Run::settled))]
     pub fn ask(&mut self, seen: &mut Seen<K>, at: u32) -> Result<(), Refusal>
+        ensures answer { IsAnswer self.old.processor (Ask at) (made_or_refused result) }
+        ensures after { self.new
+            ≡ with_processor self.old (settled self.old.processor (Ask at) (made_or_refused result)) }
         ensures seen { Learnt seen.old seen.new }
         ensures replayed { HasReplay seen.new }
         ensures named { IfErr result (λ refusal. is_ask_refusal refusal ≡ true) }
@@ -85,11 +143,112 @@ impl<'a, K: Naming> MachineGuard<'a, K> {
         }
     }
 
+    /// Makes the exchange that was asked for, as `Shared::exchange`.
+    ///
+    /// # Errors
+    /// What an exchange may refuse.
+    #[tactic(auto, unfolding(program_order::specs::Refusals::may_refuse, program_order::specs::Run::settled))]
+    pub fn exchange(&mut self, seen: &mut Seen<K>) -> Result<(), Refusal>
+        ensures answer { IsAnswer self.old.processor Exchange (made_or_refused result) }
+        ensures after { self.new
+            ≡ with_processor self.old (settled self.old.processor Exchange (made_or_refused result)) }
+        ensures seen { MatchResult result
+            (λ _. (n : ℕ) × (self.old.processor.request ≡ Some n) × IsMade (Exchanged n) seen.old seen.new)
+            (λ refusal. Learnt seen.old seen.new × IsWhyOf seen.new refusal) }
+        ensures replayed { HasReplay seen.new }
+        ensures named { IfErr result (λ refusal. is_exchange_refusal refusal ≡ true) }
+    {
+        match self.locked.exchange(self.word, seen) {
+            Ok(_) => {
+                self.told.exchanged = true;
+                Ok(())
+            }
+            Err(refusal) => Err(refusal),
+        }
+    }
+
+    /// Makes the exchange that was asked for and, once it was made, asks for the one with the package at the absolute
+    /// address `next`, if there is one, as `Shared::exchange_and_ask`.
+    ///
+    /// # Errors
+    /// What an exchange may refuse; within `Ok` what a request may refuse.
+    #[tactic(auto, unfolding(program_order::specs::Refusals::may_refuse, program_order::specs::Run::settled))]
+    pub fn exchange_and_ask(
+        &mut self,
+        seen: &mut Seen<K>,
+        next: Option<u32>,
+    ) -> Result<Result<(), Refusal>, Refusal>
+        ensures answer { IsAnswer self.old.processor Exchange (made_or_refused result) }
+        ensures asked { IsAskedNext (settled self.old.processor Exchange (made_or_refused result)) next result
+            self.new.processor }
+        ensures after { self.new ≡ with_processor self.old self.new.processor }
+        ensures seen { MatchResult result
+            (λ _. (n : ℕ) × (self.old.processor.request ≡ Some n) × IsMade (Exchanged n) seen.old seen.new)
+            (λ refusal. Learnt seen.old seen.new × IsWhyOf seen.new refusal) }
+        ensures replayed { HasReplay seen.new }
+        ensures named { MatchResult result (λ asked. IfErr asked (λ refusal. is_ask_refusal refusal ≡ true))
+            (λ refusal. is_exchange_refusal refusal ≡ true) }
+    {
+        let (made, asked) = self.locked.exchange_and_ask(self.word, seen, next);
+        match made {
+            Ok(_) => {
+                self.told.exchanged = true;
+                Ok(only_refusal(asked))
+            }
+            Err(refusal) => Err(refusal),
+        }
+    }
+
+    /// A peripheral processor reads the word at an absolute address, as `Shared::pp_read`.
+    ///
+    /// # Errors
+    /// What a peripheral access may refuse.
+    #[tactic(auto, unfolding(program_order::specs::Refusals::may_refuse, program_order::specs::Run::settled))]
+    pub fn pp_read(&mut self, seen: &mut Seen<K>, at: u32) -> Result<Word60, Refusal>
+        ensures answer { IsAnswer self.old.processor (PpRead at) (told DoneWord result) }
+        ensures after { self.new
+            ≡ with_processor self.old (settled self.old.processor (PpRead at) (told DoneWord result)) }
+        ensures seen { MatchResult result (λ word. IsMade (ReadAt at) seen.old seen.new × IsWordOf seen.new at word)
+            (λ refusal. Learnt seen.old seen.new) }
+        ensures replayed { HasReplay seen.new }
+        ensures named { IfErr result (λ refusal. is_access_refusal refusal ≡ true) }
+    {
+        match self.locked.access(self.word, seen, Event::PpRead(at)) {
+            Ok(done) => Ok(word_in(&done)),
+            Err(refusal) => Err(refusal),
+        }
+    }
+
+    /// A peripheral processor writes a word to an absolute address, as `Shared::pp_write`.
+    ///
+    /// # Errors
+    /// What a peripheral access may refuse.
+    #[tactic(auto, unfolding(program_order::specs::Refusals::may_refuse, program_order::specs::Run::settled))]
+    pub fn pp_write(&mut self, seen: &mut Seen<K>, at: u32, word: Word60) -> Result<(), Refusal>
+        ensures answer { IsAnswer self.old.processor (PpWrite at word) (made_or_refused result) }
+        ensures after { self.new
+            ≡ with_processor self.old (settled self.old.processor (PpWrite at word) (made_or_refused result)) }
+        ensures seen { MatchResult result (λ _. IsMade (Wrote at word) seen.old seen.new)
+            (λ refusal. Learnt seen.old seen.new) }
+        ensures replayed { HasReplay seen.new }
+        ensures named { IfErr result (λ refusal. is_access_refusal refusal ≡ true) }
+    {
+        match self
+            .locked
+            .access(self.word, seen, Event::PpWrite(at, word))
+        {
+            Ok(_) => Ok(()),
+            Err(refusal) => Err(refusal),
+        }
+    }
+
     /// Takes on a reservation with the seat of its unit, as `Shared::claim`.
     ///
     /// # Errors
     /// `Stranger` with the seat.
     pub fn claim(&mut self, seat: Seat, note: Note) -> Result<Reserved, (Refusal, Seat)>
+        ensures answer { refusal_to (can_claim self.old.processor seat note) None ≡ refused result }
+        ensures after { self.new ≡ self.old }
         ensures claimed { IfOk result (λ token. token ≡ record { seat = seat; number = note.number }) }
         ensures given_back { IfErr result (λ back. (back.1 ≡ seat) × (back.0 ≡ Stranger)) }
     {
@@ -101,6 +260,13 @@ impl<'a, K: Naming> MachineGuard<'a, K> {
     /// # Errors
     /// `OperandAwaited` or `Stranger`, with the token.
     pub fn read(&mut self, token: Reserved) -> Result<Loaded, (Refusal, Reserved)>
+        ensures answer { refusal_to (waits_in token.number (slot self.old.processor token.seat.unit))
+            (allowed self.old.processor (Read token.seat.unit)) ≡ refused result }
+        ensures after { MatchResult result
+            (λ loaded. self.new ≡ with_processor self.old (after self.old.processor (Read token.seat.unit)))
+            (λ back. self.new ≡ self.old) }
+        ensures operands { IfOk result
+            (λ loaded. reading_in token.seat (slot self.new.processor token.seat.unit) ≡ Some loaded) }
         ensures loaded { IfOk result (λ loaded. (loaded.seat ≡ token.seat) × (loaded.number ≡ token.number)) }
         ensures given_back { IfErr result
             (λ back. (back.1 ≡ token) × ((is_stranger back.0 || is_read_refusal back.0) ≡ true)) }
@@ -115,6 +281,13 @@ impl<'a, K: Naming> MachineGuard<'a, K> {
     /// # Errors
     /// `Stranger` with the token.
     pub fn finish(&mut self, token: Computed) -> Result<Finished, (Refusal, Computed)>
+        ensures answer { MatchResult result
+            (λ finished. (reading_in token.seat (slot self.old.processor token.seat.unit) ≡ Some (read_of token))
+            × (allowed self.old.processor (Finish token.seat.unit) ≡ None))
+            (λ back. reading_in token.seat (slot self.old.processor token.seat.unit) ≢ Some (read_of token)) }
+        ensures after { MatchResult result
+            (λ finished. self.new ≡ with_processor self.old (after self.old.processor (Finish token.seat.unit)))
+            (λ back. self.new ≡ self.old) }
         ensures finished { IfOk result (λ finished. finished ≡ record { seat = token.seat; number = token.number }) }
         ensures given_back { IfErr result (λ back. (back.1 ≡ token) × (back.0 ≡ Stranger)) }
     {
@@ -126,6 +299,11 @@ impl<'a, K: Naming> MachineGuard<'a, K> {
     /// # Errors
     /// `ResultHeld`, `HopperFull`, `OutOfTurn` or `Stranger`, with the token.
     pub fn store(&mut self, token: Finished) -> Result<Seat, (Refusal, Finished)>
+        ensures answer { refusal_to (finished_in token.number (slot self.old.processor token.seat.unit))
+            (allowed self.old.processor (Store token.seat.unit)) ≡ refused result }
+        ensures after { MatchResult result
+            (λ seat. self.new ≡ with_processor self.old (after self.old.processor (Store token.seat.unit)))
+            (λ back. self.new ≡ self.old) }
         ensures seat { IfOk result (λ seat. seat ≡ one_more token) }
         ensures given_back { IfErr result
             (λ back. (back.1 ≡ token) × ((is_stranger back.0 || is_store_refusal back.0) ≡ true)) }
@@ -135,10 +313,13 @@ impl<'a, K: Naming> MachineGuard<'a, K> {
         stored
     }
 
-    /// Makes an event of memory, and tells only whether it was made.
+    /// Makes an event of memory, and answers only whether it was made.
+    #[tactic(auto, unfolding(program_order::specs::Run::settled))]
     fn make(&mut self, event: Event) -> Result<(), Refusal>
         requires { is_of_memory event ≡ true }
-        ensures { IfErr result (λ refusal. may_refuse event refusal ≡ true) }
+        ensures answer { IsAnswer self.old.processor event (made_or_refused result) }
+        ensures after { self.new ≡ with_processor self.old (settled self.old.processor event (made_or_refused result)) }
+        ensures named { IfErr result (λ refusal. may_refuse event refusal ≡ true) }
     {
         match self.locked.apply(event) {
             Ok(_) => Ok(()),
@@ -152,11 +333,14 @@ impl<'a, K: Naming> MachineGuard<'a, K> {
     /// `BankBusy` or `OlderAtAddress`, or `Nothing` where the place is empty.
     #[tactic(auto, unfolding(program_order::specs::Refusals::may_refuse))]
     pub fn accept(&mut self, place: u8) -> Result<(), Refusal>
-        ensures { IfErr result (λ refusal. (is_nothing refusal || is_accept_refusal refusal) ≡ true) }
+        ensures answer { IsAnswer self.old.processor (Accept place) (made_or_refused result) }
+        ensures after { self.new
+            ≡ with_processor self.old (settled self.old.processor (Accept place) (made_or_refused result)) }
+        ensures named { IfErr result (λ refusal. (is_nothing refusal || is_accept_refusal refusal) ≡ true) }
     {
-        self.make(Event::Accept(place))?;
-        self.told.changed = true;
-        Ok(())
+        let made = self.make(Event::Accept(place));
+        self.told.changed = self.told.changed || made.is_ok();
+        made
     }
 
     /// The load in a channel, 1 to 5, writes its register, as `Shared::return_load`.
@@ -165,11 +349,14 @@ impl<'a, K: Naming> MachineGuard<'a, K> {
     /// `ResultHeld`, or `Nothing` where the channel is empty.
     #[tactic(auto, unfolding(program_order::specs::Refusals::may_refuse))]
     pub fn return_load(&mut self, channel: u8) -> Result<(), Refusal>
-        ensures { IfErr result (λ refusal. (is_nothing refusal || is_return_refusal refusal) ≡ true) }
+        ensures answer { IsAnswer self.old.processor (Return channel) (made_or_refused result) }
+        ensures after { self.new
+            ≡ with_processor self.old (settled self.old.processor (Return channel) (made_or_refused result)) }
+        ensures named { IfErr result (λ refusal. (is_nothing refusal || is_return_refusal refusal) ≡ true) }
     {
-        self.make(Event::Return(channel))?;
-        self.told.changed = true;
-        Ok(())
+        let made = self.make(Event::Return(channel));
+        self.told.changed = self.told.changed || made.is_ok();
+        made
     }
 
     /// A bank, 0 to 31, is no longer busy, as `Shared::bank_free`.
@@ -178,18 +365,46 @@ impl<'a, K: Naming> MachineGuard<'a, K> {
     /// `Nothing` where the bank isn't busy.
     #[tactic(auto, unfolding(program_order::specs::Refusals::may_refuse))]
     pub fn bank_free(&mut self, bank: u8) -> Result<(), Refusal>
-        ensures { IfErr result (λ refusal. is_nothing refusal ≡ true) }
+        ensures answer { IsAnswer self.old.processor (BankFree bank) (made_or_refused result) }
+        ensures after { self.new
+            ≡ with_processor self.old (settled self.old.processor (BankFree bank) (made_or_refused result)) }
+        ensures named { IfErr result (λ refusal. is_nothing refusal ≡ true) }
     {
         self.make(Event::BankFree(bank))
     }
 
     /// The next event that works on the oldest pending instruction, as `Machine::next_work`.
-    pub fn next_work(&self) -> Option<Event> {
+    pub fn next_work(&self) -> Option<Event>
+        ensures next { result ≡ next_of self.now.processor.pending self.now.processor.busy }
+    {
         self.locked.next_work()
     }
 
+    /// The state, the log, the boot memory and the budget of the machine, if it is drained, as `Shared::snapshot`.
+    ///
+    /// # Errors
+    /// `NotDrained` or `OutOfMemory`.
+    pub fn snapshot(&mut self, seen: &mut Seen<K>) -> Result<Snapshot, Refusal>
+        ensures after { self.new ≡ self.old }
+        ensures seen { Learnt seen.old seen.new }
+        ensures replayed { HasReplay seen.new }
+        ensures fresh { IfOk result
+            (λ snapshot. (snapshot.boot_memory ≡ seen.new.booted.memory) × (snapshot.budget ≡ seen.new.booted.budget)
+            × (snapshot.log ≡ seen.new.log)) }
+        ensures within { IfOk result (λ snapshot. issued snapshot.log ≤ seen.new.booted.budget) }
+        ensures replay { IfOk result (λ snapshot. replay (boot snapshot.boot_memory) snapshot.log
+            ≡ Some snapshot.state) }
+        ensures fault { IfOk result (λ snapshot. snapshot.state.fault ≡ true
+            → IsFaultedRun snapshot.log snapshot.boot_memory snapshot.state) }
+        ensures named { IfErr result (λ refusal. (refusal ≡ NotDrained) ⊎ (refusal ≡ OutOfMemory)) }
+    {
+        self.locked.snapshot(self.word, seen)
+    }
+
     /// Whether no issued instruction has an effect still to come.
-    pub fn drained(&self) -> bool {
+    pub fn drained(&self) -> bool
+        ensures { result ≡ not (is_pending self.now.processor.pending) }
+    {
         self.locked.drained()
     }
 }

@@ -5,19 +5,15 @@
 //! own log on the memory that was booted, and that log begins with what the thread had seen. Each
 //! other call says by `Seen` what its caller has then seen of the log.
 //!
-//! Begin with `Shared` in `shared`, then `Seen` in `seen`; `locked` has what the lock keeps true.
-//! docs/threads.md has an example.
+//! Begin with `Shared` in `shared`; `guard` has the machine while its lock is held, and `locked` what the lock keeps true.
+//! `Seen` and `Naming` are those of `progress_word`. docs/threads.md has an example.
 #![tactic(auto)]
 
 mod guard;
 mod locked;
-mod rule;
-mod seen;
 mod shared;
-mod word;
 
 pub use guard::MachineGuard;
-pub use rule::Naming;
-pub use seen::Seen;
+pub use progress_word::{Naming, Seen};
 pub use shared::{Ground, Shared};
 pub use signals::{Signal, Signals, Told};

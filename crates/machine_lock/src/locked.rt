@@ -1,4 +1,4 @@
-ghost use Rattle.std.specs.Prelude.{◌≡◌, ◌≤◌, ◌||◌, ◌⊎◌, ℕ, true, false, Some, IfErr, IfOk, IfSome};
+ghost use Rattle.std.specs.Prelude.{◌≡◌, ◌≢◌, ◌≤◌, ◌||◌, ◌⊎◌, ℕ, true, false, Some, None, not, IfErr, IfOk, IfSome};
 ghost use Rattle.std.specs.Prelude.{MatchResult};
 ghost use Rattle.instructions.specs.declared.refusal.Refusal.TheVariants.{NotDrained, OutOfMemory, Stranger};
 ghost use Rattle.sequential.specs.Log.{issued};
@@ -9,21 +9,22 @@ ghost use Rattle.program_order.specs.Headline.{IsFaultedRun};
 ghost use Rattle.program_order.specs.Refusals.{may_refuse, is_stranger, is_read_refusal, is_store_refusal};
 ghost use Rattle.program_order.specs.Refusals.{is_ask_refusal};
 ghost use Rattle.program_order.specs.Run.{IsAnswer, settled};
-ghost use Rattle.program_order.specs.Invariant.{IsReplay};
-ghost use Rattle.machine.specs.Tokens.{one_more};
+ghost use Rattle.program_order.specs.Invariant.{IsReplay, IsWithinBudget};
 ghost use Rattle.program_order.specs.Drain.{next_of};
-ghost use Rattle.program_order.specs.Events.{after};
-ghost use Rattle.machine_lock.specs.CallerKnowledge.{IsMade, Learnt, HasReplay, IsNoteOf, IsWhyOf, IsWordOf, note_in};
-ghost use Rattle.machine_lock.specs.CallerKnowledge.{word_in};
+ghost use Rattle.in_flight.specs.Lookup.{is_pending};
+ghost use Rattle.machine.specs.Tokens.{can_claim, finished_in, one_more, read_of, reading_in, refusal_to, refused};
+ghost use Rattle.machine.specs.Tokens.{slot, waits_in};
+ghost use Rattle.program_order.specs.Events.{after, allowed};
+ghost use Rattle.progress_word.specs.CallerKnowledge.{IsMade, Learnt, HasReplay, IsNoteOf, IsWhyOf, IsWordOf, note_in};
+ghost use Rattle.progress_word.specs.CallerKnowledge.{word_in};
 ghost use Rattle.machine_lock.specs.inner.LockInvariant.{IsAsked, IsCurrent, access_step, is_access, is_of_memory};
-ghost use Rattle.machine_lock.specs.inner.LockInvariant.{IsLogged, last_step, next_after, with_processor};
-ghost use Rattle.machine_lock.specs.inner.Rules.{IsKeeper, past};
+ghost use Rattle.machine_lock.specs.Held.{with_processor};
+ghost use Rattle.machine_lock.specs.inner.LockInvariant.{IsLogged, last_step, next_after};
+ghost use Rattle.progress_word.specs.inner.Rules.{IsKeeper, past};
 
-use crate::Seen;
-use crate::rule::{Naming, Pass};
-use crate::word::Word;
 use instruction_table::Refusal;
 use machine::{Answer, Computed, Event, Finished, Loaded, Machine, Note, Reserved, Seat, Snapshot};
+use progress_word::{Naming, Pass, Seen, Word};
 use std::marker::{Brand, Model, PhantomData};
 
 /// What the lock keeps: a machine with the pass that knows its log, and whether its users were told to end. Whenever
@@ -39,7 +40,8 @@ pub(crate) struct Locked<K: Naming> {
 }
 
 impl<K: Naming> Model for Locked<K> {
-    ghost use Rattle.machine_lock.specs.inner.LockInvariant.{Kept, IsLocked};
+    ghost use Rattle.machine_lock.specs.Held.{Kept};
+    ghost use Rattle.machine_lock.specs.inner.LockInvariant.{IsLocked};
 
     ghost Value = { Kept };
 
@@ -53,6 +55,7 @@ fn compare<K: Naming>(word: &Word<K>, pass: &mut Pass, seen: &mut Seen<K>, machi
     requires { IsKeeper K.table (past machine.now) pass.old }
     ensures pass { IsKeeper K.table (past machine.now) pass.new }
     ensures replay { IsReplay machine.now }
+    ensures within { IsWithinBudget machine.now }
     ensures current { IsCurrent machine.now seen.new }
     ensures replayed { HasReplay seen.new }
     ensures seen { Learnt seen.old seen.new }
@@ -73,6 +76,7 @@ fn record_or_compare<K: Naming>(
     requires logged { IsLogged answer.now pass.old.me.0.seen machine.now }
     ensures pass { IsKeeper K.table (past machine.now) pass.new }
     ensures replay { IsReplay machine.now }
+    ensures within { IsWithinBudget machine.now }
     ensures current { IsCurrent machine.now seen.new }
     ensures replayed { HasReplay seen.new }
     ensures seen { MatchResult answer.now (λ done. IsMade (last_step machine.now.log) seen.old seen.new)
@@ -248,6 +252,7 @@ impl<K: Naming> Locked<K> {
     /// # Errors
     /// `Stranger` with the seat.
     pub(crate) fn claim(&mut self, seat: Seat, note: Note) -> Result<Reserved, (Refusal, Seat)>
+        ensures answer { refusal_to (can_claim self.old.processor seat note) None ≡ refused result }
         ensures after { self.new ≡ self.old }
         ensures claimed { IfOk result (λ token. token ≡ record { seat = seat; number = note.number }) }
         ensures given_back { IfErr result (λ back. (back.1 ≡ seat) × (back.0 ≡ Stranger)) }
@@ -262,9 +267,13 @@ impl<K: Naming> Locked<K> {
     /// # Errors
     /// `OperandAwaited` or `Stranger`, with the token.
     pub(crate) fn read(&mut self, token: Reserved) -> Result<Loaded, (Refusal, Reserved)>
+        ensures answer { refusal_to (waits_in token.number (slot self.old.processor token.seat.unit))
+            (allowed self.old.processor (Read token.seat.unit)) ≡ refused result }
         ensures after { MatchResult result
             (λ loaded. self.new ≡ with_processor self.old (after self.old.processor (Read token.seat.unit)))
             (λ back. self.new ≡ self.old) }
+        ensures operands { IfOk result
+            (λ loaded. reading_in token.seat (slot self.new.processor token.seat.unit) ≡ Some loaded) }
         ensures loaded { IfOk result (λ loaded. (loaded.seat ≡ token.seat) × (loaded.number ≡ token.number)) }
         ensures given_back { IfErr result
             (λ back. (back.1 ≡ token) × ((is_stranger back.0 || is_read_refusal back.0) ≡ true)) }
@@ -279,6 +288,10 @@ impl<K: Naming> Locked<K> {
     /// # Errors
     /// `Stranger` with the token.
     pub(crate) fn finish(&mut self, token: Computed) -> Result<Finished, (Refusal, Computed)>
+        ensures answer { MatchResult result
+            (λ finished. (reading_in token.seat (slot self.old.processor token.seat.unit) ≡ Some (read_of token))
+            × (allowed self.old.processor (Finish token.seat.unit) ≡ None))
+            (λ back. reading_in token.seat (slot self.old.processor token.seat.unit) ≢ Some (read_of token)) }
         ensures after { MatchResult result
             (λ finished. self.new ≡ with_processor self.old (after self.old.processor (Finish token.seat.unit)))
             (λ back. self.new ≡ self.old) }
@@ -295,6 +308,8 @@ impl<K: Naming> Locked<K> {
     /// # Errors
     /// `ResultHeld`, `HopperFull`, `OutOfTurn` or `Stranger`, with the token.
     pub(crate) fn store(&mut self, token: Finished) -> Result<Seat, (Refusal, Finished)>
+        ensures answer { refusal_to (finished_in token.number (slot self.old.processor token.seat.unit))
+            (allowed self.old.processor (Store token.seat.unit)) ≡ refused result }
         ensures after { MatchResult result
             (λ seat. self.new ≡ with_processor self.old (after self.old.processor (Store token.seat.unit)))
             (λ back. self.new ≡ self.old) }
@@ -343,7 +358,9 @@ impl<K: Naming> Locked<K> {
     }
 
     /// Whether no issued instruction has an effect still to come.
-    pub(crate) fn drained(&self) -> bool {
+    pub(crate) fn drained(&self) -> bool
+        ensures { result ≡ not (is_pending self.now.processor.pending) }
+    {
         self.machine.drained()
     }
 

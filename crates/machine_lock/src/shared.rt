@@ -1,28 +1,23 @@
-ghost use Rattle.std.specs.Prelude.{◌≡◌, ◌≤◌, ◌||◌, ◌⊎◌, ℕ, true, false, [], Some, Ok, Err, IfErr, IfOk, IfSome};
+ghost use Rattle.std.specs.Prelude.{◌≡◌, ◌≤◌, ◌||◌, ◌⊎◌, ℕ, true, false, [], Some, IfErr, IfOk};
 ghost use Rattle.std.specs.Prelude.{MatchResult};
-ghost use Rattle.program_order.specs.declared.event.Done.{Done};
 ghost use Rattle.instructions.specs.declared.refusal.Refusal.TheVariants.{Nothing, NotDrained, OutOfMemory, Stranger};
 ghost use Rattle.sequential.specs.Log.{issued};
 ghost use Rattle.sequential.specs.Replay.{Issued, Exchanged, ReadAt, Wrote, boot, replay};
 ghost use Rattle.program_order.specs.Headline.{IsFaultedRun};
-ghost use Rattle.program_order.specs.Refusals.{may_refuse, is_stranger, is_nothing, is_issue_refusal, is_read_refusal};
+ghost use Rattle.program_order.specs.Refusals.{is_stranger, is_nothing, is_issue_refusal, is_read_refusal};
 ghost use Rattle.program_order.specs.Refusals.{is_store_refusal, is_accept_refusal, is_return_refusal, is_ask_refusal};
 ghost use Rattle.program_order.specs.Refusals.{is_exchange_refusal, is_access_refusal};
 ghost use Rattle.machine.specs.Tokens.{new_seats, one_more};
-ghost use Rattle.machine_lock.specs.CallerKnowledge.{booted_by, known, IsMade, Learnt, HasReplay, IsNoteOf, IsWhyOf};
-ghost use Rattle.machine_lock.specs.CallerKnowledge.{IsWordOf};
-ghost use Rattle.machine_lock.specs.CallerKnowledge.{word_in, AreApart, NumbersApart};
+ghost use Rattle.progress_word.specs.CallerKnowledge.{booted_by, known, IsMade, Learnt, HasReplay, IsNoteOf, IsWhyOf};
+ghost use Rattle.progress_word.specs.CallerKnowledge.{IsWordOf};
+ghost use Rattle.progress_word.specs.CallerKnowledge.{AreApart, NumbersApart};
 
-use crate::Seen;
 use crate::guard::MachineGuard;
 use crate::locked::Locked;
-use crate::rule::{Naming, Pass, Progress};
-use crate::word::Word;
 use instruction_table::Refusal;
-use machine::{
-    Answer, Computed, Done, Event, Finished, Loaded, Machine, Note, Reserved, Seat, Snapshot,
-};
+use machine::{Computed, Finished, Loaded, Machine, Note, Reserved, Seat, Snapshot};
 use per_unit::PerUnit;
+use progress_word::{Naming, Pass, Progress, Seen, Word};
 use signals::{Signals, Told};
 use std::alloc::Global;
 use std::hint::spin_loop;
@@ -44,7 +39,7 @@ pub struct Ground {
 impl Model for Ground {
     ghost use Rattle.std.specs.Prelude.{◌≡◌, []};
     ghost use Rattle.atomic_table.specs.Seated.{TableId};
-    ghost use Rattle.machine_lock.specs.inner.Rules.{fresh};
+    ghost use Rattle.progress_word.specs.inner.Rules.{fresh};
 
     ghost Value = { TableId };
 
@@ -69,28 +64,6 @@ impl Ground {
     }
 }
 
-/// The word that was read, +0 where none was.
-fn word_in(done: &Done) -> Word60
-    ensures { result ≡ word_in done.now }
-{
-    match done {
-        Done::Word(word) => *word,
-        Done::Issued(_) => Word60::default(),
-        Done::Made => Word60::default(),
-    }
-}
-
-/// The refusal of an event, if there was an event and it was refused.
-fn unless_refused(answer: Option<Answer>) -> Result<(), Refusal>
-    ensures { MatchResult result (λ _. IfSome answer (λ made. (done : Done) × (made ≡ Ok done)))
-        (λ refusal. answer ≡ Some (Err refusal)) }
-{
-    match answer {
-        Some(Err(refusal)) => Err(refusal),
-        Some(Ok(_)) | None => Ok(()),
-    }
-}
-
 /// Leaves all seats.
 fn leave_all(seats: [Seat; 7]) {
     let _ = PerUnit::from_array(seats).map(|seat| seat.leave());
@@ -99,8 +72,9 @@ fn leave_all(seats: [Seat; 7]) {
 /// A machine that several threads drive, beside its progress word: each call makes one event while it holds the lock.
 ///
 /// No contract here says what the machine was when the lock was got: others may have changed it. What an
-/// event answers and leaves is stated in full on the machine's method of that name; a call's contract
-/// keeps what its caller holds: a token, a snapshot, and what the caller has seen of the log.
+/// event answers and leaves is stated in full on the guard's method of that name; a call here acquires the lock, calls
+/// that method and releases the lock. A call's contract keeps what its caller holds: a token, a snapshot, and what the
+/// caller has seen of the log.
 #[derive(Drop)]
 pub struct Shared<K: Naming> {
     word: Arc<Word<K>, Global>,
@@ -208,7 +182,10 @@ impl<K: Naming> Shared<K> {
         ensures replayed { HasReplay seen.new }
         ensures named { IfErr result (λ refusal. is_issue_refusal refusal ≡ true) }
     {
-        self.lock(rt).issue(seen)
+        let mut machine = self.lock(rt);
+        let issued = machine.issue(seen);
+        machine.release();
+        issued
     }
 
     /// Asks for an exchange with the package at an absolute address: the event `Ask`. Its caller has then seen the log.
@@ -231,21 +208,16 @@ impl<K: Naming> Shared<K> {
     ///
     /// # Errors
     /// What an exchange may refuse.
-    #[tactic(auto, unfolding(program_order::specs::Refusals::may_refuse))]
     pub fn exchange<R: Wait>(&self, rt: &R, seen: &mut Seen<K>) -> Result<(), Refusal>
         ensures seen { MatchResult result (λ _. (n : ℕ) × IsMade (Exchanged n) seen.old seen.new)
             (λ refusal. Learnt seen.old seen.new × IsWhyOf seen.new refusal) }
         ensures replayed { HasReplay seen.new }
         ensures named { IfErr result (λ refusal. is_exchange_refusal refusal ≡ true) }
     {
-        let made = self.locked.lock(rt).exchange(&self.word, seen);
-        match made {
-            Ok(_) => {
-                self.signals.requests.raise();
-                Ok(())
-            }
-            Err(refusal) => Err(refusal),
-        }
+        let mut machine = self.lock(rt);
+        let made = machine.exchange(seen);
+        machine.release();
+        made
     }
 
     /// Makes the exchange that was asked for and, once it was made, asks for the one with the package at the absolute
@@ -256,7 +228,6 @@ impl<K: Naming> Shared<K> {
     ///
     /// # Errors
     /// What an exchange may refuse; within `Ok` what a request may refuse.
-    #[tactic(auto, unfolding(program_order::specs::Refusals::may_refuse))]
     pub fn exchange_and_ask<R: Wait>(
         &self,
         rt: &R,
@@ -269,17 +240,10 @@ impl<K: Naming> Shared<K> {
         ensures named { MatchResult result (λ asked. IfErr asked (λ refusal. is_ask_refusal refusal ≡ true))
             (λ refusal. is_exchange_refusal refusal ≡ true) }
     {
-        let (made, asked) = self
-            .locked
-            .lock(rt)
-            .exchange_and_ask(&self.word, seen, next);
-        match made {
-            Ok(_) => {
-                self.signals.requests.raise();
-                Ok(unless_refused(asked))
-            }
-            Err(refusal) => Err(refusal),
-        }
+        let mut machine = self.lock(rt);
+        let made = machine.exchange_and_ask(seen, next);
+        machine.release();
+        made
     }
 
     /// A peripheral processor reads the word at an absolute address: the event `PpRead`. It is then the last step of
@@ -288,21 +252,16 @@ impl<K: Naming> Shared<K> {
     ///
     /// # Errors
     /// What a peripheral access may refuse.
-    #[tactic(auto, unfolding(program_order::specs::Refusals::may_refuse))]
     pub fn pp_read<R: Wait>(&self, rt: &R, seen: &mut Seen<K>, at: u32) -> Result<Word60, Refusal>
         ensures seen { MatchResult result (λ word. IsMade (ReadAt at) seen.old seen.new × IsWordOf seen.new at word)
             (λ refusal. Learnt seen.old seen.new) }
         ensures replayed { HasReplay seen.new }
         ensures named { IfErr result (λ refusal. is_access_refusal refusal ≡ true) }
     {
-        match self
-            .locked
-            .lock(rt)
-            .access(&self.word, seen, Event::PpRead(at))
-        {
-            Ok(done) => Ok(word_in(&done)),
-            Err(refusal) => Err(refusal),
-        }
+        let mut machine = self.lock(rt);
+        let word = machine.pp_read(seen, at);
+        machine.release();
+        word
     }
 
     /// A peripheral processor writes a word to an absolute address: the event `PpWrite`. It is then the last step of
@@ -310,7 +269,6 @@ impl<K: Naming> Shared<K> {
     ///
     /// # Errors
     /// What a peripheral access may refuse.
-    #[tactic(auto, unfolding(program_order::specs::Refusals::may_refuse))]
     pub fn pp_write<R: Wait>(
         &self,
         rt: &R,
@@ -323,14 +281,10 @@ impl<K: Naming> Shared<K> {
         ensures replayed { HasReplay seen.new }
         ensures named { IfErr result (λ refusal. is_access_refusal refusal ≡ true) }
     {
-        match self
-            .locked
-            .lock(rt)
-            .access(&self.word, seen, Event::PpWrite(at, word))
-        {
-            Ok(_) => Ok(()),
-            Err(refusal) => Err(refusal),
-        }
+        let mut machine = self.lock(rt);
+        let written = machine.pp_write(seen, at, word);
+        machine.release();
+        written
     }
 
     /// Takes on a reservation with the seat of its unit.
@@ -346,7 +300,10 @@ impl<K: Naming> Shared<K> {
         ensures claimed { IfOk result (λ token. token ≡ record { seat = seat; number = note.number }) }
         ensures given_back { IfErr result (λ back. (back.1 ≡ seat) × (back.0 ≡ Stranger)) }
     {
-        self.lock(rt).claim(seat, note)
+        let mut machine = self.lock(rt);
+        let claimed = machine.claim(seat, note);
+        machine.release();
+        claimed
     }
 
     /// The unit reads its operands: the event `Read` for the token's reservation.
@@ -372,7 +329,10 @@ impl<K: Naming> Shared<K> {
         ensures finished { IfOk result (λ finished. finished ≡ record { seat = token.seat; number = token.number }) }
         ensures given_back { IfErr result (λ back. (back.1 ≡ token) × (back.0 ≡ Stranger)) }
     {
-        self.lock(rt).finish(token)
+        let mut machine = self.lock(rt);
+        let finished = machine.finish(token);
+        machine.release();
+        finished
     }
 
     /// The unit stores its result and is released: the event `Store` for the token's reservation.
@@ -424,7 +384,10 @@ impl<K: Naming> Shared<K> {
     pub fn bank_free<R: Wait>(&self, rt: &R, bank: u8) -> Result<(), Refusal>
         ensures { IfErr result (λ refusal. is_nothing refusal ≡ true) }
     {
-        self.lock(rt).bank_free(bank)
+        let mut machine = self.lock(rt);
+        let freed = machine.bank_free(bank);
+        machine.release();
+        freed
     }
 
     /// The state, the log, the boot memory and the budget of the machine, if it is drained. The state is the replay of
@@ -447,7 +410,10 @@ impl<K: Naming> Shared<K> {
             → IsFaultedRun snapshot.log snapshot.boot_memory snapshot.state) }
         ensures named { IfErr result (λ refusal. (refusal ≡ NotDrained) ⊎ (refusal ≡ OutOfMemory)) }
     {
-        self.locked.lock(rt).snapshot(&self.word, seen)
+        let mut machine = self.lock(rt);
+        let snapshot = machine.snapshot(seen);
+        machine.release();
+        snapshot
     }
 
     /// Two callers tell each other what they have seen: both have then seen the same steps, which begin with what each

@@ -1,18 +1,19 @@
 //! How the threads of a run wake each other without taking the machine's lock. These are hints: nothing is proved about
 //! them, and no result depends on them.
 //!
-//! Each thread has a `Signal`, which counts. A thread that can't continue notes its count, registers the changes that it
-//! waits for, and waits until another thread raises the count:
+//! Each thread has a `Signal`, which counts. A thread that can't continue notes its count, registers the changes that
+//! it waits for, and waits until another thread raises the count:
 //!
-//! - It looks at the count, and between two looks it calls `Backoff::snooze` of `crossbeam_utils`. After seven calls, each
-//!   call yields the processor: a run has more threads than most machines have processors, and a spinning thread holds up
-//!   the thread that it waits for. So a thread never resets its `Backoff`.
-//! - After a number of looks without success it sleeps until its signal is raised, for a millisecond at most. A sleep and
-//!   its wake-up cost more than two yields, and more than ten if the threads are on two processors.
+//! - It looks at the count, and between two looks it calls `Backoff::snooze` of `crossbeam_utils`. After seven calls,
+//!   each call yields the processor: a run has more threads than most machines have processors, and a spinning thread
+//!   holds up the thread that it waits for. So a thread never resets its `Backoff`.
+//! - After a number of looks without success it sleeps until its signal is raised, for a millisecond at most. A sleep
+//!   and its wake-up cost more than two yields, and more than ten if the threads are on two processors.
 //! - If other processes want the processors, a yield returns only after milliseconds. The clock of the issuing thread
 //!   shows that (`Pace`), and then no thread looks for a while: each sleeps at once.
 //!
-//! Callers rely on `Waiting::until_raised` to return. Begin with `Signals`; `Told` has the events that a thread reports.
+//! Callers rely on `Waiting::until_raised` to return. Begin with `Signals`; `Told` has the events that a thread
+//! reports.
 #![tactic(auto)]
 
 mod pace;

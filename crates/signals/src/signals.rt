@@ -71,6 +71,9 @@ impl Signals {
         if told.asked {
             self.issuing.raise();
         }
+        if told.exchanged {
+            self.requests.raise();
+        }
     }
 
     /// Wakes all threads.

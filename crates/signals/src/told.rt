@@ -11,4 +11,6 @@ pub struct Told {
     pub referred: bool,
     /// A request for an exchange.
     pub asked: bool,
+    /// An exchange was made: another may be asked for.
+    pub exchanged: bool,
 }

@@ -1,7 +1,7 @@
 //! Two peripheral processors, each a thread, that write and read one word while two units are at work.
 
 ghost use Rattle.std.specs.Prelude.{◌≡◌, IfOk};
-ghost use Rattle.machine_lock.specs.CallerKnowledge.{IsWordOf};
+ghost use Rattle.progress_word.specs.CallerKnowledge.{IsWordOf};
 
 use crate::fixtures::{Wanted, are, booted_over, is_empty, note, word, x};
 use crate::lock_tests::leave_all;

@@ -1,6 +1,6 @@
 //! Two threads that drive one machine and meet, as docs/threads.md shows it.
 ghost use Rattle.std.specs.Prelude.{◌≡◌};
-ghost use Rattle.machine_lock.specs.CallerKnowledge.{AreApart, NumbersApart};
+ghost use Rattle.progress_word.specs.CallerKnowledge.{AreApart, NumbersApart};
 
 use crate::fixtures::booted;
 use crate::lock_tests::leave_all;

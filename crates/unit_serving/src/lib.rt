@@ -1,5 +1,5 @@
-//! The work of the threads that serve a machine's units and its memory. Each thread makes its events under the machine's
-//! lock and computes without the lock.
+//! The work of the threads that serve a machine's units and its memory. Each thread makes its events under the
+//! machine's lock and computes without the lock.
 //!
 //! Callers rely on `serve`, which takes one reservation from its note to its store, and on `worker`, whose tally says
 //! what became of the notes that it took. Begin with `serve` in `service`; `unit_worker` serves the notes of a lane,

@@ -82,8 +82,8 @@ fn sweep_once<K: Naming, R: Wait>(rt: &R, shared: &Shared<K>) -> Swept {
     swept
 }
 
-/// Accepts references, frees the banks that they wait for, and returns loads, until the machine's users were told to end
-/// and the machine is drained. After a sweep it waits, unless another sweep may accept more.
+/// Accepts references, frees the banks that they wait for, and returns loads, until the machine's users were told to
+/// end and the machine is drained. After a sweep it waits, unless another sweep may accept more.
 pub fn storage_worker<K: Naming, R: Wait>(rt: &R, shared: &Shared<K>) {
     let signal = &shared.signals().memory;
     let mut wait = shared.signals().waiting();

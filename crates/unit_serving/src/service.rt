@@ -69,9 +69,9 @@ fn is_oldest<K: Naming>(machine: &MachineGuard<'_, K>, unit: Unit) -> bool {
     }
 }
 
-/// Gives the machine a computed value and stores the result in one hold of the lock. A reference that the store makes is
-/// taken on as `refer` says, in the same hold. While the result is held, the reference has to wait for its turn or the
-/// hopper is full, it waits for an event of another thread and tries again.
+/// Gives the machine a computed value and stores the result in one hold of the lock. A reference that the store makes
+/// is taken on as `refer` says, in the same hold. While the result is held, the reference has to wait for its turn or
+/// the hopper is full, it waits for an event of another thread and tries again.
 ///
 /// # Errors
 /// The seat as it was, if the value or the store was refused as a stranger's.
@@ -144,10 +144,10 @@ pub(crate) fn serve_with<K: Naming, G: Gate, R: Wait>(
 }
 
 /// Takes a reservation through its unit, from claim to store, and gives the seat back. If no earlier instruction is
-/// pending at the store, it also takes this reservation's own reference through memory, in the same hold of the lock; all
-/// other references are accepted, and all other loads returned, by `storage_worker`. It answers whether the result was
-/// stored; that fails only if the claim or a later step was refused as a stranger's, and the reservation is then given
-/// up. It calls the gate before it computes, which takes no lock, and after the store.
+/// pending at the store, it also takes this reservation's own reference through memory, in the same hold of the lock;
+/// all other references are accepted, and all other loads returned, by `storage_worker`. It answers whether the result
+/// was stored; that fails only if the claim or a later step was refused as a stranger's, and the reservation is then
+/// given up. It calls the gate before it computes, which takes no lock, and after the store.
 pub fn serve<K: Naming, G: Gate, R: Wait>(
     rt: &R,
     shared: &Shared<K>,

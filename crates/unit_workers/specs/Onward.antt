@@ -2,7 +2,7 @@
 use Rattle.std.specs.Prelude.{◌≡◌, ◌≤◌}
 use Rattle.sequential.specs.Log.{issued}
 use Rattle.program_order.specs.SnapshotView.{Snapped}
-use Rattle.machine_lock.specs.CallerKnowledge.{Known, StartsWith}
+use Rattle.progress_word.specs.CallerKnowledge.{Known, StartsWith}
 
 -- it is of the same machine, and the log begins with what was seen before
 pub record GoesOnFrom (old new : Known) : Type 0 where

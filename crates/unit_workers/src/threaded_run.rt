@@ -1,7 +1,7 @@
 //! A whole run by threads.
 ghost use Rattle.std.specs.Prelude.{◌≡◌, ◌≤◌, [], IfOk, IfSome, Ok, map};
 ghost use Rattle.sequential.specs.Log.{issued};
-ghost use Rattle.machine_lock.specs.CallerKnowledge.{booted_by, known, StartsWith};
+ghost use Rattle.progress_word.specs.CallerKnowledge.{booted_by, known, StartsWith};
 ghost use Rattle.unit_workers.specs.Onward.{EndsFrom};
 ghost use Rattle.per_unit.specs.Units.{Each, in_order, paired};
 ghost use Rattle.unit_workers.specs.Settled.{in_use, IsSettled, AreSettled};

@@ -10,22 +10,13 @@ use Rattle.program_order.specs.declared.event.Event.TheVariants.{Accept, Return,
 use Rattle.program_order.specs.Processor.{Processor}
 use Rattle.program_order.specs.Run.{IsAnswer, settled}
 use Rattle.program_order.specs.Invariant.{IsReplay}
-use Rattle.machine_lock.specs.CallerKnowledge.{Known, booted_by}
-use Rattle.machine_lock.specs.inner.Rules.{History, Knowing, IsKeeper, history, past}
-
--- the machine under the lock, and whether its users were told to end
-pub record Kept : Type 0 where
-  pub processor : Processor
-  pub is_ended : Bool
+use Rattle.progress_word.specs.CallerKnowledge.{Known, booted_by}
+use Rattle.progress_word.specs.inner.Rules.{History, Knowing, IsKeeper, history, past}
 
 -- what always holds of the machine and the pass beside it: the replay, and that the pass's list is the log
 pub record IsLocked (table : TableId) (w : Processor) (pass : Seat ℕ Knowing) : Type 0 where
   pub replay : IsReplay w
   pub seen : IsKeeper table (past w) pass
-
--- the machine is this one, and its users were told what they were told before
-abbrev pub with_processor : Kept → Processor → Kept
-with_processor k w = record k { processor = w }
 
 -- the caller has seen all of the machine's log
 abbrev pub IsCurrent : Processor → Known → Type 0
@@ -61,6 +52,12 @@ IsAsked w None None v = v ≡ w
 IsAsked w None (Some answer) v = ⊥
 IsAsked w (Some at) None v = ⊥
 IsAsked w (Some at) (Some answer) v = IsAnswer w (Ask at) answer × (v ≡ settled w (Ask at) answer)
+
+-- what is told of the answer to a request, if there was one
+abbrev pub only_refusal : Option (Result Done Refusal) → Result (Unit {0}) Refusal
+only_refusal None = Ok tt
+only_refusal (Some (Ok done)) = Ok tt
+only_refusal (Some (Err refusal)) = Err refusal
 
 -- the last of these steps
 abbrev pub last_step : List LogStep → LogStep

@@ -1,6 +1,6 @@
 use Rattle.std.proofs.Common.{refl, ap}
 use Rattle.program_order.specs.declared.event.Event.TheVariants.{Ask}
-use Rattle.machine_lock.specs.inner.LockInvariant.{Kept}
+use Rattle.machine_lock.specs.Held.{Kept}
 use Rattle.machine_lock.proofs.Laws.{quiet_settled, same_seen}
 use Rattle.machine_lock.proofs.locked.Locked.ask_next.Goals as goal
 

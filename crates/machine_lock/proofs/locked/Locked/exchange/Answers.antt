@@ -1,5 +1,5 @@
 use Rattle.std.proofs.Common.{inl, ap, sym}
-use Rattle.machine_lock.specs.inner.LockInvariant.{Kept}
+use Rattle.machine_lock.specs.Held.{Kept}
 use Rattle.machine_lock.proofs.Laws.{exchange_logged, exchange_seen}
 use Rattle.machine_lock.proofs.locked.Locked.exchange.Goals as goal
 
@@ -14,4 +14,5 @@ returns-clause-seen g c =
     c.exchange-answer.result c.args.seen.now c.record_or_compare.new.seen
     (ap (λ (k : Kept). k.processor.request) (sym c.self.view_is)) c.self.invariant.replay
     (inl c.exchange-answer.ensures.answer) c.exchange-answer.ensures.after
-    c.exchange-answer.ensures.why c.record_or_compare.ensures.current c.record_or_compare.ensures.seen
+    c.exchange-answer.ensures.why c.exchange-answer.ensures.named c.record_or_compare.ensures.current
+    c.record_or_compare.ensures.seen

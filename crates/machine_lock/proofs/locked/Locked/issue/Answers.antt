@@ -12,5 +12,5 @@ returns-clause-seen g c =
     issue_seen c.self.inside.machine c.issue-answer.new.self c.issue-answer.result c.args.seen.now
     c.record_or_compare.new.seen c.self.invariant.replay (inl c.issue-answer.ensures.answer)
     c.issue-answer.ensures.after
-    c.issue-answer.ensures.noted c.issue-answer.ensures.why c.record_or_compare.ensures.current
-    c.record_or_compare.ensures.seen
+    c.issue-answer.ensures.noted c.issue-answer.ensures.why c.record_or_compare.ensures.within
+    c.record_or_compare.ensures.current c.record_or_compare.ensures.seen

@@ -1,0 +1,35 @@
+-- The machine under the lock, and what the guard's calls answer. Source: ours.
+use Rattle.std.specs.Prelude.{◌≡◌, ℕ, Bool, Option, Some, None, Result, Ok, Err}
+use Rattle.instructions.specs.declared.refusal.Refusal.{Refusal}
+use Rattle.program_order.specs.declared.event.Done.{Done}
+use Rattle.program_order.specs.declared.event.Done.TheVariants.{Made}
+use Rattle.program_order.specs.declared.event.Event.TheVariants.{Ask}
+use Rattle.program_order.specs.Processor.{Processor}
+use Rattle.program_order.specs.Run.{IsAnswer, settled}
+
+-- the machine under the lock, and whether its users were told to end
+pub record Kept : Type 0 where
+  pub processor : Processor
+  pub is_ended : Bool
+
+-- the machine is this one, and its users were told what they were told before
+abbrev pub with_processor : Kept → Processor → Kept
+with_processor k w = record k { processor = w }
+
+-- an event's answer, from that of a call that answers a part of it
+abbrev pub told : {T : Type 0} → (T → Done) → Result T Refusal → Result Done Refusal
+told done (Ok x) = Ok (done x)
+told done (Err refusal) = Err refusal
+
+-- an event's answer, from that of a call that answers only whether it was made
+abbrev pub made_or_refused : {T : Type 0} → Result T Refusal → Result Done Refusal
+made_or_refused (Ok x) = Ok Made
+made_or_refused (Err refusal) = Err refusal
+
+-- after an exchange with this outcome: if it was made and there is a next package, that package is asked for at once
+-- and this is the answer; nothing else is done
+abbrev pub IsAskedNext : Processor → Option ℕ → Result (Result (Unit {0}) Refusal) Refusal → Processor → Type 0
+IsAskedNext w next (Err refusal) v = v ≡ w
+IsAskedNext w None (Ok asked) v = (asked ≡ Ok tt) × (v ≡ w)
+IsAskedNext w (Some at) (Ok asked) v =
+    IsAnswer w (Ask at) (made_or_refused asked) × (v ≡ settled w (Ask at) (made_or_refused asked))

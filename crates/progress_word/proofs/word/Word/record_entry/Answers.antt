@@ -1,0 +1,44 @@
+use Rattle.std.proofs.Common.{[], ◌++◌, sym, ap, ◌∙◌}
+use Rattle.progress_word.specs.inner.Rules.{history, keeper}
+use Rattle.progress_word.proofs.Lists.{steps_of-exchange, steps_of-count, steps_of-read, steps_of-write}
+use Rattle.progress_word.proofs.word.Word.record_entry.Goals as goal
+
+pub returns-in-Exchange-clause-pass : goal.returns-in-Exchange-clause-pass
+returns-in-Exchange-clause-pass g c =
+    let p = c.record_exchange.ensures.pass in (
+      p.0,
+      p.1 ∙ ap (λ l. (
+        keeper (history c.args.pass.now.me.0.seen.booted (c.args.pass.now.me.0.seen.log ++ l)),
+        [],
+      )) (sym (steps_of-exchange c.args.entry.now c.in-Exchange.at c.in-Exchange.is)),
+    )
+
+pub returns-in-Issued-clause-pass : goal.returns-in-Issued-clause-pass
+returns-in-Issued-clause-pass g c =
+    let p = c.record_issues.ensures.pass in (
+      p.0,
+      p.1 ∙ ap (λ l. (
+        keeper (history c.args.pass.now.me.0.seen.booted (c.args.pass.now.me.0.seen.log ++ l)),
+        [],
+      )) (sym (steps_of-count c.args.entry.now c.in-Issued.count c.in-Issued.is)),
+    )
+
+pub returns-in-PpRead-clause-pass : goal.returns-in-PpRead-clause-pass
+returns-in-PpRead-clause-pass g c =
+    let p = c.record_read.ensures.pass in (
+      p.0,
+      p.1 ∙ ap (λ l. (
+        keeper (history c.args.pass.now.me.0.seen.booted (c.args.pass.now.me.0.seen.log ++ l)),
+        [],
+      )) (sym (steps_of-read c.args.entry.now c.in-PpRead.at c.in-PpRead.is)),
+    )
+
+pub returns-in-PpWrite-clause-pass : goal.returns-in-PpWrite-clause-pass
+returns-in-PpWrite-clause-pass g c =
+    let p = c.record_write.ensures.pass in (
+      p.0,
+      p.1 ∙ ap (λ l. (
+        keeper (history c.args.pass.now.me.0.seen.booted (c.args.pass.now.me.0.seen.log ++ l)),
+        [],
+      )) (sym (steps_of-write c.args.entry.now c.in-PpWrite.at c.in-PpWrite.word c.in-PpWrite.is)),
+    )

@@ -1,0 +1,245 @@
+//! The progress word, with the moves that its rule allows.
+ghost use Rattle.std.specs.Prelude.{◌≡◌, ◌++◌, ◌∷◌, [], true, length, replicate};
+ghost use Rattle.sequential.specs.Log.{steps_of};
+ghost use Rattle.sequential.specs.Replay.{Issued};
+ghost use Rattle.progress_word.specs.CallerKnowledge.{AreApart};
+ghost use Rattle.progress_word.specs.inner.Rules.{history, past, fresh, Continues, with_told, kept_back};
+ghost use Rattle.progress_word.specs.inner.Rules.{handed_back, Added, Looked, IsKeeper, IsCaller};
+
+use crate::rule::{
+    Adds, Begins, Begun, Chosen, HandsBack, HandsOver, Looks, Naming, Pass, Progress, Shares,
+    TakesIn,
+};
+use machine::Machine;
+use sequential::Entry;
+use std::marker::{Brand, PhantomData};
+use word60::Word60;
+
+/// The progress word that K names.
+#[derive(Drop)]
+pub struct Word<K: Naming> {
+    table: Progress,
+    of: PhantomData<K>,
+    ghost named: { table.shared.table_id ≡ K.table },
+    ghost one: { table.shared.table_id.words ≡ 1 },
+}
+
+impl<K: Naming> Word<K> {
+    pub fn of(table: Progress) -> Word<K>
+        requires named { table.shared.table_id ≡ K.table }
+        requires one { table.shared.table_id.words ≡ 1 }
+    {
+        Word {
+            table,
+            of: PhantomData,
+        }
+    }
+
+    // ---- moves of one step ----
+
+    /// The first pass begins a log of a machine: the load with which the machine comes to stand beside
+    /// the word.
+    fn begin<J: Begun>(&self, pass: &mut Pass, machine: &Machine)
+        requires pass { (pass.old.table_id ≡ K.table) × (pass.old.me ≡ (fresh, [])) }
+        ensures { IsKeeper K.table (history J.booted []) pass.new }
+    {
+        // It stands here for what is picked at the call.
+        let _ = machine;
+        self.table.shared.load::<Begins<J>>(pass, 0);
+    }
+
+    /// The step that adds.
+    fn add<J: Chosen>(&self, pass: &mut Pass)
+        requires pass { (pass.old.table_id ≡ K.table) × (pass.old.me.1 ≡ []) × (pass.old.me.0.keeps ≡ true)
+            × (pass.old.me.0.knows ≡ true) }
+        ensures pass { (pass.new.table_id ≡ K.table) × (pass.new.me.1 ≡ []) }
+        ensures added { Added J.step pass.old.me.0 pass.new.me.0 }
+    {
+        self.table.shared.fetch_add::<Adds<J>>(pass, 0, 1);
+    }
+
+    /// The step that looks.
+    fn look(&self, pass: &mut Pass)
+        requires pass { (pass.old.table_id ≡ K.table) × (pass.old.me.1 ≡ []) × (pass.old.me.0.knows ≡ true) }
+        ensures pass { (pass.new.table_id ≡ K.table) × (pass.new.me.1 ≡ []) }
+        ensures looked { Looked pass.old.me.0 pass.new.me.0 }
+    {
+        self.table.shared.load::<Looks>(pass, 0);
+    }
+
+    // ---- moves of none ----
+
+    /// A new pass that knows the same steps, none of them its own.
+    pub fn again(&self, pass: &mut Pass) -> Pass
+        requires pass { (pass.old.table_id ≡ K.table) × (pass.old.me.1 ≡ []) × (pass.old.me.0.knows ≡ true) }
+        ensures pass { (pass.new.table_id ≡ K.table) × (pass.new.me ≡ pass.old.me) }
+        ensures new { IsCaller K.table pass.old.me.0.seen [] result }
+    {
+        self.table.shared.split_seat::<Shares>(pass)
+    }
+
+    /// A pass takes in a caller's.
+    fn take_in(&self, pass: &mut Pass, other: &mut Pass)
+        requires pass { (pass.old.table_id ≡ K.table) × (pass.old.me.1 ≡ []) }
+        requires other { IsCaller K.table other.old.me.0.seen other.old.me.0.mine other.old }
+        ensures pass { (pass.new.table_id ≡ K.table)
+            × (pass.new.me ≡ (with_told pass.old.me.0 other.old.me.0, [])) }
+    {
+        let given = self.table.shared.split_seat::<HandsOver>(other);
+        self.table.shared.join_seat::<TakesIn>(pass, given);
+    }
+
+    /// What was taken in goes out again.
+    fn hand_back(&self, pass: &mut Pass) -> Pass
+        requires pass { (pass.old.table_id ≡ K.table) × (pass.old.me.1 ≡ []) }
+        ensures pass { (pass.new.table_id ≡ K.table) × (pass.new.me ≡ (kept_back pass.old.me.0, [])) }
+        ensures back { (result.table_id ≡ K.table) × (result.me ≡ (handed_back pass.old.me.0, [])) }
+    {
+        self.table.shared.split_seat::<HandsBack>(pass)
+    }
+
+    // ---- what the machine and its callers do ----
+
+    /// A step that a caller made is added to what the machine's pass knows. The caller knows it all then, and the step
+    /// is the caller's.
+    fn record_step<J: Chosen>(&self, pass: &mut Pass, me: &mut Pass)
+        requires pass { IsKeeper K.table pass.old.me.0.seen pass.old }
+        requires me { IsCaller K.table me.old.me.0.seen me.old.me.0.mine me.old }
+        ensures pass { IsKeeper K.table
+            (history pass.old.me.0.seen.booted (pass.old.me.0.seen.log ++ J.step ∷ [])) pass.new }
+        ensures me { IsCaller K.table
+            (history pass.old.me.0.seen.booted (pass.old.me.0.seen.log ++ J.step ∷ []))
+            (me.old.me.0.mine ++ length pass.old.me.0.seen.log ∷ []) me.new }
+        ensures begins { Continues pass.old.me.0.seen me.old.me.0.seen }
+    {
+        self.take_in(pass, me);
+        self.add::<J>(pass);
+        *me = self.hand_back(pass);
+    }
+
+    /// The same for an exchange at that address.
+    fn record_exchange<J: Chosen>(&self, pass: &mut Pass, me: &mut Pass, at: u32)
+        requires pass { IsKeeper K.table pass.old.me.0.seen pass.old }
+        requires me { IsCaller K.table me.old.me.0.seen me.old.me.0.mine me.old }
+        ensures pass { IsKeeper K.table
+            (history pass.old.me.0.seen.booted (pass.old.me.0.seen.log ++ J.step ∷ [])) pass.new }
+        ensures me { IsCaller K.table me.new.me.0.seen me.new.me.0.mine me.new }
+    {
+        // It stands here for the step that is picked at the call.
+        let _ = at;
+        self.record_step::<J>(pass, me);
+    }
+
+    /// The same for a peripheral processor that reads the word at that address.
+    fn record_read<J: Chosen>(&self, pass: &mut Pass, me: &mut Pass, at: u32)
+        requires pass { IsKeeper K.table pass.old.me.0.seen pass.old }
+        requires me { IsCaller K.table me.old.me.0.seen me.old.me.0.mine me.old }
+        ensures pass { IsKeeper K.table
+            (history pass.old.me.0.seen.booted (pass.old.me.0.seen.log ++ J.step ∷ [])) pass.new }
+        ensures me { IsCaller K.table me.new.me.0.seen me.new.me.0.mine me.new }
+    {
+        // It stands here for the step that is picked at the call.
+        let _ = at;
+        self.record_step::<J>(pass, me);
+    }
+
+    /// The same for a peripheral processor that writes that word to that address.
+    fn record_write<J: Chosen>(&self, pass: &mut Pass, me: &mut Pass, at: u32, word: Word60)
+        requires pass { IsKeeper K.table pass.old.me.0.seen pass.old }
+        requires me { IsCaller K.table me.old.me.0.seen me.old.me.0.mine me.old }
+        ensures pass { IsKeeper K.table
+            (history pass.old.me.0.seen.booted (pass.old.me.0.seen.log ++ J.step ∷ [])) pass.new }
+        ensures me { IsCaller K.table me.new.me.0.seen me.new.me.0.mine me.new }
+    {
+        // They stand here for the step that is picked at the call.
+        let _ = (at, word);
+        self.record_step::<J>(pass, me);
+    }
+
+    /// The same for the last step of a machine.
+    pub fn record<J: Chosen>(&self, pass: &mut Pass, me: &mut Pass, machine: &Machine)
+        requires pass { IsKeeper K.table pass.old.me.0.seen pass.old }
+        requires me { IsCaller K.table me.old.me.0.seen me.old.me.0.mine me.old }
+        ensures pass { IsKeeper K.table
+            (history pass.old.me.0.seen.booted (pass.old.me.0.seen.log ++ J.step ∷ [])) pass.new }
+        ensures me { IsCaller K.table
+            (history pass.old.me.0.seen.booted (pass.old.me.0.seen.log ++ J.step ∷ []))
+            (me.old.me.0.mine ++ length pass.old.me.0.seen.log ∷ []) me.new }
+        ensures begins { Continues pass.old.me.0.seen me.old.me.0.seen }
+    {
+        // It stands here for the step that is picked at the call.
+        let _ = machine;
+        self.record_step::<J>(pass, me);
+    }
+
+    /// The caller knows all that the machine's pass knows.
+    pub fn compare(&self, pass: &mut Pass, me: &mut Pass)
+        requires pass { IsKeeper K.table pass.old.me.0.seen pass.old }
+        requires me { IsCaller K.table me.old.me.0.seen me.old.me.0.mine me.old }
+        ensures pass { (pass.new.table_id ≡ K.table) × (pass.new.me ≡ pass.old.me) }
+        ensures me { IsCaller K.table pass.old.me.0.seen me.old.me.0.mine me.new }
+        ensures begins { Continues pass.old.me.0.seen me.old.me.0.seen }
+    {
+        self.take_in(pass, me);
+        self.look(pass);
+        *me = self.hand_back(pass);
+    }
+
+    /// Two callers tell each other what they know: both then know all steps so far. No step is the own of both.
+    pub fn meet(&self, one: &mut Pass, other: &mut Pass)
+        requires one { IsCaller K.table one.old.me.0.seen one.old.me.0.mine one.old }
+        requires other { IsCaller K.table other.old.me.0.seen other.old.me.0.mine other.old }
+        ensures one { IsCaller K.table one.new.me.0.seen one.old.me.0.mine one.new }
+        ensures other { IsCaller K.table one.new.me.0.seen other.old.me.0.mine other.new }
+        ensures begins { Continues one.new.me.0.seen one.old.me.0.seen
+            × Continues one.new.me.0.seen other.old.me.0.seen }
+        ensures apart { AreApart one.old.me.0.mine other.old.me.0.mine }
+    {
+        self.take_in(one, other);
+        self.look(one);
+        *other = self.hand_back(one);
+    }
+
+    // ---- the start ----
+
+    /// So many instructions are added.
+    fn record_issues(&self, pass: &mut Pass, me: &mut Pass, count: u64)
+        requires pass { IsKeeper K.table pass.old.me.0.seen pass.old }
+        requires me { IsCaller K.table me.old.me.0.seen me.old.me.0.mine me.old }
+        ensures pass { IsKeeper K.table
+            (history pass.old.me.0.seen.booted (pass.old.me.0.seen.log ++ replicate count Issued)) pass.new }
+        ensures me { IsCaller K.table me.new.me.0.seen me.new.me.0.mine me.new }
+    {
+        for _ in 0..count {
+            self.record_step::<Brand>(pass, me);
+        }
+    }
+
+    /// The steps of an entry are added.
+    fn record_entry(&self, pass: &mut Pass, me: &mut Pass, entry: &Entry)
+        requires pass { IsKeeper K.table pass.old.me.0.seen pass.old }
+        requires me { IsCaller K.table me.old.me.0.seen me.old.me.0.mine me.old }
+        ensures pass { IsKeeper K.table
+            (history pass.old.me.0.seen.booted (pass.old.me.0.seen.log ++ steps_of (entry.now ∷ []))) pass.new }
+        ensures me { IsCaller K.table me.new.me.0.seen me.new.me.0.mine me.new }
+    {
+        match *entry {
+            Entry::Exchange(at) => self.record_exchange::<Brand>(pass, me, at),
+            Entry::Issued(count) => self.record_issues(pass, me, count),
+            Entry::PpRead(at) => self.record_read::<Brand>(pass, me, at),
+            Entry::PpWrite(at, word) => self.record_write::<Brand>(pass, me, at, word),
+        }
+    }
+
+    /// The first pass learns what a machine was booted with and did. These steps are no caller's.
+    pub fn start(&self, pass: &mut Pass, machine: &Machine)
+        requires pass { (pass.old.table_id ≡ K.table) × (pass.old.me ≡ (fresh, [])) }
+        ensures { IsKeeper K.table (past machine.now) pass.new }
+    {
+        self.begin::<Brand>(pass, machine);
+        let mut nobody = self.again(pass);
+        for entry in machine.log().entries() {
+            self.record_entry(pass, &mut nobody, entry);
+        }
+    }
+}
