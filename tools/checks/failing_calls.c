@@ -8,8 +8,8 @@
  *     FAILING_SHORT   where it is set, a read or write moves one byte at most
  *     FAILING_MARK    a file, which is made when a call fails
  *     FAILING_COUNT   a file, to which the number of these calls is written at the program's end
- *     FAILING_TRACE   a file, which gets a line before each write to standard output: the number of bytes written before
- *                     it, and the number of these calls
+ *     FAILING_TRACE   a file, which gets a line before each write to standard output: the number of bytes written
+ *                     before it, and the number of these calls
  */
 #define _GNU_SOURCE
 #include <dlfcn.h>

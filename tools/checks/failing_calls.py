@@ -50,8 +50,8 @@ class Failing:
         return ran, number
 
     def allocations_by_line(self, words, text):
-        """How a run ended, and for each printed line how often memory was asked for before it was written. The run reads
-        a byte a call, so that a session writes each answer before it reads the next event."""
+        """How a run ended, and for each printed line how often memory was asked for before it was written. The run
+        reads a byte a call, so that a session writes each answer before it reads the next event."""
         traced = self.folder / f"traced{next(self.runs)}"
         how = {"FAILING_CALL": "memory", "FAILING_SHORT": "1", "FAILING_TRACE": str(traced)}
         ran = self.program.run(words, text, environment=how | {"LD_PRELOAD": str(self.library)})

@@ -69,11 +69,12 @@ fn open_gates() -> Gates<Open> {
 }
 
 /// Boots a machine with a deck's memory and runs it to the end by threads, with the deck's requests for exchanges. The
-/// answered machine has come to its state by its log on that memory, and has just this budget.
+/// answered machine has come to its state by its log on that memory, and has just this budget; the log begins with the
+/// exchange for the deck's first package.
 ///
 /// # Errors
 /// `OutOfMemory`, also where a thread couldn't be started, and `Stuck` where the machine refused a step before the
-/// run's end.
+/// run's end, or could go on there.
 pub fn run<T: Threads + Wait + Clock + Sync>(
     rt: &T,
     alloc: Global,
@@ -81,7 +82,7 @@ pub fn run<T: Threads + Wait + Clock + Sync>(
     budget: Budget,
 ) -> Result<Snapshot, ProgramFault>
     ensures ran { MatchResult result
-        (λ snapshot. IsRun deck.now.image.memory budget snapshot.log snapshot.state) EndsNoRun }
+        (λ snapshot. IsRun deck.now.image.memory deck.now.start budget snapshot.log snapshot.state) EndsNoRun }
     ensures budget { IfOk result (λ snapshot. snapshot.budget ≡ budget) }
 {
     let Ok((machine, orders)) = prepared(alloc, deck, budget) else {

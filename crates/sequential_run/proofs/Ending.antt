@@ -1,8 +1,9 @@
 -- A run to its end.
 use Rattle.std.proofs.Common.{◌≡◌, ◌<◌, ◌≤◌, ◌+◌, ℕ, zero, suc, Bool, true, false, cond, List, [], ◌∷◌, ◌++◌}
-use Rattle.std.proofs.Common.{Some, None}
-use Rattle.std.proofs.Common.{length, refl, sym, ap, subst, ◌∙◌, arith}
-use Rattle.std.specs.Prelude.{option_and_then}
+use Rattle.std.proofs.Common.{◌&&◌, ◌||◌, Option, Some, None, is_some, not}
+use Rattle.std.proofs.Common.{length, refl, sym, ap, subst, ◌∙◌, arith, le-leb}
+use Rattle.std.proofs.lemmas.Bool.{ltb-false}
+use Rattle.std.specs.Prelude.{option_and_then, is_none, nat_le, nat_lt}
 use Rattle.instructions.specs.declared.refusal.Refusal.{Refusal}
 use Rattle.instructions.specs.declared.refusal.Refusal.TheVariants.{OutOfMemory, PackageRange}
 use Rattle.program_order.proofs.theorem.Headline.{replay_faulted}
@@ -14,9 +15,10 @@ use Rattle.sequential.specs.Swap.{swap}
 use Rattle.sequential.proofs.Runs.{replay_on}
 use Rattle.sequential_run.specs.declared.course.Course.{Course}
 use Rattle.sequential_run.specs.Turns.{Moment, Turn, Exchanges, Asks, AsksFree, Issues, Ends}
-use Rattle.sequential_run.specs.Turns.{next_turn, take_turn, turns, begun}
+use Rattle.sequential_run.specs.Turns.{is_going, is_in_mid_word, issue_or_end, first_due, turn_by, next_turn, take_turn}
+use Rattle.sequential_run.specs.Turns.{turns, begun}
 use Rattle.sequential_run.specs.inner.Course.{IsKept, IsBegun, Goes, Went, IsWhyRefused, left_at, moment_of}
-use Rattle.sequential_run.specs.Run.{EndsAt, IsRefusedAfter, IsRun, IsSequentialRun, IsWhyNoRun}
+use Rattle.sequential_run.specs.Run.{EndsAt, IsRefusedAfter, IsRun, IsSequentialRun, IsWhyNoRun, is_over}
 use Rattle.sequential_run.proofs.Turning.{more_turns}
 
 -- ---- the log leads to the state ----
@@ -64,14 +66,52 @@ run_replays memory start after free budget log s r =
     ∙ subst (λ m. replay (boot memory) m.log ≡ Some m.state) r.ends.reached h
     ∙ ap Some (sym r.state_is)
 
--- what replays on this memory within the budget has what every run promises
-pub run_on : (memory other : List ℕ) (budget : ℕ) (log : List LogStep) (s : State) → other ≡ memory
-    → issued log ≤ budget → replay (boot other) log ≡ Some s → IsRun memory budget log s
-run_on memory other budget log s same within h =
+-- a run issues no more only where it is over
+none_left : {H : Type 0} (halt : Option H) (fault : Bool) (budget n : ℕ)
+    → cond (is_none halt && not fault && nat_lt n budget) Issues Ends ≡ Ends
+    → (is_some halt || (fault || nat_le budget n)) ≡ true
+none_left (Some h) fault budget n e = refl
+none_left None true budget n e = refl
+none_left None false budget n e = by_test (nat_lt n budget) refl e
+  where
+    by_test : (b : Bool) → nat_lt n budget ≡ b → cond b Issues Ends ≡ Ends → nat_le budget n ≡ true
+    by_test true t k = cc
+    by_test false t k = le-leb budget n (ltb-false n budget t)
+
+-- a turn that does nothing is that of a machine that issues no more
+no_turn : (waiting : Option ℕ) (mid : Bool) (due : Option ℕ) (free : List ℕ) (go : Turn)
+    → turn_by waiting mid due free go ≡ Ends → go ≡ Ends
+unfolding turn_by
+no_turn (Some n) true due free go e = e
+no_turn (Some n) false due free go e = cc
+no_turn None mid (Some n) free go e = cc
+no_turn None mid None (n ∷ ns) go e = cc
+no_turn None mid None [] go e = e
+
+ends_over : (budget : ℕ) (m : Moment) → next_turn budget m ≡ Ends → is_over m.state m.log budget ≡ true
+unfolding next_turn issue_or_end is_going
+ends_over budget m e = none_left m.state.halt m.state.fault budget (issued m.log)
+    (no_turn m.waiting (is_in_mid_word m.state) (first_due (issued m.log) m.asks) m.free
+    (issue_or_end budget m.state (issued m.log)) e)
+
+-- a law of the definition: a run is over at its end
+pub run_over : (memory : List ℕ) (start : ℕ) (after : List (ℕ × ℕ)) (free : List ℕ) (budget : ℕ)
+    (log : List LogStep) (s : State) → IsSequentialRun memory start after free budget log s
+    → is_over s log budget ≡ true
+run_over memory start after free budget log s r =
+    rw r.log_is (rw r.state_is (ends_over budget r.last r.ends.ends))
+
+-- what begins so, replays on this memory within the budget, and is over, has what every run promises
+pub run_on : (memory other : List ℕ) (start budget : ℕ) (log : List LogStep) (s : State) → other ≡ memory
+    → (more : List LogStep) × (log ≡ Exchanged start ∷ more) → issued log ≤ budget → is_over s log budget ≡ true
+    → replay (boot other) log ≡ Some s → IsRun memory start budget log s
+run_on memory other start budget log s same begins within over h =
     let replays = subst (λ m. replay (boot m) log ≡ Some s) same h in
     record {
+      begins = begins;
       replay = replays;
       within = within;
+      over = over;
       fault = λ faulted. replay_faulted log memory s replays faulted;
     }
 

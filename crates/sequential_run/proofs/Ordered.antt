@@ -98,6 +98,23 @@ one_order (x ∷ xs) (y ∷ ys) o p h =
     ∙ ap (λ l. y ∷ l) (one_order xs ys (IsNonDecreasingBy-drop (λ ask. ask.1) 1 (x ∷ xs) o)
     (IsNonDecreasingBy-drop (λ ask. ask.1) 1 (y ∷ ys) p) tails)
 
+-- the request for the first package, which is after no instruction, stands first
+pub start_first : (start : ℕ) (after xs : List (ℕ × ℕ)) → IsInOrder xs
+    → ((z : ℕ × ℕ) → filter (tie z) xs ≡ filter (tie z) ((start, 0) ∷ after))
+    → (rest : List (ℕ × ℕ)) × (xs ≡ (start, 0) ∷ rest)
+unfolding head_of
+start_first start after [] o h =
+    let z : ℕ × ℕ = (start, 0) in
+    absurd (let e : 0 ≡ suc (length (filter (tie z) after)) =
+    ap length (h z ∙ kept_first z after z (tied z z refl)) in omega (arith, e))
+start_first start after (x ∷ xs) o h =
+    let z : ℕ × ℕ = (start, 0) in
+    let other = kept_first z after z (tied z z refl) in
+    let a : length (filter (tie z) (x ∷ xs)) ≡ suc (length (filter (tie z) after)) = ap length (h z ∙ other) in
+    let low : x.1 ≤ 0 = least_of x xs z o (omega (arith, a)) in
+    let e : x ≡ z = ap (head_of x) (sym (kept_first x xs z (tied z x (omega (arith, low)))) ∙ h z ∙ other) in
+    (xs, ap (λ t. t ∷ xs) e)
+
 -- ---- as many as were given ----
 
 apart : true ≡ false → ⊥

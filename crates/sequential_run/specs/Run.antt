@@ -1,6 +1,6 @@
 -- What every run promises, and to what log and state a run by one instruction at a time comes.
 -- Source: ours.
-use Rattle.std.specs.Prelude.{◌≡◌, ◌≤◌, ℕ, true, false, List, ◌∷◌, length, Some}
+use Rattle.std.specs.Prelude.{◌≡◌, ◌≤◌, ◌||◌, ℕ, Bool, true, false, List, ◌∷◌, length, Some, is_some, nat_le}
 use Rattle.exchange_requests.specs.Requests.{IsInOrder, KeepsTies}
 use Rattle.instructions.specs.declared.refusal.Refusal.{Refusal}
 use Rattle.instructions.specs.declared.refusal.Refusal.TheVariants.{OutOfMemory, PackageRange}
@@ -8,14 +8,22 @@ use Rattle.program_order.specs.Headline.{IsFaultedRun}
 use Rattle.relocation.specs.Relocation.{package_fits}
 use Rattle.sequential.specs.declared.state.State.{State}
 use Rattle.sequential.specs.Log.{issued}
-use Rattle.sequential.specs.Replay.{LogStep, boot, replay}
+use Rattle.sequential.specs.Replay.{LogStep, Exchanged, boot, replay}
 use Rattle.sequential_run.specs.Turns.{Moment, Ends, Exchanges, begun, next_turn, turns}
 
--- the log leads from boot with this memory to this state, and has no more instructions than the budget; and where the
--- state has the fault, the log is a beginning of the program's run that includes the faulting instruction
-pub record IsRun (memory : List ℕ) (budget : ℕ) (log : List LogStep) (s : State) : Type 0 where
+-- a run with this budget that came by this log to this state is over: the machine is halted or faulted, or it has
+-- issued as many instructions as the budget
+abbrev pub is_over : State → List LogStep → ℕ → Bool
+is_over s log budget = is_some s.halt || (s.fault || nat_le budget (issued log))
+
+-- the log leads from boot with this memory to this state; it begins with the exchange for the first package and has no
+-- more instructions than the budget, and the run is over there; if the state has the fault, the log is a beginning of
+-- the program's run that includes the faulting instruction
+pub record IsRun (memory : List ℕ) (start budget : ℕ) (log : List LogStep) (s : State) : Type 0 where
+  pub begins : (more : List LogStep) × (log ≡ Exchanged start ∷ more)
   pub replay : replay (boot memory) log ≡ Some s
   pub within : issued log ≤ budget
+  pub over : is_over s log budget ≡ true
   pub fault : s.fault ≡ true → IsFaultedRun log memory s
 
 -- after some turns a run comes to a moment at which it ends

@@ -1,10 +1,11 @@
 //! A machine under its lock: seats and tokens, threads that drive it, and what its callers have seen.
 
-ghost use Rattle.std.specs.Prelude.{◌≡◌};
+ghost use Rattle.std.specs.Prelude.{◌≡◌, IfOk};
+ghost use Rattle.progress_word.specs.CallerKnowledge.{StartsWith};
 
 use crate::fixtures::{FIRST, SECOND, booted, is_empty, leave, note, word, x};
 use instruction_table::{Refusal, Unit};
-use machine::{Computed, Finished, Loaded, Machine, Note, Reserved, Seat};
+use machine::{Computed, Finished, Loaded, Machine, Note, Reserved, Seat, Snapshot};
 use machine_lock::{Ground, Naming, Seen, Shared};
 use sequential::Entry;
 use std::alloc::Global;
@@ -576,19 +577,23 @@ fn two_threads_of<K: Naming + Send + Sync, R: Threads + Wait + Sync>(
     Ok((started, [first, second], stored, drained, shown))
 }
 
-/// The log of a snapshot that a holder takes has the exchange with so many instructions after it.
-fn has_log<K: Naming, R: Wait>(
+/// The log of a snapshot has the exchange with so many instructions after it.
+fn has_log(snapshot: &Snapshot, issues: u64) -> bool {
+    snapshot.log().entries() == [Entry::Exchange(0o40), Entry::Issued(issues)].as_slice()
+}
+
+/// A snapshot that the second holder takes after the two have met. It has all that the first holder had seen. Without
+/// the meeting this clause has no proof; at run time a meeting changes nothing.
+fn met<K: Naming, R: Wait>(
     rt: &R,
     shared: &Shared<K>,
-    seen: &mut Seen<K>,
-    issues: u64,
-) -> bool {
-    match shared.snapshot(rt, seen) {
-        Ok(snapshot) => {
-            snapshot.log().entries() == [Entry::Exchange(0o40), Entry::Issued(issues)].as_slice()
-        }
-        Err(_) => false,
-    }
+    first: &mut Seen<K>,
+    second: &mut Seen<K>,
+) -> Result<Snapshot, Refusal>
+    ensures { IfOk result (λ snapshot. StartsWith snapshot.log first.old.log) }
+{
+    shared.meet(first, second);
+    shared.snapshot(rt, second)
 }
 
 /// The issuer, with four issues after the first exchange, meets a second holder that knows the exchange alone. The
@@ -635,8 +640,10 @@ fn meeting_of<K: Naming, R: Wait>(
         shared.issue(rt, &mut seen),
         shared.issue(rt, &mut seen),
     ];
-    shared.meet(&mut seen, &mut other);
-    let is_known = has_log(rt, &shared, &mut other, 4);
+    let is_known = match met(rt, &shared, &mut seen, &mut other) {
+        Ok(snapshot) => has_log(&snapshot, 4),
+        Err(_) => false,
+    };
     let fifth = shared.issue(rt, &mut other);
     shared.meet(&mut other, &mut seen);
     let pending = shared.snapshot(rt, &mut seen).err();

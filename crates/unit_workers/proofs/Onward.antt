@@ -1,14 +1,15 @@
 -- What is seen goes on from what was seen before.
-use Rattle.std.proofs.Common.{◌≡◌, ◌≤◌, List, ◌∷◌, [], ◌++◌, refl, sym, ap, ◌∙◌, append_assoc, subst}
+use Rattle.std.proofs.Common.{true, ◌≡◌, ◌≤◌, List, ◌∷◌, [], ◌++◌, refl, sym, ap, ◌∙◌, append_assoc, subst}
 use Rattle.std.specs.Prelude.{Result, Ok, Err, IfOk}
 use Rattle.std.proofs.lemmas.List.{append-nil}
 use Rattle.program_order.specs.SnapshotView.{Snapped}
 use Rattle.sequential.specs.Log.{issued}
 use Rattle.sequential.specs.Replay.{LogStep}
 use Rattle.progress_word.specs.CallerKnowledge.{Booted, Known, StartsWith, IsMade, Learnt}
+use Rattle.unit_workers.specs.Ending.{is_at_end}
 use Rattle.unit_workers.specs.Onward.{GoesOnFrom, EndsFrom}
 
-longer : (xs ys zs : List LogStep) → StartsWith ys xs → StartsWith zs ys → StartsWith zs xs
+pub longer : (xs ys zs : List LogStep) → StartsWith ys xs → StartsWith zs ys → StartsWith zs xs
 longer xs ys zs f g = (f.0 ++ g.0, g.1 ∙ ap (λ l. l ++ g.0) f.1 ∙ append_assoc xs f.0 g.0)
 
 pub at_first : (k : Known) → GoesOnFrom k k
@@ -29,8 +30,9 @@ made_on x a b m =
 
 -- a snapshot of just what was seen
 pub ends_with : (k : Known) (s : Snapped) → s.boot_memory ≡ k.booted.memory → s.budget ≡ k.booted.budget
-    → s.log ≡ k.log → issued s.log ≤ k.booted.budget → EndsFrom k s
-ends_with k s m b l w = record { boot_memory = m; budget = b; log = ([], l ∙ sym (append-nil k.log)); within = w }
+    → s.log ≡ k.log → issued s.log ≤ k.booted.budget → is_at_end s ≡ true → EndsFrom k s
+ends_with k s m b l w e =
+    record { boot_memory = m; budget = b; log = ([], l ∙ sym (append-nil k.log)); within = w; at_end = e }
 
 ends_through : (a b : Known) (s : Snapped) → GoesOnFrom a b → EndsFrom b s → EndsFrom a s
 ends_through a b s o h = record {
@@ -38,6 +40,7 @@ ends_through a b s o h = record {
   budget = h.budget ∙ ap (λ (x : Booted). x.budget) o.booted;
   log = longer a.log b.log s.log o.log h.log;
   within = subst (λ (x : Booted). issued s.log ≤ x.budget) o.booted h.within;
+  at_end = h.at_end;
 }
 
 -- ---- a result that is a snapshot, or has one ----

@@ -1,6 +1,8 @@
 //! What the issuing thread does: it makes the requests for exchanges that are due, issues, sends each reservation on
 //! the lane of its unit, and makes the exchanges.
-ghost use Rattle.std.specs.Prelude.{◌≡◌};
+ghost use Rattle.std.specs.Prelude.{◌≡◌, IfOk};
+ghost use Rattle.progress_word.specs.CallerKnowledge.{booted_by};
+ghost use Rattle.unit_workers.specs.Beginning.{Begins, IsAskedFirst, IsExchangedFirst};
 ghost use Rattle.unit_workers.specs.Ending.{is_end};
 ghost use Rattle.unit_workers.specs.Onward.{GoesOnFrom};
 
@@ -9,7 +11,7 @@ use crate::worker_lanes::WorkerLanes;
 use arrayvec::ArrayVec;
 use exchange_requests::{Ask, Requests};
 use instruction_table::Refusal;
-use machine::Note;
+use machine::{Machine, Note};
 use machine_lock::{MachineGuard, Naming, Seen, Shared};
 use signals::Pace;
 use std::sync::Wait;
@@ -229,24 +231,77 @@ fn step<K: Naming, R: Wait>(
     }
 }
 
-/// Asks for the first exchange and makes it. The machine is drained then, as it was booted.
+/// Asks for the exchange with the first package, and answers whether no other request waited.
+///
+/// # Errors
+/// What else was refused.
+#[tactic(auto, unfolding(program_order::specs::Run::settled), using(crate::proofs::Beginning::busy_waits))]
+fn ask_first(machine: &mut Machine, start: u32) -> Result<bool, Refusal>
+    ensures { IfOk result (λ asked. IsAskedFirst asked start machine.old machine.new) }
+{
+    match machine.ask(start) {
+        Ok(_) => Ok(true),
+        Err(Refusal::ExchangeBusy) => Ok(false),
+        Err(refusal) => Err(refusal),
+    }
+}
+
+/// Makes the exchange with the first package, and answers whether the machine wasn't in the middle of a word.
+///
+/// # Errors
+/// What else was refused.
+#[tactic(auto, unfolding(program_order::specs::Run::settled), using(crate::proofs::Beginning::mid_runs))]
+fn exchange_first(machine: &mut Machine) -> Result<bool, Refusal>
+    ensures { IfOk result (λ made. IsExchangedFirst made machine.old machine.new) }
+{
+    match machine.exchange() {
+        Ok(_) => Ok(true),
+        Err(Refusal::MidWord) => Ok(false),
+        Err(refusal) => Err(refusal),
+    }
+}
+
+/// Asks for the exchange that follows the first one, if one is due.
 ///
 /// # Errors
 /// What was refused.
-pub fn begin<K: Naming, R: Wait>(
-    rt: &R,
-    shared: &Shared<K>,
-    seen: &mut Seen<K>,
-    pending: &mut PendingRequests<'_>,
-) -> Result<(), Refusal>
-    ensures onward { GoesOnFrom seen.old seen.new }
+fn ask_following(machine: &mut Machine, requests: &mut Requests) -> Result<(), Refusal>
+    ensures booted { booted_by machine.new ≡ booted_by machine.old }
+    ensures log { machine.new.log ≡ machine.old.log }
 {
-    let mut machine = shared.lock(rt);
-    let asked = ask_due(&mut machine, seen, pending);
-    machine.release();
-    asked?;
-    exchange(rt, shared, seen, pending)?;
-    Ok(())
+    let Some((at, _)) = requests.due() else {
+        return Ok(());
+    };
+    match machine.ask(at) {
+        Ok(_) => {
+            let _ = requests.take_due();
+            Ok(())
+        }
+        Err(refusal) => Err(refusal),
+    }
+}
+
+/// Asks for the first exchange, makes it, and asks for the exchange that follows it, before any thread has the machine.
+/// If another request waits, or the machine is in the middle of a word, the first exchange is left to `conduct`.
+///
+/// # Errors
+/// What was refused.
+pub fn begin(machine: &mut Machine, start: u32, requests: &mut Requests) -> Result<(), Refusal>
+    ensures { IfOk result (λ _. Begins start machine.old machine.new) }
+{
+    match ask_first(machine, start) {
+        Ok(true) => {}
+        Ok(false) => return Ok(()),
+        Err(refusal) => return Err(refusal),
+    }
+    let _ = requests.take_due();
+    match exchange_first(machine) {
+        Ok(true) => {}
+        Ok(false) => return Ok(()),
+        Err(refusal) => return Err(refusal),
+    }
+    requests.exchanged();
+    ask_following(machine, requests)
 }
 
 /// Issues and makes exchanges up to the run's end. If nothing can be done it waits for the events of others.

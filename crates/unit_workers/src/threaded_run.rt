@@ -1,7 +1,10 @@
 //! A whole run by threads.
-ghost use Rattle.std.specs.Prelude.{◌≡◌, ◌≤◌, [], IfOk, IfSome, Ok, map};
+ghost use Rattle.std.specs.Prelude.{◌≡◌, ◌≤◌, [], ◌∷◌, ◌++◌, true, IfOk, IfSome, Ok, map};
 ghost use Rattle.sequential.specs.Log.{issued};
+ghost use Rattle.sequential.specs.Replay.{Exchanged};
 ghost use Rattle.progress_word.specs.CallerKnowledge.{booted_by, known, StartsWith};
+ghost use Rattle.unit_workers.specs.Beginning.{IsAtRest};
+ghost use Rattle.unit_workers.specs.Ending.{is_at_end};
 ghost use Rattle.unit_workers.specs.Onward.{EndsFrom};
 ghost use Rattle.per_unit.specs.Units.{Each, in_order, paired};
 ghost use Rattle.unit_workers.specs.Settled.{in_use, IsSettled, AreSettled};
@@ -49,11 +52,19 @@ pub struct Ended {
     ghost settled: { AreSettled (map (λ sender. sender.value) (in_order sent)) tallies },
 }
 
+/// Whether the run of this machine is over: it is halted or faulted, or its budget is used up.
+fn is_at_end(snapshot: &machine::Snapshot) -> bool
+    ensures { result ≡ is_at_end snapshot.now }
+{
+    let state = snapshot.state();
+    state.halt.is_some() || state.fault || snapshot.budget() <= snapshot.log().issues()
+}
+
 /// The machine at a run's end, after all of its threads. The two that asked for exchanges meet, so that the snapshot
 /// has whatever either of them has seen.
 ///
 /// # Errors
-/// What was refused to either of them.
+/// What was refused to either of them, and `NotDrained` if the machine could go on.
 fn closing<K: Naming, R: Wait>(
     rt: &R,
     shared: &Shared<K>,
@@ -66,7 +77,11 @@ fn closing<K: Naming, R: Wait>(
     conducted?;
     let mut other = asked?;
     shared.meet(&mut seen, &mut other);
-    shared.snapshot(rt, &mut seen)
+    let snapshot = shared.snapshot(rt, &mut seen)?;
+    if !is_at_end(&snapshot) {
+        return Err(Refusal::NotDrained);
+    }
+    Ok(snapshot)
 }
 
 /// The outcome of a run with this snapshot and these tallies.
@@ -181,11 +196,11 @@ fn run_lanes<K: Naming + Send + Sync, G: Gate + Send, R: Threads + Wait + Clock 
     )
 }
 
-/// Makes the first exchange, and then runs. Each of the two threads that ask for exchanges keeps what it has seen.
+/// Runs from what was seen first. Each of the two threads that ask for exchanges keeps what it has seen.
 ///
 /// # Errors
 /// What the machine refuses, and `OutOfMemory`, also where a thread couldn't be started.
-fn run_from_start<K: Naming + Send + Sync, G: Gate + Send, R: Threads + Wait + Clock + Sync>(
+fn run_from_first<K: Naming + Send + Sync, G: Gate + Send, R: Threads + Wait + Clock + Sync>(
     rt: &R,
     alloc: Global,
     shared: &Shared<K>,
@@ -196,8 +211,6 @@ fn run_from_start<K: Naming + Send + Sync, G: Gate + Send, R: Threads + Wait + C
 ) -> Result<Ended, Refusal>
     ensures onward { IfOk result (λ ended. EndsFrom seen ended.snapshot) }
 {
-    let mut pending = pending;
-    begin(rt, shared, &mut seen, &mut pending)?;
     let other = seen.split()?;
     let tasks = Tasks {
         gates,
@@ -226,7 +239,7 @@ fn run_beside<K: Naming + Send + Sync, G: Gate + Send, R: Threads + Wait + Clock
 {
     let (shared, seats, seen) = Shared::<K>::open(alloc, ground, machine)?;
     let mut holders = PerUnit::from_array(seats).map(|seat| Some(seat));
-    let ended = run_from_start(rt, alloc, &shared, &mut holders, gates, pending, seen);
+    let ended = run_from_first(rt, alloc, &shared, &mut holders, gates, pending, seen);
     let _ = holders.map(leave);
     ended
 }
@@ -248,7 +261,8 @@ fn leave(holder: Option<Seat>) {
 ///
 /// # Errors
 /// What the machine refuses before; `Nothing` where the machine's seats were given out before; `OutOfMemory`, also
-/// where a thread couldn't be started. All threads have ended then, and all seats are left.
+/// where a thread couldn't be started; `NotDrained` if the machine could go on. All threads have ended then, and all
+/// seats are left.
 pub fn run_threads<G: Gate + Send, R: Threads + Wait + Clock + Sync>(
     rt: &R,
     alloc: Global,
@@ -260,14 +274,18 @@ pub fn run_threads<G: Gate + Send, R: Threads + Wait + Clock + Sync>(
     ensures log { IfOk result (λ ended. StartsWith ended.snapshot.log machine.log) }
     ensures budget { IfOk result (λ ended. ended.snapshot.budget ≡ machine.budget) }
     ensures within { IfOk result (λ ended. issued ended.snapshot.log ≤ machine.budget) }
+    ensures end { IfOk result (λ ended. is_at_end ended.snapshot ≡ true) }
+    ensures start { IfOk result (λ ended. IsAtRest machine
+        → StartsWith ended.snapshot.log (machine.log ++ Exchanged orders.now.start ∷ [])) }
 {
-    let Ok(requests) = Requests::new(alloc, orders.start, orders.after.as_slice()) else {
+    let Ok(mut requests) = Requests::new(alloc, orders.start, orders.after.as_slice()) else {
         return Err(Refusal::OutOfMemory);
     };
     let ground = Ground::new(alloc)?;
     let free = FreeRequests::new(orders.free.as_slice());
     let mut machine = machine;
     machine.drain();
+    begin(&mut machine, orders.start, &mut requests)?;
     let pending = PendingRequests::new(requests, &free);
     run_beside::<Brand, _, _>(rt, alloc, ground, machine, gates, pending)
 }

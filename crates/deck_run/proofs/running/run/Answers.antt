@@ -1,6 +1,9 @@
-use Rattle.std.proofs.Common.{◌≡◌, ◌≤◌, ℕ, List, ◌∙◌, ap, subst, rules}
+use Rattle.std.proofs.Common.{true, ◌≡◌, ◌≤◌, ℕ, List, [], ◌∷◌, ◌++◌, is_some, ◌∙◌, ap, subst, rules}
 use Rattle.sequential.specs.Log.{issued}
+use Rattle.sequential.specs.Replay.{LogStep, Exchanged, boot}
+use Rattle.unit_workers.specs.Beginning.{IsAtRest}
 use Rattle.program_order.specs.Processor.{Processor, boot_processor}
+use Rattle.sequential_run.specs.Run.{is_over}
 use Rattle.sequential_run.proofs.Ending.{run_on}
 use Rattle.deck_run.proofs.running.run.Goals as goal
 
@@ -13,15 +16,37 @@ booted_budget : (w : Processor) (memory : List ℕ) (budget : ℕ) → w ≡ boo
 unfolding boot_processor
 booted_budget w memory budget h = ap (λ (x : Processor). x.budget) h
 
+booted_log : (w : Processor) (memory : List ℕ) (budget : ℕ) → w ≡ boot_processor memory budget → w.log ≡ []
+unfolding boot_processor
+booted_log w memory budget h = ap (λ (x : Processor). x.log) h
+
+booted_rests : (w : Processor) (memory : List ℕ) (budget : ℕ) → w ≡ boot_processor memory budget → IsAtRest w
+unfolding boot_processor boot
+booted_rests w memory budget h = record {
+  pending = ap (λ (x : Processor). x.pending) h;
+  request = ap (λ (x : Processor). x.request) h;
+  halted = ap (λ (x : Processor). is_some x.state.halt) h;
+}
+
+-- a log that begins with none and an exchange, begins with that exchange
+begins_with : (log before : List LogStep) (n start : ℕ) → before ≡ [] → n ≡ start
+    → (rest : List LogStep) × (log ≡ (before ++ Exchanged n ∷ []) ++ rest)
+    → (more : List LogStep) × (log ≡ Exchanged start ∷ more)
+begins_with log before n start b e h =
+    (h.0, h.1 ∙ ap (λ l. (l ++ Exchanged n ∷ []) ++ h.0) b ∙ ap (λ k. Exchanged k ∷ h.0) e)
+
 -- the snapshot's boot memory is the machine's, which is the deck's, and its budget is the machine's too
 pub returns-in-Ok-run_threads-clause-ran : goal.returns-in-Ok-run_threads-clause-ran
 returns-in-Ok-run_threads-clause-ran g c =
     let ended = c.in-Ok-run_threads.ensures in
     let booted = c.in-Ok.ensures.machine in
-    run_on c.args.deck.now.image.memory c.in-Ok-run_threads.ended.snapshot.boot_memory c.args.budget _ _
-    (ended.memory ∙ booted_memory _ _ _ booted)
+    run_on c.args.deck.now.image.memory c.in-Ok-run_threads.ended.snapshot.boot_memory c.args.deck.now.start
+    c.args.budget _ _ (ended.memory ∙ booted_memory _ _ _ booted)
+    (begins_with _ _ _ _ (booted_log _ _ _ booted) c.in-Ok.ensures.start (ended.start (booted_rests _ _ _ booted)))
     (subst (λ (n : ℕ). issued c.in-Ok-run_threads.ended.snapshot.log ≤ n) (booted_budget _ _ _ booted)
     ended.within)
+    (subst (λ (n : ℕ). is_over c.in-Ok-run_threads.ended.snapshot.state c.in-Ok-run_threads.ended.snapshot.log n ≡ true)
+    (ended.budget ∙ booted_budget _ _ _ booted) ended.end)
     (search rules)
 
 pub returns-in-Ok-run_threads-clause-budget : goal.returns-in-Ok-run_threads-clause-budget

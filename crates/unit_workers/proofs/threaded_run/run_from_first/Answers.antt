@@ -2,13 +2,13 @@ use Rattle.std.proofs.Common.{sym, subst}
 use Rattle.progress_word.specs.CallerKnowledge.{Known}
 use Rattle.unit_workers.specs.Onward.{GoesOnFrom}
 use Rattle.unit_workers.specs.declared.threaded_run.Ended.{Ended}
-use Rattle.unit_workers.proofs.Onward.{ok_through}
-use Rattle.unit_workers.proofs.threaded_run.run_from_start.Goals as goal
+use Rattle.unit_workers.proofs.Onward.{at_first, ok_through}
+use Rattle.unit_workers.proofs.threaded_run.run_from_first.Goals as goal
 
--- what is split is what was seen after the first exchange
+-- what is split is what was seen first
 pub returns : goal.returns
 returns g c = record {
   onward = ok_through (λ (e : Ended). e.snapshot) c.args.seen c.split.new.self c.run_lanes.result
-      (subst (λ (k : Known). GoesOnFrom c.args.seen k) (sym c.in_ok-other.ensures.same) c.begin.ensures.onward)
+      (subst (λ (k : Known). GoesOnFrom c.args.seen k) (sym c.in_ok-other.ensures.same) (at_first c.args.seen))
       c.run_lanes.ensures.onward;
 }

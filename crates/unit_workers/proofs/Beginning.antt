@@ -1,0 +1,191 @@
+-- How a run begins.
+use Rattle.std.proofs.Common.{◌≡◌, ◌≤◌, ℕ, Bool, true, false, List, [], ◌∷◌, ◌++◌, Option, Some, None, cond, is_some}
+use Rattle.std.proofs.Common.{not, refl, sym, ap, subst, ◌∙◌, inl, inr}
+use Rattle.std.proofs.lemmas.Bool.{and_parts}
+use Rattle.std.proofs.lemmas.List.{append-nil}
+use Rattle.std.specs.Prelude.{Result, Ok, Err, IfOk, is_none, nat_le, length}
+use Rattle.instructions.specs.declared.refusal.Refusal.{Refusal}
+use Rattle.instructions.specs.declared.refusal.Refusal.TheVariants.{Budget, ExchangeBusy, PackageRange, Nothing}
+use Rattle.instructions.specs.declared.refusal.Refusal.TheVariants.{NotDrained, MidWord}
+use Rattle.relocation.specs.Relocation.{package_fits}
+use Rattle.sequential.specs.Log.{issued}
+use Rattle.sequential.specs.Replay.{Exchanged}
+use Rattle.in_flight.specs.Tests.{refusal_of}
+use Rattle.program_order.specs.declared.event.Done.{Done}
+use Rattle.program_order.specs.declared.event.Event.{Event}
+use Rattle.program_order.specs.declared.event.Event.TheVariants.{Issue, Read, Finish, Store, Accept, Return, BankFree}
+use Rattle.program_order.specs.declared.event.Event.TheVariants.{Ask, Exchange, PpRead, PpWrite}
+use Rattle.program_order.specs.Drain.{Accepts, Works, KeepsAccounts, works_on, leads_to}
+use Rattle.program_order.specs.Events.{after, allowed, tests_of}
+use Rattle.program_order.specs.Exchange.{after_exchange, ask_tests, exchange_tests}
+use Rattle.program_order.specs.Processor.{Processor}
+use Rattle.program_order.specs.Run.{IsAnswer, answer_of, settled}
+use Rattle.program_order.specs.SnapshotView.{Snapped}
+use Rattle.program_order.proofs.keeping.Naming.{answered_err}
+use Rattle.progress_word.specs.CallerKnowledge.{StartsWith, Booted, booted_by, booted_with, known}
+use Rattle.unit_workers.specs.Beginning.{IsAtRest, IsAskedFirst, IsExchangedFirst, Begins}
+use Rattle.unit_workers.specs.Ending.{is_at_end}
+use Rattle.unit_workers.specs.Onward.{EndsFrom}
+use Rattle.unit_workers.proofs.Onward.{longer}
+
+-- ---- what a refusal says ----
+
+second_fails : (a b c : Bool) → cond a (Some Budget) (cond b (Some ExchangeBusy) (cond c (Some PackageRange) None))
+    ≡ Some ExchangeBusy → b ≡ true
+second_fails true b c h = cc
+second_fails false true c h = refl
+second_fails false false true h = cc
+second_fails false false false h = cc
+
+third_fails : (a b c : Bool) → cond a (Some Nothing) (cond b (Some NotDrained) (cond c (Some MidWord) None))
+    ≡ Some MidWord → c ≡ true
+third_fails true b c h = cc
+third_fails false true c h = cc
+third_fails false false true h = refl
+third_fails false false false h = cc
+
+-- a request is refused as busy only where another one waits
+pub busy_waits : (w : Processor) (n : ℕ) (a : Result Done Refusal) → IsAnswer w (Ask n) a → a ≡ Err ExchangeBusy
+    → is_some w.request ≡ true
+unfolding answer_of allowed tests_of ask_tests refusal_of
+busy_waits w n a (inl h) e =
+    second_fails (nat_le 1000000 w.asked) (is_some w.request) (not (package_fits n (length w.state.memory)))
+    (answered_err _ (allowed w (Ask n)) ExchangeBusy (sym e ∙ h))
+busy_waits w n a (inr r) e = let o = sym e ∙ r.want in absurd (cc)
+
+-- an exchange is refused as in mid word only where the machine isn't halted
+pub mid_runs : (w : Processor) (a : Result Done Refusal) → a ≡ answer_of w Exchange → a ≡ Err MidWord
+    → is_none w.state.halt ≡ true
+unfolding answer_of allowed tests_of exchange_tests refusal_of
+mid_runs w a h e =
+    (and_parts (is_none w.state.halt) _ (third_fails (is_none w.request) _ _
+    (answered_err _ (allowed w Exchange) MidWord (sym e ∙ h)))).0
+
+-- ---- how the machine has gone on ----
+
+runs_or_rests : {A : Type 0} (x : Option A) → is_some x ≡ true → is_none x ≡ true → ⊥
+runs_or_rests None h k = cc
+runs_or_rests (Some x) h k = cc
+
+waits_or_not : {A : Type 0} (x : Option A) → x ≡ None → is_some x ≡ true → ⊥
+waits_or_not None h k = cc
+waits_or_not (Some x) h k = cc
+
+same_log : (w v : Processor) → v.log ≡ w.log → StartsWith v.log w.log
+same_log w v e = ([], e ∙ sym (append-nil w.log))
+
+pub begins_later : (n : ℕ) (w v : Processor) → IsAskedFirst false n w v → Begins n w v
+begins_later n w v h = record {
+  booted = ap booted_by h.0;
+  log = same_log w v (ap (λ (x : Processor). x.log) h.0);
+  first = λ r. absurd (waits_or_not w.request r.request h.1);
+}
+
+pub begins_in_mid_word : (n : ℕ) (w u v : Processor) → IsAskedFirst true n w u → IsExchangedFirst false u v
+    → Begins n w v
+unfolding after
+begins_in_mid_word n w u v a e =
+    let s : v ≡ after w (Ask n) = e.0 ∙ a in
+    record {
+      booted = ap booted_by s;
+      log = same_log w v (ap (λ (x : Processor). x.log) s);
+      first = λ r. absurd (runs_or_rests w.state.halt r.halted
+          (sym (ap (λ (x : Processor). is_none x.state.halt) a) ∙ e.1));
+    }
+
+pub begins_at_once : (n : ℕ) (w u v : Processor) → IsAskedFirst true n w u → IsExchangedFirst true u v → Begins n w v
+unfolding after after_exchange
+begins_at_once n w u v a e =
+    let s : v ≡ after (after w (Ask n)) Exchange = e ∙ ap (λ (x : Processor). after x Exchange) a in
+    record {
+      booted = ap booted_by s;
+      log = (Exchanged n ∷ [], ap (λ (x : Processor). x.log) s);
+      first = λ r. ap (λ (x : Processor). x.log) s;
+    }
+
+pub begins_on : (n : ℕ) (w u v : Processor) → Begins n w u → booted_by v ≡ booted_by u → v.log ≡ u.log → Begins n w v
+begins_on n w u v b m l = record {
+  booted = m ∙ b.booted;
+  log = (b.log.0, l ∙ b.log.1);
+  first = λ r. l ∙ b.first r;
+}
+
+-- a request changes neither the log nor what the machine was booted with
+pub asked_log : (w v : Processor) (n : ℕ) (a : Result Done Refusal) → v ≡ settled w (Ask n) a → v.log ≡ w.log
+unfolding settled after
+asked_log w v n (Ok d) h = ap (λ (x : Processor). x.log) h
+asked_log w v n (Err k) h = ap (λ (x : Processor). x.log) h
+
+pub asked_booted : (w v : Processor) (n : ℕ) (a : Result Done Refusal) → v ≡ settled w (Ask n) a
+    → booted_by v ≡ booted_by w
+unfolding settled after
+asked_booted w v n (Ok d) h = ap booted_by h
+asked_booted w v n (Err k) h = ap booted_by h
+
+-- ---- what was drained before ----
+
+works_on_none : (e : Event) → works_on [] e ≡ true → ⊥
+unfolding works_on
+works_on_none Issue h = cc
+works_on_none (Read u) h = cc
+works_on_none (Finish u) h = cc
+works_on_none (Store u) h = cc
+works_on_none (Accept p) h = cc
+works_on_none (Return c) h = cc
+works_on_none (BankFree b) h = cc
+works_on_none (Ask n) h = cc
+works_on_none Exchange h = cc
+works_on_none (PpRead a) h = cc
+works_on_none (PpWrite a x) h = cc
+
+-- a machine at rest is drained
+drained_at_rest : (w v : Processor) (count : ℕ) → Works w v count → w.pending ≡ [] → v ≡ w
+unfolding leads_to
+drained_at_rest w v count h p = by_events h.events h.accepted h.leads
+  where
+    by_events : (events : List Event) → Accepts w events → v ≡ leads_to w events → v ≡ w
+    by_events [] a l = l
+    by_events (e ∷ events) a l = absurd (works_on_none e (sym (ap (λ p. works_on p e) p) ∙ a.1))
+
+-- ---- to the end ----
+
+-- what a run from this machine with this first package has at its end
+pub record EndsRun (n : ℕ) (w : Processor) (s : Snapped) : Type 0 where
+  pub memory : s.boot_memory ≡ w.boot_memory
+  pub log : StartsWith s.log w.log
+  pub budget : s.budget ≡ w.budget
+  pub within : issued s.log ≤ w.budget
+  pub at_end : is_at_end s ≡ true
+  pub start : IsAtRest w → StartsWith s.log (w.log ++ Exchanged n ∷ [])
+
+ends_run : (n : ℕ) (w v u : Processor) (count : ℕ) (s : Snapped) → Works w v count → KeepsAccounts w v → Begins n v u
+    → EndsFrom (known (booted_by u) u.log []) s → EndsRun n w s
+ends_run n w v u count s k a b e =
+    let m : booted_by u ≡ booted_by w = b.booted ∙ ap (λ x. booted_with x v.budget) a.boot_memory
+    ∙ ap (booted_with w.boot_memory) a.budget in
+    record {
+      memory = e.boot_memory ∙ ap (λ (x : Booted). x.memory) m;
+      log = longer w.log u.log s.log (b.log.0, b.log.1 ∙ ap (λ l. l ++ b.log.0) a.log) e.log;
+      budget = e.budget ∙ ap (λ (x : Booted). x.budget) m;
+      within = subst (λ (x : Booted). issued s.log ≤ x.budget) m e.within;
+      at_end = e.at_end;
+      start = λ r.
+          let d : v ≡ w = drained_at_rest w v count k r.pending in
+          let f : u.log ≡ w.log ++ Exchanged n ∷ [] =
+          b.first (subst IsAtRest (sym d) r) ∙ ap (λ l. l ++ Exchanged n ∷ []) a.log in
+          (e.log.0, e.log.1 ∙ ap (λ l. l ++ e.log.0) f);
+    }
+
+pub ok_ends : {A E : Type 0} (f : A → Snapped) (n : ℕ) (w v u : Processor) (count : ℕ) (r : Result A E)
+    → Works w v count → KeepsAccounts w v → Begins n v u
+    → IfOk r (λ x. EndsFrom (known (booted_by u) u.log []) (f x)) → IfOk r (λ x. EndsRun n w (f x))
+ok_ends f n w v u count (Ok x) k a b e = ends_run n w v u count (f x) k a b e
+ok_ends f n w v u count (Err y) k a b e = tt
+
+pub ok_always : {A E : Type 0} {P : Type 0} (r : Result A E) → P → IfOk r (λ x. P)
+ok_always (Ok x) p = p
+ok_always (Err y) p = tt
+
+pub ok_more : {A E : Type 0} {P Q : A → Type 0} (r : Result A E) → IfOk r P → ((x : A) → P x → Q x) → IfOk r Q
+ok_more (Ok x) h f = f x h
+ok_more (Err y) h f = tt
