@@ -7,7 +7,7 @@
 //! was done, and drained it is the replay of that log.
 //!
 //! Begin with `Event` in `event` and the four theorems in `law`, then read `specs/Events`.
-//! `snapshot` is what a drained machine shows.
+//! `snapshot` is a state with the log that leads to it.
 #![tactic(auto)]
 
 mod event;

@@ -7,9 +7,10 @@ use relocation::Storage;
 use sequential::{Log, State};
 use std::marker::Model;
 
-/// A drained machine: its state, its log, and the memory and the budget with which it was booted. The state is that of
-/// the machine that does one instruction at a time, after the log, on that memory; and no more instructions were issued
-/// than the budget.
+/// A state with the log that leads to it, and the memory and the budget with which the log begins. The state is that of
+/// the machine that does one instruction at a time, after the log, on that memory; and the log has no more instructions
+/// than the budget. A snapshot says no more than this: that it is of a drained machine is promised by the call that took
+/// it of one.
 #[derive(Drop)]
 pub struct Snapshot {
     state: State,
@@ -38,7 +39,7 @@ impl Model for Snapshot {
 }
 
 impl Snapshot {
-    /// A snapshot of a state that is the replay of its log, which has no more instructions than the budget.
+    /// A snapshot of any state that is the replay of its log, where the log has no more instructions than the budget.
     pub fn of(state: State, log: Log, boot_memory: Storage, budget: u64) -> Snapshot
         requires replay { replay (boot boot_memory) log.steps ≡ Some state }
         requires within { issued log.steps ≤ budget }
@@ -55,7 +56,7 @@ impl Snapshot {
         }
     }
 
-    /// The state of the drained machine.
+    /// The state after the log.
     #[tactic(auto, using(crate::proofs::theorem::Headline::replay_faulted))]
     pub fn state(&self) -> &State
         ensures value { result.now ≡ self.now.state }
@@ -68,7 +69,7 @@ impl Snapshot {
         &self.state
     }
 
-    /// How many instructions the machine was given to issue at boot, 0 to 10,000,000. It issued no more.
+    /// How many instructions may be issued from boot on. The log has no more.
     pub fn budget(&self) -> u64
         ensures value { result ≡ self.now.budget }
         ensures within { issued self.now.log ≤ result }
@@ -76,14 +77,14 @@ impl Snapshot {
         self.budget
     }
 
-    /// What the machine did since boot.
+    /// What was done since boot, to come to the state.
     pub fn log(&self) -> &Log
         ensures { result.now.steps ≡ self.now.log }
     {
         &self.log
     }
 
-    /// The memory with which the machine was booted.
+    /// The memory with which the log begins.
     pub fn boot_memory(&self) -> &Storage
         ensures { result.now ≡ self.now.boot_memory }
     {
