@@ -11,7 +11,7 @@ use Rattle.deck.specs.Deck.{Reading, Good, Bad}
 use Rattle.deck.specs.declared.deck.Deck.{Deck}
 use Rattle.job_deck.specs.Dump.{dump_text}
 use Rattle.job_deck.specs.Replaying.{Replays}
-use Rattle.sequential_job.specs.Running.{RunsSequentially}
+use Rattle.sequential_job.specs.Running.{RunsSequentially, asks_after}
 use Rattle.sequential_run.specs.Run.{IsRun}
 use Rattle.operator_terms.specs.declared.fault.ProgramFault.{ProgramFault}
 use Rattle.operator_terms.specs.declared.fault.ProgramFault.TheVariants as faults
@@ -26,10 +26,10 @@ EndsNoRun fault = (fault ≡ faults.OutOfMemory) ⊎ (fault ≡ faults.Stuck)
 -- program ends, or at a failed write a beginning of such a dump; else nothing
 abbrev pub PrintsRun : Result Status ProgramFault → Deck → ℕ → Option (List ℕ) → Option (List ℕ) → Type 0
 PrintsRun (Ok status) deck budget old new =
-    (log : List LogStep) × (s : State) × IsRun deck.image.memory deck.start budget log s
+    (log : List LogStep) × (s : State) × IsRun deck.image.memory deck.start (asks_after deck) deck.free budget log s
     × (status ≡ status_of s.fault s.halt) × Appends old new (dump_text s (entries_of log) deck.shows)
 PrintsRun (Err faults.Write) deck budget old new =
-    (log : List LogStep) × (s : State) × IsRun deck.image.memory deck.start budget log s
+    (log : List LogStep) × (s : State) × IsRun deck.image.memory deck.start (asks_after deck) deck.free budget log s
     × WritesFront old new (dump_text s (entries_of log) deck.shows)
 PrintsRun (Err faults.OutOfMemory) deck budget old new = Keeps old new
 PrintsRun (Err faults.Stuck) deck budget old new = Keeps old new

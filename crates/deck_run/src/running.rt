@@ -70,11 +70,11 @@ fn open_gates() -> Gates<Open> {
 
 /// Boots a machine with a deck's memory and runs it to the end by threads, with the deck's requests for exchanges. The
 /// answered machine has come to its state by its log on that memory, and has just this budget; the log begins with the
-/// exchange for the deck's first package.
+/// exchange for the deck's first package and fulfils the deck's requests.
 ///
 /// # Errors
 /// `OutOfMemory`, also where a thread couldn't be started, and `Stuck` where the machine refused a step before the
-/// run's end, or could go on there.
+/// run's end, or could go on there, or the log doesn't fulfil the deck's requests.
 pub fn run<T: Threads + Wait + Clock + Sync>(
     rt: &T,
     alloc: Global,
@@ -82,7 +82,8 @@ pub fn run<T: Threads + Wait + Clock + Sync>(
     budget: Budget,
 ) -> Result<Snapshot, ProgramFault>
     ensures ran { MatchResult result
-        (λ snapshot. IsRun deck.now.image.memory deck.now.start budget snapshot.log snapshot.state) EndsNoRun }
+        (λ snapshot. IsRun deck.now.image.memory deck.now.start (asks_after deck.now) deck.now.free budget snapshot.log
+        snapshot.state) EndsNoRun }
     ensures budget { IfOk result (λ snapshot. snapshot.budget ≡ budget) }
 {
     let Ok((machine, orders)) = prepared(alloc, deck, budget) else {

@@ -1,6 +1,6 @@
 -- The order in which a run makes its requests for exchanges, and which of them is due. A request is the absolute
 -- address of a package and the number of instructions after which it is made. Source: ours.
-use Rattle.std.specs.Prelude.{◌≡◌, ℕ, Bool, ◌≤◌, ◌<◌, List, ◌++◌, Option, Some, None, All, option_to_list}
+use Rattle.std.specs.Prelude.{◌≡◌, ℕ, Bool, ◌≤◌, ◌<◌, List, ◌∷◌, ◌++◌, Option, Some, None, All, option_to_list}
 use Rattle.std.specs.Ordering.{nat_cmp}
 use Rattle.std.specs.List.Sorted.{IsNonDecreasingBy, IsStableByKey}
 
@@ -28,3 +28,9 @@ IsDue asks issued (Some due) = (due.1 ≤ issued) × All (λ ask. due.1 ≤ ask.
 -- they begin with this one, if it is one
 abbrev pub StartsWithAny : List (ℕ × ℕ) → Option (ℕ × ℕ) → Type 0
 StartsWithAny asks first = (rest : List (ℕ × ℕ)) × (asks ≡ option_to_list first ++ rest)
+
+-- the requests of a run in the order in which they are made: that for the first package, and the others by their
+-- numbers, and where these are equal, as they were given
+pub record AreOrdered (start : ℕ) (after asks : List (ℕ × ℕ)) : Type 0 where
+  pub in_order : IsInOrder asks
+  pub same : KeepsTies ((start, 0) ∷ after) asks

@@ -10,12 +10,13 @@
 //! waits and none is due; or it is out of budget in mid word, where no exchange can be made. A run makes
 //! no request after more instructions than it has issued by then.
 //!
-//! Callers rely on `Requests::take_due`: it gives the request that is due, and each once. Begin there.
+//! Callers rely on `Requests::take_due`: it gives the request that is due, and each once. Begin there. `in_order` gives
+//! all requests of a run as a list.
 #![tactic(auto)]
 
 ghost use Rattle.std.specs.Prelude.{◌≡◌, ◌<◌, ◌+◌, ◌^◌, ◌++◌, ◌∷◌, ◌||◌, true, false, None, is_some, option_to_list};
 ghost use Rattle.std.specs.Prelude.{IfOk, ℕ, ◌≤◌};
-ghost use Rattle.exchange_requests.specs.Requests.{IsInOrder, KeepsTies, IsDue, StartsWithAny};
+ghost use Rattle.exchange_requests.specs.Requests.{AreOrdered, IsInOrder, KeepsTies, IsDue, StartsWithAny};
 
 use std::alloc::{AllocError, Global};
 use std::collections::VecDeque;
@@ -24,6 +25,20 @@ use std::marker::Model;
 /// A request for an exchange: the absolute address of the package, and the number of instructions after which it is
 /// made.
 pub type Ask = (u32, u64);
+
+/// The requests of a run in the order in which they are made: that for the first package, which comes after no
+/// instruction and before all others, and the others.
+///
+/// # Errors
+/// Memory ran out.
+pub fn in_order(alloc: Global, start: u32, asks: &[Ask]) -> Result<Vec<Ask>, AllocError>
+    ensures { IfOk result (λ all. AreOrdered start asks.now all.items) }
+{
+    let mut all = Vec::from_slice(alloc, &[(start, 0)])?;
+    all.extend_from_slice(asks)?;
+    all.sort_by_key(|ask| ask.1)?;
+    Ok(all)
+}
 
 /// The requests that a run has still to make, and how far the run has come. A contract sees the requests in the order
 /// in which they are made, how many instructions were issued, and whether a request waits for its exchange.
@@ -48,8 +63,7 @@ impl Model for Requests {
 }
 
 impl Requests {
-    /// The requests of a run before its first instruction: that for the first package, which comes after no
-    /// instruction and before all others, and the others.
+    /// The requests of a run before its first instruction.
     ///
     /// # Errors
     /// Memory ran out.
@@ -59,11 +73,9 @@ impl Requests {
         ensures issued { IfOk result (λ requests. requests.issued ≡ 0) }
         ensures is_waiting { IfOk result (λ requests. requests.is_waiting ≡ false) }
     {
-        let mut all = Vec::from_slice(alloc, &[(start, 0)])?;
-        all.extend_from_slice(asks)?;
-        all.sort_by_key(|ask| ask.1)?;
+        let left = in_order(alloc, start, asks)?;
         Ok(Requests {
-            left: VecDeque::from_vec(all),
+            left: VecDeque::from_vec(left),
             issued: 0,
             is_waiting: false,
         })

@@ -20,7 +20,7 @@ asks_after deck = map (λ ask. (ask.at, ask.after)) deck.asks
 -- the sequential run of a deck with a budget ends with this log in this state, and they have what every run promises
 pub record IsJobRun (deck : Deck) (budget : ℕ) (log : List LogStep) (s : State) : Type 0 where
   pub sequential : IsSequentialRun deck.image.memory deck.start (asks_after deck) deck.free budget log s
-  pub promised : IsRun deck.image.memory deck.start budget log s
+  pub promised : IsRun deck.image.memory deck.start (asks_after deck) deck.free budget log s
 
 -- why the sequential run of a deck has no end
 abbrev pub IsWhyNoJobRun : Deck → ℕ → Refusal → Type 0

@@ -4,6 +4,7 @@ use Rattle.std.proofs.Common.{◌&&◌, ◌||◌, Option, Some, None, is_some, n
 use Rattle.std.proofs.Common.{length, refl, sym, ap, subst, ◌∙◌, arith, le-leb}
 use Rattle.std.proofs.lemmas.Bool.{ltb-false}
 use Rattle.std.specs.Prelude.{option_and_then, is_none, nat_le, nat_lt}
+use Rattle.fulfilled_requests.specs.Fulfilled.{IsFulfilled}
 use Rattle.instructions.specs.declared.refusal.Refusal.{Refusal}
 use Rattle.instructions.specs.declared.refusal.Refusal.TheVariants.{OutOfMemory, PackageRange}
 use Rattle.program_order.proofs.theorem.Headline.{replay_faulted}
@@ -102,13 +103,16 @@ run_over memory start after free budget log s r =
     rw r.log_is (rw r.state_is (ends_over budget r.last r.ends.ends))
 
 -- what begins so, replays on this memory within the budget, and is over, has what every run promises
-pub run_on : (memory other : List ℕ) (start budget : ℕ) (log : List LogStep) (s : State) → other ≡ memory
-    → (more : List LogStep) × (log ≡ Exchanged start ∷ more) → issued log ≤ budget → is_over s log budget ≡ true
-    → replay (boot other) log ≡ Some s → IsRun memory start budget log s
-run_on memory other start budget log s same begins within over h =
+pub run_on : (memory other : List ℕ) (start : ℕ) (after : List (ℕ × ℕ)) (free : List ℕ) (budget : ℕ)
+    (log : List LogStep) (s : State) → other ≡ memory
+    → (more : List LogStep) × (log ≡ Exchanged start ∷ more) → IsFulfilled start after free (is_in_mid_word s) log
+    → issued log ≤ budget → is_over s log budget ≡ true → replay (boot other) log ≡ Some s
+    → IsRun memory start after free budget log s
+run_on memory other start after free budget log s same begins fulfilled within over h =
     let replays = subst (λ m. replay (boot m) log ≡ Some s) same h in
     record {
       begins = begins;
+      fulfilled = fulfilled;
       replay = replays;
       within = within;
       over = over;

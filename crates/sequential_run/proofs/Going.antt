@@ -26,7 +26,7 @@ one_if o = cond (is_some o) 1 0
 
 -- ---- an exchange ----
 
-issued_still : (log : List LogStep) (n : ℕ) → issued (log ++ Exchanged n ∷ []) ≡ issued log
+pub issued_still : (log : List LogStep) (n : ℕ) → issued (log ++ Exchanged n ∷ []) ≡ issued log
 unfolding issued
 issued_still log n = let e : issued (log ++ Exchanged n ∷ []) ≡ issued log + 0 = issued-append log (Exchanged n ∷ []) in
     omega (arith, e)

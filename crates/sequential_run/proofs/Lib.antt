@@ -3,5 +3,7 @@ pub mod Going
 pub mod Beginning
 pub mod Ending
 pub mod Ordered
+pub mod MidWord
+pub mod Fulfilling
 pub mod OneResult
 pub mod Making

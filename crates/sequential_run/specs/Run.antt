@@ -1,7 +1,8 @@
 -- What every run promises, and to what log and state a run by one instruction at a time comes.
 -- Source: ours.
 use Rattle.std.specs.Prelude.{◌≡◌, ◌≤◌, ◌||◌, ℕ, Bool, true, false, List, ◌∷◌, length, Some, is_some, nat_le}
-use Rattle.exchange_requests.specs.Requests.{IsInOrder, KeepsTies}
+use Rattle.exchange_requests.specs.Requests.{AreOrdered}
+use Rattle.fulfilled_requests.specs.Fulfilled.{IsFulfilled}
 use Rattle.instructions.specs.declared.refusal.Refusal.{Refusal}
 use Rattle.instructions.specs.declared.refusal.Refusal.TheVariants.{OutOfMemory, PackageRange}
 use Rattle.program_order.specs.Headline.{IsFaultedRun}
@@ -9,18 +10,21 @@ use Rattle.relocation.specs.Relocation.{package_fits}
 use Rattle.sequential.specs.declared.state.State.{State}
 use Rattle.sequential.specs.Log.{issued}
 use Rattle.sequential.specs.Replay.{LogStep, Exchanged, boot, replay}
-use Rattle.sequential_run.specs.Turns.{Moment, Ends, Exchanges, begun, next_turn, turns}
+use Rattle.sequential_run.specs.Turns.{Moment, Ends, Exchanges, begun, is_in_mid_word, next_turn, turns}
 
 -- a run with this budget that came by this log to this state is over: the machine is halted or faulted, or it has
 -- issued as many instructions as the budget
 abbrev pub is_over : State → List LogStep → ℕ → Bool
 is_over s log budget = is_some s.halt || (s.fault || nat_le budget (issued log))
 
--- the log leads from boot with this memory to this state; it begins with the exchange for the first package and has no
--- more instructions than the budget, and the run is over there; if the state has the fault, the log is a beginning of
--- the program's run that includes the faulting instruction
-pub record IsRun (memory : List ℕ) (start budget : ℕ) (log : List LogStep) (s : State) : Type 0 where
+-- the log leads from boot with this memory to this state; it begins with the exchange for the first package, fulfils
+-- the requests after numbers of instructions and at any time, and has no more instructions than the budget, and the run
+-- is over there; if the state has the fault, the log is a beginning of the program's run that includes the faulting
+-- instruction
+pub record IsRun (memory : List ℕ) (start : ℕ) (after : List (ℕ × ℕ)) (free : List ℕ) (budget : ℕ)
+    (log : List LogStep) (s : State) : Type 0 where
   pub begins : (more : List LogStep) × (log ≡ Exchanged start ∷ more)
+  pub fulfilled : IsFulfilled start after free (is_in_mid_word s) log
   pub replay : replay (boot memory) log ≡ Some s
   pub within : issued log ≤ budget
   pub over : is_over s log budget ≡ true
@@ -46,12 +50,6 @@ abbrev pub IsRefusedAfter : ℕ → Moment → Refusal → Type 0
 IsRefusedAfter budget first OutOfMemory = Unit {0}
 IsRefusedAfter budget first PackageRange = IsUnfit budget first
 IsRefusedAfter budget first other = ⊥
-
--- the requests of a run in the order in which they are made: that for the first package, and the others by their
--- numbers, and where these are equal, as they were given
-pub record AreOrdered (start : ℕ) (after asks : List (ℕ × ℕ)) : Type 0 where
-  pub in_order : IsInOrder asks
-  pub same : KeepsTies ((start, 0) ∷ after) asks
 
 -- a run of a memory, a first package, requests after so many instructions and at any time, and a budget ends with this
 -- log in this state

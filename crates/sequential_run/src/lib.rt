@@ -23,3 +23,4 @@ mod stepping;
 
 pub use law::{a_run_by_one_is_made_by_events, a_run_has_one_result};
 pub use running::{Ended, run};
+pub use stepping::is_in_mid_word;

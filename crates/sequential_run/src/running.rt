@@ -83,7 +83,8 @@ pub fn run(
     ensures run { MatchResult result
         (λ ended. IsSequentialRun memory start after.now free.now budget ended.log.steps ended.state)
         (λ refusal. IsWhyNoRun memory start after.now free.now budget refusal) }
-    ensures promised { IfOk result (λ ended. IsRun memory start budget ended.log.steps ended.state) }
+    ensures promised { IfOk result
+        (λ ended. IsRun memory start after.now free.now budget ended.log.steps ended.state) }
 {
     let Ok(mut course) = begin(alloc, memory, start, after, free) else {
         return Err(Refusal::OutOfMemory);

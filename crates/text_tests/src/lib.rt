@@ -1,10 +1,11 @@
 //! Tests of the crates that read and print texts: `device_text`, `deck`, `job_deck`, `sequential_job` and
-//! `operator_terms`, and of `sequential_run`, by what they hand out. The crate hands out nothing itself.
+//! `operator_terms`, and of `sequential_run` and `fulfilled_requests`, by what they hand out. The crate hands out
+//! nothing itself.
 //!
 //! The first table is `CODES` in `deck_tests`: the texts of a `code` line, with the word that they
 //! make. `session_tests` answers schedules, `printing_tests` has dumps, listings and logs,
-//! `led_tests` a caller that knows a session's machine by contract alone, and `sequential_run_tests` runs one
-//! instruction at a time. `fixtures` has devices that fail.
+//! `led_tests` a caller that knows a session's machine by contract alone, `sequential_run_tests` runs one
+//! instruction at a time, and `fulfilled_requests_tests` holds logs to requests. `fixtures` has devices that fail.
 #![tactic(auto)]
 
 #[cfg(test)]
@@ -13,6 +14,8 @@ mod deck_tests;
 mod device_tests;
 #[cfg(test)]
 mod fixtures;
+#[cfg(test)]
+mod fulfilled_requests_tests;
 #[cfg(test)]
 mod led_tests;
 #[cfg(test)]

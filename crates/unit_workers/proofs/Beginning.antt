@@ -3,13 +3,14 @@ use Rattle.std.proofs.Common.{◌≡◌, ◌≤◌, ℕ, Bool, true, false, List
 use Rattle.std.proofs.Common.{not, refl, sym, ap, subst, ◌∙◌, inl, inr}
 use Rattle.std.proofs.lemmas.Bool.{and_parts}
 use Rattle.std.proofs.lemmas.List.{append-nil}
-use Rattle.std.specs.Prelude.{Result, Ok, Err, IfOk, is_none, nat_le, length}
+use Rattle.std.specs.Prelude.{Result, Ok, Err, is_none, nat_eq, nat_le, length}
 use Rattle.instructions.specs.declared.refusal.Refusal.{Refusal}
 use Rattle.instructions.specs.declared.refusal.Refusal.TheVariants.{Budget, ExchangeBusy, PackageRange, Nothing}
 use Rattle.instructions.specs.declared.refusal.Refusal.TheVariants.{NotDrained, MidWord}
 use Rattle.relocation.specs.Relocation.{package_fits}
-use Rattle.sequential.specs.Log.{issued}
-use Rattle.sequential.specs.Replay.{Exchanged}
+use Rattle.sequential.specs.declared.log.Entry.{Entry}
+use Rattle.sequential.specs.Log.{issued, entries_of}
+use Rattle.sequential.specs.Replay.{LogStep, Exchanged}
 use Rattle.in_flight.specs.Tests.{refusal_of}
 use Rattle.program_order.specs.declared.event.Done.{Done}
 use Rattle.program_order.specs.declared.event.Event.{Event}
@@ -74,40 +75,52 @@ waits_or_not (Some x) h k = cc
 same_log : (w v : Processor) → v.log ≡ w.log → StartsWith v.log w.log
 same_log w v e = ([], e ∙ sym (append-nil w.log))
 
-pub begins_later : (n : ℕ) (w v : Processor) → IsAskedFirst false n w v → Begins n w v
+pub begins_later : (n : ℕ) (w v : Processor) → IsAskedFirst false n w v → Begins false n w v
 begins_later n w v h = record {
   booted = ap booted_by h.0;
   log = same_log w v (ap (λ (x : Processor). x.log) h.0);
   first = λ r. absurd (waits_or_not w.request r.request h.1);
+  whole = λ r l. absurd (waits_or_not w.request r.request h.1);
 }
 
 pub begins_in_mid_word : (n : ℕ) (w u v : Processor) → IsAskedFirst true n w u → IsExchangedFirst false u v
-    → Begins n w v
+    → Begins false n w v
 unfolding after
 begins_in_mid_word n w u v a e =
     let s : v ≡ after w (Ask n) = e.0 ∙ a in
+    let runs : is_none w.state.halt ≡ true = sym (ap (λ (x : Processor). is_none x.state.halt) a) ∙ e.1 in
     record {
       booted = ap booted_by s;
       log = same_log w v (ap (λ (x : Processor). x.log) s);
-      first = λ r. absurd (runs_or_rests w.state.halt r.halted
-          (sym (ap (λ (x : Processor). is_none x.state.halt) a) ∙ e.1));
+      first = λ r. absurd (runs_or_rests w.state.halt r.halted runs);
+      whole = λ r l. absurd (runs_or_rests w.state.halt r.halted runs);
     }
 
-pub begins_at_once : (n : ℕ) (w u v : Processor) → IsAskedFirst true n w u → IsExchangedFirst true u v → Begins n w v
+-- a log without steps has no entries
+pub new_log : (entries : List Entry) (log : List LogStep) (is_new : Bool) → entries ≡ entries_of log
+    → is_new ≡ nat_eq (length entries) 0 → log ≡ [] → is_new ≡ true
+unfolding entries_of
+new_log entries log is_new e n l = n ∙ ap (λ x. nat_eq (length x) 0) (e ∙ ap entries_of l)
+
+pub begins_at_once : (is_new : Bool) (n : ℕ) (w u v : Processor) → (w.log ≡ [] → is_new ≡ true)
+    → IsAskedFirst true n w u → IsExchangedFirst true u v → Begins is_new n w v
 unfolding after after_exchange
-begins_at_once n w u v a e =
+begins_at_once is_new n w u v new a e =
     let s : v ≡ after (after w (Ask n)) Exchange = e ∙ ap (λ (x : Processor). after x Exchange) a in
     record {
       booted = ap booted_by s;
       log = (Exchanged n ∷ [], ap (λ (x : Processor). x.log) s);
       first = λ r. ap (λ (x : Processor). x.log) s;
+      whole = λ r l. new l;
     }
 
-pub begins_on : (n : ℕ) (w u v : Processor) → Begins n w u → booted_by v ≡ booted_by u → v.log ≡ u.log → Begins n w v
-begins_on n w u v b m l = record {
-  booted = m ∙ b.booted;
-  log = (b.log.0, l ∙ b.log.1);
-  first = λ r. l ∙ b.first r;
+pub begins_on : (b : Bool) (n : ℕ) (w u v : Processor) → Begins b n w u → booted_by v ≡ booted_by u → v.log ≡ u.log
+    → Begins b n w v
+begins_on b n w u v h m l = record {
+  booted = m ∙ h.booted;
+  log = (h.log.0, l ∙ h.log.1);
+  first = λ r. l ∙ h.first r;
+  whole = h.whole;
 }
 
 -- a request changes neither the log nor what the machine was booted with
@@ -149,18 +162,20 @@ drained_at_rest w v count h p = by_events h.events h.accepted h.leads
 
 -- ---- to the end ----
 
--- what a run from this machine with this first package has at its end
-pub record EndsRun (n : ℕ) (w : Processor) (s : Snapped) : Type 0 where
+-- what a run from this machine with this first package has at its end, where its log begins with the exchange for that
+-- package or not
+pub record EndsRun (is_whole : Bool) (n : ℕ) (w : Processor) (s : Snapped) : Type 0 where
   pub memory : s.boot_memory ≡ w.boot_memory
   pub log : StartsWith s.log w.log
   pub budget : s.budget ≡ w.budget
   pub within : issued s.log ≤ w.budget
   pub at_end : is_at_end s ≡ true
   pub start : IsAtRest w → StartsWith s.log (w.log ++ Exchanged n ∷ [])
+  pub whole : IsAtRest w → w.log ≡ [] → is_whole ≡ true
 
-ends_run : (n : ℕ) (w v u : Processor) (count : ℕ) (s : Snapped) → Works w v count → KeepsAccounts w v → Begins n v u
-    → EndsFrom (known (booted_by u) u.log []) s → EndsRun n w s
-ends_run n w v u count s k a b e =
+pub ends_run : (is_whole : Bool) (n : ℕ) (w v u : Processor) (count : ℕ) (s : Snapped) → Works w v count
+    → KeepsAccounts w v → Begins is_whole n v u → EndsFrom (known (booted_by u) u.log []) s → EndsRun is_whole n w s
+ends_run is_whole n w v u count s k a b e =
     let m : booted_by u ≡ booted_by w = b.booted ∙ ap (λ x. booted_with x v.budget) a.boot_memory
     ∙ ap (booted_with w.boot_memory) a.budget in
     record {
@@ -174,18 +189,5 @@ ends_run n w v u count s k a b e =
           let f : u.log ≡ w.log ++ Exchanged n ∷ [] =
           b.first (subst IsAtRest (sym d) r) ∙ ap (λ l. l ++ Exchanged n ∷ []) a.log in
           (e.log.0, e.log.1 ∙ ap (λ l. l ++ e.log.0) f);
+      whole = λ r l. b.whole (subst IsAtRest (sym (drained_at_rest w v count k r.pending)) r) (a.log ∙ l);
     }
-
-pub ok_ends : {A E : Type 0} (f : A → Snapped) (n : ℕ) (w v u : Processor) (count : ℕ) (r : Result A E)
-    → Works w v count → KeepsAccounts w v → Begins n v u
-    → IfOk r (λ x. EndsFrom (known (booted_by u) u.log []) (f x)) → IfOk r (λ x. EndsRun n w (f x))
-ok_ends f n w v u count (Ok x) k a b e = ends_run n w v u count (f x) k a b e
-ok_ends f n w v u count (Err y) k a b e = tt
-
-pub ok_always : {A E : Type 0} {P : Type 0} (r : Result A E) → P → IfOk r (λ x. P)
-ok_always (Ok x) p = p
-ok_always (Err y) p = tt
-
-pub ok_more : {A E : Type 0} {P Q : A → Type 0} (r : Result A E) → IfOk r P → ((x : A) → P x → Q x) → IfOk r Q
-ok_more (Ok x) h f = f x h
-ok_more (Err y) h f = tt

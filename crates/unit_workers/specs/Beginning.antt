@@ -22,8 +22,10 @@ abbrev pub IsExchangedFirst : Bool → Processor → Processor → Type 0
 IsExchangedFirst true w v = v ≡ after w Exchange
 IsExchangedFirst false w v = (v ≡ w) × (is_none w.state.halt ≡ true)
 
--- the machine has gone on from there; if it was at rest, just by the exchange for the package
-pub record Begins (n : ℕ) (w v : Processor) : Type 0 where
+-- the machine has gone on from there; if it was at rest, just by the exchange for the package; and whether its log
+-- begins with that exchange, which it does where the machine was just booted
+pub record Begins (is_whole : Bool) (n : ℕ) (w v : Processor) : Type 0 where
   pub booted : booted_by v ≡ booted_by w
   pub log : StartsWith v.log w.log
   pub first : IsAtRest w → v.log ≡ w.log ++ Exchanged n ∷ []
+  pub whole : IsAtRest w → w.log ≡ [] → is_whole ≡ true

@@ -282,26 +282,31 @@ fn ask_following(machine: &mut Machine, requests: &mut Requests) -> Result<(), R
 }
 
 /// Asks for the first exchange, makes it, and asks for the exchange that follows it, before any thread has the machine.
-/// If another request waits, or the machine is in the middle of a word, the first exchange is left to `conduct`.
+/// Answers whether the machine's log begins with it. If another request waits, or the machine is in the middle of a
+/// word, the first exchange is left to `conduct`.
 ///
 /// # Errors
 /// What was refused.
-pub fn begin(machine: &mut Machine, start: u32, requests: &mut Requests) -> Result<(), Refusal>
-    ensures { IfOk result (λ _. Begins start machine.old machine.new) }
+pub fn begin(machine: &mut Machine, start: u32, requests: &mut Requests) -> Result<bool, Refusal>
+    ensures { IfOk result (λ is_whole. Begins is_whole start machine.old machine.new) }
 {
+    let is_new = machine.log().entries().is_empty();
     match ask_first(machine, start) {
         Ok(true) => {}
-        Ok(false) => return Ok(()),
+        Ok(false) => return Ok(false),
         Err(refusal) => return Err(refusal),
     }
     let _ = requests.take_due();
     match exchange_first(machine) {
         Ok(true) => {}
-        Ok(false) => return Ok(()),
+        Ok(false) => return Ok(false),
         Err(refusal) => return Err(refusal),
     }
     requests.exchanged();
-    ask_following(machine, requests)
+    match ask_following(machine, requests) {
+        Ok(()) => Ok(is_new),
+        Err(refusal) => Err(refusal),
+    }
 }
 
 /// Issues and makes exchanges up to the run's end. If nothing can be done it waits for the events of others.

@@ -1,5 +1,7 @@
 //! A whole run by threads.
-ghost use Rattle.std.specs.Prelude.{◌≡◌, ◌≤◌, [], ◌∷◌, ◌++◌, true, IfOk, IfSome, Ok, map};
+ghost use Rattle.std.specs.Prelude.{◌≡◌, ◌≤◌, [], ◌∷◌, ◌++◌, true, IfOk, IfSome, OnOk, Ok, map};
+ghost use Rattle.fulfilled_requests.specs.Fulfilled.{IsFulfilled};
+ghost use Rattle.sequential_run.specs.Turns.{is_in_mid_word};
 ghost use Rattle.sequential.specs.Log.{issued};
 ghost use Rattle.sequential.specs.Replay.{Exchanged};
 ghost use Rattle.progress_word.specs.CallerKnowledge.{booted_by, known, StartsWith};
@@ -12,11 +14,13 @@ ghost use Rattle.unit_workers.specs.Settled.{in_use, IsSettled, AreSettled};
 use crate::asking::{FreeRequests, ask_all};
 use crate::issuing::{PendingRequests, begin, conduct};
 use crate::worker_lanes::{LaneEnds, Settled, WorkerLanes, open_lanes};
-use exchange_requests::{Ask, Requests};
+use exchange_requests::{Ask, Requests, in_order};
+use fulfilled_requests::are_fulfilled;
 use instruction_table::Refusal;
 use machine::{Machine, Seat};
 use machine_lock::{Ground, Naming, Seen, Shared};
 use per_unit::PerUnit;
+use sequential_run::is_in_mid_word;
 use std::alloc::Global;
 use std::marker::Brand;
 use std::snapshot::Snapshot;
@@ -251,18 +255,54 @@ fn leave(holder: Option<Seat>) {
     }
 }
 
+/// Holds a run to its requests for exchanges, if its log begins with the exchange for the first package.
+///
+/// # Errors
+/// `ExchangeWaiting` if the log doesn't fulfil them, and `OutOfMemory`.
+fn hold_to_requests(
+    alloc: Global,
+    is_whole: bool,
+    orders: &Orders,
+    snapshot: &machine::Snapshot,
+) -> Result<(), Refusal>
+    ensures { OnOk result (is_whole ≡ true → IsFulfilled orders.now.start orders.now.after.items orders.now.free.items
+        (is_in_mid_word snapshot.now.state) snapshot.now.log) }
+{
+    if !is_whole {
+        return Ok(());
+    }
+    let Ok(asks) = in_order(alloc, orders.start, orders.after.as_slice()) else {
+        return Err(Refusal::OutOfMemory);
+    };
+    let in_mid_word = is_in_mid_word(snapshot.state());
+    // No effect at run time: from the budget the proof reads that the instructions can be counted.
+    let _ = snapshot.budget();
+    match are_fulfilled(
+        alloc,
+        asks.as_slice(),
+        orders.free.as_slice(),
+        in_mid_word,
+        snapshot.log(),
+    ) {
+        Ok(true) => Ok(()),
+        Ok(false) => Err(Refusal::ExchangeWaiting),
+        Err(_) => Err(Refusal::OutOfMemory),
+    }
+}
+
 /// Runs a machine by threads: one for each of the seven units, one for memory, one that makes the requests at any time,
 /// and this one, which issues. The run starts with the exchange for the package at `orders.start`. It ends where the
 /// machine is drained and either it is halted, faulted or out of budget, no request waits, none is due and none at any
 /// time is left; or it is out of budget in the middle of a word, where the exchange that waits can't be made. A request
 /// after more instructions than are issued by then isn't made. The snapshot at its end has this machine's boot memory
-/// and budget; its log begins with the machine's and keeps to the budget. The run drains the machine first, since no
-/// lane has a note of an instruction that was issued before.
+/// and budget; its log begins with the machine's and keeps to the budget. If the machine was just booted, the log
+/// fulfils the requests of `orders`. The run drains the machine first, since no lane has a note of an instruction that
+/// was issued before.
 ///
 /// # Errors
 /// What the machine refuses before; `Nothing` where the machine's seats were given out before; `OutOfMemory`, also
-/// where a thread couldn't be started; `NotDrained` if the machine could go on. All threads have ended then, and all
-/// seats are left.
+/// where a thread couldn't be started; `NotDrained` if the machine could go on; `ExchangeWaiting` if the log doesn't
+/// fulfil the requests. All threads have ended then, and all seats are left.
 pub fn run_threads<G: Gate + Send, R: Threads + Wait + Clock + Sync>(
     rt: &R,
     alloc: Global,
@@ -277,6 +317,9 @@ pub fn run_threads<G: Gate + Send, R: Threads + Wait + Clock + Sync>(
     ensures end { IfOk result (λ ended. is_at_end ended.snapshot ≡ true) }
     ensures start { IfOk result (λ ended. IsAtRest machine
         → StartsWith ended.snapshot.log (machine.log ++ Exchanged orders.now.start ∷ [])) }
+    ensures requests { IfOk result (λ ended. IsAtRest machine → machine.log ≡ []
+        → IsFulfilled orders.now.start orders.now.after.items orders.now.free.items
+        (is_in_mid_word ended.snapshot.state) ended.snapshot.log) }
 {
     let Ok(mut requests) = Requests::new(alloc, orders.start, orders.after.as_slice()) else {
         return Err(Refusal::OutOfMemory);
@@ -285,7 +328,9 @@ pub fn run_threads<G: Gate + Send, R: Threads + Wait + Clock + Sync>(
     let free = FreeRequests::new(orders.free.as_slice());
     let mut machine = machine;
     machine.drain();
-    begin(&mut machine, orders.start, &mut requests)?;
+    let is_whole = begin(&mut machine, orders.start, &mut requests)?;
     let pending = PendingRequests::new(requests, &free);
-    run_beside::<Brand, _, _>(rt, alloc, ground, machine, gates, pending)
+    let ended = run_beside::<Brand, _, _>(rt, alloc, ground, machine, gates, pending)?;
+    hold_to_requests(alloc, is_whole, orders, &ended.snapshot)?;
+    Ok(ended)
 }

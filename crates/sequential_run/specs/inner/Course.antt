@@ -2,7 +2,7 @@
 -- Source: ours.
 use Rattle.std.specs.Prelude.{ℕ, ◌≡◌, ◌≤◌, ◌<◌, ◌+◌, ◌-◌, ◌*◌, Bool, true, false, List, [], None, length, is_some}
 use Rattle.std.specs.Prelude.{if◌then◌else◌, ◌++◌, replicate}
-use Rattle.exchange_requests.specs.Requests.{IsDue}
+use Rattle.exchange_requests.specs.Requests.{AreOrdered, IsDue}
 use Rattle.instructions.specs.declared.refusal.Refusal.{Refusal}
 use Rattle.instructions.specs.declared.refusal.Refusal.TheVariants.{OutOfMemory, PackageRange}
 use Rattle.relocation.specs.Relocation.{package_fits}
@@ -10,7 +10,6 @@ use Rattle.sequential.specs.Log.{issued}
 use Rattle.sequential_run.specs.declared.course.Course.{Course}
 use Rattle.sequential.specs.Replay.{Issued}
 use Rattle.sequential_run.specs.inner.Stepping.{StepsTo}
-use Rattle.sequential_run.specs.Run.{AreOrdered}
 use Rattle.sequential_run.specs.Turns.{Moment, begun, Ends, Exchanges, is_going, is_in_mid_word, next_turn, turns}
 
 -- the moment at which a run is

@@ -1,9 +1,12 @@
-use Rattle.std.proofs.Common.{true, ◌≡◌, ◌≤◌, ℕ, List, [], ◌∷◌, ◌++◌, is_some, ◌∙◌, ap, subst, rules}
+use Rattle.std.proofs.Common.{Bool, true, ◌≡◌, ◌≤◌, ℕ, List, [], ◌∷◌, ◌++◌, is_some, ◌∙◌, ap, subst, rules}
 use Rattle.sequential.specs.Log.{issued}
 use Rattle.sequential.specs.Replay.{LogStep, Exchanged, boot}
 use Rattle.unit_workers.specs.Beginning.{IsAtRest}
 use Rattle.program_order.specs.Processor.{Processor, boot_processor}
+use Rattle.fulfilled_requests.specs.Fulfilled.{IsFulfilled}
+use Rattle.sequential_job.specs.Running.{asks_after}
 use Rattle.sequential_run.specs.Run.{is_over}
+use Rattle.sequential_run.specs.Turns.{is_in_mid_word}
 use Rattle.sequential_run.proofs.Ending.{run_on}
 use Rattle.deck_run.proofs.running.run.Goals as goal
 
@@ -35,14 +38,28 @@ begins_with : (log before : List LogStep) (n start : ℕ) → before ≡ [] → 
 begins_with log before n start b e h =
     (h.0, h.1 ∙ ap (λ l. (l ++ Exchanged n ∷ []) ++ h.0) b ∙ ap (λ k. Exchanged k ∷ h.0) e)
 
+-- the requests of the orders are the deck's
+fulfilled_as : (start other : ℕ) (after asks : List (ℕ × ℕ)) (free spare : List ℕ) (in_mid_word : Bool)
+    (log : List LogStep) → start ≡ other → after ≡ asks → free ≡ spare
+    → IsFulfilled start after free in_mid_word log → IsFulfilled other asks spare in_mid_word log
+fulfilled_as start other after asks free spare in_mid_word log s a f h =
+    subst (λ n. IsFulfilled n asks spare in_mid_word log) s
+    (subst (λ l. IsFulfilled start l spare in_mid_word log) a
+    (subst (λ l. IsFulfilled start after l in_mid_word log) f h))
+
 -- the snapshot's boot memory is the machine's, which is the deck's, and its budget is the machine's too
 pub returns-in-Ok-run_threads-clause-ran : goal.returns-in-Ok-run_threads-clause-ran
 returns-in-Ok-run_threads-clause-ran g c =
     let ended = c.in-Ok-run_threads.ensures in
     let booted = c.in-Ok.ensures.machine in
     run_on c.args.deck.now.image.memory c.in-Ok-run_threads.ended.snapshot.boot_memory c.args.deck.now.start
-    c.args.budget _ _ (ended.memory ∙ booted_memory _ _ _ booted)
+    (asks_after c.args.deck.now) c.args.deck.now.free c.args.budget _ _ (ended.memory ∙ booted_memory _ _ _ booted)
     (begins_with _ _ _ _ (booted_log _ _ _ booted) c.in-Ok.ensures.start (ended.start (booted_rests _ _ _ booted)))
+    (fulfilled_as c.in-Ok.orders.start c.args.deck.now.start c.in-Ok.orders.after.items (asks_after c.args.deck.now)
+    c.in-Ok.orders.free.items c.args.deck.now.free
+    (is_in_mid_word c.in-Ok-run_threads.ended.snapshot.state) c.in-Ok-run_threads.ended.snapshot.log
+    c.in-Ok.ensures.start c.in-Ok.ensures.after c.in-Ok.ensures.free
+    (ended.requests (booted_rests _ _ _ booted) (booted_log _ _ _ booted)))
     (subst (λ (n : ℕ). issued c.in-Ok-run_threads.ended.snapshot.log ≤ n) (booted_budget _ _ _ booted)
     ended.within)
     (subst (λ (n : ℕ). is_over c.in-Ok-run_threads.ended.snapshot.state c.in-Ok-run_threads.ended.snapshot.log n ≡ true)

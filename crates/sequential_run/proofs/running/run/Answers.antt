@@ -1,5 +1,6 @@
 use Rattle.std.proofs.Common.{refl}
 use Rattle.sequential_run.proofs.Beginning.{run_begins}
+use Rattle.sequential_run.proofs.Fulfilling.{run_fulfils}
 use Rattle.sequential_run.proofs.Ending.{kept_begun, run_ended, run_on, run_over, run_replays}
 use Rattle.sequential_run.proofs.running.run.Goals as goal
 
@@ -15,8 +16,10 @@ returns-in-Ok-finish-clause-run c = run_ended c.args.memory c.args.start c.args.
 
 pub returns-in-Ok-finish-clause-promised : goal.returns-in-Ok-finish-clause-promised
 returns-in-Ok-finish-clause-promised c =
-    run_on c.args.memory c.args.memory c.args.start c.args.budget _ _ refl
+    run_on c.args.memory c.args.memory c.args.start c.args.after.now c.args.free.now c.args.budget _ _ refl
     (run_begins c.args.memory c.args.start c.args.after.now c.args.free.now c.args.budget _ _
+    (returns-in-Ok-finish-clause-run c))
+    (run_fulfils c.args.memory c.args.start c.args.after.now c.args.free.now c.args.budget _ _
     (returns-in-Ok-finish-clause-run c)) c.in-Ok-finish.ensures.within
     (run_over c.args.memory c.args.start c.args.after.now c.args.free.now c.args.budget _ _
     (returns-in-Ok-finish-clause-run c))

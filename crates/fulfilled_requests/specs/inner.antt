@@ -1,0 +1,2 @@
+-- What ties the code to its definitions. Source: ours.
+pub mod Judging
