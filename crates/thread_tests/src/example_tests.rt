@@ -1,6 +1,6 @@
 //! Two threads that drive one machine and meet, as docs/threads.md shows it.
-ghost use Rattle.std.specs.Prelude.{◌≡◌};
-ghost use Rattle.progress_word.specs.CallerKnowledge.{AreApart, NumbersApart};
+ghost use Rattle.std.specs.Prelude.{◌≡◌, IfOk};
+ghost use Rattle.progress_word.specs.CallerKnowledge.{AreApart, NumbersApart, StartsWith};
 
 use crate::fixtures::booted;
 use crate::lock_tests::leave_all;
@@ -28,13 +28,28 @@ fn issue_twice<K: Naming, R: Wait>(rt: &R, shared: &Shared<K>, mut seen: Seen<K>
     (seen, [first, second])
 }
 
-/// Two callers that meet know what neither could know alone: no step was made by both, and no reservation's number
-/// was answered to both.
+/// Two callers that meet know what neither could know alone: each has seen what the other had seen, no step was made by
+/// both, and no reservation's number was answered to both.
 fn meet<K: Naming>(shared: &Shared<K>, one: &mut Seen<K>, other: &mut Seen<K>)
+    ensures one { StartsWith one.new.log other.old.log }
+    ensures other { StartsWith other.new.log one.old.log }
     ensures apart { AreApart one.new.mine other.new.mine }
     ensures numbers { NumbersApart one.new other.new }
 {
     shared.meet(one, other);
+}
+
+/// A snapshot that one of two callers takes after they have met. It has all that the other had seen.
+fn snapshot_after_meeting<K: Naming, R: Wait>(
+    rt: &R,
+    shared: &Shared<K>,
+    one: &mut Seen<K>,
+    other: &mut Seen<K>,
+) -> Result<Snapshot, Refusal>
+    ensures { IfOk result (λ snapshot. StartsWith snapshot.log other.old.log) }
+{
+    meet(shared, one, other);
+    shared.snapshot(rt, one)
 }
 
 /// The first exchange, and then two issues by each of two threads, which meet: what they answer, and what the machine
@@ -52,8 +67,7 @@ fn issue_by_two<K: Naming + Send + Sync, R: Threads + Wait + Sync>(
         || issue_twice(rt, shared, seen),
         || issue_twice(rt, shared, other),
     );
-    meet(shared, &mut one, &mut two);
-    let snapshot = shared.snapshot(rt, &mut one)?;
+    let snapshot = snapshot_after_meeting(rt, shared, &mut one, &mut two)?;
     Ok(([ones, twos], snapshot))
 }
 

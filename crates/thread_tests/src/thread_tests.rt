@@ -3,7 +3,7 @@
 ghost use Rattle.std.specs.Prelude.{◌≡◌};
 
 use crate::fixtures::{Wanted, Words, are, booted, booted_over, is_empty, note, word, x};
-use crate::lock_tests::leave_all;
+use crate::lock_tests::{Issued, leave_all};
 use crate::queue_tests::{Sending, Taking};
 use crate::signal_tests::opened;
 use instruction_table::{Digit, Halt, Refusal, Reg, Unit};
@@ -62,7 +62,7 @@ struct Run<'a> {
     /// The words that stand over `REGISTERS`.
     words: Words<'a>,
     /// Reservations that aren't computed before another is stored: so both are in their units at the same time, in two
-    /// threads, and no lock is held while a unit computes.
+    /// threads, and the thread that is held at its gate holds no lock.
     holds: &'a [(Numbered, Numbered)],
     /// How many instructions are issued, the last of which stops.
     issues: u64,
@@ -74,7 +74,7 @@ struct Run<'a> {
     a: &'a [(u16, &'a str)],
 }
 
-const RUNS: [Run<'static>; 11] = [
+const RUNS: [Run<'static>; 12] = [
     Run {
         name: "SX1 B0+5, SX2 B0+3, IX3 X1+X2, IX4 X2-X1, NO, PS",
         words: &[
@@ -120,6 +120,15 @@ const RUNS: [Run<'static>; 11] = [
         issues: 4,
         stored: [0, 1, 1, 0, 0, 0],
         x: &[(1, "6"), (3, "10")],
+        a: &[],
+    },
+    Run {
+        name: "BX1 X2 has read X2 and is held until LX2 1, which writes it, is stored",
+        words: &[(0o100, "10120202014600000000")],
+        holds: &[((Unit::Boolean, 1), (Unit::Shift, 2))],
+        issues: 4,
+        stored: [0, 1, 1, 0, 0, 0],
+        x: &[(1, "6"), (2, "14")],
         a: &[],
     },
     Run {
@@ -704,6 +713,114 @@ fn serves_once<K: Naming, R: Wait>(
     let (boolean, is_again) = serve(rt, &shared, note(Unit::Boolean, 1), boolean, &mut gate);
     let counts = [boolean.leave(), gate.before, gate.stored];
     Ok((started, [is_never, is_other, is_own, is_again], counts))
+}
+
+/// A gate that holds one reservation.
+#[derive(Drop)]
+struct HeldBy<'a>(&'a Hold);
+
+impl Gate for HeldBy<'_> {
+    fn before(&mut self, unit: Unit, number: u64) {
+        self.0.before(unit, number);
+    }
+
+    fn stored(&mut self, unit: Unit, number: u64) {
+        self.0.stored(unit, number);
+    }
+}
+
+/// Issues, if the oldest reservation is Boolean's and has its operands and no value yet.
+fn issue_meanwhile<K: Naming, R: Wait>(
+    rt: &R,
+    shared: &Shared<K>,
+    seen: &mut Seen<K>,
+) -> Option<Issued> {
+    let mut machine = shared.lock(rt);
+    if machine.next_work() != Some(Event::Finish(Unit::Boolean)) {
+        return None;
+    }
+    let issued = machine.issue(seen);
+    machine.release();
+    Some(issued)
+}
+
+/// Waits until Boolean's reservation has its operands and no value yet, issues then, and lets the reservation that is
+/// held go on. None where that never is so.
+fn issue_before_finish<K: Naming, R: Wait>(
+    rt: &R,
+    shared: &Shared<K>,
+    mut seen: Seen<K>,
+    hold: &Hold,
+) -> Option<Issued> {
+    for _ in 0..1_000_000u32 {
+        if let Some(issued) = issue_meanwhile(rt, shared, &mut seen) {
+            hold.stored(Unit::Shift, 2);
+            return Some(issued);
+        }
+        thread::yield_now();
+    }
+    None
+}
+
+/// Serves Boolean's reservation with the seat of a holder. It answers whether it was stored.
+fn serve_held<K: Naming, R: Wait>(
+    rt: &R,
+    shared: &Shared<K>,
+    holder: &mut Option<Seat>,
+    hold: &Hold,
+) -> Option<bool> {
+    let note = note(Unit::Boolean, 1);
+    let (boolean, is_stored) = serve(rt, shared, note, holder.take()?, &mut HeldBy(hold));
+    boolean.leave();
+    Some(is_stored)
+}
+
+/// The same while another thread issues. None where it couldn't be started.
+fn serve_while_issuing<K: Naming + Send + Sync, R: Threads + Wait + Sync>(
+    rt: &R,
+    shared: &Shared<K>,
+    seen: Seen<K>,
+    holder: &mut Option<Seat>,
+    hold: &Hold,
+) -> Option<(bool, Option<Issued>)> {
+    thread::scope(thread::scope_env(), rt, move |scope| {
+        let issuing = scope
+            .spawn(move || issue_before_finish(rt, shared, seen, hold))
+            .ok()?;
+        let is_stored = serve_held(rt, shared, holder, hold);
+        let issued = issuing.join(rt);
+        Some((is_stored?, issued))
+    })
+}
+
+/// Between the read of a unit and its finish its worker holds no lock: another thread issues then, and the worker goes
+/// on after that. It computes in between.
+#[test]
+fn another_issues_while_a_unit_computes(rt: HostRuntime) -> Result<(), Fail> {
+    let machine = booted(rt.alloc(), &BOTH)?;
+    let ground = Ground::new(rt.alloc())?;
+    let hold = Hold::new(note(Unit::Boolean, 1), note(Unit::Shift, 2));
+    let computed = computes_beside::<Brand, _>(&rt, rt.alloc(), ground, machine, &hold)?;
+    assert_eq!(rt; computed, (NOTES, true, Some((true, Some(Ok(None))))));
+    assert!(rt; hold.is_released());
+    Ok(())
+}
+
+/// What `start` answers, whether the worker took its seat, and whether it stored, with what the other's issue answered.
+fn computes_beside<K: Naming + Send + Sync, R: Threads + Wait + Sync>(
+    rt: &R,
+    alloc: Global,
+    ground: Ground,
+    machine: Machine,
+    hold: &Hold,
+) -> Result<(Started, bool, Option<(bool, Option<Issued>)>), Refusal>
+    requires { ground ≡ K.table }
+{
+    let (shared, seats, mut seen) = Shared::<K>::open(alloc, ground, machine)?;
+    let mut holder = Some(of_boolean(seats));
+    let started = start(rt, &shared, &mut seen);
+    let computed = serve_while_issuing(rt, &shared, seen, &mut holder, hold);
+    Ok((started, is_empty(holder), computed))
 }
 
 /// Whether the reservation was stored, whether the machine is drained then, and the answer to an acceptance from the

@@ -1,5 +1,5 @@
 -- What went into a lane and came out of it, as lists of items in their order. Source: ours.
-use Rattle.std.specs.Prelude.{◌≡◌, Bool, true, false, ◌||◌, List, [], ◌∷◌, ◌++◌, length}
+use Rattle.std.specs.Prelude.{◌≡◌, ◌<◌, Bool, true, false, ◌||◌, List, [], ◌∷◌, ◌++◌, length}
 use Rattle.atomic_table.specs.Seated.{TableId}
 use Rattle.unit_queue.specs.declared.item.Item.{Item}
 use Rattle.unit_queue.specs.declared.item.Item.TheVariants.{Work, Closed}
@@ -10,23 +10,25 @@ pub record LaneName : Type 0 where
   pub id : TableId
   pub unit : FunctionalUnit
 
--- a lane's end for sending: which lane, and what was sent so far
+-- a lane's end for sending: which lane, what was sent so far, and what was taken when the last of it was sent
 pub record SendEnd : Type 0 where
   pub id : TableId
   pub sent : List Item
+  pub taken : List Item
 
--- a lane's end for taking: which lane, and what was taken so far
+-- a lane's end for taking: which lane, what was taken so far, and what was sent when the last of it was taken
 pub record TakeEnd : Type 0 where
   pub id : TableId
   pub got : List Item
+  pub sent : List Item
 
--- the end for sending on that lane, when this was sent
-abbrev pub send_end : TableId → List Item → SendEnd
-send_end id sent = record { id = id; sent = sent }
+-- the end for sending on that lane, when this was sent, and when that was taken
+abbrev pub send_end : TableId → List Item → List Item → SendEnd
+send_end id sent taken = record { id = id; sent = sent; taken = taken }
 
--- the end for taking from that lane, when this was taken
-abbrev pub take_end : TableId → List Item → TakeEnd
-take_end id got = record { id = id; got = got }
+-- the end for taking from that lane, when this was taken, and when that was sent
+abbrev pub take_end : TableId → List Item → List Item → TakeEnd
+take_end id got sent = record { id = id; got = got; sent = sent }
 
 -- the item says that no more notes come
 abbrev pub is_closing : Item → Bool
@@ -43,10 +45,23 @@ abbrev pub IsOrderly : List Item → Type 0
 IsOrderly [] = Unit {0}
 IsOrderly (x ∷ xs) = (is_closing x ≡ true → xs ≡ []) × IsOrderly xs
 
--- what was sent ends with these items
-abbrev pub EndsWith : List Item → List Item → Type 0
-EndsWith sent items = (taken : List Item) × (sent ≡ taken ++ items)
+-- the second list begins with the first
+abbrev pub IsBeginning : List Item → List Item → Type 0
+IsBeginning first all = (rest : List Item) × (all ≡ first ++ rest)
 
--- the lane may be full: the last two items that were sent wait
-abbrev pub IsFull : List Item → Type 0
-IsFull sent = (items : List Item) × (length items ≡ 2) × EndsWith sent items
+-- at a moment after the last item was sent, these items waited: what was sent was what was taken then, and they
+abbrev pub Waited : List Item → List Item → List Item → Type 0
+Waited taken sent waiting = (got : List Item) × (sent ≡ got ++ waiting) × IsBeginning taken got
+
+-- the lane was full at a moment after the last item was sent: two items waited
+abbrev pub IsFull : SendEnd → Type 0
+IsFull e = (waiting : List Item) × (length waiting ≡ 2) × Waited e.taken e.sent waiting
+
+-- when the item was sent, fewer than two waited: what was sent before was what was taken then, and they
+abbrev pub HadRoom : SendEnd → SendEnd → Type 0
+HadRoom old new =
+    (waiting : List Item) × (length waiting < 2) × (old.sent ≡ new.taken ++ waiting) × IsBeginning old.taken new.taken
+
+-- the lane was empty at a moment after the last item was taken: what was sent was what was taken
+abbrev pub IsEmpty : TakeEnd → Type 0
+IsEmpty e = IsBeginning e.sent e.got

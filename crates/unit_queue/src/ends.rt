@@ -3,7 +3,7 @@ ghost use Rattle.std.specs.Prelude.{◌≡◌, ◌⊎◌, ◌++◌, ◌∷◌, [
 ghost use Rattle.std.specs.Prelude.{MatchOption, MatchBool, ◌&&◌, IsTrue};
 ghost use Rattle.instructions.specs.declared.refusal.Refusal.TheVariants.{OutOfMemory};
 ghost use Rattle.unit_queue.specs.Lanes.{LaneName, SendEnd, TakeEnd, send_end, take_end, is_closed, is_closing};
-ghost use Rattle.unit_queue.specs.Lanes.{IsOrderly, IsFull};
+ghost use Rattle.unit_queue.specs.Lanes.{IsOrderly, IsBeginning, IsFull, HadRoom, IsEmpty};
 
 use crate::item::Item;
 use crate::rule::{Ends, LaneRule, Sends, Settles, Takes, View};
@@ -56,7 +56,7 @@ impl Model for SendPass {
 
     ghost Value = { SendEnd };
 
-    ghost view = { λ s. send_end s.pass.table_id s.pass.me.0.client.sent };
+    ghost view = { λ s. send_end s.pass.table_id s.pass.me.0.client.sent s.pass.me.0.client.got };
 
     ghost invariant = { λ s. (s.pass.me.1 ≡ []) × IsTrue s.pass.me.0.client.sends
         × (s.closed ≡ is_closed s.pass.me.0.client.sent) × IsOrderly s.pass.me.0.client.sent };
@@ -81,13 +81,14 @@ pub struct TakePass {
 
 impl Model for TakePass {
     ghost use Rattle.std.specs.Prelude.{◌≡◌, IsTrue, []};
-    ghost use Rattle.unit_queue.specs.Lanes.{TakeEnd, take_end, IsOrderly};
+    ghost use Rattle.unit_queue.specs.Lanes.{TakeEnd, take_end, IsOrderly, IsBeginning};
 
     ghost Value = { TakeEnd };
 
-    ghost view = { λ s. take_end s.pass.table_id s.pass.me.0.client.got };
+    ghost view = { λ s. take_end s.pass.table_id s.pass.me.0.client.got s.pass.me.0.client.sent };
 
-    ghost invariant = { λ s. (s.pass.me.1 ≡ []) × IsTrue s.pass.me.0.client.takes × IsOrderly s.pass.me.0.client.got };
+    ghost invariant = { λ s. (s.pass.me.1 ≡ []) × IsTrue s.pass.me.0.client.takes × IsOrderly s.pass.me.0.client.sent
+        × IsBeginning s.pass.me.0.client.got s.pass.me.0.client.sent };
 }
 
 impl Lane {
@@ -97,7 +98,7 @@ impl Lane {
     /// `OutOfMemory`.
     pub(crate) fn new(alloc: Global, unit: Unit) -> Result<(Lane, SendPass, TakePass), Refusal>
         ensures { MatchResult result
-            (λ made. (made.0.unit ≡ unit) × (made.1 ≡ send_end made.0.id []) × (made.2 ≡ take_end made.0.id []))
+            (λ made. (made.0.unit ≡ unit) × (made.1 ≡ send_end made.0.id [] []) × (made.2 ≡ take_end made.0.id [] []))
             (λ refusal. refusal ≡ OutOfMemory) }
     {
         let Ok((queue, mut pass)) = Queue::ruled(alloc, 2) else {
@@ -128,7 +129,8 @@ impl Lane {
         ensures lane { pass.new.id ≡ pass.old.id }
         ensures sent { MatchBool result (pass.new.sent ≡ pass.old.sent ++ item ∷ []) (pass.new.sent ≡ pass.old.sent) }
         ensures closed { is_closed pass.new.sent ≡ (result && is_closing item) }
-        ensures full { result ≡ false → IsFull pass.old.sent }
+        ensures room { IsTrue result → HadRoom pass.old pass.new }
+        ensures full { result ≡ false → (pass.new.taken ≡ pass.old.taken) × IsFull pass.old }
         ensures order { IsOrderly pass.new.sent }
     {
         match self.queue.push_as::<Sends, R>(rt, &mut pass.pass, item) {
@@ -143,7 +145,7 @@ impl Lane {
     /// Sends a reservation. The pass has to be this lane's.
     ///
     /// # Errors
-    /// The note, where two items waited at one moment of the call, or the lane was closed.
+    /// The note, if the lane is closed, or if two items waited at a moment since the last one was sent.
     pub fn send<R: Wait>(&self, rt: &R, pass: &mut SendPass, note: Note) -> Result<(), Note>
         requires lane { pass.old.id ≡ self.now.id }
         ensures lane { pass.new.id ≡ pass.old.id }
@@ -151,7 +153,9 @@ impl Lane {
             (λ _. pass.new.sent ≡ pass.old.sent ++ Item.Work note ∷ [])
             (λ back. (pass.new.sent ≡ pass.old.sent) × (back ≡ note)) }
         ensures open { OnOk result (is_closed pass.old.sent ≡ false) }
-        ensures refused { OnErr result ((is_closed pass.old.sent ≡ true) ⊎ IsFull pass.old.sent) }
+        ensures room { OnOk result (HadRoom pass.old pass.new) }
+        ensures refused { OnErr result ((is_closed pass.old.sent ≡ true) ⊎ IsFull pass.old) }
+        ensures stays { OnErr result (pass.new ≡ pass.old) }
         ensures order { IsOrderly pass.new.sent }
     {
         if pass.is_closed() {
@@ -164,29 +168,31 @@ impl Lane {
         }
     }
 
-    /// Sends `Closed`, if it wasn't sent yet: no more notes come. It answers whether the lane is closed, which it isn't
-    /// only where two items waited at one moment of the call. The pass has to be this lane's.
+    /// Sends `Closed`, if it wasn't sent yet: no more notes come. It answers whether the lane is closed, which it is
+    /// unless two items waited at a moment since the last one was sent. The pass has to be this lane's.
     pub fn close<R: Wait>(&self, rt: &R, pass: &mut SendPass) -> bool
         requires lane { pass.old.id ≡ self.now.id }
         ensures lane { pass.new.id ≡ pass.old.id }
         ensures closed { IsTrue result → is_closed pass.new.sent ≡ true }
-        ensures again { is_closed pass.old.sent ≡ true → (result ≡ true) × (pass.new.sent ≡ pass.old.sent) }
+        ensures again { is_closed pass.old.sent ≡ true → (result ≡ true) × (pass.new ≡ pass.old) }
         ensures first { is_closed pass.old.sent ≡ false → result ≡ true
-            → pass.new.sent ≡ pass.old.sent ++ Item.Closed ∷ [] }
-        ensures refused { result ≡ false → (pass.new.sent ≡ pass.old.sent) × IsFull pass.old.sent }
+            → (pass.new.sent ≡ pass.old.sent ++ Item.Closed ∷ []) × HadRoom pass.old pass.new }
+        ensures refused { result ≡ false → (pass.new ≡ pass.old) × IsFull pass.old }
         ensures order { IsOrderly pass.new.sent }
     {
         pass.is_closed() || self.push(rt, pass, Item::Closed)
     }
 
-    /// Takes the oldest item that waits. None where none waited at one moment of the call, and always after `Closed`
-    /// was taken. The pass has to be this lane's.
+    /// Takes the oldest item that waits. `None` only if none waited at a moment since the last one was taken, and always
+    /// after `Closed` was taken. The pass has to be this lane's.
     pub fn take<R: Wait>(&self, rt: &R, pass: &mut TakePass) -> Option<Item>
         requires lane { pass.old.id ≡ self.now.id }
         ensures lane { pass.new.id ≡ pass.old.id }
         ensures got { MatchOption result
             (pass.new.got ≡ pass.old.got)
             (λ item. pass.new.got ≡ pass.old.got ++ item ∷ []) }
+        ensures sent { MatchOption result ((pass.new.sent ≡ pass.old.sent) × IsEmpty pass.old)
+            (λ item. IsBeginning pass.new.got pass.new.sent × IsBeginning pass.old.sent pass.new.sent) }
         ensures open { OnSome result (is_closed pass.old.got ≡ false) }
         ensures closed { IfSome result (λ item. is_closed pass.new.got ≡ is_closing item) }
         ensures order { IsOrderly pass.new.got }

@@ -28,7 +28,7 @@ use std::alloc::Global;
 /// `OutOfMemory`.
 pub fn lane(alloc: Global, unit: Unit) -> Result<(Lane, SendPass, TakePass), Refusal>
     ensures { MatchResult result
-        (λ made. (made.0.unit ≡ unit) × (made.1 ≡ send_end made.0.id []) × (made.2 ≡ take_end made.0.id []))
+        (λ made. (made.0.unit ≡ unit) × (made.1 ≡ send_end made.0.id [] []) × (made.2 ≡ take_end made.0.id [] []))
         (λ refusal. refusal ≡ OutOfMemory) }
 {
     Lane::new(alloc, unit)

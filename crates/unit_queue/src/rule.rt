@@ -5,8 +5,8 @@ use crate::item::Item;
 use crossbeam_queue::protocol::{Join, Lesson, Outcome, Protocol, Split};
 use std::collections::LinkedList;
 
-// What the holder of a pass knows: whether it may push and pop, what was pushed with it and what was popped. No
-// value of it is made.
+// What the holder of a pass knows: whether it may push and pop, and beginnings of what was pushed and of what was
+// popped. A pass that pushes knows all that was pushed, and one that pops all that was popped. No value of it is made.
 pub struct View {
     pub sends: bool,
     pub takes: bool,
@@ -32,9 +32,9 @@ pub struct Ends;
 impl Split<View> for Ends {
     ghost use Rattle.unit_queue.specs.Rules.{sender, taker};
 
-    ghost left = { λ v. sender v.sent };
+    ghost left = { λ v. sender v.sent v.got };
 
-    ghost right = { λ v. taker v.got };
+    ghost right = { λ v. taker v.got v.sent };
 }
 
 impl Join<View> for Ends {
@@ -46,24 +46,24 @@ impl Join<View> for Ends {
     ghost spent = { view_of false false [] [] };
 }
 
-// A push, of a note or of `Closed`, adds its item to what was sent. Where the queue is full, the items that wait are
-// the last ones that were sent.
+// A push, of a note or of `Closed`, adds its item to what was sent, and its pass then knows what was taken by that
+// step. Where the queue is full, the items that wait are what was sent without what was taken.
 pub struct Sends;
 
 impl Outcome<Item, View> for Sends {
-    ghost use Rattle.std.specs.Prelude.{◌≡◌, ◌++◌, ◌∷◌, []};
-    ghost use Rattle.unit_queue.specs.Rules.{view_of};
+    ghost use Rattle.unit_queue.specs.Rules.{IsSent};
 
-    ghost then = { λ v x w. w ≡ view_of v.sends v.takes (v.sent ++ x ∷ []) v.got };
+    ghost then = { IsSent };
 }
 
 impl Lesson<Item, View> for Sends {
-    ghost use Rattle.unit_queue.specs.Lanes.{EndsWith};
+    ghost use Rattle.unit_queue.specs.Lanes.{Waited};
 
-    ghost fact = { λ v items. EndsWith v.sent items };
+    ghost fact = { λ v items. Waited v.got v.sent items };
 }
 
-// A pop adds its item to what was taken.
+// A pop adds its item to what was taken, and its pass then knows what was sent by that step. Where the queue is empty,
+// what was sent is what was taken.
 pub struct Takes;
 
 impl Outcome<Item, View> for Takes {
@@ -73,7 +73,10 @@ impl Outcome<Item, View> for Takes {
 }
 
 impl Lesson<Item, View> for Takes {
-    ghost fact = { λ v items. Unit {0} };
+    ghost use Rattle.std.specs.Prelude.{◌++◌};
+    ghost use Rattle.unit_queue.specs.Lanes.{IsBeginning};
+
+    ghost fact = { λ v items. IsBeginning v.sent (v.got ++ items) };
 }
 
 // A pop after `Closed` was taken finds nothing. With both ends in one pass it is then known that what waits comes

@@ -7,7 +7,7 @@ pub push_as-requires-clause-rule : goal.push_as-requires-clause-rule
 push_as-requires-clause-rule g c =
     let i = c.pass.invariant in
     let still = ap (λ (e : SendEnd). is_closed e.sent) c.pass.view_is
-    ∙ c.requires.open in (sends _ _ _ _ i.1 still, fills _ _ i.1)
+    ∙ c.requires.open in (sends _ _ _ _ c.self.invariant i.1 still, fills _ _ i.1)
 
 pub invariant_of-pass : goal.invariant_of-pass
 invariant_of-pass g c =
