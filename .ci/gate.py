@@ -15,7 +15,8 @@ The parts, in their order:
   beside the kit what it proved and tried, by the sums of all that it read, and so proves and tries again only what
   changed, and what stands above that; tests and the program are run each time;
 - wrong bodies: those of `must-fail` again and all others, in groups, over the libraries that `rt ci` left
-  (tools/wrong-bodies, which keeps what it tried in the user's cache folder);
+  (tools/wrong-bodies --once, which keeps what it tried in the user's cache folder). A body with the verdict `can't
+  tell` has neither passed nor failed, and the number of these is printed at the end;
 - decks (tools/checks): what the program prints for them, for the commands of the pages, for worked schedules, for the
   largest decks, for those that are cut and bent, and where calls fail, when requests of both kinds are made, what a run
   with and without threads prints for drawn decks, and which events take memory; that a run ends soon beside other work;
@@ -55,7 +56,7 @@ TOOLS = (".ci/spent-tokens", "tools/build-program-test")
 # The page whose table says what each of them checks.
 PAGE = "docs/CHANGING.md"
 PROOFS = re.compile(r"(\d+) passed, (\d+) failed")
-TRIED = re.compile(r"(\d+) wrong bodies, (\d+) not refused")
+TRIED = re.compile(r"(\d+) wrong bodies, (\d+) not refused, (\d+) can't tell")
 PIPED = {"stdout": subprocess.PIPE, "stderr": subprocess.STDOUT, "text": True, "errors": "replace"}
 # A check takes up to 4.3 GB.
 MEMORY_OF_A_CHECK = 5_000_000
@@ -76,24 +77,24 @@ def is_silent(command):
 
 
 def counted(words, pattern, environment=None):
-    """Runs a command, prints what it says, and gives the two numbers of its last line. One that ends in another way has
-    failed once."""
+    """Runs a command, prints what it says, and gives the numbers of its last line, of which the second is how many failed.
+    One that ends in another way has failed once."""
     numbers = None
     with subprocess.Popen(words, **PIPED, env=environment) as ran:
         for line in ran.stdout:
             print(line, end="", flush=True)
             numbers = pattern.fullmatch(line.strip())
     if not numbers:
-        return 0, 1
-    passed, failed = int(numbers[1]), int(numbers[2])
-    return passed, failed or (1 if ran.returncode else 0)
+        return 0, 1, *[0] * (pattern.groups - 2)
+    passed, failed, *others = map(int, numbers.groups())
+    return passed, failed or (1 if ran.returncode else 0), *others
 
 
 class Gate:
     """The parts that were gone through: what passed, what failed, and how long each took."""
 
     def __init__(self):
-        self.passed, self.failed, self.took = 0, 0, []
+        self.passed, self.failed, self.took, self.unsure = 0, 0, [], None
 
     def part(self, name, work):
         """Goes through a part, whose work gives what passed and what failed."""
@@ -107,6 +108,8 @@ class Gate:
         """Prints the times and the count; the status."""
         for name, seconds, used in self.took:
             print(f"{name}: {seconds / 60:.1f} minutes, {used / 60:.1f} of processors")
+        if self.unsure is not None:
+            print(f"wrong bodies with the verdict can't tell: {self.unsure}")
         print(f"{self.passed} passed, {self.failed} failed", flush=True)
         return 1 if self.failed else 0
 
@@ -138,12 +141,12 @@ def proofs(is_anew):
     return counted(["rt", "ci", *["--anew"] * is_anew], PROOFS, environment)
 
 
-def bodies(is_anew):
+def bodies(gate, is_anew):
     """The runner's own tests, and then all wrong bodies: how many were refused, and how many weren't."""
     test, runner = BODIES
     passed, failed = silent([test])
-    tried, let_through = counted([runner, "--after-rt-ci", *["--anew"] * is_anew], TRIED)
-    return passed + tried - let_through, failed + let_through
+    tried, let_through, gate.unsure = counted([runner, "--after-rt-ci", "--once", *["--anew"] * is_anew], TRIED)
+    return passed + max(tried - let_through - gate.unsure, 0), failed + let_through
 
 
 def is_ready(command):
@@ -171,7 +174,7 @@ def whole(gate, is_anew):
     if not gate.failed:
         gate.part("proofs and tests", lambda: proofs(is_anew))
     if not gate.failed:
-        gate.part("wrong bodies", lambda: bodies(is_anew))
+        gate.part("wrong bodies", lambda: bodies(gate, is_anew))
         gate.part("decks", decks)
 
 

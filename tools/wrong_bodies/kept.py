@@ -1,13 +1,16 @@
-"""Keeps which bodies were refused, by a sum of all that the check read, so that a later run tries only what is new.
+"""Keeps what was found of bodies, by a sum of all that the check read, so that a later run tries only what is new.
 
-Only refusals are kept. What was not refused is tried again each time.
+A body that isn't refused is tried again each time, and nothing is kept of it. What one check found is kept apart: it
+counts only where no second check is asked for, and there a verdict of two checks comes first.
 """
 
 import hashlib
 import json
 import os
+from contextlib import suppress
 from pathlib import Path
 
+from .verdicts import Verdict
 from .workspaces import PARTS
 
 
@@ -39,32 +42,32 @@ def sum_of(table, crate, identity):
 
 
 class Kept:
-    """The refusals of one crate as it stands: for the sum of an edit, the goal at which it was refused."""
+    """What was found of the bodies of one crate as it is: for the sum of an edit, its verdict and the words for it."""
 
-    def __init__(self, crate, total, anew):
+    def __init__(self, crate, total, anew, is_once=False):
         folder = Path(os.environ.get("XDG_CACHE_HOME") or Path.home() / ".cache") / "dohikewa" / "wrong-bodies"
-        self.file, self.refused = folder / f"{crate}-{total[:32]}.json", {}
-        if not anew and self.file.is_file():
-            try:
-                self.refused = dict(json.loads(self.file.read_text(encoding="utf-8")))
-            except (ValueError, OSError):
-                self.refused = {}
+        files = [folder / f"{crate}-{total[:32]}{ending}.json" for ending in ("-once", "")[not is_once :]]
+        self.file, self.found = files[0], {}
+        for file in files if not anew else ():
+            with suppress(ValueError, OSError):
+                self.found |= dict(json.loads(file.read_text(encoding="utf-8")))
 
     @staticmethod
     def key(body):
         return hashlib.sha256(body.text.encode()).hexdigest()
 
-    def goal(self, body):
-        return self.refused.get(self.key(body))
+    def verdict(self, body):
+        found = self.found.get(self.key(body))
+        return Verdict(*found) if found else None
 
-    def keep(self, body, goal):
-        """Writes a refusal at once, so that a run that is cut off has not tried for nothing. Where there is no place to
-        write to, nothing is kept, and a later run tries all again."""
-        self.refused[self.key(body)] = goal
+    def keep(self, body, verdict):
+        """Writes a verdict at once, so that a run that is cut off has not tried for nothing. If there is no place to write
+        to, nothing is kept, and a later run tries all again."""
+        self.found[self.key(body)] = verdict.kind, verdict.words
         try:
             self.file.parent.mkdir(parents=True, exist_ok=True)
             part = self.file.with_suffix(f".{os.getpid()}")
-            part.write_text(json.dumps(self.refused, indent=0), encoding="utf-8")
+            part.write_text(json.dumps(self.found, indent=0), encoding="utf-8")
             part.replace(self.file)
         except OSError:
             pass

@@ -1,5 +1,7 @@
 """Tries the wrong bodies of crates: gets the libraries that they stand on, and checks group after group.
 
+Each group is checked once, and the bodies that this check refuses once more (second.py), unless one check is to do.
+
 Libraries that `rt ci` has just proved are taken over, and others are built. Where a crate is built as a library for
 others, its groups run side by side, each in a workspace that begins with what that build kept. A crate that isn't built
 begins with nothing: its groups run in turn in few workspaces, over one another's work, and only the functions that they
@@ -9,7 +11,7 @@ name, and those that these call, are ever proved.
 import tempfile
 import threading
 from concurrent.futures import FIRST_COMPLETED, ThreadPoolExecutor, wait
-from dataclasses import dataclass, field
+from dataclasses import dataclass, field, replace
 from pathlib import Path
 
 import host
@@ -20,8 +22,10 @@ from .copies import beside, can_stand_beside, copied
 from .groups import grouped
 from .kept import Kept, sum_of
 from .libraries import left_by_rt_ci
+from .opening import Opening
+from .second import after_one, again, copies_again, in_places_again, settled
 from .source import Source, merged, module_of, read_bodies
-from .verdicts import CALLS, Verdict, verdict_of
+from .verdicts import CALLS, NOT_REFUSED, Outcome, Verdict, outcome_of
 from .workspaces import Workspace
 
 
@@ -35,17 +39,19 @@ class Group:
 
     bodies: list
     copies: list = field(default_factory=list)
+    proofs: dict = field(default_factory=dict)  # proof files with answers left out, for bodies in their places
 
     def texts(self, source):
-        return beside(self.copies, source) if self.copies else merged(source, self.bodies)
+        return beside(self.copies, source) if self.copies else merged(source, self.bodies) | self.proofs
 
     def functions(self):
         """The functions that are wrong."""
         return [item for it in self.copies or self.bodies for item in it.touched]
 
-    def verdicts(self, said, status, crate):
-        """What the check says of each body."""
-        return {body.name: verdict_of(it.touched, said, status, crate) for body, it in zip(self.bodies, self.copies or self.bodies)}
+    def outcomes(self, ran, crate, texts):
+        """What a check of these texts says of each body."""
+        tried = self.copies or self.bodies
+        return {body.name: outcome_of(it.touched, ran.said, ran.status, crate, texts) for body, it in zip(self.bodies, tried)}
 
 
 @dataclass
@@ -56,6 +62,7 @@ class Crate:
     source: Source
     bodies: list
     kept: Kept
+    opening: Opening
     groups: list = field(default_factory=list)
     verdicts: dict = field(default_factory=dict)  # by the name of the body
     faults: list = field(default_factory=list)
@@ -66,23 +73,24 @@ class Crate:
     def tell(self, body, verdict):
         with self.lock:
             self.verdicts[body.name] = verdict
-            if verdict.refused:
-                self.kept.keep(body, verdict.words)
+            if verdict.kind != NOT_REFUSED:
+                self.kept.keep(body, verdict)
 
     def spent(self, seconds):
         with self.lock:
             self.seconds += seconds
 
 
-def read_crate(table, name, identity, anew):
+def read_crate(table, name, identity, anew, is_once):
     """Reads a crate's bodies, and takes the verdicts that were kept of the very same text."""
     source = Source.read(table.folder(name))
     bodies, faults = read_bodies(table.folder(name), source)
-    crate = Crate(name, source, bodies, Kept(name, sum_of(table, name, identity), anew), faults=faults)
+    kept = Kept(name, sum_of(table, name, identity), anew, is_once)
+    crate = Crate(name, source, bodies, kept, Opening(table, name), faults=faults)
     for body in bodies:
-        goal = crate.kept.goal(body)
-        if goal:
-            crate.verdicts[body.name] = Verdict(True, f"{goal} (kept)")
+        verdict = crate.kept.verdict(body)
+        if verdict:
+            crate.verdicts[body.name] = replace(verdict, words=f"{verdict.words} (kept)")
     crate.groups = groups_of([body for body in bodies if body.name not in crate.verdicts], source, table.folder(name))
     return crate
 
@@ -116,8 +124,8 @@ def path_of(item, source):
 class Tries:
     """The run: the libraries that are built, and the tasks that are left, each with the names of those it waits for."""
 
-    def __init__(self, table, crates, room, at_once, is_after_rt_ci):
-        self.table, self.room, self.at_once = table, Path(room), at_once
+    def __init__(self, table, crates, room, at_once, is_after_rt_ci, is_once=False):
+        self.table, self.room, self.at_once, self.is_once = table, Path(room), at_once, is_once
         self.libraries, self.broken, self.tasks, self.library_seconds = {}, {}, {}, 0.0
         tried = [crate for crate in crates if crate.groups]
         # How much there is to check of a crate, about: its functions and those of its wrong bodies.
@@ -177,24 +185,71 @@ class Tries:
                 crate.idle.append(workspace)
         except (Unreadable, OSError) as fault:
             for body in group.bodies:
-                crate.tell(body, Verdict(False, f"it wasn't tried: {fault}"))
+                crate.tell(body, Verdict(NOT_REFUSED, f"it wasn't tried: {fault}"))
 
     def judge_in(self, workspace, crate, group):
-        """Checks a group. A body that isn't refused in it is tried once more in its place and by itself, since the fault may
-        be another's.
+        """Checks a group, and the bodies that this refuses once more. Tells each body's verdict."""
+        found, apart = self.look(crate, group, workspace)
+        verdicts = {body.name: found[body.name].verdict for body in group.bodies}
+        suffixes = {copy.body.name: copy.suffix for copy in group.copies}
+        refused = [body for body in group.bodies if verdicts[body.name].refused]
+        if self.is_once:
+            folder = self.table.folder(crate.name)
+            verdicts |= {body.name: after_one(body, found[body.name], folder) for body in refused}
+            refused = []
+        verdicts |= self.look_again(crate, [body for body in refused if body.name not in apart], found, suffixes, workspace)
+        for body in (body for body in refused if body.name in apart):
+            verdicts |= self.look_again(crate, [body], found, {}, workspace)
+        for body in group.bodies:
+            crate.tell(body, verdicts[body.name])
+
+    def look(self, crate, group, workspace):
+        """Checks a group. A body that isn't refused in it is tried again in its place and by itself, since the fault may be
+        another's. Returns what was found of each body, and the names of those that were tried again.
 
         But where bodies in their places are tried together, and the check says of one that it only calls what isn't
         proved, the grouping missed a call, and is told."""
-        found, is_alone = self.verdicts(crate, group, workspace), len(group.bodies) == 1 and not group.copies
+        found, is_alone = self.outcomes(crate, group, workspace), len(group.bodies) == 1 and not group.copies
+        apart = set()
         for body in group.bodies:
-            verdict = found[body.name]
-            if not (verdict.refused or is_alone or group.copies) and CALLS.search(verdict.words):
-                verdict = Verdict(False, f"its group has a function that it calls, which the grouping missed: {verdict.words}")
-            elif not (verdict.refused or is_alone):
-                verdict = self.verdicts(crate, Group([body]), workspace)[body.name]
-            crate.tell(body, verdict)
+            verdict = found[body.name].verdict
+            if verdict.refused or is_alone:
+                continue
+            if not group.copies and CALLS.search(verdict.words):
+                words = f"its group has a function that it calls, which the grouping missed: {verdict.words}"
+                found[body.name] = Outcome(Verdict(NOT_REFUSED, words))
+            else:
+                found[body.name] = self.outcomes(crate, Group([body]), workspace)[body.name]
+                apart.add(body.name)
+        return found, apart
 
-    def verdicts(self, crate, group, workspace):
+    def look_again(self, crate, bodies, found, suffixes, workspace):
+        """Checks bodies that one check refused once more, and returns the verdicts on those for which something can be
+        opened or left out. They are in copies if there are suffixes, and else in their places."""
+        folder, controls = self.table.folder(crate.name), {}
+        them = [again(body, found[body.name], crate.opening, crate.source, folder) for body in bodies]
+        them = [it for it in them if it.is_another()]
+        if not them:
+            return {}
+        if suffixes:
+            copies, rights = copies_again(them, [suffixes[it.body.name] for it in them], crate.source, folder)
+            every = [*copies, *rights.values()]
+            outcomes = self.outcomes(crate, Group([copy.body for copy in every], every), workspace)
+            for it in them:
+                if it.body.touched[0].key() in rights:
+                    controls[it.body.name] = outcomes[rights[it.body.touched[0].key()].body.name]
+        else:
+            there, proofs, rights, rights_proofs = in_places_again(them, crate.source, folder)
+            outcomes = self.outcomes(crate, Group(there, proofs=proofs), workspace)
+            if rights:
+                controls = self.outcomes(crate, Group(rights, proofs=rights_proofs), workspace)
+        if len(them) > 1 and not all(outcomes[it.body.name].goals for it in them):
+            # The check came to no verdict, perhaps for the sake of one of them.
+            verdicts = [self.look_again(crate, [it.body], found, suffixes, workspace) for it in them]
+            return {name: verdict for each in verdicts for name, verdict in each.items()}
+        return {it.body.name: settled(it, outcomes[it.body.name], controls.get(it.body.name)) for it in them}
+
+    def outcomes(self, crate, group, workspace):
         texts, paths = group.texts(crate.source), paths_of(group, crate.source)
         ran = workspace.check(texts, paths)
         if paths and ran.status == 2:
@@ -202,7 +257,7 @@ class Tries:
             crate.spent(ran.seconds)
             ran = workspace.check(texts, [])
         crate.spent(ran.seconds)
-        return group.verdicts(ran.said, ran.status, crate.name)
+        return group.outcomes(ran, crate.name, {**crate.source.texts, **texts})
 
     def behind(self, key):
         """How much waits for a task: libraries that stand below many come first, and then the crates with most to try."""

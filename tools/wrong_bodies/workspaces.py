@@ -70,8 +70,16 @@ class Workspace:
             return run(["rt", "check", "--jobs", "1", *only], self.folder)
         finally:
             for path in texts.keys() - right.keys():
-                shutil.rmtree((self.folder / path).parent, ignore_errors=True)
+                self.remove(self.folder / path)
             self.write(right)
+
+    def remove(self, file):
+        """Removes a file, and the folders that have nothing else."""
+        file.unlink(missing_ok=True)
+        for folder in file.relative_to(self.folder).parents:
+            if any((self.folder / folder).iterdir()):
+                break
+            (self.folder / folder).rmdir()
 
     def write(self, texts):
         for path, text in texts.items():
