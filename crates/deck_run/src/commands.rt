@@ -1,6 +1,6 @@
 ghost use Rattle.std.specs.Prelude.{◌≡◌, ◌||◌, OnOk, false};
 ghost use Rattle.deck.specs.Deck.{deck};
-ghost use Rattle.device_text.specs.Device.{Moves};
+ghost use Rattle.device_text.specs.Device.{Moves, NothingWaits};
 ghost use Rattle.deck_run.specs.Running.{PrintsRun, Runs, EndsReplay, EndsSequentialRun, is_read_fault, is_write_fault};
 
 use super::running::run;
@@ -27,6 +27,8 @@ fn print_run<T: Threads + Wait + Clock + Sync, O: Output>(
     ensures printed { PrintsRun result deck.now budget (O.contents output.old) (O.contents output.new) }
     ensures write { O.has_failed output.new ≡ (O.has_failed output.old || is_write_fault result) }
     ensures handed_on { OnOk result (O.waits output.new ≡ false) }
+    ensures kept { NothingWaits (is_write_fault result) (O.waits output.old) (O.waits output.new) }
+    ensures same { O.lender output.new ≡ O.lender output.old }
 {
     let snapshot = run(rt, alloc, deck, budget)?;
     match dump_to(output, snapshot.state(), snapshot.log(), deck) {
@@ -54,6 +56,8 @@ pub fn run_deck<T: Threads + Wait + Clock + Sync, I: Input, O: Output>(
     ensures read { I.has_failed input.new ≡ (I.has_failed input.old || is_read_fault result) }
     ensures write { O.has_failed output.new ≡ (O.has_failed output.old || is_write_fault result) }
     ensures handed_on { OnOk result (O.waits output.new ≡ false) }
+    ensures kept { NothingWaits (is_write_fault result) (O.waits output.old) (O.waits output.new) }
+    ensures output { O.lender output.new ≡ O.lender output.old }
 {
     match read_deck_from(alloc, input) {
         Ok((deck, _)) => print_run(rt, alloc, output, &deck, budget),
@@ -78,6 +82,8 @@ pub fn run_deck_sequentially<I: Input, O: Output>(
     ensures read { I.has_failed input.new ≡ (I.has_failed input.old || is_read_fault result) }
     ensures write { O.has_failed output.new ≡ (O.has_failed output.old || is_write_fault result) }
     ensures handed_on { OnOk result (O.waits output.new ≡ false) }
+    ensures kept { NothingWaits (is_write_fault result) (O.waits output.old) (O.waits output.new) }
+    ensures output { O.lender output.new ≡ O.lender output.old }
 {
     let state = run_to(alloc, input, output, budget.get())?;
     Ok(end_status(&state))
@@ -100,6 +106,8 @@ pub fn replay_log<I: Input, O: Output>(
     ensures read { I.has_failed input.new ≡ (I.has_failed input.old || is_read_fault result) }
     ensures write { O.has_failed output.new ≡ (O.has_failed output.old || is_write_fault result) }
     ensures handed_on { OnOk result (O.waits output.new ≡ false) }
+    ensures kept { NothingWaits (is_write_fault result) (O.waits output.old) (O.waits output.new) }
+    ensures output { O.lender output.new ≡ O.lender output.old }
 {
     match replay_to(alloc, input, output, log) {
         Ok(Some(state)) => Ok(end_status(&state)),
