@@ -110,7 +110,7 @@ fn failing_writes(rt: HostRuntime) -> Result<(), Fail> {
             &mut output,
             &mut faults,
         );
-        assert_eq!(rt; output.bytes.len() as u64, fails_from - 1);
+        assert_eq!(rt; output.bytes.len() as u64, fails_from.saturating_sub(1));
         assert!(rt; TWO_ADDS_DUMP.starts_with(output.bytes.as_slice()));
         if fails_from <= writes {
             assert_eq!(rt;

@@ -1,9 +1,10 @@
 //! The program `cdc6600`: it runs a deck and prints the machine's dump, replays a log on one,
 //! answers the events of a schedule, or lists a deck's words.
 //!
-//! Its own contract promises nothing more than that it is safe; `deck_run` and `job_deck` promise
-//! what it prints. `main` hands the words of the command line to `program::program`, which answers
-//! the exit status. Begin there. `progress` shows at a terminal that a long run goes on.
+//! `main` hands the words of the command line to `program::program` and exits with the status that it returns. Begin
+//! there. Its contract says what it does with its input, its output and its fault stream, and that the exit status is
+//! that of what it did; which words ask for what is no part of it. `main` puts a buffer before its output, so that not
+//! each piece that is printed costs a call of the system. `progress` shows at a terminal that a long run goes on.
 //!
 //! The tests beside it call `program`; their first table is `CASES` in `command_tests`, a call of
 //! each command with all that it prints.
@@ -13,7 +14,7 @@ mod program;
 mod progress;
 
 use operator_terms::ProgramFault;
-use std::io::IsTerminal;
+use std::io::{BufWriter, IsTerminal};
 use std::process::ExitCode;
 use std::sync::atomic::{AtomicU64, Ordering};
 use std::{env, thread};
@@ -26,6 +27,9 @@ fn main(rt: HostRuntime) -> ExitCode {
     };
     let _ = words.next();
     let Ok(words) = words.collect::<Vec<String>>(rt.alloc()) else {
+        return ExitCode::from(program::report_fault(&mut stderr, ProgramFault::OutOfMemory));
+    };
+    let Ok(mut output) = BufWriter::new(rt.alloc(), rt.stdout()) else {
         return ExitCode::from(program::report_fault(&mut stderr, ProgramFault::OutOfMemory));
     };
     // Somebody who types a deck isn't told how long that takes.
@@ -44,7 +48,7 @@ fn main(rt: HostRuntime) -> ExitCode {
             rt.alloc(),
             words.as_slice(),
             &mut rt.stdin(),
-            &mut rt.stdout(),
+            &mut output,
             &mut stderr,
         );
         ended.store(1, Ordering::SeqCst);

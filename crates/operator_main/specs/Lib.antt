@@ -1,0 +1,3 @@
+-- What the program does, and how it ends.
+-- Source: ours.
+pub mod Program
