@@ -35,7 +35,7 @@ class Browser:
 
     def __init__(self):
         words = ["chromedriver", "--port=0"]
-        self.driver = subprocess.Popen(words, stdout=subprocess.PIPE, stderr=subprocess.DEVNULL, process_group=0)
+        self.driver = subprocess.Popen(words, stdout=subprocess.PIPE, stderr=subprocess.DEVNULL, start_new_session=True)
         self.path, self.said = "", b""
         try:
             self.connection = http.client.HTTPConnection("127.0.0.1", self.port())

@@ -96,11 +96,12 @@ class Emulator:
             raise BadInput("the command has no word")
 
     def start(self, log, deck):
-        """Starts it on the file of a deck. It begins a group of processes, by which all that it starts can be ended."""
+        """Starts it on the file of a deck. It begins a session, and so a group of processes, by which all that it starts
+        can be ended."""
         piped = {"stdout": subprocess.PIPE, "stderr": subprocess.PIPE}
         try:
             with open(deck, "rb") as given:
-                return subprocess.Popen([*self.words, log], stdin=given, **piped, process_group=0)
+                return subprocess.Popen([*self.words, log], stdin=given, **piped, start_new_session=True)
         except OSError as fault:
             raise BadInput(f"the command {self.command}: {fault.strerror}") from None
 

@@ -17,8 +17,8 @@ class Conversation:
         self.path, self.came = path, b""
         pipes = {"stdin": subprocess.PIPE, "stdout": subprocess.PIPE, "stderr": subprocess.PIPE}
         try:
-            # An interrupt of this script doesn't reach a process that has a group of its own.
-            self.process = subprocess.Popen([path, "events"], bufsize=0, process_group=0, **pipes)
+            # An interrupt of this script doesn't reach a process that has a session of its own.
+            self.process = subprocess.Popen([path, "events"], bufsize=0, start_new_session=True, **pipes)
         except OSError as fault:
             raise Fault(path, fault.strerror) from None
         self.write(deck)
