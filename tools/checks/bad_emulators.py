@@ -68,6 +68,7 @@ INPUTS = (
     (("compare", "cat", "decks/two-adds.deck"), "/bin/echo list: it prints no listing", {"CDC6600": "/bin/echo"}),
     (("compare", "cat", "HANDLES"), "/bin/true list: it accepts HANDLES, which is no deck", {"CDC6600": "/bin/true"}),
     (("compare", "cat", "README.md"), "README.md: E20 line 1: first", {}),
+    (("conformance", "--junit", "decks", "cat"), "decks: Is a directory", {}),
     (("conformance", "nosuch"), "the command nosuch: No such file or directory", {}),
     (("conformance", "cat"), "nosuch: No such file or directory", {"CDC6600": "nosuch"}),
 )

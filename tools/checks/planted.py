@@ -17,6 +17,27 @@ class Planted:
     steps: str
 
 
+@dataclass(frozen=True)
+class Covered:
+    """A fault that later steps cover up: as Planted, with the kind of its steps, and the seed of a drawn deck that
+    shows it, or none if a stored deck does. The dumps after the whole logs are right."""
+
+    name: str
+    old: str
+    new: str
+    kind: str
+    seed: int | None = None
+
+
+COVERED = (
+    Covered(
+        "EQ takes +0 and -0 for equal",
+        "0o04 => self.jump_if(self.b[i] == self.b[j], address)",
+        "0o04 => self.jump_if(self.b[i] % ONES18 == self.b[j] % ONES18, address)",
+        "EQ Bi,Bj,K",
+    ),
+    Covered("a mask of 0 is all ones", "jk.min(60)", "(if jk == 0 { 60 } else { jk.min(60) })", "MXi jk", 9),
+)
 PLANTED = (
     Planted("the carry of a word is lost", "(total + ((total + 1) >> 60))", "total", r"IX"),
     Planted("a sum of x and -x is -0", "((total + 1) >> 60)", "(total >> 60)", r"IX"),

@@ -5,8 +5,10 @@ from pathlib import Path
 
 from .faults import BadInput
 
-# How long a run of an emulator may take where nothing is said, and at most.
-SECONDS, MOST_SECONDS = 20, 86400
+# The seconds that a call of an emulator may take, if nothing else is said, and how many more for each million steps of
+# its log. So an emulator that does 5,000 steps a second is never too slow.
+SECONDS, MORE = "20", "200"
+MOST_SECONDS = 86400
 
 
 def number(word, digits=6):
@@ -37,6 +39,11 @@ def seconds(word):
     if not 0 < found <= MOST_SECONDS:
         raise argparse.ArgumentTypeError(f"{word} is no time from 0 to {MOST_SECONDS} seconds")
     return found
+
+
+def slope(word):
+    """The seconds by which a limit of time grows with each thousand steps, from those for a million."""
+    return seconds(word) / 1000
 
 
 def bytes_of(file):

@@ -5,10 +5,11 @@ import selectors
 import shlex
 import signal
 import subprocess
+import threading
 
 from shared.waiting import Clock
 
-from .faults import IS_OVER, LEAVING, BadInput, Failure
+from .faults import IS_OVER, LEAVING, BadInput, Failure, Slow
 
 # The statuses that go with a dump, as those of `cdc6600 replay`.
 DUMPED = (0, 3, 4, 5)
@@ -63,7 +64,7 @@ class Reading:
         if len(self.printed) > self.most:
             raise Failure(f"prints more than {self.most} bytes, which is no dump")
         if not is_ended:
-            raise Failure(f"doesn't end in {self.seconds:g} seconds")
+            raise Slow(self.seconds)
 
     @property
     def last_said(self):
@@ -84,10 +85,11 @@ def end_group(process):
 
 class Emulator:
     """A command that reads a deck on standard input, goes through the log that is its last argument, and prints the
-    dump. A run of it may take so many seconds."""
+    dump. A call of it may take so many seconds, and so many more for each thousand steps of the log."""
 
-    def __init__(self, command, seconds):
-        self.command, self.seconds = command, seconds
+    def __init__(self, command, seconds, slope):
+        self.command, self.seconds, self.slope = command, seconds, slope
+        self.calls, self.counting = 0, threading.Lock()
         try:
             self.words = shlex.split(command)
         except ValueError as fault:
@@ -105,13 +107,19 @@ class Emulator:
         except OSError as fault:
             raise BadInput(f"the command {self.command}: {fault.strerror}") from None
 
-    def printed(self, log, deck, most):
-        """What it prints, which has at most so many bytes.
+    def limit(self, steps):
+        """The seconds that a call with so many steps may take."""
+        return self.seconds + steps // 1000 * self.slope
 
-        Raises Failure where it doesn't end, dies, or prints nothing."""
+    def printed(self, log, deck, most, steps):
+        """What it prints for a log of so many steps, at most so many bytes.
+
+        Raises Slow where it doesn't end in time, and Failure where it dies or prints nothing."""
+        with self.counting:
+            self.calls += 1
         with LEAVING.later(), self.start(log, deck) as process:
             try:
-                reading = Reading(process, self.seconds, most)
+                reading = Reading(process, self.limit(steps), most)
                 reading.to_end()
             finally:
                 end_group(process)

@@ -20,6 +20,14 @@ class Failure(Exception):
     """What an emulator does where it prints no dump. Its text follows the name of its command."""
 
 
+class Slow(Failure):
+    """An emulator that ran into its limit of time, so many seconds. It hangs or is slow."""
+
+    def __init__(self, limit):
+        super().__init__(f"doesn't end in {limit:g} seconds")
+        self.limit = limit
+
+
 class Leaving:
     """How a signal ends the tool: quietly, and with the commands that it runs. Nothing interrupts the main thread while
     it starts a command and waits for its end: the command is ended first, since it looks whether the tool is over."""

@@ -1,26 +1,28 @@
 """Finds the step of a log after which an emulator's dump differs from that of `replay`."""
 
+import time
 from dataclasses import dataclass
 from functools import cached_property
 
 from .dumps import Dump
-from .faults import Failure
+from .faults import Failure, Slow
 from .steps import Steps
 
 
 class Outcome:
     """What came of the first steps of a log: the dump of `replay`, and the emulator's, or why there is none."""
 
-    def __init__(self, proved, came, fault=""):
+    def __init__(self, proved, came, fault=None):
         self.proved, self.came, self.fault = proved, came, fault
         self.is_same = not fault and came.lines == proved.lines
+        self.is_slow = isinstance(fault, Slow)
 
     @cached_property
     def judged(self):
         """Where the dumps differ, and why the emulator's is none. That is asked for at the step that is found alone,
         since before it large memories may differ in each word."""
         if self.fault:
-            return (), self.fault
+            return (), str(self.fault)
         try:
             return self.proved.differences(self.came), ""
         except Failure as failure:
@@ -63,30 +65,44 @@ class Replayed:
 
 
 class Comparison:
-    """An emulator beside `replay`, on one deck with one log."""
+    """An emulator beside `replay`, on one deck with one log. It keeps the steps and the seconds of the last call of the
+    emulator that printed something."""
 
     def __init__(self, replayed, emulator):
         self.replayed, self.emulator, self.steps = replayed, emulator, replayed.steps
+        self.last_ended = None
 
     def outcome(self, count):
         """What comes of so many steps."""
-        log, proved = self.steps.beginning(count), self.replayed.dump(count)
+        log, proved, begun = self.steps.beginning(count), self.replayed.dump(count), time.monotonic()
         try:
-            printed = self.emulator.printed(log, self.replayed.file, self.replayed.given.most_printed(log))
+            most = self.replayed.given.most_printed(log)
+            printed = self.emulator.printed(log, self.replayed.file, most, count)
         except Failure as failure:
-            return Outcome(proved, None, str(failure))
+            return Outcome(proved, None, failure)
+        self.last_ended = count, time.monotonic() - begun
         return Outcome(proved, Dump(printed))
 
-    def find(self, every=None):
-        """The step after which the dumps differ, and what came of it; none where they agree after the whole log and,
-        with `every`, after each so many steps."""
-        good, whole = None, len(self.steps)
-        for count in [*(range(every, whole, every) if every else ()), whole]:
+    def first(self, points):
+        """The first of these numbers of steps after which the dumps differ, with the last one before it after which
+        they agree, or None for that if there is none; None where they agree after all of them.
+
+        A call that doesn't end in time is made once more, since other work may have held it up."""
+        good = None
+        for count in points:
             outcome = self.outcome(count)
+            if outcome.is_slow:
+                outcome = self.outcome(count)
             if not outcome.is_same:
-                return self.halve(good, Found(count, outcome))
+                return good, Found(count, outcome)
             good = count
         return None
+
+    def find(self, points):
+        """The step after which the dumps differ, and what came of it; None where they agree after all these numbers of
+        steps."""
+        first = self.first(points)
+        return self.halve(*first) if first else None
 
     def halve(self, good, found):
         """Goes from a number of steps after which the dumps agree, if there is one yet, and one after which they

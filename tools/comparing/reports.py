@@ -11,6 +11,8 @@ OTHERS = {
     "R": "a peripheral processor's read of word {}",
     "W": "a peripheral processor's write to word {}",
 }
+# The same without their addresses.
+OTHER_KINDS = {"E": "an exchange", "R": "a peripheral read", "W": "a peripheral write"}
 # How many differences are printed; an emulator that reads a deck wrongly may have more of them than anybody reads.
 MOST = 64
 # How many are named in one line.
@@ -97,6 +99,14 @@ class Report:
         if self.is_instruction:
             return Issue(self.before).text
         return OTHERS[self.entry[0]].format(self.entry[1:].partition("=")[0])
+
+    @property
+    def kind(self):
+        """What the step is, without its operands: an instruction is named as in the table of docs/instructions.md."""
+        if self.step and not self.is_instruction:
+            return OTHER_KINDS[self.entry[0]]
+        it = instruction(self.what) if self.is_instruction else None
+        return it.row.text if it else self.what
 
     @property
     def title(self):

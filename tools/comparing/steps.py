@@ -4,6 +4,27 @@ from bisect import bisect_right
 from itertools import accumulate
 
 NONE = "none"
+# Logs of up to EACH steps are compared after each step. Those of up to MANY are compared after POINTS numbers of steps,
+# evenly spaced, and after each of the LAST steps.
+EACH, MANY, POINTS, LAST = 600, 10_000, 64, 8
+
+
+def points_every(whole, every=None):
+    """The numbers of steps after which a log of `whole` steps is compared: each `every` steps, and the whole."""
+    return [*(range(every, whole, every) if every else ()), whole]
+
+
+def usual_points(whole):
+    """The numbers of steps after which a log of `whole` steps is compared if nothing else is said.
+
+    The points of a log of more than MANY steps double: 1, 2, 4, 8 .. All together have hardly more steps than the log
+    itself, so the time that they take stays that of a few calls."""
+    if whole <= EACH:
+        return points_every(whole, 1)
+    if whole <= MANY:
+        spaced = (whole * number // POINTS for number in range(1, POINTS))
+        return sorted({*spaced, *range(whole - LAST, whole + 1)})
+    return [*(1 << power for power in range((whole - 1).bit_length())), whole]
 
 
 class Steps:
