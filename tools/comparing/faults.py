@@ -74,5 +74,8 @@ def ended(tool, main):
     """Goes through a tool's main function; its exit status."""
     for number in (signal.SIGINT, signal.SIGTERM):
         signal.signal(number, LEAVING.leave)
+    if sys.stdout is None:
+        print(f"{tool}: standard output is closed", file=sys.stderr)
+        return BAD_INPUT
     sys.stdout.reconfigure(errors="backslashreplace")
     return ending.ended(tool, lambda: read_all(main), BadInput, status=BAD_INPUT)

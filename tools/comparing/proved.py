@@ -40,9 +40,9 @@ class Proved:
         """What is wrong with a program that doesn't do its part."""
         return BadInput(f"{self.program.path} {command}: {what}")
 
-    def log(self, text, name):
-        """The log of a run of a deck."""
-        log = log_of(self.ask(["run"], text, name))
+    def log(self, text, name, *options):
+        """The log of a run of a deck, with these options."""
+        log = log_of(self.ask(["run", *options], text, name))
         if log is None:
             raise self.fault("run", "it prints no log")
         return log
@@ -55,9 +55,9 @@ class Proved:
             raise self.fault("list", "it prints no listing")
         return {int(it[1], 8): it[2] for it in found}
 
-    def dump(self, given, log):
-        """The dump of a deck whose whole memory is shown, after a log."""
-        dump = Dump(self.ask(["replay", log], given.text, f"the log {log[:80]}"))
+    def dump(self, given, log, kind=Dump):
+        """The dump of a deck whose whole memory is shown, after a log, as one of this kind."""
+        dump = kind(self.ask(["replay", log], given.text, f"the log {log[:80]}"))
         try:
             if not dump.state or dump.size != given.size:
                 raise Failure("prints no whole dump")

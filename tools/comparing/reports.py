@@ -18,6 +18,8 @@ MOST = 64
 # How many are named in one line.
 FEW = 6
 RUNNING, NO_WORD = "running", "none"
+# What is done instead of issuing an instruction.
+HALTED, UNFETCHED = "nothing, since the machine is halted", "the fetch of a word out of range"
 
 
 @dataclass(frozen=True)
@@ -40,10 +42,10 @@ class Issue:
     def text(self):
         """The instruction's text as `list` has it, or what is done instead of issuing one."""
         if self.dump.state["HALT"] != RUNNING:
-            return "nothing, since the machine is halted"
+            return HALTED
         held = self.dump.state["HELD"]
         if held == NO_WORD and self.address is None:
-            return "the fetch of a word out of range"
+            return UNFETCHED
         word = self.dump.word(self.address) if held == NO_WORD else held
         return items_of(word)[self.dump.number("PARCEL")]
 
@@ -59,17 +61,25 @@ class Issue:
         it = instruction(self.text)
         return [(name, self.dump.state[name]) for name in it.operands] if it else []
 
-    def reference(self, after):
-        """What it does in memory, by the dump after it; nothing for an instruction that makes no reference."""
+    def referred(self, after):
+        """The program's address that it refers to, by the dump after it, and whether it stores a word there; none for
+        an instruction that makes no reference."""
         it = instruction(self.text)
         code = it.row.code if it else ""
-        if code != "010" and not (code[:1] == "5" and it.fields["i"]):
+        if code == "010":
+            return it.fields["K"], True
+        number = it.fields["i"] if code[:1] == "5" else 0
+        return (after.number(f"A{number}"), number > 5) if number else None
+
+    def reference(self, after):
+        """What it does in memory, by the dump after it; nothing for an instruction that makes no reference."""
+        referred = self.referred(after)
+        if not referred:
             return ""
-        address = it.fields["K"] if code == "010" else after.number(f"A{it.fields['i']}")
-        kind = "loads" if code != "010" and it.fields["i"] < 6 else "stores"
+        address, is_store = referred
         at = self.absolute(address)
         where = f"memory {at:06o}" if at is not None else "which is out of range"
-        return f"{kind} word {address:06o}, {where}"
+        return f"{'stores' if is_store else 'loads'} word {address:06o}, {where}"
 
 
 class Report:

@@ -16,20 +16,21 @@ NUMBER = {"i": "[0-7]", "j": "[0-7]", "k": "[0-7]", "jk": "0|[1-7][0-7]?", "K": 
 # Where a row says that it is written for several codes, and that its operands stand in the table of the second digits;
 # and the unit of these.
 SEVERAL, BELOW, INCREMENT = " to ", " ..", "Increment"
-# The registers of an increment of A whose X register is stored.
-STORED = ("A6", "A7")
+# The registers of an increment of A whose X register is stored, and of one that neither loads nor stores.
+STORED, ALONE = ("A6", "A7"), "A0"
 
 
 @dataclass(frozen=True)
 class Row:
-    """A row of the table: its code, the text with its fields, whether it has 30 bits, its unit, and the operands by
-    their fields."""
+    """A row of the table: its code, the text with its fields, whether it has 30 bits, its unit, and the operands and
+    the results by their fields."""
 
     code: str
     text: str
     is_long: bool
     unit: str
     operands: tuple
+    results: tuple
 
     @cached_property
     def pattern(self):
@@ -49,8 +50,8 @@ def names_in(cell):
 
 
 def read_tables():
-    """The rows of the first table by their codes, what begins the texts of increments by their first digits, and what
-    follows there by the second ones."""
+    """The rows of the first table by their codes, what begins the texts of increments and what they give by their first
+    digits, and what follows there by the second ones."""
     rows, increments, addends = {}, {}, {}
     for cells in cells_of(PAGE):
         text = re.fullmatch(r"`([^`]*)`", cells[1])
@@ -58,19 +59,19 @@ def read_tables():
             continue
         is_long = cells[2].startswith("30")
         if SEVERAL in cells[0]:
-            increments[cells[0][0]] = text[1].removesuffix(BELOW)
+            increments[cells[0][0]] = (text[1].removesuffix(BELOW), names_in(cells[5]))
         elif len(cells[0]) == 1:
             addends[cells[0]] = (text[1], is_long, INCREMENT, names_in(cells[3]))
         else:
-            rows[cells[0]] = Row(cells[0], text[1], is_long, cells[3], names_in(cells[4]))
+            rows[cells[0]] = Row(cells[0], text[1], is_long, cells[3], names_in(cells[4]), names_in(cells[5]))
     return rows, increments, addends
 
 
 def read_rows():
     """The rows by their codes. An increment has a row for each second digit."""
     rows, increments, addends = read_tables()
-    for first, begins in increments.items():
-        found = [Row(first + digit, f"{begins} {rest}", *others) for digit, (rest, *others) in addends.items()]
+    for first, (begins, results) in increments.items():
+        found = [Row(first + digit, f"{begins} {rest}", *others, results) for digit, (rest, *others) in addends.items()]
         rows.update({row.code: row for row in found})
     return rows
 
@@ -105,6 +106,14 @@ class Instruction:
         named = [f"{name[0]}{self.fields[name[1]]}" for name in self.row.operands]
         stored = [f"X{name[1]}" for name in STORED if self.text.startswith(f"S{name} ")]
         return [name for name in dict.fromkeys(named + stored) if name != "B0"]
+
+    @property
+    def results(self):
+        """The registers that it writes; B0 never. An increment of A writes an X register only if it loads."""
+        named = [f"{name[0]}{self.fields[name[1]]}" for name in self.row.results]
+        if named[:1] == [ALONE] or named[:1] and named[0] in STORED:
+            named = named[:1]
+        return [name for name in named if name != "B0"]
 
 
 @lru_cache(maxsize=65536)
