@@ -13,12 +13,15 @@ from pathlib import Path
 from .verdicts import Verdict
 from .workspaces import PARTS
 
+# The runner's files outside this folder.
+OUTSIDE = ("wrong-bodies", "commands.py", "crates.py", "host.py")
+
 
 def own_text():
     """The runner's own text: what another runner found says nothing of this one."""
     here = Path(__file__).resolve().parent
-    files = sorted([*here.glob("*.py"), *here.parent.glob("*.py"), here.parent / "wrong-bodies"])
-    return b"".join(file.read_bytes() for file in files if file.is_file())
+    files = [*sorted(here.glob("*.py")), *(here.parent / name for name in OUTSIDE)]
+    return b"".join(file.read_bytes() for file in files)
 
 
 def sum_of(table, crate, identity):
