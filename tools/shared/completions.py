@@ -9,12 +9,17 @@ from dataclasses import dataclass
 @dataclass(frozen=True)
 class Option:
     """An option: its name, the short one if it has one, what is said of it, and the name of its value if it takes
-    one."""
+    one. The value FILE is the name of a file."""
 
     name: str
     said: str
     short: str = ""
     value: str = ""
+
+    @property
+    def names_file(self):
+        """Whether its value is the name of a file."""
+        return self.value == "FILE"
 
     @property
     def names(self):
@@ -29,17 +34,21 @@ class Option:
 
 @dataclass(frozen=True)
 class Command:
-    """A command: its name, what is said of it, its options without that for help, and its argument if it takes one."""
+    """A command: its name, what is said of it, its options without that for help, its argument if it takes one, and an
+    option that stands for the argument."""
 
     name: str
     said: str
     options: tuple = ()
     argument: str = ""
+    instead: Option = None
 
     @property
     def usage(self):
         """Its line of the synopsis."""
-        return " ".join([NAME, self.name, *(f"[{it.usage}]" for it in self.options), *self.argument.split()])
+        options = [f"[{it.usage}]" for it in self.options if it != self.instead]
+        instead = f"|{self.instead.usage}" if self.instead else ""
+        return " ".join([NAME, self.name, *options, *f"{self.argument}{instead}".split()])
 
     @property
     def all_options(self):
@@ -52,12 +61,16 @@ HELP = Option("--help", "Print help", "-h")
 VERSION = Option("--version", "Print version", "-V")
 BUDGET = Option("--budget", "Issues at most N instructions", value="N")
 SEQUENTIAL = Option("--sequential", "Does one instruction at a time, without threads")
+LOG = Option("--log", "Reads the log from FILE, or from standard input if FILE is -", value="FILE")
+DECK = Option("--deck", "Reads the deck from FILE instead of standard input", value="FILE")
 COMMANDS = (
     Command("run", "Runs the deck on standard input and prints the machine's dump", (SEQUENTIAL, BUDGET)),
     Command(
         "replay",
         "Goes through LOG on the deck on standard input, one instruction at a time, and prints the machine's dump",
+        (DECK, LOG),
         argument="LOG",
+        instead=LOG,
     ),
     Command(
         "events",
@@ -66,6 +79,10 @@ COMMANDS = (
     ),
     Command("list", "Prints the words of the deck on standard input with their instructions"),
 )
+# The command that prints help texts. It takes no option.
+HELP_COMMAND = Command(
+    "help", "Print this message or the help of the given subcommand(s)", argument="[COMMAND]"
+)
 # The options that stand instead of a command.
 ALONE = (HELP, VERSION)
 
@@ -73,7 +90,7 @@ ALONE = (HELP, VERSION)
 def synopsis():
     """The lines of the synopsis."""
     alone = [f"{NAME} {it.name}" for it in ALONE]
-    return [*(it.usage for it in COMMANDS), *alone, f"{NAME} COMMAND {HELP.name}"]
+    return [*(it.usage for it in COMMANDS), *alone, f"{NAME} COMMAND {HELP.name}", HELP_COMMAND.usage]
 
 
 def words(options):
@@ -93,9 +110,10 @@ _{NAME}() {{
         {taking} | [\\<\\>]*) return ;;
     esac
     case ${{COMP_WORDS[1]}} in
-{cases}    esac
+{cases}        help) words='{" ".join(it.name for it in COMMANDS)}' ;;
+    esac
     if [ "$COMP_CWORD" -eq 1 ]; then
-        words='{" ".join(it.name for it in COMMANDS)} {words(ALONE)}'
+        words='{" ".join(it.name for it in (*COMMANDS, HELP_COMMAND))} {words(ALONE)}'
     elif [ "${{current#-}}" = "$current" ]; then
         return
     fi
@@ -114,7 +132,7 @@ def zsh_option(option):
     """An option as `_arguments` takes it."""
     said = option.said.replace("[", "\\[").replace("]", "\\]")
     if option.value:
-        return quoted(f"{option.name}=[{said}]:{option.value}: ")
+        return quoted(f"{option.name}=[{said}]:{option.value}:{'_files' if option.names_file else ' '}")
     if option.short:
         return f"'(- *)'{{{option.short},{option.name}}}{quoted(f'[{said}]')}"
     return quoted(f"{option.name}[{said}]")
@@ -122,7 +140,7 @@ def zsh_option(option):
 
 def zsh():
     """The script for zsh."""
-    commands = "".join(f"        {quoted(f'{it.name}:{it.said}')}\n" for it in COMMANDS)
+    commands = "".join(f"        {quoted(f'{it.name}:{it.said}')}\n" for it in (*COMMANDS, HELP_COMMAND))
     alone = " ".join(zsh_option(it) for it in ALONE)
     cases = ""
     for it in COMMANDS:
@@ -150,17 +168,19 @@ _{NAME} "$@"
 def fish_option(option, condition):
     """An option as `complete` of fish takes it."""
     short = f" -s {option.short.lstrip('-')}" if option.short else ""
-    value = " -x" if option.value else ""
+    value = " -rF" if option.names_file else " -x" if option.value else ""
     return f"complete -c {NAME}{condition}{short} -l {option.name.lstrip('-')}{value} -d {quoted(option.said)}\n"
 
 
 def fish():
     """The script for fish. It completes no files, except after a `<` or a `>`."""
-    names = " ".join(it.name for it in COMMANDS)
+    names = " ".join(it.name for it in (*COMMANDS, HELP_COMMAND))
     none, text = f" -n 'not __fish_seen_subcommand_from {names}'", f"# Completes the words of {NAME} in fish.\n"
     text += f"complete -c {NAME} -f\n"
-    text += "".join(f"complete -c {NAME}{none} -a {it.name} -d {quoted(it.said)}\n" for it in COMMANDS)
+    text += "".join(f"complete -c {NAME}{none} -a {it.name} -d {quoted(it.said)}\n" for it in (*COMMANDS, HELP_COMMAND))
     text += "".join(fish_option(it, none) for it in ALONE)
+    known = " ".join(it.name for it in COMMANDS)
+    text += f"complete -c {NAME} -n '__fish_seen_subcommand_from help' -a '{known}'\n"
     for it in COMMANDS:
         own = f" -n '__fish_seen_subcommand_from {it.name}'"
         text += "".join(fish_option(option, own) for option in it.all_options)

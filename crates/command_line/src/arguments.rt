@@ -15,7 +15,7 @@ Example:
 Exit status:
   0  the program stopped, or all that was asked for is printed
   1  the deck or the schedule is refused
-  2  the command line is refused, or the log on it
+  2  the command line is refused, or the log
   3  the program was halted by a refused opcode, a straddling instruction or a fetch out of range
   4  the machine has an address fault
   5  the budget is used up, or the log has no more
@@ -32,8 +32,10 @@ Examples:
 The exit statuses are those that cdc6600 --help names.";
 
 const AFTER_REPLAY: &str = "\
-Example:
+Examples:
   cdc6600 replay \"E40 I4\" < decks/two-adds.deck
+  cdc6600 replay --log FILE < decks/two-adds.deck
+  cdc6600 replay --log - --deck decks/two-adds.deck < FILE
 
 The exit statuses are those that cdc6600 --help names.";
 
@@ -49,6 +51,26 @@ Example:
 
 Exit status: 0 once all is listed, else 1, 2, 6 or 7 as cdc6600 --help names them.";
 
+/// What a deck is read from.
+#[derive(Clone, Copy, Debug, Drop, PartialEq, Eq)]
+pub enum Source<'a> {
+    /// Standard input.
+    Input,
+    /// The file of this name.
+    File(&'a str),
+}
+
+/// What the log and the deck of a replay are read from. Standard input is never both.
+#[derive(Clone, Copy, Debug, Drop, PartialEq, Eq)]
+pub enum Replay<'a> {
+    /// The log is a word of the command line.
+    Word { log: &'a str, deck: Source<'a> },
+    /// The log is in the file of this name.
+    File { log: &'a str, deck: Source<'a> },
+    /// The log is on standard input, and the deck is in the file of this name.
+    Input { deck: &'a str },
+}
+
 /// What the command line asks for.
 #[derive(Clone, Copy, Debug, Drop, PartialEq, Eq)]
 pub enum Request<'a> {
@@ -56,8 +78,8 @@ pub enum Request<'a> {
     Run(Budget),
     /// To run a deck one instruction at a time, and to do at most so many instructions.
     RunSequentially(Budget),
-    /// To go through this log on a deck.
-    Replay(&'a str),
+    /// To go through a log on a deck.
+    Replay(Replay<'a>),
     /// To answer the events of a schedule, and to issue at most so many instructions.
     Events(Budget),
     /// To list a deck's words.
@@ -95,15 +117,25 @@ fn run_command<'a>(alloc: Global) -> Result<Command<'a>, AllocError> {
 /// `replay`.
 fn replay_command<'a>(alloc: Global) -> Result<Command<'a>, AllocError> {
     let log = Arg::new(alloc, "LOG")
-        .required(true)
+        .required_unless_present("log")?
+        .conflicts_with("log")?
         .help("What the dump of a run has after LOG, as one argument");
+    let log_file = Arg::new(alloc, "log").long("log").value_name("FILE").help(
+        "Reads the log from FILE, or from standard input if FILE is -",
+    );
+    let deck_file = Arg::new(alloc, "deck")
+        .long("deck")
+        .value_name("FILE")
+        .help("Reads the deck from FILE instead of standard input");
     Command::new(alloc, "replay")
         .about(
             "Goes through LOG on the deck on standard input, one instruction at a time, and prints the machine's dump",
         )
-        .override_usage("cdc6600 replay LOG")
+        .override_usage("cdc6600 replay [--deck FILE] LOG|--log FILE")
         .after_help(AFTER_REPLAY)
-        .arg(log)
+        .arg(log)?
+        .arg(log_file)?
+        .arg(deck_file)
 }
 
 /// `events`.
@@ -125,7 +157,7 @@ fn list_command<'a>(alloc: Global) -> Command<'a> {
         .after_help(AFTER_LIST)
 }
 
-/// The program, still without its commands. `help` is no command of its own; `--help` is an option of each.
+/// The program, still without its commands.
 fn bare_program<'a>(alloc: Global) -> Command<'a> {
     Command::new(alloc, "cdc6600")
         .about("A CDC 6600 central processor with its scoreboard")
@@ -134,7 +166,6 @@ fn bare_program<'a>(alloc: Global) -> Command<'a> {
         .arg_required_else_help(true)
         .no_binary_name(true)
         .subcommand_required(true)
-        .disable_help_subcommand(true)
 }
 
 /// The command line that is accepted.
@@ -151,24 +182,82 @@ fn budget(matches: &ArgMatches<'_>) -> Option<Budget> {
     Budget::new(matches.get_one::<u64>("budget")?)
 }
 
-/// What the words after `run` ask for.
-fn run_asked_for<'a>(matches: &ArgMatches<'_>) -> Option<Request<'a>> {
-    let budget = budget(matches)?;
-    if matches.get_flag("sequential") {
-        Some(Request::RunSequentially(budget))
+/// What a name stands for: `-` is standard input.
+fn source_named(name: &str) -> Source<'_> {
+    if name == "-" {
+        Source::Input
     } else {
-        Some(Request::Run(budget))
+        Source::File(name)
     }
 }
 
-/// What the words that `clap` accepted ask for; None where they ask for nothing, which they never do.
-fn asked_for<'a>(matches: &ArgMatches<'a>) -> Option<Request<'a>> {
-    match matches.subcommand()? {
+/// Why words are refused that `clap` accepts.
+#[derive(Clone, Copy, Drop)]
+enum Refused {
+    /// They name no command. `clap` accepts no such words.
+    NoCommand,
+    /// The log and the deck would both be read from standard input.
+    OneInput,
+}
+
+impl Refused {
+    fn text(self) -> &'static str {
+        match self {
+            Refused::NoCommand => "no such command",
+            Refused::OneInput => {
+                "the log and the deck can't both be read from standard input; '--deck FILE' names the deck's file"
+            }
+        }
+    }
+}
+
+/// What the words after `run` ask for.
+///
+/// # Errors
+/// They ask for nothing, which `clap` doesn't accept.
+fn run_asked_for<'a>(matches: &ArgMatches<'_>) -> Result<Request<'a>, Refused> {
+    let budget = budget(matches).ok_or(Refused::NoCommand)?;
+    if matches.get_flag("sequential") {
+        Ok(Request::RunSequentially(budget))
+    } else {
+        Ok(Request::Run(budget))
+    }
+}
+
+/// What the words after `replay` ask for.
+///
+/// # Errors
+/// The log and the deck would both be read from standard input.
+fn replay_asked_for<'a>(matches: &ArgMatches<'a>) -> Result<Replay<'a>, Refused> {
+    let deck = match matches.get_str("deck") {
+        Some(name) => source_named(name),
+        None => Source::Input,
+    };
+    if let Some(log) = matches.get_str("LOG") {
+        return Ok(Replay::Word { log, deck });
+    }
+    let name = matches.get_str("log").ok_or(Refused::NoCommand)?;
+    match (source_named(name), deck) {
+        (Source::File(log), deck) => Ok(Replay::File { log, deck }),
+        (Source::Input, Source::File(deck)) => Ok(Replay::Input { deck }),
+        (Source::Input, Source::Input) => Err(Refused::OneInput),
+    }
+}
+
+/// What the words that `clap` accepted ask for.
+///
+/// # Errors
+/// Why they are refused all the same.
+fn asked_for<'a>(matches: &ArgMatches<'a>) -> Result<Request<'a>, Refused> {
+    let Some(subcommand) = matches.subcommand() else {
+        return Err(Refused::NoCommand);
+    };
+    match subcommand {
         ("run", run) => run_asked_for(run),
-        ("replay", replay) => Some(Request::Replay(replay.get_str("LOG")?)),
-        ("events", events) => Some(Request::Events(budget(events)?)),
-        ("list", _) => Some(Request::List),
-        _ => None,
+        ("replay", replay) => Ok(Request::Replay(replay_asked_for(replay)?)),
+        ("events", events) => Ok(Request::Events(budget(events).ok_or(Refused::NoCommand)?)),
+        ("list", _) => Ok(Request::List),
+        _ => Err(Refused::NoCommand),
     }
 }
 
@@ -180,7 +269,7 @@ pub fn read_arguments<'a>(alloc: Global, words: &'a [String]) -> Result<Request<
     let mut command = accepted(alloc)?;
     let matches = command.try_get_matches_from_mut(words)?;
     match asked_for(&matches) {
-        Some(request) => Ok(request),
-        None => Err(command.error(ErrorKind::InvalidSubcommand, "no such command")?),
+        Ok(request) => Ok(request),
+        Err(refused) => Err(command.error(ErrorKind::ArgumentConflict, refused.text())?),
     }
 }

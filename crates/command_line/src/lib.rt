@@ -8,4 +8,4 @@
 
 mod arguments;
 
-pub use arguments::{Request, read_arguments};
+pub use arguments::{Replay, Request, Source, read_arguments};

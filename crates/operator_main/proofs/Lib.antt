@@ -1,2 +1,3 @@
 mod Performing
+mod Replaying
 mod Unasked

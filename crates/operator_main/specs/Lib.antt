@@ -1,3 +1,6 @@
 -- What the program does, and how it ends.
 -- Source: ours.
+pub mod Work
+pub mod Request
 pub mod Program
+pub mod inner

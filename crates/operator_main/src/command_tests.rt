@@ -3,7 +3,7 @@
 
 use super::program::program;
 use super::progress::{may_take_long, show};
-use super::test_program::{Case, TWO_ADDS, TWO_ADDS_DUMP, expect, words};
+use super::test_program::{Case, NO_FILES, OneFile, TWO_ADDS, TWO_ADDS_DUMP, expect, words};
 use std::process::Abort;
 use std::sync::Wait;
 use std::sync::atomic::AtomicU64;
@@ -81,7 +81,7 @@ fn commands(rt: HostRuntime) -> Result<(), Fail> {
 /// Arguments, the exit status, and how what is printed begins, at status 0 to standard output.
 type Usage<'a> = (&'a [&'a str], u8, &'a str);
 
-const USAGES: [Usage<'static>; 19] = [
+const USAGES: [Usage<'static>; 24] = [
     (&["--help"], 0, "A CDC 6600"),
     (&["--version"], 0, "cdc6600 0.1.0\n"),
     (&["run", "--help"], 0, "Runs the deck"),
@@ -92,7 +92,16 @@ const USAGES: [Usage<'static>; 19] = [
     (&["replay", "E40", "I4"], 2, "error: "),
     (&[], 2, "A CDC 6600"),
     (&["walk"], 2, "error: "),
-    (&["help"], 2, "error: "),
+    (&["help"], 0, "A CDC 6600"),
+    (&["help", "run"], 0, "Runs the deck"),
+    (&["help", "walk"], 2, "error: "),
+    (
+        &["replay", "--log", "-"],
+        2,
+        "error: the log and the deck can't both be",
+    ),
+    (&["replay", "--log", "a"], 2, "error: a can't be read: "),
+    (&["replay", "--log", "a", "E40"], 2, "error: "),
     (&["run", "more"], 2, "error: "),
     (&["run", "--sequential", "more"], 2, "error: "),
     (&["run", "--budget"], 2, "error: "),
@@ -117,6 +126,7 @@ fn left_by(
         rt,
         rt.alloc(),
         words.as_slice(),
+        &NO_FILES,
         &mut input,
         &mut output,
         &mut faults,
@@ -153,6 +163,59 @@ fn usage(rt: HostRuntime) -> Result<(), Fail> {
             (*status, true, true, 8),
             "{begins}"
         );
+    }
+    Ok(())
+}
+
+/// Calls of `replay` with the name of a file, and how they end. The file has these bytes, and standard input has the
+/// others.
+const FILE_CASES: [(&[&str], &[u8], &[u8], u8); 8] = [
+    (&["replay", "--log", "a"], b"E40 I6", TWO_ADDS, 0),
+    (&["replay", "--log=a"], b"E40 I6\n", TWO_ADDS, 0),
+    (
+        &["replay", "--log", "a", "--deck", "-"],
+        b"E40 I6\n",
+        TWO_ADDS,
+        0,
+    ),
+    (&["replay", "--deck", "a", "E40 I6"], TWO_ADDS, b"", 0),
+    (
+        &["replay", "--deck", "a", "--log", "-"],
+        TWO_ADDS,
+        b"E40 I6\n",
+        0,
+    ),
+    (&["replay", "--log", "a"], b"E40 I6\n\n", TWO_ADDS, 2),
+    (&["replay", "--log", "a"], b"E40 I6\xff", TWO_ADDS, 2),
+    (&["replay", "--log", "a"], b"", TWO_ADDS, 2),
+];
+
+/// A log and a deck may each be in a file. Otherwise the log is refused after the deck.
+#[test]
+fn replays_from_files(rt: HostRuntime) -> Result<(), Fail> {
+    for (texts, bytes, input, status) in FILE_CASES {
+        let words = words(rt.alloc(), texts)?;
+        let mut output = Vec::new(rt.alloc());
+        let mut faults = Vec::new(rt.alloc());
+        let file = OneFile { name: "a", bytes };
+        let mut input = input;
+        let answer = program(
+            &rt,
+            rt.alloc(),
+            words.as_slice(),
+            &file,
+            &mut input,
+            &mut output,
+            &mut faults,
+        );
+        assert_eq!(rt; answer, status);
+        if status == 0 {
+            assert_eq!(rt; output.as_slice(), TWO_ADDS_DUMP);
+            assert!(rt; faults.is_empty());
+        } else {
+            assert_eq!(rt; faults.as_slice(), b"cdc6600: bad log\n".as_slice());
+            assert!(rt; output.is_empty());
+        }
     }
     Ok(())
 }

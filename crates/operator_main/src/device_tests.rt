@@ -1,7 +1,7 @@
 ghost use Rattle.std.specs.Prelude.{Some};
 
 use super::program::program;
-use super::test_program::{TWO_ADDS, TWO_ADDS_DUMP, words};
+use super::test_program::{NO_FILES, TWO_ADDS, TWO_ADDS_DUMP, words};
 use std::io;
 use std::io::{ErrorKind, Read, Write};
 use std::test::Fail;
@@ -73,6 +73,7 @@ fn failing_reads(rt: HostRuntime) -> Result<(), Fail> {
             &rt,
             rt.alloc(),
             words.as_slice(),
+            &NO_FILES,
             &mut input,
             &mut output,
             &mut faults,
@@ -106,6 +107,7 @@ fn failing_writes(rt: HostRuntime) -> Result<(), Fail> {
             &rt,
             rt.alloc(),
             words.as_slice(),
+            &NO_FILES,
             &mut input,
             &mut output,
             &mut faults,
@@ -150,6 +152,7 @@ fn failing_faults(rt: HostRuntime) -> Result<(), Fail> {
             &rt,
             rt.alloc(),
             words.as_slice(),
+            &NO_FILES,
             &mut input,
             &mut output,
             &mut faults,
@@ -193,13 +196,14 @@ fn tells_a_fault_at_once(rt: HostRuntime) -> Result<(), Fail> {
         &rt,
         rt.alloc(),
         words.as_slice(),
+        &NO_FILES,
         &mut b"core 256\nplace 7\n".as_slice(),
         &mut output,
         &mut faults,
     );
     assert_eq!(rt;
         faults.bytes.as_slice(),
-        b"cdc6600: E20 line 2: unknown\n".as_slice()
+        b"cdc6600: E20 line 2: unknown, column 1: 'put'\n".as_slice()
     );
     assert_eq!(rt; faults.calls, 1);
     assert_eq!(rt; answer, 1);

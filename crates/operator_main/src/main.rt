@@ -10,9 +10,14 @@
 //! each command with all that it prints.
 #![tactic(auto)]
 
+mod fault_at;
+mod files;
+mod log_text;
 mod program;
 mod progress;
+mod work;
 
+use files::SystemFiles;
 use operator_terms::ProgramFault;
 use std::io::{BufWriter, IsTerminal};
 use std::process::ExitCode;
@@ -47,6 +52,7 @@ fn main(rt: HostRuntime) -> ExitCode {
             &rt,
             rt.alloc(),
             words.as_slice(),
+            &SystemFiles(&rt),
             &mut rt.stdin(),
             &mut output,
             &mut stderr,

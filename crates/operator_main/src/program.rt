@@ -1,4 +1,5 @@
-ghost use Rattle.std.specs.Prelude.{◌≡◌, ◌≢◌, false, Result, Ok, Err, OnOk};
+ghost use Rattle.std.specs.Prelude.{◌≡◌, ◌≢◌, false, Result, Ok, Err, Some, OnOk, OnErr, IfOk, IfSome};
+ghost use Rattle.std.specs.Io.KnownBytes.{Keeps};
 ghost use Rattle.std.specs.IoError.{error_kind};
 ghost use Rattle.clap.specs.Values.{kind_of};
 ghost use Rattle.device_text.specs.Device.{Moves, NothingWaits};
@@ -7,15 +8,23 @@ ghost use Rattle.operator_terms.specs.declared.fault.ProgramFault.TheVariants.{O
 ghost use Rattle.operator_terms.specs.declared.status.Status.{Status};
 ghost use Rattle.operator_terms.specs.declared.status.Status.TheVariants.{Usage};
 ghost use Rattle.deck_run.specs.Running.{is_write_fault};
-ghost use Rattle.operator_main.specs.Program.{CarriesOut, EndsUnasked, ExitsAsItDoes, Performed, Tells, exit_code};
+ghost use Rattle.operator_main.specs.Program.{EndsUnasked, ExitsAsItDoes, Tells, exit_code};
+ghost use Rattle.operator_main.specs.Request.{Answers, ReplaysFrom, ReplaysOn, source_bytes};
+ghost use Rattle.operator_main.specs.Work.{CarriesOut, Performed};
+ghost use Rattle.operator_main.specs.inner.FaultAt.{without_position};
 
+use super::fault_at::FaultAt;
+use super::files::Opener;
+use super::log_text::{read_all, text_of};
+use super::work::Work;
 use arrayvec::ArrayVec;
 use clap::Error;
 use clap::error::ErrorKind;
-use command_line::{Request, read_arguments};
+use command_line::{Replay, Request, Source, read_arguments};
 use deck_run::{replay_log, run_deck, run_deck_sequentially};
 use job_deck::{CheckedBufReader, CheckedWriter, Input, Output, events_to, list_to};
 use operator_terms::{ProgramFault, Status};
+use refused_line::LastLine;
 use std::alloc::Global;
 use std::io;
 use std::io::{BufReader, ErrorKind as IoErrorKind, Read, Write};
@@ -23,8 +32,8 @@ use std::sync::Wait;
 use std::thread::Threads;
 use std::time::Clock;
 
-/// More bytes than a fault line has; the longest is that of a step that the machine refused.
-const FAULT_LINE: usize = 64;
+/// More bytes than a fault line has. With the position of a fault in a refused line it has at most 229.
+const FAULT_LINE: usize = 256;
 
 /// Says on the fault stream why the program ends, in one write, so that the lines of programs that run side by
 /// side don't mix. Answers the exit status.
@@ -32,8 +41,19 @@ pub fn report_fault<F: Write>(faults: &mut F, fault: ProgramFault) -> u8
     ensures status { result ≡ exit_code (Err fault) }
     ensures told { Tells (Err fault) (F.contents faults.old) (F.contents faults.new) }
 {
+    report_fault_at(faults, FaultAt::nowhere(fault))
+}
+
+/// The same with the position in the refused line, if there is one.
+fn report_fault_at<F: Write>(faults: &mut F, told: FaultAt) -> u8
+    ensures status { result ≡ exit_code (Err told.fault) }
+    ensures told { Tells (Err told.fault) (F.contents faults.old) (F.contents faults.new) }
+{
+    let FaultAt { fault, position } = told;
     let mut line = ArrayVec::<u8, FAULT_LINE>::new();
-    let _ = writeln!(line, "cdc6600: {fault}");
+    let _ = write!(line, "cdc6600: {fault}");
+    let _ = line.write_all(position.as_slice());
+    let _ = line.write_all(b"\n");
     let mut told = CheckedWriter::new(&mut *faults);
     let _ = told.put(line.as_slice());
     // The proof reads what the fault stream holds from this use, which has no other effect.
@@ -82,81 +102,217 @@ fn report_usage<W: Write, F: Write>(output: &mut W, faults: &mut F, error: Error
     }
 }
 
-/// Carries out a request.
+/// Does its work on the deck of an input.
 ///
 /// # Errors
-/// As the function that carries it out.
+/// As the function that does it.
 fn carry_out<T: Threads + Wait + Clock + Sync, I: Input, O: Output>(
     rt: &T,
     alloc: Global,
-    request: &Request<'_>,
+    work: &Work<'_>,
     input: &mut I,
     output: &mut O,
 ) -> Result<Status, ProgramFault>
     ensures carried_out { Moves (I.remaining input.old) (I.remaining input.new)
-        (λ xs ys. CarriesOut request.now result xs ys (O.contents output.old) (O.contents output.new)) }
+        (λ xs ys. CarriesOut work.now result xs ys (O.contents output.old) (O.contents output.new)) }
     ensures handed_on { OnOk result (O.waits output.new ≡ false) }
     ensures kept { NothingWaits (is_write_fault result) (O.waits output.old) (O.waits output.new) }
     ensures same { O.lender output.new ≡ O.lender output.old }
 {
-    match *request {
-        Request::Run(budget) => run_deck(rt, alloc, input, output, budget),
-        Request::RunSequentially(budget) => run_deck_sequentially(alloc, input, output, budget),
-        Request::Replay(log) => replay_log(alloc, input, output, log),
-        Request::Events(budget) => {
+    match *work {
+        Work::Run(budget) => run_deck(rt, alloc, input, output, budget),
+        Work::RunSequentially(budget) => run_deck_sequentially(alloc, input, output, budget),
+        Work::Replay(log) => replay_log(alloc, input, output, log),
+        Work::Events(budget) => {
             events_to(alloc, input, output, budget.get())?;
             Ok(Status::Stopped)
         }
-        Request::List => {
+        Work::List => {
             list_to(alloc, input, output)?;
             Ok(Status::Stopped)
         }
     }
 }
 
-/// Carries out a request, with a buffer before its input, so that not each byte that is read costs a call of the
-/// system.
+/// Does its work, with a buffer before its input, so that not each byte that is read costs a call of the system.
 fn perform<T: Threads + Wait + Clock + Sync, R: Read, W: Write>(
     rt: &T,
     alloc: Global,
-    request: &Request<'_>,
+    work: &Work<'_>,
     input: &mut R,
     output: &mut W,
-) -> Result<Status, ProgramFault>
-    ensures { Performed request.now result (R.remaining input.old) (W.contents output.old) (W.contents output.new) }
+) -> Result<Status, FaultAt>
+    ensures { Performed work.now (without_position result) (R.remaining input.old) (W.contents output.old) (W.contents output.new) }
 {
     let Ok(mut reader) = BufReader::new(alloc, &mut *input) else {
-        return Err(ProgramFault::OutOfMemory);
+        return Err(FaultAt::nowhere(ProgramFault::OutOfMemory));
     };
-    let mut input = CheckedBufReader::new(&mut reader);
+    let mut checked = CheckedBufReader::new(&mut reader);
+    let mut input = LastLine::new(&mut checked);
     let mut output = CheckedWriter::new(&mut *output);
-    let result = carry_out(rt, alloc, request, &mut input, &mut output);
+    let result = carry_out(rt, alloc, work, &mut input, &mut output);
     // The proof reads what the output holds from this use, which has no other effect.
     let _ = &*output.into_inner();
-    result
+    match result {
+        Ok(status) => Ok(status),
+        Err(fault) => Err(FaultAt::in_line(fault, input.line())),
+    }
 }
 
-/// The whole program, over its arguments without the program's name, its input, output and fault
-/// stream. It answers the exit status, which a failed write to the fault stream doesn't change. It
+/// How the program's work ends, unless a file can't be opened for it.
+type Ended<'a> = Result<Result<Status, FaultAt>, Unopened<'a>>;
+
+/// A file that can't be opened.
+struct Unopened<'a> {
+    name: &'a str,
+    error: io::Error,
+}
+
+/// Opens the file of a name.
+///
+/// # Errors
+/// The name with the system's error.
+fn open<'a, D: Opener>(files: &D, name: &'a str) -> Result<D::Opened, Unopened<'a>>
+    ensures { IfOk result (λ file. IfSome (D.contents files.now name.now)
+        (λ bytes. D.Opened.remaining file ≡ Some bytes)) }
+{
+    match files.open(name) {
+        Ok(file) => Ok(file),
+        Err(error) => Err(Unopened { name, error }),
+    }
+}
+
+/// Goes through the log of a text on the deck of a source.
+///
+/// # Errors
+/// The deck's file can't be opened.
+fn replay_text<'a, T: Threads + Wait + Clock + Sync, D: Opener, R: Read, W: Write>(
+    rt: &T,
+    alloc: Global,
+    files: &D,
+    log: &str,
+    deck: Source<'a>,
+    input: &mut R,
+    output: &mut W,
+) -> Ended<'a>
+    ensures replayed { IfOk result (λ end. ReplaysOn log.now (without_position end)
+        (source_bytes (D.contents files.now) deck.entry (R.remaining input.old))
+        (W.contents output.old) (W.contents output.new)) }
+    ensures unopened { OnErr result (Keeps (R.remaining input.old) (R.remaining input.new)
+        × Keeps (W.contents output.old) (W.contents output.new)) }
+{
+    let work = Work::Replay(log);
+    match deck {
+        Source::Input => Ok(perform(rt, alloc, &work, input, output)),
+        Source::File(name) => {
+            let mut file = open(files, name)?;
+            Ok(perform(rt, alloc, &work, &mut file, output))
+        }
+    }
+}
+
+/// Goes through a log on a deck. All files are opened before anything is read.
+///
+/// # Errors
+/// A file can't be opened.
+fn replay_from<'a, T: Threads + Wait + Clock + Sync, D: Opener, R: Read, W: Write>(
+    rt: &T,
+    alloc: Global,
+    files: &D,
+    replay: Replay<'a>,
+    input: &mut R,
+    output: &mut W,
+) -> Ended<'a>
+    ensures replayed { IfOk result (λ end. ReplaysFrom (D.contents files.now) replay.entry (without_position end)
+        (R.remaining input.old) (W.contents output.old) (W.contents output.new)) }
+    ensures unopened { OnErr result (Keeps (R.remaining input.old) (R.remaining input.new)
+        × Keeps (W.contents output.old) (W.contents output.new)) }
+{
+    match replay {
+        Replay::Word { log, deck } => replay_text(rt, alloc, files, log, deck, input, output),
+        Replay::File { log, deck } => {
+            let mut file = open(files, log)?;
+            match read_all(alloc, &mut file) {
+                Ok(bytes) => replay_text(
+                    rt,
+                    alloc,
+                    files,
+                    text_of(bytes.as_slice()),
+                    deck,
+                    input,
+                    output,
+                ),
+                Err(fault) => Ok(Err(FaultAt::nowhere(fault))),
+            }
+        }
+        Replay::Input { deck } => {
+            let mut file = open(files, deck)?;
+            match read_all(alloc, input) {
+                Ok(bytes) => {
+                    let work = Work::Replay(text_of(bytes.as_slice()));
+                    Ok(perform(rt, alloc, &work, &mut file, output))
+                }
+                Err(fault) => Ok(Err(FaultAt::nowhere(fault))),
+            }
+        }
+    }
+}
+
+/// Does what is asked for.
+///
+/// # Errors
+/// A file can't be opened.
+fn answer<'a, T: Threads + Wait + Clock + Sync, D: Opener, R: Read, W: Write>(
+    rt: &T,
+    alloc: Global,
+    files: &D,
+    request: &Request<'a>,
+    input: &mut R,
+    output: &mut W,
+) -> Ended<'a>
+    ensures answered { IfOk result (λ end. Answers (D.contents files.now) request.now (without_position end)
+        (R.remaining input.old) (W.contents output.old) (W.contents output.new)) }
+    ensures unopened { OnErr result (Keeps (R.remaining input.old) (R.remaining input.new)
+        × Keeps (W.contents output.old) (W.contents output.new)) }
+{
+    let work = match *request {
+        Request::Run(budget) => Work::Run(budget),
+        Request::RunSequentially(budget) => Work::RunSequentially(budget),
+        Request::Replay(replay) => {
+            return replay_from(rt, alloc, files, replay, input, output);
+        }
+        Request::Events(budget) => Work::Events(budget),
+        Request::List => Work::List,
+    };
+    Ok(perform(rt, alloc, &work, input, output))
+}
+
+/// The whole program, over its arguments without the program's name, the files that they name, its input, output and
+/// fault stream. It answers the exit status, which a failed write to the fault stream doesn't change. It
 /// writes its output piece by piece, so a caller for whom each write is dear puts a buffer before it.
 /// It flushes the output after each answer of a session and at a good end.
-pub fn program<T: Threads + Wait + Clock + Sync, R: Read, W: Write, F: Write>(
+pub fn program<T: Threads + Wait + Clock + Sync, D: Opener, R: Read, W: Write, F: Write>(
     rt: &T,
     alloc: Global,
     words: &[String],
+    files: &D,
     input: &mut R,
     output: &mut W,
     faults: &mut F,
 ) -> u8
-    ensures { ExitsAsItDoes result (R.remaining input.old) (R.remaining input.new)
+    ensures { ExitsAsItDoes result (D.contents files.now) (R.remaining input.old) (R.remaining input.new)
         (W.contents output.old) (W.contents output.new) (F.contents faults.old) (F.contents faults.new) }
 {
     let request = match read_arguments(alloc, words) {
         Ok(request) => request,
         Err(error) => return report_usage(output, faults, error),
     };
-    match perform(rt, alloc, &request, input, output) {
-        Ok(status) => status.code(),
-        Err(fault) => report_fault(faults, fault),
+    match answer(rt, alloc, files, &request, input, output) {
+        Ok(Ok(status)) => status.code(),
+        Ok(Err(told)) => report_fault_at(faults, told),
+        Err(Unopened { name, error }) => {
+            let _ = writeln!(faults, "error: {name} can't be read: {error}");
+            Status::Usage.code()
+        }
     }
 }

@@ -1,7 +1,11 @@
 //! What the tests share: calls of the program, and a deck.
 
+ghost use Rattle.std.specs.Prelude.{Some};
+
+use super::files::Opener;
 use super::program::program;
 use std::alloc::{AllocError, Global};
+use std::io;
 use std::process::Abort;
 use std::sync::Wait;
 use std::test::Fail;
@@ -15,6 +19,33 @@ pub fn words(alloc: Global, texts: &[&str]) -> Result<Vec<String>, AllocError> {
     }
     Ok(all)
 }
+
+/// The files of a test: one of this name with these bytes.
+#[derive(Clone, Copy, Drop)]
+pub struct OneFile<'a> {
+    pub name: &'a str,
+    pub bytes: &'a [u8],
+}
+
+impl<'a> Opener for OneFile<'a> {
+    type Opened = &'a [u8];
+
+    ghost contents = { λ file name. Some file.bytes.now };
+
+    fn open(&self, name: &str) -> io::Result<&'a [u8]> {
+        if name == self.name {
+            Ok(self.bytes)
+        } else {
+            Err(io::Error::from(io::ErrorKind::NotFound))
+        }
+    }
+}
+
+/// No file has this name, since no word of a command line holds a zero.
+pub const NO_FILES: OneFile<'static> = OneFile {
+    name: "\0",
+    bytes: b"",
+};
 
 /// The program's status with these arguments and this input, what it prints and what it says of faults.
 pub fn called(
@@ -30,6 +61,7 @@ pub fn called(
         rt,
         rt.alloc(),
         words.as_slice(),
+        &NO_FILES,
         &mut input,
         &mut output,
         &mut faults,

@@ -1,0 +1,41 @@
+use Rattle.std.proofs.Common.{◌≡◌, ◌⊎◌, Some, rules, inl, inr}
+use Rattle.std.specs.Prelude.{IfSome}
+use Rattle.operator_terms.specs.declared.fault.ProgramFault.TheVariants as faults
+use Rattle.operator_main.specs.Request.{IsTextOf}
+use Rattle.operator_main.proofs.Replaying.{followed, lacks, log_of_file, log_read, moves_known}
+use Rattle.operator_main.proofs.program.replay_from.Goals as goal
+
+pub returns-in-Ok-clause-replayed : goal.returns-in-Ok-clause-replayed
+returns-in-Ok-clause-replayed g c =
+    let opened : IfSome (g.D.Opener.contents c.args.files.now c.in-File.log.now)
+        (λ bytes. g.D.Opened.Read.remaining c.in_ok-file-in-File.file ≡ Some bytes) = search rules in
+    let read : IfSome (g.D.Opened.Read.remaining c.in_ok-file-in-File.file) (λ left. c.in-Ok.bytes.items ≡ left) =
+    search rules in
+    let text : IsTextOf c.in-Ok.bytes.items c.text_of.result.now = search rules in
+    rw c.in-File.is (followed c.replay_text-in-Ok.result c.replay_text-in-Ok.ensures.replayed
+    (λ end p. inl (c.text_of.result.now, log_of_file _ _ _ _ opened read text, p)))
+
+pub returns-in-File-clause-replayed : goal.returns-in-File-clause-replayed
+returns-in-File-clause-replayed g c =
+    let why : (c.in-Err.fault ≡ faults.Read) ⊎ (c.in-Err.fault ≡ faults.OutOfMemory) = search rules in
+    rw c.in-File.is (inr (lacks c.in-Err.fault c.nowhere.result.fault _ c.nowhere.ensures why))
+
+pub returns-in-Ok-read_all-clause-replayed : goal.returns-in-Ok-read_all-clause-replayed
+returns-in-Ok-read_all-clause-replayed g c =
+    let opened : IfSome (g.D.Opener.contents c.args.files.now c.in-Input.deck.now)
+        (λ bytes. g.D.Opened.Read.remaining c.in_ok-file-in-Input.file ≡ Some bytes) = search rules in
+    let read : IfSome (g.R.Read.remaining c.args.input.now) (λ left. c.in-Ok-read_all.bytes.items ≡ left) =
+    search rules in
+    let text : IsTextOf c.in-Ok-read_all.bytes.items c.text_of-in-Ok-read_all.result.now = search rules in
+    rw c.in-Input.is (inl (
+      c.text_of-in-Ok-read_all.result.now,
+      log_read _ _ _ read text,
+      (c.perform.ensures.rest, moves_known _ _ _ _ opened c.perform.ensures.carried_out),
+    ))
+
+pub returns-clause-replayed : goal.returns-clause-replayed
+returns-clause-replayed g c =
+    let why : (c.in-Err-read_all.fault ≡ faults.Read) ⊎ (c.in-Err-read_all.fault ≡ faults.OutOfMemory) =
+    search rules in
+    rw c.in-Input.is
+    (inr (lacks c.in-Err-read_all.fault c.nowhere-in-Err-read_all.result.fault _ c.nowhere-in-Err-read_all.ensures why))

@@ -1,0 +1,40 @@
+-- What the program does with a deck.
+-- Source: ours.
+use Rattle.std.specs.Prelude.{◌≡◌, ℕ, List, Option, Result, Ok, Err}
+use Rattle.instructions.specs.declared.refusal.Refusal.{Refusal}
+use Rattle.device_text.specs.Device.{Moves}
+use Rattle.deck.specs.Deck.{deck}
+use Rattle.job_deck.specs.Listing.{Lists}
+use Rattle.job_deck.specs.SessionResult.{Performs}
+use Rattle.operator_terms.specs.declared.fault.ProgramFault.{ProgramFault}
+use Rattle.operator_terms.specs.declared.status.Status.{Status}
+use Rattle.operator_terms.specs.declared.status.Status.TheVariants.{Stopped}
+use Rattle.operator_terms.specs.Status.{fault_of}
+use Rattle.deck_run.specs.Running.{Runs, EndsSequentialRun, EndsReplay}
+use Rattle.operator_main.specs.declared.work.Work.{Work}
+use Rattle.operator_main.specs.declared.work.Work.TheVariants as works
+
+-- how the program ends after a session or a listing: all is written, or it says why not
+abbrev pub plain_end : Result (Unit {0}) Refusal → Result Status ProgramFault
+plain_end (Ok x) = Ok Stopped
+plain_end (Err refusal) = Err (fault_of refusal)
+
+-- how the program ends its work, what that leaves of these bytes, and what it prints
+abbrev pub CarriesOut : Work → Result Status ProgramFault → List ℕ → List ℕ → Option (List ℕ) → Option (List ℕ)
+    → Type 0
+CarriesOut (works.Run budget) end input rest old new = Runs end (deck input) budget rest old new
+CarriesOut (works.RunSequentially budget) end input rest old new =
+    EndsSequentialRun end (deck input) budget rest old new
+CarriesOut (works.Replay log) end input rest old new = EndsReplay end (deck input) rest log.now old new
+CarriesOut (works.Events budget) end input rest old new =
+    (found : Result (Unit {0}) Refusal) × Performs found budget (deck input) rest old new × (end ≡ plain_end found)
+CarriesOut works.List end input rest old new =
+    (found : Result (Unit {0}) Refusal) × Lists found (deck input) rest old new × (end ≡ plain_end found)
+
+-- the program does its work and ends so: it reads the deck from these bytes, and its output then holds what is printed
+-- after what it held before. More of the bytes may have been read than the work takes
+pub record Performed (work : Work) (end : Result Status ProgramFault) (input old new : Option (List ℕ))
+    : Type 0 where
+  -- the bytes that the work doesn't take
+  pub rest : Option (List ℕ)
+  pub carried_out : Moves input rest (λ xs ys. CarriesOut work end xs ys old new)

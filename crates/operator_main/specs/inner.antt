@@ -1,0 +1,3 @@
+-- What ties the code to the definitions.
+-- Source: ours.
+pub mod FaultAt

@@ -1,0 +1,46 @@
+//! The text of a log that is read from a file or from standard input.
+ghost use Rattle.std.specs.Prelude.{◌≡◌, ◌⊎◌, IfErr, IfOk, IfSome};
+ghost use Rattle.operator_terms.specs.declared.fault.ProgramFault.TheVariants.{OutOfMemory, Read};
+ghost use Rattle.operator_main.specs.Request.{IsTextOf, without_line_end};
+
+use operator_terms::ProgramFault;
+use std::alloc::Global;
+use std::io::{ErrorKind, Read};
+
+/// What stands for bytes that are no text. It is no log.
+const NO_LOG: &str = "no log";
+
+/// The bytes without the line end at their end.
+fn without_line_end(bytes: &[u8]) -> &[u8]
+    ensures { result.now ≡ without_line_end bytes.now }
+{
+    match bytes.split_last() {
+        Some((b'\n', front)) => front,
+        _ => bytes,
+    }
+}
+
+/// All bytes of a reader.
+///
+/// # Errors
+/// `Read`, and `OutOfMemory`.
+pub fn read_all<R: Read>(alloc: Global, reader: &mut R) -> Result<Vec<u8>, ProgramFault>
+    ensures bytes { IfOk result (λ bytes. IfSome (R.remaining reader.old) (λ left. bytes.items ≡ left)) }
+    ensures fault { IfErr result (λ fault. (fault ≡ Read) ⊎ (fault ≡ OutOfMemory)) }
+{
+    let mut bytes = Vec::new(alloc);
+    match reader.read_to_end(&mut bytes) {
+        Ok(_) => Ok(bytes),
+        Err(error) => match error.kind() {
+            ErrorKind::OutOfMemory => Err(ProgramFault::OutOfMemory),
+            _ => Err(ProgramFault::Read),
+        },
+    }
+}
+
+/// The text of a log of these bytes. A line end at their end isn't part of it.
+pub fn text_of(bytes: &[u8]) -> &str
+    ensures { IsTextOf bytes.now result.now }
+{
+    std::str::from_utf8(without_line_end(bytes)).unwrap_or(NO_LOG)
+}

@@ -1,0 +1,4 @@
+-- Where the fault of a refused line is.
+-- Source: ours.
+pub mod Line
+pub mod Position

@@ -1,0 +1,78 @@
+//! The fields of a line, which blanks separate.
+ghost use Rattle.std.specs.Prelude.{◌≤◌, length, IfSome};
+ghost use Rattle.refused_line.specs.Position.{IsPart};
+
+use crate::position::{Cause, Position};
+use device_text::{first_field, place_of};
+
+/// How many fields a line has.
+pub fn count(line: &[u8]) -> usize {
+    let mut fields = 1usize;
+    for byte in line {
+        if *byte == b' ' {
+            fields = fields.saturating_add(1);
+        }
+    }
+    fields
+}
+
+/// Where in a line this ending of it begins.
+pub fn start_of(line: &[u8], ending: &[u8]) -> usize
+    ensures { result ≤ length line.now }
+{
+    line.len().saturating_sub(ending.len())
+}
+
+/// Where the field of this number begins. The first has the number 0.
+fn start(line: &[u8], number: usize) -> Option<usize>
+    ensures { IfSome result (λ start. start ≤ length line.now) }
+{
+    let mut ending = line;
+    for _ in 0..number {
+        ending = first_field(ending).1?;
+    }
+    Some(start_of(line, ending))
+}
+
+/// The text of a line from this byte on, up to a separator.
+fn text_from(line: &[u8], start: usize, separator: u8) -> &[u8]
+    requires { start ≤ length line.now }
+    ensures { IsPart line.now start result.now }
+{
+    let rest = &line[start..];
+    match place_of(rest, separator) {
+        Some(end) => &rest[..end],
+        None => rest,
+    }
+}
+
+/// The position of what is in a line from this byte on, up to a separator.
+pub fn position_from(line: &[u8], start: usize, separator: u8, cause: Cause) -> Position<'_>
+    requires { start ≤ length line.now }
+    ensures { IsPart line.now result.start result.text.now }
+{
+    Position {
+        start,
+        text: text_from(line, start, separator),
+        cause,
+    }
+}
+
+/// The position of the field of this number.
+pub fn field(line: &[u8], number: usize) -> Option<Position<'_>>
+    ensures { IfSome result (λ position. IsPart line.now position.start position.text.now) }
+{
+    let start = start(line, number)?;
+    Some(position_from(line, start, b' ', Cause::Text))
+}
+
+/// The end of a line, as the position of this cause.
+pub fn end(line: &[u8], cause: Cause) -> Position<'_>
+    ensures { IsPart line.now result.start result.text.now }
+{
+    Position {
+        start: line.len(),
+        text: &line[line.len()..],
+        cause,
+    }
+}
