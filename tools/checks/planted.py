@@ -36,7 +36,7 @@ COVERED = (
         "0o04 => self.jump_if(self.b[i] % ONES18 == self.b[j] % ONES18, address)",
         "EQ Bi,Bj,K",
     ),
-    Covered("a mask of 0 is all ones", "jk.min(60)", "(if jk == 0 { 60 } else { jk.min(60) })", "MXi jk", 9),
+    Covered("a mask of 0 is all ones", "jk.min(60)", "(if jk == 0 { 60 } else { jk.min(60) })", "MXi jk", 21),
 )
 PLANTED = (
     Planted("the carry of a word is lost", "(total + ((total + 1) >> 60))", "total", r"IX"),
