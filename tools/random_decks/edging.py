@@ -79,7 +79,8 @@ class Edging:
             self.set_index("6", number, self.draws.one_of(INDEXES))
         self.set_index("5", 0, self.draws.one_of(INDEXES))
         number = {"5": 0, "6": self.draws.one_of((0, FIRST)), "7": RESULT}[code[0]]
-        copies = {"5": [spelled("74", i=RESULT, j=0, k=0)], "6": [spelled("76", i=RESULT, j=number, k=0)], "7": []}
+        # A difference to +0 keeps a -0, and a sum doesn't.
+        copies = {"5": [spelled("75", i=RESULT, j=0, k=0)], "6": [spelled("77", i=RESULT, j=number, k=0)], "7": []}
         self.keep(code, *copies[code[0]], i=number, j=0 if "Aj" in ROWS[code].operands else FIRST)
 
     def branch(self):
