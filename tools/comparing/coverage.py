@@ -36,14 +36,13 @@ def parted(code):
 
 
 class Coverage:
-    """The numbers of decks that show instructions and edges, for some cases."""
+    """The numbers of decks that show instructions and edges, by what each deck shows."""
 
-    def __init__(self, cases, proved, progress):
-        self.cases, self.numbers = len(cases), Counter()
-        for number, case in enumerate(cases, 1):
-            progress.show(f"deck {number} of {len(cases)}")
-            self.numbers.update(shown_by(case, proved))
-        progress.show("")
+    def __init__(self, shown):
+        self.decks, self.numbers = 0, Counter()
+        for found in shown:
+            self.decks += 1
+            self.numbers.update(found)
 
     @property
     def lines(self):
@@ -85,4 +84,4 @@ class Coverage:
         """The numbers as JSON."""
         rows = [{"code": row.code, "text": row.text, "decks": self.numbers[row.code],
                  "edges": {edge: self.numbers[row.code, edge] for edge in edges_of(row)}} for row in ROWS.values()]
-        return json.dumps({"decks": self.cases, "instructions": rows}, indent=1)
+        return json.dumps({"decks": self.decks, "instructions": rows}, indent=1)
