@@ -8,6 +8,9 @@ from .dumps import Dump
 from .faults import Failure, Slow
 from .steps import Steps
 
+# How many words of memory the kept dumps of a deck have, as long as there is more than one.
+MOST_KEPT = 1 << 14
+
 
 class Outcome:
     """What came of the first steps of a log: the dump of `replay`, and the emulator's, or why there is none."""
@@ -49,19 +52,28 @@ class Found:
 
 
 class Replayed:
-    """A deck with a log, and what `replay` prints for its beginnings. An emulator gets the deck in `file`."""
+    """A deck with a log, and what `replay` prints for its beginnings. An emulator gets the deck in `file`. Some dumps
+    are kept, since several comparisons on one deck ask for the same ones."""
 
     def __init__(self, proved, given, log, file):
         """Asks for the dump after the whole log, which is kept, since each comparison begins with it.
 
         Raises BadInput where the program refuses the log."""
         self.proved, self.given, self.file = proved, given, file
-        self.whole, self.steps = proved.dump(given, log), Steps(log)
+        self.whole, self.steps, self.kept = proved.dump(given, log), Steps(log), {}
         file.write_bytes(given.text)
 
     def dump(self, count):
         """The dump after so many steps."""
-        return self.whole if count == len(self.steps) else self.proved.dump(self.given, self.steps.beginning(count))
+        if count == len(self.steps):
+            return self.whole
+        found = self.kept.get(count)
+        if not found:
+            found = self.proved.dump(self.given, self.steps.beginning(count))
+            if (len(self.kept) + 1) * self.given.size > MOST_KEPT:
+                self.kept.clear()
+            self.kept[count] = found
+        return found
 
 
 class Comparison:

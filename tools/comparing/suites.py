@@ -11,26 +11,34 @@ from .finding import Replayed
 from .proved import Given
 
 
-def replayed(proved, folder, name, text, log):
-    """A deck as it is given to an emulator, in a file of this folder, with its replay."""
-    return Replayed(proved, Given(proved, name, text), log, Path(folder) / re.sub(r"\W+", "-", name))
+class Case:
+    """A deck with a log, by its name."""
+
+    def given(self, proved):
+        """The deck as it is given to an emulator, and its log."""
+        text, log = self.text_and_log(proved)
+        return Given(proved, self.name, text), log
+
+    def replayed(self, proved, folder):
+        """Its replay, with its file in this folder."""
+        return Replayed(proved, *self.given(proved), Path(folder) / re.sub(r"\W+", "-", self.name))
 
 
 @dataclass(frozen=True)
-class StoredCase:
+class StoredCase(Case):
     """A deck or a session of decks/ with its log."""
 
     name: str
     text: bytes
     log: str
 
-    def replayed(self, proved, folder):
-        """Its replay, with its file in this folder."""
-        return replayed(proved, folder, self.name, self.text, self.log)
+    def text_and_log(self, _):
+        """Its text and its log."""
+        return self.text, self.log
 
 
 @dataclass(frozen=True)
-class DrawnCase:
+class DrawnCase(Case):
     """The deck that is drawn from a seed. Its log is that of a run."""
 
     seed: int
@@ -40,10 +48,10 @@ class DrawnCase:
         """The command that prints it, and its kind."""
         return f"tools/random-deck {self.seed} ({kind_of(self.seed)})"
 
-    def replayed(self, proved, folder):
-        """Its replay, with its file in this folder."""
+    def text_and_log(self, proved):
+        """Its text and its log."""
         text = drawn_deck(self.seed).encode()
-        return replayed(proved, folder, self.name, text, proved.log(text, self.name))
+        return text, proved.log(text, self.name)
 
 
 def stored_cases():

@@ -2,11 +2,12 @@
 
 from .branching import branches
 from .draws import Draws
+from .edging import edges
 from .exchanging import exchanges
 from .faulting import faults
 from .straight import references, registers
 
-KINDS = {kind.__name__: kind for kind in (registers, references, branches, faults, exchanges)}
+KINDS = {kind.__name__: kind for kind in (registers, references, branches, faults, exchanges, edges)}
 
 
 def kind_of(seed):
