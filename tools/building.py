@@ -175,11 +175,15 @@ def put(made, file, begun):
 
 
 def end(main):
-    """Ends a tool that builds with the status of its work. A signal ends it too, with all that it has started."""
+    """Ends a tool that builds with the status of its work. A signal ends it too, with all that it has started, and so
+    does a fault of the system, such as a full disk, with a line."""
     for number in (signal.SIGTERM, signal.SIGHUP, signal.SIGINT):
         signal.signal(number, lambda *_: sys.exit(130))
     try:
         sys.exit(main())
     except (Unproved, Unreadable) as reason:
         print(reason, file=sys.stderr)
+        sys.exit(1)
+    except OSError as fault:
+        tell(f"{fault.filename}: {fault.strerror}" if fault.filename else fault.strerror)
         sys.exit(1)

@@ -7,6 +7,7 @@ ended through another.
 
 import os
 import signal
+import sys
 from collections import Counter, deque
 from contextlib import suppress
 from struct import Struct
@@ -17,7 +18,21 @@ from .job import FINAL, Fault, Unread
 NUMBER = Struct("=I")
 # A report has room in a pipe as a whole, so the reports of several workers don't mix.
 LONGEST = 1000
-ENDING = (signal.SIGTERM, signal.SIGHUP)
+ENDING = (signal.SIGINT, signal.SIGTERM, signal.SIGHUP)
+
+
+def stop(number, _):
+    """Ends this process by a signal. Further signals are ignored, since its runs are to be ended too."""
+    for it in ENDING:
+        signal.signal(it, signal.SIG_IGN)
+    sys.exit(128 + number)
+
+
+def end_by_signals():
+    """Has each signal that isn't ignored end this process with what it has started."""
+    for it in ENDING:
+        if signal.getsignal(it) is not signal.SIG_IGN:
+            signal.signal(it, stop)
 
 
 class Worker:
@@ -66,7 +81,7 @@ class Worker:
         except (Fault, OSError) as fault:
             with suppress(BrokenPipeError):
                 self.report(0, "!", False, str(fault) if isinstance(fault, Fault) else line_of(fault))
-        except (SystemExit, KeyboardInterrupt):
+        except SystemExit:
             pass
         finally:
             os._exit(0)
