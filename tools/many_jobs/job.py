@@ -105,7 +105,7 @@ class Job:
 
     def refuse_other_deck(self, path):
         """Raises Fault if another deck, by its path from the folder on, is still there."""
-        kept = os.path.normpath(os.path.join(self.folder, path))
+        kept = os.path.normpath(os.path.join(os.path.realpath(self.folder), path))
         with suppress(FileNotFoundError, NotADirectoryError):
             if not os.path.samefile(kept, self.deck):
                 raise Fault(clash(kept, self.deck, self.file("*")))
