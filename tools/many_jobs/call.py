@@ -7,32 +7,17 @@ ended through another.
 
 import os
 import signal
-import sys
 from collections import Counter, deque
 from contextlib import suppress
 from struct import Struct
 from threading import Thread
 
 from .job import FINAL, Fault, Unread
+from .signals import hold_signals, let_signals_in
 
 NUMBER = Struct("=I")
 # A report has room in a pipe as a whole, so the reports of several workers don't mix.
 LONGEST = 1000
-ENDING = (signal.SIGINT, signal.SIGTERM, signal.SIGHUP)
-
-
-def stop(number, _):
-    """Ends this process by a signal. Further signals are ignored, since its runs are to be ended too."""
-    for it in ENDING:
-        signal.signal(it, signal.SIG_IGN)
-    sys.exit(128 + number)
-
-
-def end_by_signals():
-    """Has each signal that isn't ignored end this process with what it has started."""
-    for it in ENDING:
-        if signal.getsignal(it) is not signal.SIG_IGN:
-            signal.signal(it, stop)
 
 
 class Worker:
@@ -115,16 +100,19 @@ class Call:
         """Runs the jobs, so many at once. If an exception ends it, it ends the workers, and these their runs."""
         (tasks, feeding), (reading, writing) = os.pipe(), os.pipe()
         worker, workers = Worker(program, self.jobs, tasks, writing), []
+        hold_signals()
         try:
             for _ in range(min(most, len(self.jobs))):
                 workers.append(os.fork() or worker.process((feeding, reading)))
             os.close(writing)
             os.close(tasks)
             Thread(target=feed, args=(open(feeding, "wb"), len(self.jobs)), daemon=True).start()
+            let_signals_in()
             with open(reading, "rb") as reports:
                 for line in reports:
                     self.account(*line.decode(errors="replace").rstrip("\n").split(" ", 3))
         finally:
+            hold_signals()
             for process in workers:
                 os.kill(process, signal.SIGTERM)
             for process in workers:

@@ -6,6 +6,8 @@ import os
 import signal
 from contextlib import suppress
 
+from .signals import waiting
+
 # The statuses that another run would have too. Such a job is done.
 FINAL = (0, 1, 3, 4, 5)
 # The statuses with which a run prints a dump.
@@ -90,7 +92,8 @@ class Job:
             raise Unread(fault.strerror) from None
         self.lock = os.open(self.file("job"), os.O_RDWR | os.O_CREAT | os.O_CLOEXEC, 0o666)
         try:
-            fcntl.flock(self.lock, fcntl.LOCK_EX if waits else fcntl.LOCK_EX | fcntl.LOCK_NB)
+            with waiting():
+                fcntl.flock(self.lock, fcntl.LOCK_EX if waits else fcntl.LOCK_EX | fcntl.LOCK_NB)
         except BlockingIOError:
             return False
         return True
@@ -164,14 +167,15 @@ class Job:
         flags = os.O_WRONLY | os.O_CREAT | os.O_EXCL | os.O_CLOEXEC
         self.output, self.told = os.open(self.file("dump.part"), flags, 0o666), os.memfd_create("told")
         streams = [(os.POSIX_SPAWN_DUP2, it, to) for to, it in enumerate((self.input, self.output, self.told))]
-        how = {"file_actions": streams, "setsigdef": RESTORED}
+        how = {"file_actions": streams, "setsigdef": RESTORED, "setsigmask": ()}
         self.process = os.posix_spawn(program, [program, *words], environment, **how)
 
     def wait(self):
         """Waits for the end of the run; its status. If a signal has killed it, that is 128 and the signal's number, as
         in a shell."""
-        code = os.waitstatus_to_exitcode(os.waitpid(self.process, 0)[1])
-        self.process = None
+        with waiting():
+            code = os.waitstatus_to_exitcode(os.waitpid(self.process, 0)[1])
+            self.process = None
         return code if code >= 0 else 128 - code
 
     def end(self, status):
@@ -187,8 +191,11 @@ class Job:
     def leave(self):
         """Kills the run, if it hasn't ended, removes a dump that isn't whole, and removes the lock."""
         if self.process is not None:
-            os.kill(self.process, signal.SIGKILL)
-            self.wait()
+            # A signal can come between the end of the run and the note that it has ended.
+            with suppress(ProcessLookupError, ChildProcessError):
+                os.kill(self.process, signal.SIGKILL)
+                os.waitpid(self.process, 0)
+            self.process = None
         if self.output is not None and self.status not in WITH_DUMP:
             remove(self.file("dump.part"))
         for descriptor in (self.input, self.lock, self.output, self.told):
