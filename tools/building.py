@@ -16,10 +16,11 @@ from pathlib import Path
 import host
 from commands import run, stop_all
 from crates import Unreadable, checker
+from forecast import Forecast, measured
 
 # What a verdict may not mention: C code, functions that may not return, and parts that were let pass without proof.
 EXCUSES = re.compile(r" (foreign|hides|partial|may-abort|may-serve|bugs|holes)=")
-# A crate takes about as long as so many lines before it comes to any of its own.
+# A crate without a measured time takes about as long as so many lines before it comes to any of its own.
 LINES_BEFORE = 400
 LINES_OF_A_FAULT = 40
 LEAST_URGENT = 19
@@ -48,13 +49,13 @@ def tell(words):
 
 
 class Plan:
-    """The crates to prove, lowest first, each with its work in lines, and how urgent it is. Those that are given make
-    no work."""
+    """The crates to prove, lowest first, each with its work in seconds of a processor, and how urgent it is. Those that
+    are given make no work."""
 
     def __init__(self, table, top, given=()):
         self.crates = [*table.below(top), top]
         self.uses = {name: [it for it in table.uses[name] if it in self.crates] for name in self.crates}
-        self.work = {name: LINES_BEFORE + lines_of(table.folder(name)) for name in self.crates}
+        self.work = work_of(table, self.crates)
         self.work.update((name, 0) for name in given)
         ahead, behind = {}, {}
         for name in self.crates:
@@ -67,16 +68,19 @@ class Plan:
         slack = {name: 20 * (longest - ahead[name] - behind[name]) // longest for name in self.crates}
         self.nice = {name: min(LEAST_URGENT, slack[name]) for name in self.crates}
 
-    def minutes_left(self, proved, seconds):
-        """About how long it will still take, if a line of the other crates takes as long as one of those proved."""
-        total, done = sum(self.work.values()), sum(self.work[name] for name in proved)
-        return int(seconds * (total - done) / done / 60) + 1
-
 
 def lines_of(folder):
     """The lines of a crate's code, without its tests."""
     files = (file for file in (folder / "src").rglob("*.rt") if "test" not in file.name)
     return sum(len(file.read_bytes().splitlines()) for file in files)
+
+
+def work_of(table, names):
+    """The work of each crate: its measured seconds, or about as many if it has none, by its lines."""
+    lines = {name: LINES_BEFORE + lines_of(table.folder(name)) for name in names}
+    seconds = {name: taken for name, taken in measured(table.root).items() if name in names}
+    pace = sum(seconds.values()) / sum(lines[name] for name in seconds) if seconds else 1
+    return {name: seconds.get(name, pace * lines[name]) for name in names}
 
 
 class Building:
@@ -85,8 +89,9 @@ class Building:
 
     def __init__(self, table, top, product, room, given=None):
         self.table, self.top, self.product, self.room = table, top, product, Path(room)
-        self.kit, self.given, self.begun = checker().parent.parent, given or {}, time.monotonic()
+        self.kit, self.given, self.seconds = checker().parent.parent, given or {}, {}
         self.plan, self.proved = Plan(table, top, self.given), set(self.given)
+        self.forecast = Forecast(self.plan, host.places(), max(host.free_memory() // host.NEEDED, 1))
 
     def made(self, name):
         """What a crate is built into."""
@@ -119,17 +124,19 @@ class Building:
 
         Raises Unproved with the end of what the checker said, where it isn't proved."""
         (self.room / name).mkdir()
+        self.forecast.begin(name, time.monotonic())
         ran = run(self.words(name), self.room / name)
         lines = [line for line in ran.said.rstrip().split("\n") if not line.startswith("statements ")]
         verdict = lines[-1] if lines[-1].startswith("logic=proved ") else ""
         if ran.status or not verdict or EXCUSES.search(verdict):
             raise Unproved("\n".join([*lines[-LINES_OF_A_FAULT:], f"cdc6600: {name} isn't proved"]))
+        self.seconds[name] = ran.seconds
 
     def tell(self, name):
         """Tells that a crate is proved, and about how long the others will take."""
         self.proved.add(name)
         many, total = len(self.proved), len(self.plan.crates)
-        minutes = self.plan.minutes_left(self.proved, time.monotonic() - self.begun)
+        minutes = self.forecast.minutes_left(name, self.proved, time.monotonic())
         left = "" if many == total else f"; about {minutes} minutes left" if minutes > 1 else "; about a minute left"
         tell(f"{name} is proved, {many} of {total} crates{left}")
 
@@ -168,11 +175,15 @@ def put(made, file, begun):
 
 
 def end(main):
-    """Ends a tool that builds with the status of its work. A signal ends it too, with all that it has started."""
+    """Ends a tool that builds with the status of its work. A signal ends it too, with all that it has started, and so
+    does a fault of the system, such as a full disk, with a line."""
     for number in (signal.SIGTERM, signal.SIGHUP, signal.SIGINT):
         signal.signal(number, lambda *_: sys.exit(130))
     try:
         sys.exit(main())
     except (Unproved, Unreadable) as reason:
         print(reason, file=sys.stderr)
+        sys.exit(1)
+    except OSError as fault:
+        tell(f"{fault.filename}: {fault.strerror}" if fault.filename else fault.strerror)
         sys.exit(1)

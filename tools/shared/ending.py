@@ -8,17 +8,37 @@ import sys
 INTERRUPTED, UNREAD = 128 + signal.SIGINT, 128 + signal.SIGPIPE
 
 
+class Unwritten(Exception):
+    """Standard output can't be written. Its text is the line for the user."""
+
+
+def flush_output():
+    """Writes what is left of standard output.
+
+    Raises Unwritten if that fails, and BrokenPipeError if nobody reads it. Then the rest is discarded, so that Python
+    doesn't try to write it once more."""
+    try:
+        if sys.stdout is not None:
+            sys.stdout.flush()
+    except OSError as fault:
+        os.dup2(os.open(os.devnull, os.O_WRONLY), sys.stdout.fileno())
+        if isinstance(fault, BrokenPipeError):
+            raise
+        raise Unwritten(f"standard output: {fault.strerror}") from None
+
+
 def ended(name, main, *faults, status=1):
     """Calls the main function of a script; its status. A fault of one of these kinds is told in one line after the
-    script's name, with this status. An interrupt ends it quietly, and so does it where nobody reads what it prints."""
+    script's name, with this status. So is standard output that can't be written. An interrupt ends it quietly, and so
+    does it where nobody reads what it prints."""
     try:
-        found = main()
-        sys.stdout.flush()
-        return found
+        try:
+            return main()
+        finally:
+            flush_output()
     except BrokenPipeError:
-        os.dup2(os.open(os.devnull, os.O_WRONLY), sys.stdout.fileno())
         return UNREAD
-    except faults as fault:
+    except (Unwritten, *faults) as fault:
         print(f"{name}: {fault}", file=sys.stderr)
         return status
     except KeyboardInterrupt:

@@ -26,10 +26,10 @@ def named_program():
 
 
 def program_path():
-    """The program that CDC6600 names; else the one that `./cdc6600` builds, which is asked to build it where a source
-    is newer. What is run then is the executable, without the script's look for newer sources at each run."""
+    """The program that CDC6600 names; otherwise the one that `./cdc6600` runs, which is built first if its sources have
+    changed. What is run then is the executable, without the script's look at the sources at each run."""
     if not named_program():
-        if subprocess.run([ROOT / "cdc6600", "--help"], stdout=subprocess.DEVNULL, check=False).returncode:
+        if subprocess.run([ROOT / "tools/build-program"], check=False).returncode:
             sys.exit(f"{sys.argv[0]}: the program could not be built")
     return named_program() or str(BUILT)
 

@@ -1,0 +1,137 @@
+"""One call of tools/run-jobs: runs the jobs that aren't done, several at once.
+
+Each worker is a process of its own and runs one job at a time, so the workers share the processors without waiting for
+each other. A worker takes the number of its next job from a pipe that all of them read, and reports each job that has
+ended through another.
+"""
+
+import os
+import signal
+from collections import Counter, deque
+from contextlib import suppress
+from struct import Struct
+from threading import Thread
+
+from .job import FINAL, Fault, Unread
+from .signals import hold_signals, let_signals_in
+
+NUMBER = Struct("=I")
+# A report has room in a pipe as a whole, so the reports of several workers don't mix.
+LONGEST = 1000
+
+
+class Worker:
+    """Runs jobs, one at a time. `tasks` has the numbers of the jobs, and reports go to `reports`."""
+
+    def __init__(self, program, jobs, tasks, reports):
+        self.program, self.jobs, self.tasks, self.reports = program, jobs, tasks, reports
+        self.environment = dict(os.environb)
+
+    def work(self):
+        """Runs jobs until there are no more. A job that another call runs is looked at again at the end: then the
+        worker waits for that call."""
+        locked = deque()
+        while number := os.read(self.tasks, NUMBER.size):
+            if not self.run(*NUMBER.unpack(number), waits=False):
+                locked.append(number)
+        for number in locked:
+            self.run(*NUMBER.unpack(number), waits=True)
+
+    def run(self, number, waits):
+        """Runs a job, unless it is done, and reports it. False if another call runs it and this one doesn't wait."""
+        job = self.jobs[number]
+        try:
+            if not job.take_lock(waits):
+                return False
+            is_run = job.run(self.program, self.environment)
+            self.report(number, job.status, is_run, job.said)
+        except Unread as fault:
+            self.report(number, None, False, str(fault))
+        finally:
+            job.leave()
+        return True
+
+    def report(self, number, status, is_run, said):
+        """Reports a job that has ended, or can't begin."""
+        words = f"{number} {'-' if status is None else status} {int(is_run)} {said}"
+        os.write(self.reports, words.encode(errors="replace")[:LONGEST].replace(b"\n", b" ") + b"\n")
+
+    def process(self, others):
+        """Goes through the work as the whole of a process, in which it closes the other ends of the pipes. A signal
+        ends it quietly, and so does the end of the call that reads the reports."""
+        try:
+            for descriptor in others:
+                os.close(descriptor)
+            self.work()
+        except (Fault, OSError) as fault:
+            with suppress(BrokenPipeError):
+                self.report(0, "!", False, str(fault) if isinstance(fault, Fault) else line_of(fault))
+        except SystemExit:
+            pass
+        finally:
+            os._exit(0)
+
+
+def line_of(fault):
+    """A fault of the system as a line."""
+    name = fault.filename
+    return f"{name if isinstance(name, str) else os.fsdecode(name)}: {fault.strerror}" if name else fault.strerror
+
+
+def feed(stream, many):
+    """Writes the numbers of the jobs, as far as there are workers to read them."""
+    with suppress(BrokenPipeError), stream:
+        stream.write(b"".join(map(NUMBER.pack, range(many))))
+
+
+class Call:
+    """The jobs of a call, and what was reported of them."""
+
+    def __init__(self, jobs, report):
+        self.jobs, self.listener = jobs, report
+        self.waiting, self.statuses, self.done_before, self.left = set(range(len(jobs))), Counter(), 0, 0
+
+    @property
+    def ended(self):
+        """How many jobs have ended, with those that were done before."""
+        return len(self.jobs) - len(self.waiting)
+
+    def run(self, program, most):
+        """Runs the jobs, so many at once. If an exception ends it, it ends the workers, and these their runs."""
+        (tasks, feeding), (reading, writing) = os.pipe(), os.pipe()
+        worker, workers = Worker(program, self.jobs, tasks, writing), []
+        hold_signals()
+        try:
+            for _ in range(min(most, len(self.jobs))):
+                workers.append(os.fork() or worker.process((feeding, reading)))
+            os.close(writing)
+            os.close(tasks)
+            Thread(target=feed, args=(open(feeding, "wb"), len(self.jobs)), daemon=True).start()
+            let_signals_in()
+            with open(reading, "rb") as reports:
+                for line in reports:
+                    self.account(*line.decode(errors="replace").rstrip("\n").split(" ", 3))
+        finally:
+            hold_signals()
+            for process in workers:
+                os.kill(process, signal.SIGTERM)
+            for process in workers:
+                os.waitpid(process, 0)
+        for number in sorted(self.waiting):
+            self.account(number, "-", "0", "the worker that ran it was killed")
+
+    def account(self, number, status, is_run, said):
+        """Counts a job that has ended.
+
+        Raises Fault if a worker reports that no more jobs can be run."""
+        if status == "!":
+            raise Fault(said)
+        job, status = self.jobs[int(number)], int(status) if status.isdigit() else None
+        self.waiting.discard(int(number))
+        self.statuses[status] += 1
+        self.done_before += status is not None and is_run == "0"
+        if status not in FINAL:
+            self.left += 1
+            reason = [*[f"status {status}"] * (status is not None), *[said] * bool(said)]
+            self.listener.tell(f"{job.deck} isn't done: {', '.join(reason)}")
+        self.listener.show(self)

@@ -1,0 +1,204 @@
+"""A job: the run of one deck, and the files that the folder of results has of it."""
+
+import fcntl
+import hashlib
+import os
+import signal
+from contextlib import suppress
+
+from .signals import waiting
+
+# The statuses that another run would have too. Such a job is done.
+FINAL = (0, 1, 3, 4, 5)
+# The statuses with which a run prints a dump.
+WITH_DUMP = (0, 3, 4, 5)
+SEQUENTIAL = b"--sequential"
+# Python ignores these signals; the program has to get them.
+RESTORED = (signal.SIGPIPE, signal.SIGXFSZ)
+
+
+class Fault(Exception):
+    """The reason why no job can be run. Its text is the line for the user."""
+
+
+class Unread(Exception):
+    """The reason why a deck or its arguments can't be read. Its text is the line for the user."""
+
+
+def content_of(descriptor):
+    """All that a file has, from its beginning. Its position is the beginning afterwards."""
+    os.lseek(descriptor, 0, os.SEEK_SET)
+    text = b"".join(iter(lambda: os.read(descriptor, 1 << 20), b""))
+    os.lseek(descriptor, 0, os.SEEK_SET)
+    return text
+
+
+def content_if_there(path):
+    """All that a file has, or nothing if there is no such file."""
+    try:
+        with open(path, "rb", buffering=0) as file:
+            return file.readall()
+    except FileNotFoundError:
+        return None
+
+
+def remove(path):
+    """Removes a file, if there is one."""
+    with suppress(FileNotFoundError):
+        os.unlink(path)
+
+
+def write(path, text):
+    """Writes a new file. If that fails, there is none."""
+    descriptor = os.open(path, os.O_WRONLY | os.O_CREAT | os.O_EXCL | os.O_CLOEXEC, 0o666)
+    try:
+        with open(descriptor, "wb", buffering=0) as file:
+            file.write(text)
+    except OSError as fault:
+        remove(path)
+        raise OSError(fault.errno, fault.strerror, path) from None
+
+
+def clash(kept, deck, files):
+    """The line for two decks whose results would be in the same files."""
+    return f"{kept} and {deck} would both be {files}: give each folder of decks a folder of its own"
+
+
+class Job:
+    """The run of one deck. Whoever has the lock of the file NAME.job may change the job's files."""
+
+    def __init__(self, deck, folder, is_sequential):
+        self.deck, self.folder, self.is_sequential = deck, folder, is_sequential
+        self.stem = deck.removesuffix(".deck")
+        self.name = os.path.basename(self.stem)
+        self.status, self.said = None, ""
+        # The open files: the deck, the one with the lock, the dump, and standard error; then the process of the run.
+        self.input = self.lock = self.output = self.told = self.process = None
+
+    def file(self, ending):
+        """The path of one of the job's files."""
+        return f"{self.folder}/{self.name}.{ending}"
+
+    # ---- the lock and the record ----
+
+    def take_lock(self, waits):
+        """Opens the deck and locks the job; whether it is locked now. If another call has the lock, it waits for that
+        call or returns at once. The kernel removes the lock of a call that is killed.
+
+        Raises Unread if the deck can't be read."""
+        try:
+            self.input = os.open(self.deck, os.O_RDONLY | os.O_CLOEXEC)
+        except OSError as fault:
+            raise Unread(fault.strerror) from None
+        self.lock = os.open(self.file("job"), os.O_RDWR | os.O_CREAT | os.O_CLOEXEC, 0o666)
+        try:
+            with waiting():
+                fcntl.flock(self.lock, fcntl.LOCK_EX if waits else fcntl.LOCK_EX | fcntl.LOCK_NB)
+        except BlockingIOError:
+            return False
+        return True
+
+    def path(self):
+        """The path of the deck from the folder on, which stays true if both are moved together."""
+        return os.path.relpath(os.path.abspath(self.deck), os.path.realpath(self.folder))
+
+    def result_key(self, words):
+        """What a result depends on, in two lines: the content of the deck, and the words of the run."""
+        return b"%s\n%s\n" % (hashlib.sha256(content_of(self.input)).hexdigest().encode(), b" ".join(words))
+
+    def refuse_other_deck(self, path):
+        """Raises Fault if another deck, by its path from the folder on, is still there."""
+        kept = os.path.normpath(os.path.join(os.path.realpath(self.folder), path))
+        with suppress(FileNotFoundError, NotADirectoryError):
+            if not os.path.samefile(kept, self.deck):
+                raise Fault(clash(kept, self.deck, self.file("*")))
+
+    def read_status(self):
+        """Reads the status that is kept; whether another run would have it too."""
+        kept = (content_if_there(self.file("status")) or b"").strip()
+        self.status = int(kept) if kept.isdigit() else None
+        return self.status in FINAL
+
+    # ---- the run ----
+
+    def words(self):
+        """The words of the run after the program's name.
+
+        Raises Unread if the file of arguments can't be read."""
+        path = f"{self.stem}.arguments"
+        try:
+            words = (content_if_there(path) or b"").split()
+        except OSError as fault:
+            raise Unread(f"{path}: {fault.strerror}") from None
+        if any(b"\0" in word for word in words):
+            raise Unread(f"{path}: a null character")
+        return [b"run", *[SEQUENTIAL] * (self.is_sequential and SEQUENTIAL not in words), *words]
+
+    def run(self, program, environment):
+        """Runs a locked job, unless it is done; whether it was run.
+
+        Raises Unread if the deck can't be read, and Fault if the files have the result of another deck."""
+        words, path = self.words(), self.path()
+        try:
+            key = self.result_key(words)
+        except OSError as fault:
+            raise Unread(fault.strerror) from None
+        record = content_of(self.lock)
+        kept_path = os.fsdecode(record.split(b"\n", 2)[-1].removesuffix(b"\n"))
+        if record and kept_path != path:
+            self.refuse_other_deck(kept_path)
+        if self.read_status() and record.startswith(key):
+            return False
+        self.clear()
+        os.ftruncate(self.lock, 0)
+        os.pwrite(self.lock, key + os.fsencode(path) + b"\n", 0)
+        self.start(program, words, environment)
+        self.end(self.wait())
+        return True
+
+    def clear(self):
+        """Removes what earlier runs left, the status first: without it no other file counts."""
+        self.status = None
+        for ending in ("status", "dump", "told", "dump.part"):
+            remove(self.file(ending))
+
+    def start(self, program, words, environment):
+        """Starts the program. The dump goes to a new file, which no run that was left can write to."""
+        flags = os.O_WRONLY | os.O_CREAT | os.O_EXCL | os.O_CLOEXEC
+        self.output, self.told = os.open(self.file("dump.part"), flags, 0o666), os.memfd_create("told")
+        streams = [(os.POSIX_SPAWN_DUP2, it, to) for to, it in enumerate((self.input, self.output, self.told))]
+        how = {"file_actions": streams, "setsigdef": RESTORED, "setsigmask": ()}
+        self.process = os.posix_spawn(program, [program, *words], environment, **how)
+
+    def wait(self):
+        """Waits for the end of the run; its status. If a signal has killed it, that is 128 and the signal's number, as
+        in a shell."""
+        with waiting():
+            code = os.waitstatus_to_exitcode(os.waitpid(self.process, 0)[1])
+            self.process = None
+        return code if code >= 0 else 128 - code
+
+    def end(self, status):
+        """Keeps the result of a run that has ended with this status."""
+        told = content_of(self.told)
+        if status in WITH_DUMP:
+            os.rename(self.file("dump.part"), self.file("dump"))
+        if told:
+            write(self.file("told"), told)
+        write(self.file("status"), b"%d\n" % status)
+        self.status, self.said = status, told.decode(errors="replace").partition("\n")[0]
+
+    def leave(self):
+        """Kills the run, if it hasn't ended, removes a dump that isn't whole, and removes the lock."""
+        if self.process is not None:
+            # A signal can come between the end of the run and the note that it has ended.
+            with suppress(ProcessLookupError, ChildProcessError):
+                os.kill(self.process, signal.SIGKILL)
+                os.waitpid(self.process, 0)
+            self.process = None
+        if self.output is not None and self.status not in WITH_DUMP:
+            remove(self.file("dump.part"))
+        for descriptor in (self.input, self.lock, self.output, self.told):
+            if descriptor is not None:
+                os.close(descriptor)
+        self.input = self.lock = self.output = self.told = None
