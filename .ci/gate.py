@@ -54,6 +54,8 @@ CHECKS = (
 )
 DECKS = tuple(f"tools/checks/{name}" for name in CHECKS)
 TOOLS = (".ci/spent-tokens", "tools/build-program-test")
+# What `rt ci` builds.
+PROGRAM = "crates/operator_main/out/operator_main"
 # The page whose table says what each of them checks.
 PAGE = "docs/CHANGING.md"
 PROOFS = re.compile(r"(\d+) passed, (\d+) failed")
@@ -139,7 +141,11 @@ def proofs(is_anew):
     available = re.search(r"MemAvailable:\s+(\d+)", Path("/proc/meminfo").read_text(encoding="ascii"))
     if available and int(available[1]) >= processors * MEMORY_OF_A_CHECK:
         environment.setdefault("RT_JOBS", str(processors))
-    return counted(["rt", "ci", *["--anew"] * is_anew], PROOFS, environment)
+    passed, failed = counted(["rt", "ci", *["--anew"] * is_anew], PROOFS, environment)
+    if not failed:
+        # `rt ci` has just built the program of these sources, so the checks needn't build it.
+        Path(f"{PROGRAM}.sources").write_bytes(subprocess.check_output(["tools/source-sum"]))
+    return passed, failed
 
 
 def bodies(gate, is_anew):

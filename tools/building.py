@@ -7,6 +7,7 @@ import os
 import re
 import shutil
 import signal
+import subprocess
 import sys
 import time
 from concurrent.futures import FIRST_COMPLETED, ThreadPoolExecutor, wait
@@ -20,6 +21,8 @@ from forecast import Forecast, measured
 
 # What a verdict may not mention: C code, functions that may not return, and parts that were let pass without proof.
 EXCUSES = re.compile(r" (foreign|hides|partial|may-abort|may-serve|bugs|holes)=")
+# The file of a crate that has the version of the program.
+VERSION = "src/version.rt"
 # A crate without a measured time takes about as long as so many lines before it comes to any of its own.
 LINES_BEFORE = 400
 LINES_OF_A_FAULT = 40
@@ -69,6 +72,22 @@ class Plan:
         self.nice = {name: min(LEAST_URGENT, slack[name]) for name in self.crates}
 
 
+def commit_of(root):
+    """The commit of a checkout, `unknown` if it has none, with a plus sign if its sources aren't those of the commit."""
+    git = ["git", "-C", str(root)]
+    found = subprocess.run([*git, "rev-parse", "--short=12", "HEAD"], capture_output=True, text=True, check=False)
+    if found.returncode:
+        return "unknown"
+    changed = subprocess.run([*git, "status", "--porcelain", "--", "crates", "crates.txt"], capture_output=True, check=False)
+    return found.stdout.strip() + ("+" if changed.stdout else "")
+
+
+def kit_name():
+    """The kit's name with the number of its logic."""
+    said = subprocess.run([checker().with_name("rt"), "version"], capture_output=True, text=True, check=False)
+    return said.stdout.strip() or "an unknown kit"
+
+
 def lines_of(folder):
     """The lines of a crate's code, without its tests."""
     files = (file for file in (folder / "src").rglob("*.rt") if "test" not in file.name)
@@ -99,9 +118,22 @@ class Building:
             return self.given[name]
         return self.room / name / f"{name}{self.product.ending if name == self.top else '.rlib'}"
 
+    def sources(self, name):
+        """The folder of a crate's sources. That of the crate that has the version is a copy, in which the commit and the
+        kit stand behind the number."""
+        folder = self.table.folder(name)
+        if not (folder / VERSION).is_file():
+            return folder
+        copy = self.room / f"{name}-sources"
+        shutil.copytree(folder, copy, ignore=shutil.ignore_patterns("out"))
+        text = (copy / VERSION).read_text(encoding="utf-8")
+        built = f'\\1 (commit {commit_of(self.table.root)}, {kit_name()})";'
+        (copy / VERSION).write_text(re.sub(r'(VERSION: &str = "[0-9.]+)";', built, text), encoding="utf-8")
+        return copy
+
     def words(self, name):
         """The words by which the checker proves a crate and builds it over the libraries below it."""
-        below, folder = self.table.below(name), self.table.folder(name)
+        below, folder = self.table.below(name), self.sources(name)
         root = folder / "src" / (self.product.source if name == self.top else "lib.rt")
         found = ["nice", "-n", str(self.plan.nice[name]), str(checker()), "build", "--crate-name", name, str(root)]
         for it in ["std", *self.table.uses[name]]:

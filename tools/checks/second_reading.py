@@ -115,7 +115,7 @@ class SecondReading:
         size = int(re.match(r"core (\d+)", self.deck)[1])
         lines = [line for line in self.deck.split("\n") if not line.startswith("show ")]
         text = "\n".join(lines[: lines.index("end")] + [f"show 0 {size - 1:o}", "end", ""])
-        dump = self.program.run(["replay", log], text.encode("latin-1")).printed.decode("latin-1").splitlines()
+        dump = self.program.replay(log, text.encode("latin-1")).printed.decode("latin-1").splitlines()
         place, parcel, word = re.fullmatch(r"P (\d+) PARCEL (\d) HELD (\w+)", dump[0]).groups()
         if word == "none":
             address = int(place, 8) + int(dump[2].split(" ")[1], 8)

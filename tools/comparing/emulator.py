@@ -7,6 +7,7 @@ import signal
 import subprocess
 import threading
 
+from shared.program import words_of_log
 from shared.waiting import Clock
 
 from .faults import IS_OVER, LEAVING, BadInput, Failure, Slow
@@ -84,8 +85,8 @@ def end_group(process):
 
 
 class Emulator:
-    """A command that reads a deck on standard input, goes through the log that is its last argument, and prints the
-    dump. A call of it may take so many seconds, and so many more for each thousand steps of the log."""
+    """A command that reads a deck on standard input, goes through the log that is its last argument, or in the file that
+    its last two arguments `--log FILE` name, and prints the dump. A call of it may take so many seconds, and so many more for each thousand steps of the log."""
 
     def __init__(self, command, seconds, slope):
         self.command, self.seconds, self.slope = command, seconds, slope
@@ -97,13 +98,13 @@ class Emulator:
         if not self.words:
             raise BadInput("the command has no word")
 
-    def start(self, log, deck):
-        """Starts it on the file of a deck. It begins a session, and so a group of processes, by which all that it starts
+    def start(self, words, deck):
+        """Starts it on the file of a deck, with these last arguments. It begins a session, and so a group of processes, by which all that it starts
         can be ended."""
         piped = {"stdout": subprocess.PIPE, "stderr": subprocess.PIPE}
         try:
             with open(deck, "rb") as given:
-                return subprocess.Popen([*self.words, log], stdin=given, **piped, start_new_session=True)
+                return subprocess.Popen([*self.words, *words], stdin=given, **piped, start_new_session=True)
         except OSError as fault:
             raise BadInput(f"the command {self.command}: {fault.strerror}") from None
 
@@ -117,7 +118,7 @@ class Emulator:
         Raises Slow where it doesn't end in time, and Failure where it dies or prints nothing."""
         with self.counting:
             self.calls += 1
-        with LEAVING.later(), self.start(log, deck) as process:
+        with LEAVING.later(), words_of_log(log) as words, self.start(words, deck) as process:
             try:
                 reading = Reading(process, self.limit(steps), most)
                 reading.to_end()

@@ -26,7 +26,7 @@ class Proved:
 
         Raises BadInput where it refuses it: its fault line then follows the subject."""
         try:
-            ran = self.program.run(words, text)
+            ran = self.program.replay(words[1], text) if words[0] == "replay" else self.program.run(words, text)
         except NoProgram as fault:
             raise BadInput(fault.line) from None
         told = ran.told.decode("latin-1").split("\n", maxsplit=1)[0]

@@ -96,7 +96,7 @@ class Replays:
         """The lines of the dump after a log; with one word of memory shown, in the place of those of the deck."""
         lines = [*self.session.deck, f"show {shown} {shown}", "end", ""]
         text = self.session.text if shown is None else "\n".join(lines)
-        ran = self.program.run(["replay", log], text.encode("latin-1"))
+        ran = self.program.replay(log, text.encode("latin-1"))
         if ran.told:
             told = ran.told.decode("latin-1").split("\n", maxsplit=1)[0].removeprefix("cdc6600: ")
             raise Fault(self.answers, f"they are not those of {self.session.file}: {told}")

@@ -3,6 +3,8 @@
 import os
 import subprocess
 import sys
+import tempfile
+from contextlib import contextmanager
 from pathlib import Path
 from typing import NamedTuple
 
@@ -10,6 +12,23 @@ from .waiting import MINUTES, Missing, finish
 
 ROOT = Path(__file__).resolve().parents[2]
 BUILT = ROOT / "crates/operator_main/out/operator_main"
+
+
+# How many bytes of a log go into an argument. Linux takes at most 131,071.
+OF_AN_ARGUMENT = 100_000
+
+
+@contextmanager
+def words_of_log(log):
+    """The words by which a command like `replay` gets a log: the log itself, or, if it is too long for an argument, the
+    option for its file and the name of a file that holds it meanwhile."""
+    if len(log) <= OF_AN_ARGUMENT:
+        yield [log]
+        return
+    with tempfile.NamedTemporaryFile("w", prefix="cdc6600-", suffix=".log", encoding="ascii") as file:
+        file.write(log)
+        file.flush()
+        yield ["--log", file.name]
 
 
 class Ran(NamedTuple):
@@ -64,6 +83,12 @@ class Program:
             except Missing:
                 return Ran(124, b"", b"waited %d minutes for its end\n" % minutes)
         return Ran(process.returncode, printed, told)
+
+
+    def replay(self, log, text):
+        """Runs the replay of a log of any length on a deck."""
+        with words_of_log(log) as words:
+            return self.run(["replay", *words], text)
 
 
 def called():

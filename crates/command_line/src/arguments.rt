@@ -1,11 +1,9 @@
+use crate::version::VERSION;
 use clap::builder::ValueParser;
 use clap::error::ErrorKind;
 use clap::{Arg, ArgAction, ArgMatches, Command, Error};
 use operator_terms::{Budget, LARGEST_BUDGET};
 use std::alloc::{AllocError, Global};
-
-/// What `--version` prints after the program's name.
-const VERSION: &str = "0.1.0";
 
 /// The end of the text that `--help` prints for the program; those for its commands follow.
 const AFTER_HELP: &str = "\

@@ -142,7 +142,8 @@ fn perform<T: Threads + Wait + Clock + Sync, R: Read, W: Write>(
     input: &mut R,
     output: &mut W,
 ) -> Result<Status, FaultAt>
-    ensures { Performed work.now (without_position result) (R.remaining input.old) (W.contents output.old) (W.contents output.new) }
+    ensures { Performed work.now (without_position result) (R.remaining input.old)
+        (W.contents output.old) (W.contents output.new) }
 {
     let Ok(mut reader) = BufReader::new(alloc, &mut *input) else {
         return Err(FaultAt::nowhere(ProgramFault::OutOfMemory));

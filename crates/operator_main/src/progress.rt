@@ -24,7 +24,8 @@ pub fn may_take_long(words: &[String]) -> bool {
 }
 
 /// Shows each second on a terminal how long the work takes, until it has ended, which is told by another number than 0,
-/// and then clears the line. What the program prints meanwhile begins where this line does, and is longer.
+/// and then clears the line. What the program prints meanwhile begins where this line does, and is longer. The line
+/// begins with room for the `^C` that a terminal shows if the user interrupts the program.
 pub fn show<R: Wait, F: Write>(rt: &R, terminal: &mut F, ended: &AtomicU64) {
     for second in 1..MOST {
         ended.park_timeout(rt, 0, Duration::from_secs(1));
@@ -36,7 +37,7 @@ pub fn show<R: Wait, F: Write>(rt: &R, terminal: &mut F, ended: &AtomicU64) {
         }
         if second >= QUIET {
             let mut line = ArrayVec::<u8, SHOWN>::new();
-            let _ = write!(line, "cdc6600: {second} s\r");
+            let _ = write!(line, "   cdc6600: {second} s\r");
             let _ = terminal.write_all(line.as_slice());
         }
     }

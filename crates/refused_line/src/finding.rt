@@ -35,7 +35,7 @@ fn is_one_of(field: &[u8], words: &[&str]) -> bool {
     false
 }
 
-/// The number of the field at which a line with this first word and so many fields is unknown, though its word is known.
+/// The number of the field at which a line with this first word and so many fields is unknown, though the word is known.
 fn unknown_number(word: &[u8], fields: usize) -> usize {
     if is_one_of(word, WITH_UNIT.as_slice()) && fields == 2 {
         return 1;
@@ -112,8 +112,8 @@ fn bad_number(line: &[u8]) -> Option<Position<'_>>
     field(line, fields.saturating_sub(1))
 }
 
-/// The position of the address that is out of range: that of an `at` line, one of a `show` line, or the line itself if its
-/// word has no address in memory.
+/// The position of the address that is out of range: that of an `at` line, one of a `show` line, or the first field of a
+/// line whose word has no address in memory.
 fn bad_range(line: &[u8]) -> Option<Position<'_>>
     ensures { IfSome result (λ position. IsPart line.now position.start position.text.now) }
 {

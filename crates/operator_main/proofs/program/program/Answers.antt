@@ -9,8 +9,8 @@ use Rattle.operator_main.proofs.program.program.Goals as goal
 pub returns-in-Ok-Ok : goal.returns-in-Ok-Ok
 returns-in-Ok-Ok g c =
     let answered : Answers (g.D.Opener.contents c.args.files.now) c.in-Ok.request (Ok c.in-Ok-Ok.status)
-        (g.R.Read.remaining c.args.input.now) (g.W.Write.contents c.args.output.now)
-        (g.W.Write.contents c.answer.new.output) = search rules in (
+    (g.R.Read.remaining c.args.input.now) (g.W.Write.contents c.args.output.now)
+    (g.W.Write.contents c.answer.new.output) = search rules in (
       Ok c.in-Ok-Ok.status,
       record { done = inl (c.in-Ok.request, answered); told = tells_nothing c.in-Ok-Ok.status _ },
       c.code.ensures,
@@ -19,8 +19,8 @@ returns-in-Ok-Ok g c =
 pub returns-in-Ok-Err : goal.returns-in-Ok-Err
 returns-in-Ok-Err g c =
     let answered : Answers (g.D.Opener.contents c.args.files.now) c.in-Ok.request (Err c.in-Ok-Err.told.fault)
-        (g.R.Read.remaining c.args.input.now) (g.W.Write.contents c.args.output.now)
-        (g.W.Write.contents c.answer.new.output) = search rules in (
+    (g.R.Read.remaining c.args.input.now) (g.W.Write.contents c.args.output.now)
+    (g.W.Write.contents c.answer.new.output) = search rules in (
       Err c.in-Ok-Err.told.fault,
       record { done = inl (c.in-Ok.request, answered); told = c.report_fault_at.ensures.told },
       c.report_fault_at.ensures.status,
@@ -29,7 +29,7 @@ returns-in-Ok-Err g c =
 pub returns-in-Err-answer : goal.returns-in-Err-answer
 returns-in-Err-answer g c =
     let unopened : Keeps (g.R.Read.remaining c.args.input.now) (g.R.Read.remaining c.answer.new.input)
-        × Keeps (g.W.Write.contents c.args.output.now) (g.W.Write.contents c.answer.new.output) = search rules in (
+    × Keeps (g.W.Write.contents c.args.output.now) (g.W.Write.contents c.answer.new.output) = search rules in (
       Ok Usage,
       record { done = inr (kinds.Io, (refl, unopened.1), unopened.0); told = tt },
       c.code-in-Err-answer.ensures,

@@ -8,7 +8,7 @@ use Rattle.operator_main.proofs.program.replay_from.Goals as goal
 pub returns-in-Ok-clause-replayed : goal.returns-in-Ok-clause-replayed
 returns-in-Ok-clause-replayed g c =
     let opened : IfSome (g.D.Opener.contents c.args.files.now c.in-File.log.now)
-        (λ bytes. g.D.Opened.Read.remaining c.in_ok-file-in-File.file ≡ Some bytes) = search rules in
+    (λ bytes. g.D.Opened.Read.remaining c.in_ok-file-in-File.file ≡ Some bytes) = search rules in
     let read : IfSome (g.D.Opened.Read.remaining c.in_ok-file-in-File.file) (λ left. c.in-Ok.bytes.items ≡ left) =
     search rules in
     let text : IsTextOf c.in-Ok.bytes.items c.text_of.result.now = search rules in
@@ -23,7 +23,7 @@ returns-in-File-clause-replayed g c =
 pub returns-in-Ok-read_all-clause-replayed : goal.returns-in-Ok-read_all-clause-replayed
 returns-in-Ok-read_all-clause-replayed g c =
     let opened : IfSome (g.D.Opener.contents c.args.files.now c.in-Input.deck.now)
-        (λ bytes. g.D.Opened.Read.remaining c.in_ok-file-in-Input.file ≡ Some bytes) = search rules in
+    (λ bytes. g.D.Opened.Read.remaining c.in_ok-file-in-Input.file ≡ Some bytes) = search rules in
     let read : IfSome (g.R.Read.remaining c.args.input.now) (λ left. c.in-Ok-read_all.bytes.items ≡ left) =
     search rules in
     let text : IsTextOf c.in-Ok-read_all.bytes.items c.text_of-in-Ok-read_all.result.now = search rules in
