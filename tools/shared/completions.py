@@ -68,7 +68,7 @@ COMMANDS = (
     Command(
         "replay",
         "Goes through LOG on the deck on standard input, one instruction at a time, and prints the machine's dump",
-        (DECK, LOG),
+        (LOG, DECK),
         argument="LOG",
         instead=LOG,
     ),
