@@ -16,7 +16,7 @@ static void fail(const char *name, int status)
     exit(status);
 }
 
-/* Memory for so many bytes, with what the block has that it takes the place of. */
+/* The block of memory, moved and made so large. */
 static uint8_t *resized(uint8_t *block, size_t size)
 {
     uint8_t *larger = realloc(block, size);

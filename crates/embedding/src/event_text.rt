@@ -38,7 +38,7 @@ fn with_unit(word: &'static [u8], unit: Unit) -> [Piece<'static>; 5]
     ]
 }
 
-/// The line of an event that names a place, a channel or a bank.
+/// The line of an event that names a place of the hopper, a channel or a bank.
 fn with_count(word: &'static [u8], number: u8) -> [Piece<'static>; 5]
     ensures { text_of_all result ≡ concat (word.now ∷ decimal number ∷ codes "\n" ∷ []) }
 {

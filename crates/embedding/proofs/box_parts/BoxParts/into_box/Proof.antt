@@ -3,7 +3,7 @@ use mathlib.Core.Path.{◌≡◌, refl, sym, subst, ap}
 use mathlib.Core.List.{List, [], ◌∷◌, ◌++◌}
 use lib.Dec.{T}
 use seplogic.Ra.Ura.{Ura}
-use mir.Syntax.{Fn, Body, place, copy, assign, rv_opd, seq, return}
+use mir.Syntax.{Fn}
 use mir.MapTy.{inst_fn}
 use mir.Val.{Val, vptr, has_ty, WT}
 use base.Logic.{SProp, ent, id⊢}
@@ -31,6 +31,7 @@ use denote.Triple.Spec.{triple_of}
 use denote.Triple.Statement.{Triple, Contract}
 use denote.Triple.Table.{entered}
 use denote.Triple.Walked.{says, Stays, stay_dropped, walk_of, ends_at, walk_Meets}
+use Rattle.core.proofs.alloc.Shapes.{after}
 use Rattle.core.proofs.alloc.Calls.{token, Goes-blank}
 use Rattle.std_alloc.specs.Box.Ownership.{box_owns}
 use Rattle.std_alloc.proofs.BoxSteps.Form.{Bx, D, R, P, B, args, box_ty, word, box_typed}
@@ -43,9 +44,6 @@ use Rattle.embedding.specs.contracts.box_parts.BoxParts.into_box as F
 use Rattle.embedding.specs.contracts.box_parts.BoxParts.into_box.Key.{name as #self}
 use Rattle.embedding.proofs.box_parts.BoxParts.into_box.Statement as stated
 use Rattle.embedding.proofs.box_parts.BoxParts.into_box.Code as code
-
-abbrev rest : Body
-rest = seq (assign (place 0 []) (rv_opd (copy (place 4 [])))) return
 
 module _ (E : Bx) where
   abbrev fn' : Fn
@@ -92,7 +90,7 @@ module _ (E : Bx) where
         await ! tt $ pick ! (λ r. split ! $ move ! (1 ∷ []) $ pick ! (λ _. split3 ! $ drop ! $ heard ! (r.value ≡ x) (λ same. drop ! $ split ! $ move ! (1 ∷ []) $
         box_out E ! r (u ∷ []) (λ b' o' hw e' wu fw. box_in E ! r b' o' r.value e' refl $ rewrite ! 0 (λ (us : List Val). ‵ ((B E).own_val r us)) (sym wu) refl $
         let typed : T (has_ty (box_ty E) u) × WT u = subst (λ (s : Val). T (has_ty (box_ty E) s) × WT s) (sym (ap only wu)) (box_typed E hw b' o' fw) in
-        lands_last ! refl typed $ exec ! 𝓣.C 𝓣.Λ (env fn'.locals ls) rest (at_ret (env fn'.locals ls) Post) $
+        lands_last ! refl typed $ exec ! 𝓣.C 𝓣.Λ (env fn'.locals ls) (after 3 fn'.body) (at_ret (env fn'.locals ls) Post) $
         sets ! (of_opd ! (get ! refl)) refl typed $ returns ! (look_at ! 0 refl) $ free_all ! refl $
         suffices ! _ (ends_at 𝓛 ended stayed held z u r ((tt, (tt, tt)), tt) (tt, tt)) $ says ! same $
         nothing ! $ nothing ! $ fjoin ! $ join ! $ move ! (1 ∷ 0 ∷ []) $ join ! $ done !)))))))))
