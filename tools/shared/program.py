@@ -10,6 +10,8 @@ from .waiting import MINUTES, Missing, finish
 
 ROOT = Path(__file__).resolve().parents[2]
 BUILT = ROOT / "crates/operator_main/out/operator_main"
+# Where tools/install puts the program, from the folder on in which it puts the tools and pages.
+INSTALLED = ROOT / "../../../bin/cdc6600"
 
 
 class Ran(NamedTuple):
@@ -26,8 +28,11 @@ def named_program():
 
 
 def program_path():
-    """The program that CDC6600 names; else the one that `./cdc6600` builds, which is asked to build it where a source
-    is newer. What is run then is the executable, without the script's look for newer sources at each run."""
+    """The program that CDC6600 names; else the one that is installed with the tools, where they are; else the one that
+    `./cdc6600` builds, which is asked to build it where a source is newer. What is run then is the executable, without
+    the script's look for newer sources at each run."""
+    if not (ROOT / "crates.txt").is_file():
+        return named_program() or str(INSTALLED)
     if not named_program():
         if subprocess.run([ROOT / "cdc6600", "--help"], stdout=subprocess.DEVNULL, check=False).returncode:
             sys.exit(f"{sys.argv[0]}: the program could not be built")
