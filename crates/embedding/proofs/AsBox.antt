@@ -1,4 +1,4 @@
--- The handle and its parts own what a box at the same types owns.
+-- The pointer, with a machine, and the parts own what a box at the same types owns.
 use mir.Syntax.{impl, tnil, dnil}
 use mathlib.Core.List.{[]}
 use denote.RattleType.{RattleType}

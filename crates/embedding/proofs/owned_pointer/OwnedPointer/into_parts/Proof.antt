@@ -1,4 +1,4 @@
--- `into_parts` moves two fields, and what they own goes with them.
+-- `into_parts` moves two fields and casts the pointer. The pointer owns a machine there, as its `requires` says.
 use mathlib.Core.Path.{refl, sym, subst}
 use Rattle.std.specs.Prelude.{◌≡◌, Option, Some, is_some, true}
 use mathlib.Core.List.{List, [], ◌∷◌, ◌++◌}
