@@ -10,10 +10,11 @@ from shared.waiting import Missing, run
 
 NEEDED = {
     "tools/checks/browser": ("chromium", "chromedriver"), "tools/checks/emulators": ("rustc",),
-    "tools/checks/habits": ("man",), "tools/checks/embedding": ("cc", "rustc"),
+    "tools/checks/habits": ("man",), "tools/checks/embedding": ("cc", "pkg-config", "rustc"),
 }
 PACKAGES = {
     "cc": ("gcc", "libc6-dev"), "chromedriver": ("chromium-driver",), "chromium": ("chromium",), "man": ("man-db",),
+    "pkg-config": ("pkg-config",),
     "rustc": ("rustc",),
 }
 # How many seconds an installation waits for another one, and how many minutes it may take.

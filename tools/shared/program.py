@@ -11,7 +11,9 @@ from typing import NamedTuple
 from .waiting import MINUTES, Missing, finish
 
 ROOT = Path(__file__).resolve().parents[2]
-BUILT = ROOT / "crates/operator_main/out/operator_main"
+# The program of these tools: in a checkout the one that is built, otherwise the one that tools/install put beside them.
+IS_CHECKOUT = (ROOT / "crates.txt").is_file()
+BUILT = ROOT / ("crates/operator_main/out/operator_main" if IS_CHECKOUT else "../../../bin/cdc6600")
 
 
 # How many bytes of a log go into an argument. Linux takes at most 131,071.
@@ -45,9 +47,10 @@ def named_program():
 
 
 def program_path():
-    """The program that CDC6600 names; otherwise the one that `./cdc6600` runs, which is built first if its sources have
-    changed. What is run then is the executable, without the script's look at the sources at each run."""
-    if not named_program():
+    """The program that CDC6600 names; otherwise the one that is installed with the tools, if they are; otherwise the one
+    that `./cdc6600` runs, which is built first if its sources have changed. What is run then is the executable, without
+    the script's look at the sources at each run."""
+    if IS_CHECKOUT and not named_program():
         if subprocess.run([ROOT / "tools/build-program"], check=False).returncode:
             sys.exit(f"{sys.argv[0]}: the program could not be built")
     return named_program() or str(BUILT)

@@ -1,10 +1,22 @@
 #!/usr/bin/env python3
 """Runs a deck by the library and prints the dump: `cdc6600.py LIBRARY DECK`, where LIBRARY is the file
-libcdc6600.so."""
+libcdc6600.so. A Ctrl-C ends it at once, and so does a reader that goes away."""
 
-import ctypes
-import sys
-from pathlib import Path
+import signal
+
+if __name__ == "__main__":
+    # Before anything else is loaded: by Python's own handlers a call of the library couldn't be interrupted.
+    signal.signal(signal.SIGINT, signal.SIG_DFL)
+    signal.signal(signal.SIGPIPE, signal.SIG_DFL)
+
+import ctypes  # noqa: E402
+import os  # noqa: E402
+import sys  # noqa: E402
+from pathlib import Path  # noqa: E402
+
+# The program's exit statuses for a wrong command line, for want of memory, and for a read or write that fails.
+USAGE, OUT_OF_MEMORY, DEVICE = 2, 6, 7
+BUDGET = 1_000_000
 
 
 class Outcome(ctypes.Structure):
@@ -13,13 +25,40 @@ class Outcome(ctypes.Structure):
     _fields_ = [("printed", ctypes.c_size_t), ("told", ctypes.c_size_t), ("status", ctypes.c_uint8)]
 
 
+class Handle(ctypes.Structure):
+    """The struct cdc6600_machine."""
+
+    _fields_ = [("address", ctypes.c_void_p), ("has_machine", ctypes.c_bool)]
+
+
+class Registers(ctypes.Structure):
+    """The struct cdc6600_registers."""
+
+    _fields_ = [
+        ("x", ctypes.c_uint64 * 8), ("a", ctypes.c_uint32 * 8), ("b", ctypes.c_uint32 * 8), ("p", ctypes.c_uint32),
+        ("ra", ctypes.c_uint32), ("fl", ctypes.c_uint32), ("em", ctypes.c_uint32), ("parcel", ctypes.c_uint8),
+        ("halt", ctypes.c_uint8), ("fault", ctypes.c_bool),
+    ]
+
+
 class Library:
     """The functions of the library, for bytes."""
 
     def __init__(self, file):
         self.library = ctypes.CDLL(str(file))
+        for name in ("run", "list", "replay", "events", "boot", "event", "next", "log", "dump", "read_words"):
+            getattr(self.library, f"cdc6600_{name}").restype = Outcome
+        for name, answered in (("version", ctypes.c_size_t), ("drain", ctypes.c_uint32),
+                               ("is_drained", ctypes.c_bool), ("read_registers", ctypes.c_uint8), ("free", None)):
+            getattr(self.library, f"cdc6600_{name}").restype = answered
 
-    def run(self, deck, budget=1_000_000):
+    def version(self):
+        """The version of the program."""
+        text = ctypes.create_string_buffer(64)
+        length = self.library.cdc6600_version(text, ctypes.c_size_t(len(text)))
+        return text.raw[:length]
+
+    def run(self, deck, budget=BUDGET):
         """Runs a deck, one instruction at a time."""
         return self.call("cdc6600_run", deck, budget)
 
@@ -31,31 +70,120 @@ class Library:
         """Goes through a log on a deck."""
         return self.call("cdc6600_replay", deck, log)
 
-    def events(self, session, budget=1_000_000):
+    def events(self, session, budget=BUDGET):
         """Answers the events of a session."""
         return self.call("cdc6600_events", session, budget)
 
-    def call(self, name, *given):
-        """Calls a function; what it prints, its fault line, and the exit status."""
-        words, capacity, line = [], 100, ctypes.create_string_buffer(64)
+    def call(self, name, *given, capacity=100):
+        """Calls a function; what it prints, its fault line, and the exit status. Where the room isn't enough for what
+        it prints, it is called again."""
+        words, line = [], ctypes.create_string_buffer(64)
         for it in given:
-            words += [it, ctypes.c_size_t(len(it))] if isinstance(it, bytes) else [ctypes.c_uint64(it)]
-        function = getattr(self.library, name)
-        function.restype = Outcome
+            words += [it, ctypes.c_size_t(len(it))] if isinstance(it, bytes) else [as_word(it)]
         while True:
             output = ctypes.create_string_buffer(capacity)
-            came = function(*words, output, ctypes.c_size_t(capacity), line, ctypes.c_size_t(len(line)))
+            came = getattr(self.library, name)(*words, output, ctypes.c_size_t(capacity), line, ctypes.c_size_t(64))
             if came.printed <= capacity:
                 return output.raw[: came.printed], line.raw[: came.told], came.status
             capacity = came.printed
 
 
+def as_word(it):
+    """A number as the library takes it; anything else as it is."""
+    return ctypes.c_uint64(it) if isinstance(it, int) else it
+
+
+class Machine:
+    """A machine of the library that is kept. It is freed at the end of a `with`."""
+
+    def __init__(self, library):
+        self.calls, self.handle = library, Handle(None, False)
+        self.given = ctypes.byref(self.handle)
+
+    def __enter__(self):
+        return self
+
+    def __exit__(self, *raised):
+        self.free()
+
+    def boot(self, deck, budget=BUDGET):
+        """Boots it with a deck; the fault line, and the status."""
+        line = ctypes.create_string_buffer(64)
+        words = [self.given, deck, ctypes.c_size_t(len(deck)), ctypes.c_uint64(budget), line, ctypes.c_size_t(64)]
+        came = self.calls.library.cdc6600_boot(*words)
+        return line.raw[: came.told], came.status
+
+    def event(self, text):
+        """Makes the event that a text says. It is called once, so there has to be room for the answer."""
+        return self.calls.call("cdc6600_event", self.given, text, capacity=128)
+
+    def next(self):
+        """Makes the next event; the line that says it, and that of its answer."""
+        return self.calls.call("cdc6600_next", self.given, capacity=128)
+
+    def log(self):
+        """The text of the log."""
+        return self.calls.call("cdc6600_log", self.given)
+
+    def dump(self):
+        """The dump."""
+        return self.calls.call("cdc6600_dump", self.given)
+
+    def drain(self):
+        """Drains it; how many events that took."""
+        return self.calls.library.cdc6600_drain(self.given)
+
+    def is_drained(self):
+        """Whether there is a machine, and it is drained."""
+        return self.calls.library.cdc6600_is_drained(self.given)
+
+    def registers(self):
+        """The registers, and the status."""
+        found = Registers()
+        return found, self.calls.library.cdc6600_read_registers(self.given, ctypes.byref(found))
+
+    def words(self, first, count):
+        """Words of memory from an address on, at most so many, and the status."""
+        found = (ctypes.c_uint64 * max(count, 1))()
+        came = self.calls.library.cdc6600_read_words(self.given, ctypes.c_uint32(first), found, ctypes.c_size_t(count))
+        return list(found[: min(count, came.printed)]), came.status
+
+    def free(self):
+        """Frees it."""
+        self.calls.library.cdc6600_free(self.given)
+
+
+def wrote(stream, data):
+    """Writes bytes to a stream by its number. Another than standard output and standard error isn't asked for."""
+    view = memoryview(data)
+    while view:
+        view = view[os.write(stream, view):]
+
+
+def fault(words, status):
+    """Tells what went wrong, as far as that can be told; the status."""
+    try:
+        wrote(2, f"cdc6600.py: {words}\n".encode("utf-8", "surrogateescape"))
+    except OSError:
+        return status
+    return status
+
+
 def main():
     if len(sys.argv) != 3:
-        sys.exit("usage: cdc6600.py LIBRARY DECK")
-    printed, told, status = Library(sys.argv[1]).run(Path(sys.argv[2]).read_bytes())
-    sys.stdout.buffer.write(printed)
-    sys.stderr.buffer.write(told)
+        return fault("usage: cdc6600.py LIBRARY DECK", USAGE)
+    try:
+        library = Library(sys.argv[1])
+    except (OSError, AttributeError) as raised:
+        return fault(raised, DEVICE)
+    try:
+        printed, told, status = library.run(Path(sys.argv[2]).read_bytes())
+        wrote(1, printed)
+        wrote(2, told)
+    except OSError as raised:
+        return fault(f"{raised.filename or 'standard output'}: {raised.strerror}", DEVICE)
+    except MemoryError:
+        return fault("out of memory", OUT_OF_MEMORY)
     return status
 
 

@@ -12,7 +12,7 @@ use sequential_job::run_to;
 use std::alloc::Global;
 
 /// Why a command ends where this is refused. It writes to memory, so a write fails where memory runs out.
-fn fault_in_memory(refusal: Refusal) -> ProgramFault
+pub fn fault_in_memory(refusal: Refusal) -> ProgramFault
     ensures { result ≡ fault_in_memory refusal }
 {
     match refusal {
@@ -22,7 +22,7 @@ fn fault_in_memory(refusal: Refusal) -> ProgramFault
 }
 
 /// Hands over that the command line is refused, because no budget has so many instructions.
-fn refuse_budget(output: &mut [u8], line: &mut [u8]) -> Outcome
+pub fn refuse_budget(output: &mut [u8], line: &mut [u8]) -> Outcome
     ensures { HandsOver result (Ok Usage) [] output.old output.new }
 {
     hand_over(Ok(Status::Usage), &[], output, line)

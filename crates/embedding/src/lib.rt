@@ -8,13 +8,29 @@
 //! functions of `commands` do the work.
 #![tactic(auto)]
 
-ghost use Rattle.embedding.specs.Embedding.{HasRun, IsListed, IsReplayed, IsSession};
+ghost use Rattle.std.specs.Prelude.{◌≡◌, None, false, length, not};
+ghost use Rattle.in_flight.specs.Lookup.{is_pending};
+ghost use Rattle.embedding.specs.Embedding.{HasRun, IsListed, IsReplayed, IsSession, filled};
+ghost use Rattle.embedding.specs.Keeping.{OnMachine, IsSilent, no_machine, HasBooted, DoesText, MakesNext};
+ghost use Rattle.embedding.specs.Keeping.{IsDrainedBy, IsDumped, IsLogged, TellsRegisters, TellsWords};
+ghost use Rattle.embedding.specs.Version.{version};
 
+mod booted;
+mod box_parts;
 mod commands;
+mod event_text;
 mod input_bytes;
+mod machine_handle;
 mod outcome;
+mod owned_pointer;
+mod reading;
+mod showing;
+mod stepping;
 
+pub use machine_handle::MachineHandle;
 pub use outcome::Outcome;
+use outcome::{NO_MACHINE, silent};
+pub use reading::Registers;
 use std::alloc::Global;
 
 /// Lists the words of a deck.
@@ -70,4 +86,202 @@ pub extern "C" fn cdc6600_events(
     ensures { IsSession input.now budget result output.old output.new }
 {
     commands::session_of_bytes(alloc, input, budget, output, line)
+}
+
+/// Hands over the version of the program, and answers its length.
+#[unsafe(no_mangle)]
+pub extern "C" fn cdc6600_version(output: &mut [u8]) -> usize
+    ensures text { output.new ≡ filled version output.old }
+    ensures needed { result ≡ length version }
+{
+    outcome::fill_version(output)
+}
+
+/// Boots a machine with the memory of a deck, which issues at most so many instructions. A machine that the handle had
+/// is freed, also where none is booted.
+#[unsafe(no_mangle)]
+pub extern "C" fn cdc6600_boot(
+    alloc: Global,
+    machine: &mut MachineHandle,
+    input: &[u8],
+    budget: u64,
+    line: &mut [u8],
+) -> Outcome
+    ensures { HasBooted input.now budget result machine.new.owned.machine }
+{
+    booted::boot_bytes(alloc, machine, input, budget, line)
+}
+
+/// Makes the event that a text says as a line of a schedule, or refuses it, and answers it.
+#[unsafe(no_mangle)]
+pub extern "C" fn cdc6600_event(
+    alloc: Global,
+    machine: &mut MachineHandle,
+    event: &[u8],
+    output: &mut [u8],
+    line: &mut [u8],
+) -> Outcome
+    ensures { OnMachine machine.old.owned.machine machine.new.owned.machine
+        (IsSilent no_machine result output.old output.new)
+        (λ b c. DoesText event.now b c result output.old output.new) }
+{
+    match machine.take(alloc) {
+        Some(mut booted) => {
+            let outcome = stepping::do_line(&mut booted, event, output, line);
+            machine.put(booted);
+            outcome
+        }
+        None => silent(NO_MACHINE),
+    }
+}
+
+/// Makes the next event: what a drain would make; with nothing pending the exchange that was asked for, if it may be
+/// made, and else an issue. Answers the line that says the event, and that of its answer.
+#[unsafe(no_mangle)]
+pub extern "C" fn cdc6600_next(
+    alloc: Global,
+    machine: &mut MachineHandle,
+    output: &mut [u8],
+    line: &mut [u8],
+) -> Outcome
+    ensures { OnMachine machine.old.owned.machine machine.new.owned.machine
+        (IsSilent no_machine result output.old output.new)
+        (λ b c. MakesNext b c result output.old output.new) }
+{
+    match machine.take(alloc) {
+        Some(mut booted) => {
+            let outcome = stepping::make_next(&mut booted, output, line);
+            machine.put(booted);
+            outcome
+        }
+        None => silent(NO_MACHINE),
+    }
+}
+
+/// Drains the machine, and answers how many events that took; 0 without a machine.
+#[unsafe(no_mangle)]
+pub extern "C" fn cdc6600_drain(alloc: Global, machine: &mut MachineHandle) -> u32
+    ensures { OnMachine machine.old.owned.machine machine.new.owned.machine (result ≡ 0)
+        (λ b c. IsDrainedBy b c result) }
+{
+    match machine.take(alloc) {
+        Some(mut booted) => {
+            let count = stepping::drain(&mut booted);
+            machine.put(booted);
+            count
+        }
+        None => 0,
+    }
+}
+
+/// Whether there is a machine, and it is drained.
+#[unsafe(no_mangle)]
+pub extern "C" fn cdc6600_is_drained(alloc: Global, machine: &mut MachineHandle) -> bool
+    ensures { OnMachine machine.old.owned.machine machine.new.owned.machine (result ≡ false)
+        (λ b c. (c ≡ b) × (result ≡ not (is_pending b.machine.pending))) }
+{
+    match machine.take(alloc) {
+        Some(booted) => {
+            let is_drained = booted.machine.drained();
+            machine.put(booted);
+            is_drained
+        }
+        None => false,
+    }
+}
+
+/// Dumps the machine, if it is drained.
+#[unsafe(no_mangle)]
+pub extern "C" fn cdc6600_dump(
+    alloc: Global,
+    machine: &mut MachineHandle,
+    output: &mut [u8],
+    line: &mut [u8],
+) -> Outcome
+    ensures { OnMachine machine.old.owned.machine machine.new.owned.machine
+        (IsSilent no_machine result output.old output.new)
+        (λ b c. (c ≡ b) × IsDumped b result output.old output.new) }
+{
+    match machine.take(alloc) {
+        Some(booted) => {
+            let outcome = showing::show_dump(alloc, &booted, output, line);
+            machine.put(booted);
+            outcome
+        }
+        None => silent(NO_MACHINE),
+    }
+}
+
+/// Answers the text of the machine's log.
+#[unsafe(no_mangle)]
+pub extern "C" fn cdc6600_log(
+    alloc: Global,
+    machine: &mut MachineHandle,
+    output: &mut [u8],
+    line: &mut [u8],
+) -> Outcome
+    ensures { OnMachine machine.old.owned.machine machine.new.owned.machine
+        (IsSilent no_machine result output.old output.new)
+        (λ b c. (c ≡ b) × IsLogged b result output.old output.new) }
+{
+    match machine.take(alloc) {
+        Some(booted) => {
+            let outcome = showing::show_log(alloc, &booted, output, line);
+            machine.put(booted);
+            outcome
+        }
+        None => silent(NO_MACHINE),
+    }
+}
+
+/// Tells the registers of the machine, if it is drained. Answers the status.
+#[unsafe(no_mangle)]
+pub extern "C" fn cdc6600_read_registers(
+    alloc: Global,
+    machine: &mut MachineHandle,
+    registers: &mut Registers,
+) -> u8
+    ensures { OnMachine machine.old.owned.machine machine.new.owned.machine
+        ((result ≡ no_machine) × (registers.new ≡ registers.old))
+        (λ b c. (c ≡ b) × TellsRegisters b result registers.old registers.new) }
+{
+    match machine.take(alloc) {
+        Some(booted) => {
+            let status = reading::show_registers(&booted, registers);
+            machine.put(booted);
+            status
+        }
+        None => NO_MACHINE,
+    }
+}
+
+/// Tells words of the machine's memory from an absolute address on, if it is drained: as many as there is room for, and
+/// how many there are.
+#[unsafe(no_mangle)]
+pub extern "C" fn cdc6600_read_words(
+    alloc: Global,
+    machine: &mut MachineHandle,
+    first: u32,
+    words: &mut [u64],
+) -> Outcome
+    ensures { OnMachine machine.old.owned.machine machine.new.owned.machine
+        (IsSilent no_machine result words.old words.new)
+        (λ b c. (c ≡ b) × TellsWords b first result words.old words.new) }
+{
+    match machine.take(alloc) {
+        Some(booted) => {
+            let outcome = reading::show_words(&booted, first, words);
+            machine.put(booted);
+            outcome
+        }
+        None => silent(NO_MACHINE),
+    }
+}
+
+/// Frees the machine, if there is one.
+#[unsafe(no_mangle)]
+pub extern "C" fn cdc6600_free(alloc: Global, machine: &mut MachineHandle)
+    ensures { machine.new.owned.machine ≡ None }
+{
+    drop(machine.take(alloc));
 }

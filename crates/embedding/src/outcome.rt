@@ -1,5 +1,7 @@
 ghost use Rattle.std.specs.Prelude.{◌≡◌, ◌≤◌, length};
 ghost use Rattle.embedding.specs.Embedding.{HandsOver, filled};
+ghost use Rattle.embedding.specs.Keeping.{silent};
+ghost use Rattle.embedding.specs.Version.{version};
 
 use arrayvec::ArrayVec;
 use operator_terms::{ProgramFault, Status};
@@ -7,6 +9,15 @@ use std::io::Write;
 
 /// More bytes than a fault line has.
 const FAULT_LINE: usize = 64;
+
+/// The status of a call on a handle without a machine. The program has no such exit status.
+pub const NO_MACHINE: u8 = 8;
+
+/// The status of a call that wants a drained machine, where it isn't drained.
+pub const NOT_DRAINED: u8 = 9;
+
+/// The version of the program, as it prints it.
+const VERSION: &str = "0.1.0";
 
 /// What a call comes to. The bytes are counted whether there was room for them or not.
 #[repr(C)]
@@ -29,6 +40,25 @@ fn fill(text: &[u8], room: &mut [u8]) -> usize
     let count = needed.min(room.len());
     room[..count].copy_from_slice(&text[..count]);
     needed
+}
+
+/// Hands over the version, as much of it as there is room for. Answers how many bytes it has.
+pub fn fill_version(output: &mut [u8]) -> usize
+    ensures bytes { output.new ≡ filled version output.old }
+    ensures needed { result ≡ length version }
+{
+    fill(VERSION.as_bytes(), output)
+}
+
+/// An outcome with nothing printed and no fault line.
+pub fn silent(status: u8) -> Outcome
+    ensures { result ≡ silent status }
+{
+    Outcome {
+        printed: 0,
+        told: 0,
+        status,
+    }
 }
 
 /// Writes the fault line, as far as there is room for it. Answers how many bytes it has.

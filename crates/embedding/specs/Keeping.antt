@@ -1,0 +1,239 @@
+-- What the calls that keep a machine for C answer, and what they leave of it.
+-- Source: ours.
+use Rattle.std.specs.Prelude.{◌≡◌, ◌⊎◌, ℕ, true, false, if◌then◌else◌, List, [], ◌∷◌, ◌++◌, length, drop}
+use Rattle.std.specs.Prelude.{Option, Some, None, is_none, unwrap_or, Result, Ok, Err, codes, decimal, ⊤, ◌-◌}
+use Rattle.std.specs.List.{concat}
+use Rattle.word60.specs.Words.{octal_text}
+use Rattle.instructions.specs.declared.refusal.Refusal.{Refusal}
+use Rattle.instructions.specs.declared.refusal.Refusal.TheVariants as refusals
+use Rattle.instructions.specs.declared.refusal.DeckFault.TheVariants as line_faults
+use Rattle.instructions.specs.declared.refusal.Halt.{Halt}
+use Rattle.instructions.specs.declared.refusal.Halt.TheVariants as halts
+use Rattle.sequential.specs.declared.state.State.{State}
+use Rattle.sequential.specs.Log.{entries_of}
+use Rattle.in_flight.specs.Lookup.{is_pending}
+use Rattle.program_order.specs.declared.event.Done.{Done}
+use Rattle.program_order.specs.declared.event.Event.{Event}
+use Rattle.program_order.specs.declared.event.Event.TheVariants as events
+use Rattle.program_order.specs.Drain.{KeepsAccounts, Works, next_of}
+use Rattle.program_order.specs.Events.{allowed}
+use Rattle.program_order.specs.Processor.{Processor, boot_processor}
+use Rattle.program_order.specs.Reached.{GoesOn, GoesOnByWork, IsReached}
+use Rattle.program_order.specs.Run.{IsAnswer, settled}
+use Rattle.deck.specs.Deck.{Reading, Good, Bad, deck}
+use Rattle.device_text.specs.declared.output.WriteFailed.{WriteFailed}
+use Rattle.device_text.specs.Device.{Writes}
+use Rattle.device_text.specs.Names.{unit_text}
+use Rattle.device_text.specs.Pieces.{trimmed}
+use Rattle.job_deck.specs.AnswerText.{answer_line}
+use Rattle.job_deck.specs.Dump.{log_text}
+use Rattle.job_deck.specs.Schedule.{line_says}
+use Rattle.job_deck.specs.Session.{IsDump}
+use Rattle.job_deck.specs.declared.schedule.ScheduleLine.{ScheduleLine}
+use Rattle.job_deck.specs.declared.schedule.ScheduleLine.TheVariants.{Makes, Ends, Drains, Faulty}
+use Rattle.operator_terms.specs.declared.fault.ProgramFault.{ProgramFault}
+use Rattle.operator_terms.specs.declared.fault.ProgramFault.TheVariants as faults
+use Rattle.operator_terms.specs.declared.status.Status.{Status}
+use Rattle.operator_terms.specs.declared.status.Status.TheVariants.{Stopped}
+use Rattle.embedding.specs.declared.booted.Booted.{Booted}
+use Rattle.embedding.specs.declared.outcome.Outcome.{Outcome}
+use Rattle.embedding.specs.declared.reading.Registers.{Registers}
+use Rattle.embedding.specs.Embedding.{HandsOver, RefusesBudget, fault_in_memory, filled}
+
+-- ---- handles ----
+
+-- a call on a handle: without a machine there is none afterwards and it does nothing, and with one it does this to it
+abbrev pub OnMachine : Option Booted → Option Booted → Type 0 → (Booted → Booted → Type 0) → Type 0
+OnMachine None None nothing done = nothing
+OnMachine None (Some c) nothing done = ⊥
+OnMachine (Some b) None nothing done = ⊥
+OnMachine (Some b) (Some c) nothing done = done b c
+
+-- an outcome with nothing printed and no fault line
+abbrev pub silent : ℕ → Outcome
+silent status = record { printed = 0; told = 0; status = status }
+
+-- nothing is handed over, with this status
+abbrev pub IsSilent : ℕ → Outcome → List ℕ → List ℕ → Type 0
+IsSilent status outcome old new = (outcome ≡ silent status) × (new ≡ old)
+
+-- the status of a call on a handle without a machine
+abbrev pub no_machine : ℕ
+no_machine = 8
+
+-- the status of a call that wants a drained machine, where it isn't drained
+abbrev pub not_drained : ℕ
+not_drained = 9
+
+-- the machine isn't drained, and nothing is handed over
+abbrev pub IsNotDrained : Booted → Outcome → List ℕ → List ℕ → Type 0
+IsNotDrained b outcome old new = (is_pending b.machine.pending ≡ true) × IsSilent not_drained outcome old new
+
+-- ---- boot ----
+
+-- what booting comes to, where the deck reads so: a machine that has just been booted with the deck's memory, and the
+-- deck; or the deck's fault; or memory runs out
+abbrev pub Boots : Result Booted Refusal → ℕ → Reading → Type 0
+Boots (Ok b) budget (Good d n after) = (b.deck ≡ d) × (b.machine ≡ boot_processor d.image.memory budget)
+    × IsReached d.image.memory budget [] [] b.machine
+Boots (Ok b) budget (Bad n fault after) = ⊥
+Boots (Err (refusals.Deck m fault)) budget reading = (rest : List ℕ) × (reading ≡ Bad m fault rest)
+Boots (Err refusals.OutOfMemory) budget reading = ⊤
+Boots (Err other) budget reading = ⊥
+
+-- the machine that is there after it
+abbrev pub kept_of : Result Booted Refusal → Option Booted
+kept_of (Ok b) = Some b
+kept_of (Err refusal) = None
+
+-- how the call ends
+abbrev pub boot_end : Result Booted Refusal → Result Status ProgramFault
+boot_end (Ok b) = Ok Stopped
+boot_end (Err refusal) = Err (fault_in_memory refusal)
+
+-- what a call answers and leaves that boots a machine with the deck of these bytes
+abbrev pub BootsWithin : List ℕ → ℕ → Outcome → Option Booted → Type 0
+BootsWithin input budget outcome new = (found : Result Booted Refusal) × Boots found budget (deck input)
+    × (new ≡ kept_of found) × HandsOver outcome (boot_end found) [] [] []
+
+-- the same for any number as a budget
+abbrev pub HasBooted : List ℕ → ℕ → Outcome → Option Booted → Type 0
+HasBooted input budget outcome new =
+    BootsWithin input budget outcome new ⊎ ((new ≡ None) × RefusesBudget budget outcome [] [])
+
+-- ---- events ----
+
+-- how a call ends that writes to memory
+abbrev pub written_end : Result (Unit {0}) WriteFailed → Result Status ProgramFault
+written_end (Ok x) = Ok Stopped
+written_end (Err failed) = Err faults.OutOfMemory
+
+-- a call hands over this text; where memory runs out a beginning of it
+abbrev pub HandsOverText : List ℕ → Outcome → List ℕ → List ℕ → Type 0
+HandsOverText all outcome old new = (found : Result (Unit {0}) WriteFailed) × (text : List ℕ)
+    × Writes found (Some []) (Some text) all × HandsOver outcome (written_end found) text old new
+
+-- the event is made or refused as `program_order` defines it, and this text with the line of its answer is handed over
+abbrev pub MakesEvent : Event → List ℕ → Booted → Booted → Outcome → List ℕ → List ℕ → Type 0
+MakesEvent e front b c outcome old new = (answer : Result Done Refusal) × IsAnswer b.machine e answer
+    × (c ≡ record b { machine = settled b.machine e answer }) × GoesOn b.machine (e ∷ []) (answer ∷ []) c.machine
+    × HandsOverText (front ++ answer_line answer) outcome old new
+
+-- the line is refused, and the machine stays as it is
+abbrev pub RefusesLine : ProgramFault → Booted → Booted → Outcome → List ℕ → List ℕ → Type 0
+RefusesLine fault b c outcome old new = (c ≡ b) × HandsOver outcome (Err fault) [] old new
+
+-- what a call does with a line of a schedule: an event is made, and any other line refused. `end` and `drain` say no
+-- event
+abbrev pub DoesLine : ScheduleLine → Booted → Booted → Outcome → List ℕ → List ℕ → Type 0
+DoesLine (Makes e) b c outcome old new = MakesEvent e [] b c outcome old new
+DoesLine Ends b c outcome old new = RefusesLine (faults.Deck 1 line_faults.Unknown) b c outcome old new
+DoesLine Drains b c outcome old new = RefusesLine (faults.Deck 1 line_faults.Unknown) b c outcome old new
+DoesLine (Faulty fault) b c outcome old new = RefusesLine (faults.Deck 1 fault) b c outcome old new
+
+-- what a text says as the one line of a schedule
+abbrev pub text_says : List ℕ → ScheduleLine
+text_says text = line_says 1 ((text, []) ∷ [])
+
+-- a call makes the event that this text says
+abbrev pub DoesText : List ℕ → Booted → Booted → Outcome → List ℕ → List ℕ → Type 0
+DoesText text b c outcome old new = DoesLine (text_says text) b c outcome old new
+
+-- the event that is made with nothing pending: the exchange that was asked for, if it may be made, and else an issue
+abbrev pub idle_event : Processor → Event
+idle_event w = if is_none (allowed w events.Exchange) then events.Exchange else events.Issue
+
+-- the event that is made next: what a drain would make, if something is pending
+abbrev pub next_event : Processor → Event
+next_event w = unwrap_or (next_of w.pending w.busy) (idle_event w)
+
+-- the line of a schedule that says an event
+abbrev pub event_line : Event → List ℕ
+event_line events.Issue = codes "issue\n"
+event_line (events.Read u) = concat (codes "read " ∷ unit_text u ∷ codes "\n" ∷ [])
+event_line (events.Finish u) = concat (codes "finish " ∷ unit_text u ∷ codes "\n" ∷ [])
+event_line (events.Store u) = concat (codes "store " ∷ unit_text u ∷ codes "\n" ∷ [])
+event_line (events.Accept p) = concat (codes "accept " ∷ decimal p ∷ codes "\n" ∷ [])
+event_line (events.Return c) = concat (codes "return " ∷ decimal c ∷ codes "\n" ∷ [])
+event_line (events.BankFree k) = concat (codes "bank " ∷ decimal k ∷ codes "\n" ∷ [])
+event_line (events.Ask a) = concat (codes "ask " ∷ trimmed (octal_text 20 a) ∷ codes "\n" ∷ [])
+event_line events.Exchange = codes "exchange\n"
+event_line (events.PpRead a) = concat (codes "ppread " ∷ trimmed (octal_text 20 a) ∷ codes "\n" ∷ [])
+event_line (events.PpWrite a w) = concat (codes "ppwrite " ∷ trimmed (octal_text 20 a) ∷ codes " "
+    ∷ trimmed (octal_text 20 w) ∷ codes "\n" ∷ [])
+
+-- a call makes the next event, and hands over the line that says it and the line of its answer
+abbrev pub MakesNext : Booted → Booted → Outcome → List ℕ → List ℕ → Type 0
+MakesNext b c outcome old new = MakesEvent (next_event b.machine) (event_line (next_event b.machine)) b c outcome old new
+
+-- a machine is drained by so many events
+pub record IsDrainedBy (b c : Booted) (count : ℕ) : Type 0 where
+  pub works : Works b.machine c.machine count
+  pub drained : is_pending c.machine.pending ≡ false
+  pub stays : KeepsAccounts b.machine c.machine
+  pub reached : GoesOnByWork b.machine count c.machine
+  pub deck : c.deck ≡ b.deck
+
+-- ---- what is shown ----
+
+-- the dump of a drained machine, or a beginning of it where memory runs out
+abbrev pub DumpsText : Booted → Outcome → List ℕ → List ℕ → Type 0
+DumpsText b outcome old new =
+    ((all : List ℕ) × IsDump b.machine b.deck.shows all × HandsOverText all outcome old new)
+    ⊎ HandsOver outcome (Err faults.OutOfMemory) [] old new
+
+-- what a call hands over that dumps a machine
+abbrev pub IsDumped : Booted → Outcome → List ℕ → List ℕ → Type 0
+IsDumped b outcome old new = IsNotDrained b outcome old new ⊎ DumpsText b outcome old new
+
+-- the text of the log in its line of the dump, without the space before it
+abbrev pub after_space : List ℕ → List ℕ
+after_space [] = []
+after_space (space ∷ text) = text
+
+-- what a call hands over that tells the log; where memory runs out a beginning of it
+abbrev pub IsLogged : Booted → Outcome → List ℕ → List ℕ → Type 0
+IsLogged b outcome old new = (found : Result (Unit {0}) WriteFailed) × (text : List ℕ)
+    × Writes found (Some []) (Some text) (log_text (entries_of b.machine.log))
+    × HandsOver outcome (written_end found) (after_space text) old new
+
+-- why a machine is halted, as a number; 0 while it runs
+abbrev pub halt_number : Option Halt → ℕ
+halt_number None = 0
+halt_number (Some halts.Stop) = 1
+halt_number (Some (halts.Illegal op)) = 2
+halt_number (Some halts.Straddle) = 3
+halt_number (Some halts.FetchRange) = 4
+
+-- the registers of a state; B0 is always +0
+pub record HasRegisters (s : State) (r : Registers) : Type 0 where
+  pub x : r.x ≡ s.registers.x
+  pub a : r.a ≡ s.registers.a
+  pub b : r.b ≡ 0 ∷ s.registers.b
+  pub p : r.p ≡ s.position.p
+  pub parcel : r.parcel ≡ s.position.parcel
+  pub ra : r.ra ≡ s.area.ra
+  pub fl : r.fl ≡ s.area.fl
+  pub mode : r.em ≡ s.area.mode
+  pub halt : r.halt ≡ halt_number s.halt
+  pub fault : r.fault ≡ s.fault
+
+-- what a call answers that tells the registers of a drained machine: whether it may, and whether memory runs out
+abbrev pub TellsRegisters : Booted → ℕ → Registers → Registers → Type 0
+TellsRegisters b status old new =
+    ((is_pending b.machine.pending ≡ true) × (status ≡ not_drained) × (new ≡ old))
+    ⊎ ((is_pending b.machine.pending ≡ false) × (((status ≡ 0) × HasRegisters b.machine.state new)
+    ⊎ ((status ≡ 6) × (new ≡ old))))
+
+-- the words of a memory from an address on; none where that is past its end
+abbrev pub words_from : List ℕ → ℕ → List ℕ
+words_from memory first = drop first memory
+
+-- what a call hands over that tells words of a drained machine's memory: as many as there is room for, and how many
+-- there are
+abbrev pub TellsWords : Booted → ℕ → Outcome → List ℕ → List ℕ → Type 0
+TellsWords b first outcome old new = IsNotDrained b outcome old new
+    ⊎ ((is_pending b.machine.pending ≡ false)
+    × (((new ≡ filled (words_from b.machine.state.memory first) old)
+    × (outcome ≡ record { printed = length b.machine.state.memory - first; told = 0; status = 0 }))
+    ⊎ IsSilent 6 outcome old new))

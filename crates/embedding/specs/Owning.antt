@@ -1,0 +1,33 @@
+-- What a pointer that C keeps owns: the same as a box of a machine, or nothing.
+-- Source: ours.
+use base.Fml.{Fml, ftrue}
+use base.Stored.{Coded}
+use denote.RawPtr.{Ptr}
+use Rattle.std.specs.Prelude.{Option, Some, None, Result, Ok, Err}
+use Rattle.std.specs.Coded.{coded_option}
+use Rattle.std.specs.Box.Ownership.{box_owns}
+use Rattle.std.specs.declared.alloc.Global.{Global}
+use Rattle.std.specs.declared.boxed.Box.{Box}
+use Rattle.std.specs.contracts.impls.GlobalAllocator.TheImpl.{ghosts}
+use Rattle.instructions.specs.declared.refusal.Refusal.{Refusal}
+use Rattle.embedding.specs.declared.booted.Booted.{Booted}
+use Rattle.embedding.specs.contracts.booted.Booted.{the_row}
+
+-- the machine in a box, if there is one
+abbrev pub in_box : Option (Box Booted Global) → Option Booted
+in_box None = None
+in_box (Some b) = Some b.value
+
+-- what the pointer owns: with a machine, the block of memory that has it and the right to free that
+abbrev pub pointer_owns : Global → Ptr → Option the_row.Denot → Fml
+pointer_owns alloc p (Some machine) = box_owns (ghosts.dealloc_token alloc) the_row p machine
+pointer_owns alloc p None = ftrue
+
+-- how the checker stores such a machine, or none
+abbrev pub coded_machine : Coded (Option the_row.Denot)
+coded_machine = coded_option the_row.coded
+
+-- the machine in a box, or why there is none
+abbrev pub unboxed : Result (Box Booted Global) Refusal → Result Booted Refusal
+unboxed (Ok b) = Ok b.value
+unboxed (Err refusal) = Err refusal

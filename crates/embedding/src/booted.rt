@@ -1,0 +1,86 @@
+ghost use Rattle.embedding.specs.Owning.{unboxed};
+ghost use Rattle.embedding.specs.Keeping.{Boots, BootsWithin, HasBooted};
+ghost use Rattle.deck.specs.Deck.{deck};
+ghost use Rattle.std.specs.Prelude.{◌≡◌, None};
+
+use crate::commands::{fault_in_memory, refuse_budget};
+use crate::input_bytes::InputBytes;
+use crate::machine_handle::MachineHandle;
+use crate::outcome::{Outcome, hand_over};
+use instruction_table::Refusal;
+use job_deck::{Deck, booted, read_deck_from};
+use machine::Machine;
+use operator_terms::{Budget, Status};
+use std::alloc::Global;
+
+/// A machine that was booted with the memory of a deck, and the deck.
+#[derive(Drop)]
+pub struct Booted {
+    pub machine: Machine,
+    pub deck: Deck,
+}
+
+/// Boots a machine with the memory of the deck that these bytes are.
+///
+/// # Errors
+/// `Deck` with a line and its fault, and `OutOfMemory`.
+fn boot(alloc: Global, input: &[u8], budget: Budget) -> Result<Booted, Refusal>
+    ensures { Boots result budget (deck input.now) }
+{
+    let mut bytes = InputBytes::new(input);
+    let (deck, _) = read_deck_from(alloc, &mut bytes)?;
+    let machine = booted(alloc, &deck, budget.get())?;
+    Ok(Booted { machine, deck })
+}
+
+/// The same in a box.
+///
+/// # Errors
+/// As `boot`.
+fn boot_boxed(alloc: Global, input: &[u8], budget: Budget) -> Result<Box<Booted>, Refusal>
+    ensures { Boots (unboxed result) budget (deck input.now) }
+{
+    let booted = boot(alloc, input, budget)?;
+    match Box::new(alloc, booted) {
+        Ok(booted) => Ok(booted),
+        Err(_) => Err(Refusal::OutOfMemory),
+    }
+}
+
+/// Boots a machine with the deck of these bytes, into a handle without a machine.
+fn boot_within(
+    alloc: Global,
+    machine: &mut MachineHandle,
+    input: &[u8],
+    budget: Budget,
+    line: &mut [u8],
+) -> Outcome
+    requires { machine.old.owned.machine ≡ None }
+    ensures { BootsWithin input.now budget result machine.new.owned.machine }
+{
+    let ended = match boot_boxed(alloc, input, budget) {
+        Ok(booted) => {
+            machine.put(booted);
+            Ok(Status::Stopped)
+        }
+        Err(refusal) => Err(fault_in_memory(refusal)),
+    };
+    hand_over(ended, &[], &mut [], line)
+}
+
+/// The same with a budget of so many instructions, if that may be one. A machine that was there is freed.
+pub fn boot_bytes(
+    alloc: Global,
+    machine: &mut MachineHandle,
+    input: &[u8],
+    budget: u64,
+    line: &mut [u8],
+) -> Outcome
+    ensures { HasBooted input.now budget result machine.new.owned.machine }
+{
+    drop(machine.take(alloc));
+    match Budget::new(budget) {
+        Some(budget) => boot_within(alloc, machine, input, budget, line),
+        None => refuse_budget(&mut [], line),
+    }
+}

@@ -1,0 +1,142 @@
+ghost use Rattle.std.specs.Prelude.{◌≡◌, ◌∷◌, ◌-◌, length, true, false, Option};
+ghost use Rattle.embedding.specs.Keeping.{HasRegisters, TellsRegisters, TellsWords, halt_number, words_from};
+ghost use Rattle.embedding.specs.Embedding.{filled};
+
+use crate::booted::Booted;
+use crate::outcome::{NOT_DRAINED, Outcome, silent};
+use instruction_table::Halt;
+use operator_terms::Status;
+use relocation::Storage;
+use sequential::State;
+use word60::{Word18, Word60};
+
+/// The registers of a machine, for C.
+#[repr(C)]
+#[derive(Clone, Copy, Drop)]
+pub struct Registers {
+    /// X0 to X7.
+    pub x: [u64; 8],
+    /// A0 to A7.
+    pub a: [u32; 8],
+    /// B0 to B7; B0 is 0.
+    pub b: [u32; 8],
+    pub p: u32,
+    pub ra: u32,
+    pub fl: u32,
+    /// The exit mode.
+    pub em: u32,
+    /// The number of the next parcel.
+    pub parcel: u8,
+    /// Why the machine is halted: 0 it runs, 1 a stop, 2 an opcode that is refused, 3 a straddling instruction, 4 a
+    /// fetch out of range.
+    pub halt: u8,
+    pub fault: bool,
+}
+
+/// Why a machine is halted, as a number.
+fn halt_number(halt: &Option<Halt>) -> u8
+    ensures { result ≡ halt_number halt.now }
+{
+    match halt {
+        None => 0,
+        Some(Halt::Stop) => 1,
+        Some(Halt::Illegal(_)) => 2,
+        Some(Halt::Straddle) => 3,
+        Some(Halt::FetchRange) => 4,
+    }
+}
+
+/// The X registers as numbers.
+fn x_numbers(x: &[Word60; 8]) -> [u64; 8]
+    ensures { result ≡ x.now }
+{
+    x.map(|word| word.get())
+}
+
+/// The A registers as numbers.
+fn a_numbers(a: &[Word18; 8]) -> [u32; 8]
+    ensures { result ≡ a.now }
+{
+    a.map(|index| index.get())
+}
+
+/// The B registers as numbers, B0 too.
+fn b_numbers(b: &[Word18; 7]) -> [u32; 8]
+    ensures { result ≡ 0 ∷ b.now }
+{
+    [
+        0,
+        b[0].get(),
+        b[1].get(),
+        b[2].get(),
+        b[3].get(),
+        b[4].get(),
+        b[5].get(),
+        b[6].get(),
+    ]
+}
+
+/// The registers of a state.
+fn registers_of(state: &State) -> Registers
+    ensures { HasRegisters state.now result }
+{
+    Registers {
+        x: x_numbers(&state.registers.x),
+        a: a_numbers(&state.registers.a),
+        b: b_numbers(&state.registers.b),
+        p: state.position.p.get(),
+        ra: state.area.ra.get(),
+        fl: state.area.fl.get(),
+        em: state.area.mode.get(),
+        parcel: state.position.parcel.get(),
+        halt: halt_number(&state.halt),
+        fault: state.fault,
+    }
+}
+
+/// Tells the registers of a machine, if it is drained. Answers the status.
+pub fn show_registers(booted: &Booted, registers: &mut Registers) -> u8
+    ensures { TellsRegisters booted.now result registers.old registers.new }
+{
+    if !booted.machine.drained() {
+        return NOT_DRAINED;
+    }
+    match booted.machine.snapshot() {
+        Ok(snapshot) => {
+            *registers = registers_of(snapshot.state());
+            Status::Stopped.code()
+        }
+        Err(_) => Status::OutOfMemory.code(),
+    }
+}
+
+/// Copies words of a memory from an address on, as many as there are and as there is room for. Answers how many there
+/// are.
+fn copy_words(memory: &Storage, first: u32, words: &mut [u64]) -> usize
+    ensures words { words.new ≡ filled (words_from memory.now first) words.old }
+    ensures count { result ≡ length memory.now - first }
+{
+    let there = memory.size().saturating_sub(first);
+    let count = (there as usize).min(words.len());
+    for k in 0..count {
+        words[k] = memory.load(first + k as u32).get();
+    }
+    there as usize
+}
+
+/// Tells words of a machine's memory, if it is drained.
+pub fn show_words(booted: &Booted, first: u32, words: &mut [u64]) -> Outcome
+    ensures { TellsWords booted.now first result words.old words.new }
+{
+    if !booted.machine.drained() {
+        return silent(NOT_DRAINED);
+    }
+    match booted.machine.snapshot() {
+        Ok(snapshot) => Outcome {
+            printed: copy_words(&snapshot.state().memory, first, words),
+            told: 0,
+            status: Status::Stopped.code(),
+        },
+        Err(_) => silent(Status::OutOfMemory.code()),
+    }
+}

@@ -1,0 +1,127 @@
+ghost use Rattle.std.specs.Prelude.{◌≡◌};
+ghost use Rattle.std.specs.List.{flat_map};
+ghost use Rattle.sequential.specs.Log.{entries_of};
+ghost use Rattle.device_text.specs.Putting.{Puts};
+ghost use Rattle.device_text.specs.Pieces.{text_of_all};
+ghost use Rattle.job_deck.specs.Dump.{dump_text, log_text, spaced_entry};
+ghost use Rattle.embedding.specs.Keeping.{HandsOverText, IsDumped, IsLogged, after_space};
+
+use crate::booted::Booted;
+use crate::outcome::{NOT_DRAINED, Outcome, hand_over, silent};
+use crate::stepping::written_end;
+use device_text::{Piece, put_pieces};
+use job_deck::{CheckedWriter, Deck, Output, WriteFailed, dump_to};
+use machine::Snapshot;
+use operator_terms::ProgramFault;
+use sequential::Entry;
+use std::alloc::Global;
+
+/// Hands over the dump of a state after its log.
+fn show_snapshot(
+    alloc: Global,
+    snapshot: &Snapshot,
+    deck: &Deck,
+    output: &mut [u8],
+    line: &mut [u8],
+) -> Outcome
+    ensures { HandsOverText (dump_text snapshot.now.state (entries_of snapshot.now.log) deck.now.shows) result output.old
+        output.new }
+{
+    let mut text = Vec::new(alloc);
+    let mut writer = CheckedWriter::new(&mut text);
+    let written = dump_to(&mut writer, snapshot.state(), snapshot.log(), deck);
+    // No effect at run time. The proof reads what the text holds from this use.
+    let _ = &*writer.into_inner();
+    hand_over(written_end(written), text.as_slice(), output, line)
+}
+
+/// Hands over the dump of a machine, if it is drained.
+pub fn show_dump(alloc: Global, booted: &Booted, output: &mut [u8], line: &mut [u8]) -> Outcome
+    ensures { IsDumped booted.now result output.old output.new }
+{
+    if !booted.machine.drained() {
+        return silent(NOT_DRAINED);
+    }
+    match booted.machine.snapshot() {
+        Ok(snapshot) => show_snapshot(alloc, &snapshot, &booted.deck, output, line),
+        Err(_) => hand_over(Err(ProgramFault::OutOfMemory), &[], output, line),
+    }
+}
+
+/// An entry of a log with a space before it.
+fn spaced_entry(entry: Entry) -> [Piece<'static>; 4]
+    ensures { text_of_all result ≡ spaced_entry entry }
+{
+    match entry {
+        Entry::Exchange(address) => [
+            Piece::Text(b" E"),
+            Piece::Address(address),
+            Piece::Text(b""),
+            Piece::Text(b""),
+        ],
+        Entry::Issued(count) => [
+            Piece::Text(b" I"),
+            Piece::Count(count),
+            Piece::Text(b""),
+            Piece::Text(b""),
+        ],
+        Entry::PpRead(address) => [
+            Piece::Text(b" R"),
+            Piece::Address(address),
+            Piece::Text(b""),
+            Piece::Text(b""),
+        ],
+        Entry::PpWrite(address, word) => [
+            Piece::Text(b" W"),
+            Piece::Address(address),
+            Piece::Text(b"="),
+            Piece::ShortWord(word),
+        ],
+    }
+}
+
+/// Writes the entries of a log with a space before each.
+fn put_entries<O: Output>(output: &mut O, entries: &[Entry]) -> Result<(), WriteFailed>
+    ensures { Puts O.Output result output.old output.new (flat_map spaced_entry entries.now) }
+{
+    for entry in entries {
+        put_pieces(output, &spaced_entry(*entry))?;
+    }
+    Ok(())
+}
+
+/// Writes the text of a log with a space before it.
+fn put_log<O: Output>(output: &mut O, entries: &[Entry]) -> Result<(), WriteFailed>
+    ensures { Puts O.Output result output.old output.new (log_text entries.now) }
+{
+    match entries {
+        [] => output.put(b" none"),
+        _ => put_entries(output, entries),
+    }
+}
+
+/// A text without the space before it.
+fn after_space(text: &[u8]) -> &[u8]
+    ensures { result.now ≡ after_space text.now }
+{
+    match text.split_first() {
+        Some((_, rest)) => rest,
+        None => text,
+    }
+}
+
+/// Hands over the text of a machine's log.
+pub fn show_log(alloc: Global, booted: &Booted, output: &mut [u8], line: &mut [u8]) -> Outcome
+    ensures { IsLogged booted.now result output.old output.new }
+{
+    let mut text = Vec::new(alloc);
+    let mut writer = CheckedWriter::new(&mut text);
+    let written = put_log(&mut writer, booted.machine.log().entries());
+    let _ = &*writer.into_inner();
+    hand_over(
+        written_end(written),
+        after_space(text.as_slice()),
+        output,
+        line,
+    )
+}
