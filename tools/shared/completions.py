@@ -114,7 +114,7 @@ _{NAME}() {{
     esac
     if [ "$COMP_CWORD" -eq 1 ]; then
         words='{" ".join(it.name for it in (*COMMANDS, HELP_COMMAND))} {words(ALONE)}'
-    elif [ "${{current#-}}" = "$current" ]; then
+    elif [ "${{current#-}}" = "$current" ] && [ "${{COMP_WORDS[1]}}" != help ]; then
         return
     fi
     mapfile -t COMPREPLY < <(compgen -W "$words" -- "$current")
