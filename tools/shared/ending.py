@@ -41,5 +41,11 @@ def ended(name, main, *faults, status=1):
     except (Unwritten, *faults) as fault:
         print(f"{name}: {fault}", file=sys.stderr)
         return status
+    except OSError as fault:
+        # A fault of a file names it; one of standard output doesn't.
+        if fault.filename is not None:
+            raise
+        print(f"{name}: standard output: {fault.strerror}", file=sys.stderr)
+        return status
     except KeyboardInterrupt:
         return INTERRUPTED
