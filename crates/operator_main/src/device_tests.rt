@@ -197,7 +197,7 @@ fn tells_a_fault_at_once(rt: HostRuntime) -> Result<(), Fail> {
         rt.alloc(),
         words.as_slice(),
         &NO_FILES,
-        &mut b"core 256\nplace 7\n".as_slice(),
+        &mut b"core 256\nput 7\n".as_slice(),
         &mut output,
         &mut faults,
     );
