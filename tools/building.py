@@ -68,7 +68,7 @@ class Plan:
             behind[name] = self.work[name] + max((behind[it] for it in above), default=0)
         longest = max(behind.values())
         # How much later than it could a crate may begin and hold up nothing, in twentieths of the whole.
-        slack = {name: 20 * (longest - ahead[name] - behind[name]) // longest for name in self.crates}
+        slack = {name: int(20 * (longest - ahead[name] - behind[name]) / longest) for name in self.crates}
         self.nice = {name: min(LEAST_URGENT, slack[name]) for name in self.crates}
 
 
