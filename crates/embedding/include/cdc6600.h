@@ -45,7 +45,7 @@ enum {
     CDC6600_RUNNING = 5,       /* the budget is used up, or the log has no more */
     CDC6600_OUT_OF_MEMORY = 6, /* memory ran out */
     CDC6600_WITHOUT_MACHINE = 8, /* no machine was booted, or it was freed */
-    CDC6600_NOT_DRAINED = 9    /* the call wants a drained machine */
+    CDC6600_NOT_DRAINED = 9    /* a dump wants a drained machine */
 };
 
 /* What a call comes to. The bytes are counted whether there was room for them or not: output has all of them where
@@ -129,10 +129,8 @@ struct cdc6600_outcome cdc6600_log(struct cdc6600_machine *machine,
                                    uint8_t *output, size_t output_capacity,
                                    uint8_t *line, size_t line_capacity);
 
-/* The next calls want a drained machine, and else answer CDC6600_NOT_DRAINED and do nothing. Each copies the machine's
- * state for its own time. */
-
-/* Dumps the machine. */
+/* Dumps a drained machine. It copies the machine's state while it runs. A machine that isn't drained is refused by
+ * CDC6600_NOT_DRAINED, and nothing is done. */
 struct cdc6600_outcome cdc6600_dump(struct cdc6600_machine *machine,
                                     uint8_t *output, size_t output_capacity,
                                     uint8_t *line, size_t line_capacity);
@@ -160,11 +158,12 @@ enum {
     CDC6600_HALT_FETCH = 4    /* a fetch out of range */
 };
 
-/* Tells the registers. Answers the status; unless it is 0 they stay as they were. */
+/* Tells the registers at this moment. If the machine isn't drained, effects of issued instructions are still to come:
+ * cdc6600_is_drained says so. Answers the status; unless it is 0 the registers stay as they were. */
 uint8_t cdc6600_read_registers(struct cdc6600_machine *machine, struct cdc6600_registers *registers);
 
-/* Tells words of memory from an absolute address on, as many as there are and as there is room for. The outcome's
- * printed counts those that there are. */
+/* Tells words of memory at this moment from an absolute address on, as many as there are and as there is room for. The
+ * outcome's printed counts those that there are. */
 struct cdc6600_outcome cdc6600_read_words(struct cdc6600_machine *machine,
                                           uint32_t first,
                                           uint64_t *words, size_t words_capacity);

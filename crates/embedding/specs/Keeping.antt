@@ -218,22 +218,16 @@ pub record HasRegisters (s : State) (r : Registers) : Type 0 where
   pub halt : r.halt ≡ halt_number s.halt
   pub fault : r.fault ≡ s.fault
 
--- what a call answers that tells the registers of a drained machine: whether it may, and whether memory runs out
-abbrev pub TellsRegisters : Booted → ℕ → Registers → Registers → Type 0
-TellsRegisters b status old new =
-    ((is_pending b.machine.pending ≡ true) × (status ≡ not_drained) × (new ≡ old))
-    ⊎ ((is_pending b.machine.pending ≡ false) × (((status ≡ 0) × HasRegisters b.machine.state new)
-    ⊎ ((status ≡ 6) × (new ≡ old))))
+-- a call answers the registers of the machine's state, drained or not
+abbrev pub TellsRegisters : Booted → ℕ → Registers → Type 0
+TellsRegisters b status new = (status ≡ 0) × HasRegisters b.machine.state new
 
 -- the words of a memory from an address on; none where that is past its end
 abbrev pub words_from : List ℕ → ℕ → List ℕ
 words_from memory first = drop first memory
 
--- what a call hands over that tells words of a drained machine's memory: as many as there is room for, and how many
--- there are
+-- a call hands over words of the memory of the machine's state, drained or not: as many as there is room for, and how
+-- many there are
 abbrev pub TellsWords : Booted → ℕ → Outcome → List ℕ → List ℕ → Type 0
-TellsWords b first outcome old new = IsNotDrained b outcome old new
-    ⊎ ((is_pending b.machine.pending ≡ false)
-    × (((new ≡ filled (words_from b.machine.state.memory first) old)
-    × (outcome ≡ record { printed = length b.machine.state.memory - first; told = 0; status = 0 }))
-    ⊎ IsSilent 6 outcome old new))
+TellsWords b first outcome old new = (new ≡ filled (words_from b.machine.state.memory first) old)
+    × (outcome ≡ record { printed = length b.machine.state.memory - first; told = 0; status = 0 })

@@ -234,7 +234,7 @@ pub extern "C" fn cdc6600_log(
     }
 }
 
-/// Tells the registers of the machine, if it is drained. Answers the status.
+/// Tells the registers of the machine, as the effects made so far have left them. Answers the status.
 #[unsafe(no_mangle)]
 pub extern "C" fn cdc6600_read_registers(
     alloc: Global,
@@ -243,7 +243,7 @@ pub extern "C" fn cdc6600_read_registers(
 ) -> u8
     ensures { OnMachine machine.old.owned.machine machine.new.owned.machine
         ((result ≡ no_machine) × (registers.new ≡ registers.old))
-        (λ b c. (c ≡ b) × TellsRegisters b result registers.old registers.new) }
+        (λ b c. (c ≡ b) × TellsRegisters b result registers.new) }
 {
     match machine.take(alloc) {
         Some(booted) => {
@@ -255,8 +255,8 @@ pub extern "C" fn cdc6600_read_registers(
     }
 }
 
-/// Tells words of the machine's memory from an absolute address on, if it is drained: as many as there is room for, and
-/// how many there are.
+/// Tells words of the machine's memory from an absolute address on, as the effects made so far have left them: as many
+/// as there is room for, and how many there are.
 #[unsafe(no_mangle)]
 pub extern "C" fn cdc6600_read_words(
     alloc: Global,

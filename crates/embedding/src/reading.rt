@@ -3,7 +3,7 @@ ghost use Rattle.embedding.specs.Keeping.{HasRegisters, TellsRegisters, TellsWor
 ghost use Rattle.embedding.specs.Embedding.{filled};
 
 use crate::booted::Booted;
-use crate::outcome::{NOT_DRAINED, Outcome, silent};
+use crate::outcome::Outcome;
 use instruction_table::Halt;
 use operator_terms::Status;
 use relocation::Storage;
@@ -94,20 +94,12 @@ fn registers_of(state: &State) -> Registers
     }
 }
 
-/// Tells the registers of a machine, if it is drained. Answers the status.
+/// Tells the registers of a machine, as the effects made so far have left them. Answers the status.
 pub fn show_registers(booted: &Booted, registers: &mut Registers) -> u8
-    ensures { TellsRegisters booted.now result registers.old registers.new }
+    ensures { TellsRegisters booted.now result registers.new }
 {
-    if !booted.machine.drained() {
-        return NOT_DRAINED;
-    }
-    match booted.machine.snapshot() {
-        Ok(snapshot) => {
-            *registers = registers_of(snapshot.state());
-            Status::Stopped.code()
-        }
-        Err(_) => Status::OutOfMemory.code(),
-    }
+    *registers = registers_of(booted.machine.state());
+    Status::Stopped.code()
 }
 
 /// Copies words of a memory from an address on, as many as there are and as there is room for. Answers how many there
@@ -124,19 +116,13 @@ fn copy_words(memory: &Storage, first: u32, words: &mut [u64]) -> usize
     there as usize
 }
 
-/// Tells words of a machine's memory, if it is drained.
+/// Tells words of a machine's memory, as the effects made so far have left them.
 pub fn show_words(booted: &Booted, first: u32, words: &mut [u64]) -> Outcome
     ensures { TellsWords booted.now first result words.old words.new }
 {
-    if !booted.machine.drained() {
-        return silent(NOT_DRAINED);
-    }
-    match booted.machine.snapshot() {
-        Ok(snapshot) => Outcome {
-            printed: copy_words(&snapshot.state().memory, first, words),
-            told: 0,
-            status: Status::Stopped.code(),
-        },
-        Err(_) => silent(Status::OutOfMemory.code()),
+    Outcome {
+        printed: copy_words(&booted.machine.state().memory, first, words),
+        told: 0,
+        status: Status::Stopped.code(),
     }
 }
