@@ -76,8 +76,23 @@ def faults_of_events(make, it):
         faults += differing(f"whether {it} is drained", not rest.startswith(b"NOT DRAINED"), machine.is_drained())
         if machine.is_drained():
             return faults + faults_of_shown(it, machine, rest)
-        told = (machine.dump(), machine.registers()[1], machine.words(0, 1))
-        return faults + differing(f"{it} that isn't drained", ((b"", b"", NOT_DRAINED), NOT_DRAINED, ([], NOT_DRAINED)), told)
+        return faults + differing(f"the dump of {it}, which isn't drained", (b"", b"", NOT_DRAINED), machine.dump())
+
+
+def faults_of_moments(make):
+    """Registers and words between the events of a session, which follow the effects made so far: a load sets its register
+    when it returns, and a store its word when the bank accepts it."""
+    it, faults, loaded, stored = session("one-word"), [], 0, 1
+    with make() as machine:
+        machine.boot(it.text)
+        for line in it.schedule[: it.schedule.index("end")]:
+            machine.event(line.encode())
+            loaded = 1 if line == "return 1" else loaded
+            stored = 5 if line == "accept 0" else stored
+            registers, status = machine.registers()
+            told = (registers.x[1], status, machine.words(0o110, 1))
+            faults += differing(f"{it} after {line}", (loaded, 0, ([stored], 0)), told)
+    return faults
 
 
 def is_short(it):
@@ -145,5 +160,6 @@ def works(make, events, decks, sessions):
         yield lambda it=it: faults_of_events(make, it)
     for it in decks:
         yield lambda it=it: faults_of_next(make, events, it)
+    yield lambda: faults_of_moments(make)
     yield lambda: faults_of_lines(make)
     yield lambda: faults_of_handles(make)

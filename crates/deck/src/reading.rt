@@ -1,5 +1,6 @@
 ghost use Rattle.std.specs.Prelude.{◌≡◌, ◌||◌, ◌≤◌, ◌∷◌, length, false, true, OnOk, IfOk, IfErr};
 ghost use Rattle.device_text.specs.Device.{Moves};
+ghost use Rattle.instructions.specs.declared.refusal.Refusal.TheVariants as refusals;
 ghost use Rattle.deck.specs.Deck.{deck};
 ghost use Rattle.device_text.specs.Line.{ReadsPart, lines_of};
 ghost use Rattle.deck.specs.Reading.{EndsWithin, Gives, GivesDeck, Refuses};
@@ -12,6 +13,20 @@ use device_text::{CheckedReader, Input, LineRead, read_line};
 use instruction_table::{DeckFault, Refusal};
 use std::alloc::Global;
 use std::io::Read;
+
+/// The refusal of line `number` for a fault. The input is told the line.
+fn refused<I: Input>(input: &mut I, line: &[u8], number: u32, fault: DeckFault) -> Refusal
+    ensures refusal { result ≡ refusals.Deck number fault }
+    ensures left { I.remaining input.new ≡ I.remaining input.old }
+    ensures failure { I.has_failed input.new ≡ I.has_failed input.old }
+    ensures same { I.lender input.new ≡ I.lender input.old }
+{
+    input.refuse(line);
+    Refusal::Deck {
+        line: number,
+        fault,
+    }
+}
 
 /// Reads line `number`, of at most 200 bytes.
 fn next_line<I: Input>(
@@ -31,10 +46,7 @@ fn next_line<I: Input>(
 {
     match read_line(input, line) {
         Ok(LineRead::Whole) => Ok(()),
-        Ok(LineRead::Long) => Err(Refusal::Deck {
-            line: number,
-            fault: DeckFault::Long,
-        }),
+        Ok(LineRead::Long) => Err(refused(input, line.as_slice(), number, DeckFault::Long)),
         Ok(LineRead::Nothing) => Err(Refusal::Deck {
             line: number,
             fault: DeckFault::NoEnd,
@@ -66,10 +78,7 @@ pub fn read_deck_from<I: Input>(alloc: Global, input: &mut I) -> Result<(Deck, u
             Ok(Step::Goes(draft)) => before = Some(draft),
             Ok(Step::Ends(deck)) => return Ok((deck, number)),
             Err(LineError::Faulty(fault)) => {
-                return Err(Refusal::Deck {
-                    line: number,
-                    fault,
-                });
+                return Err(refused(input, line.as_slice(), number, fault));
             }
             Err(LineError::OutOfMemory) => return Err(Refusal::OutOfMemory),
         }

@@ -28,7 +28,7 @@ impl FaultAt {
         }
     }
 
-    /// A fault after which this is the line that was read last. If the line is refused, the fault is in it.
+    /// A fault after which this is the line that was refused, if it is one of a line.
     pub fn in_line(fault: ProgramFault, line: &[u8]) -> FaultAt
         ensures { result.fault ≡ fault }
     {

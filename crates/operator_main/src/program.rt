@@ -24,7 +24,7 @@ use command_line::{Replay, Request, Source, read_arguments};
 use deck_run::{replay_log, run_deck, run_deck_sequentially};
 use job_deck::{CheckedBufReader, CheckedWriter, Input, Output, events_to, list_to};
 use operator_terms::{ProgramFault, Status};
-use refused_line::LastLine;
+use refused_line::LineKeeper;
 use std::alloc::Global;
 use std::io;
 use std::io::{BufReader, ErrorKind as IoErrorKind, Read, Write};
@@ -149,7 +149,7 @@ fn perform<T: Threads + Wait + Clock + Sync, R: Read, W: Write>(
         return Err(FaultAt::nowhere(ProgramFault::OutOfMemory));
     };
     let mut checked = CheckedBufReader::new(&mut reader);
-    let mut input = LastLine::new(&mut checked);
+    let mut input = LineKeeper::new(&mut checked);
     let mut output = CheckedWriter::new(&mut *output);
     let result = carry_out(rt, alloc, work, &mut input, &mut output);
     // The proof reads what the output holds from this use, which has no other effect.

@@ -1,4 +1,3 @@
 -- Where the fault of a refused line is.
 -- Source: ours.
-pub mod Line
 pub mod Position

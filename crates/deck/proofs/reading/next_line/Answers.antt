@@ -11,7 +11,8 @@ pub returns-in-Ok-Long-clause-err : goal.returns-in-Ok-Long-clause-err
 returns-in-Ok-Long-clause-err g c =
     let text = rw c.in-Ok-Long.field-0-is at c.in-Ok-Long.ensures.text in
     let taken = rw c.in-Ok-Long.field-0-is at c.in-Ok-Long.ensures.ok in
-    taken_long _ _ c.args.number c.read_line.new.line.items text.0 text.1 taken
+    rw (c.refused.ensures.refusal, c.refused.ensures.left) (taken_long (g.I.Input.remaining c.args.input.now)
+    (g.I.Input.remaining c.read_line.new.input) c.args.number c.read_line.new.line.items text.0 text.1 taken)
 
 pub returns-in-Ok-Nothing-clause-err : goal.returns-in-Ok-Nothing-clause-err
 returns-in-Ok-Nothing-clause-err g c =

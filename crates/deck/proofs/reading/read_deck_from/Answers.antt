@@ -22,7 +22,7 @@ returns-in_err-next_line-clause-deck g c =
 pub returns-in-Err-Faulty-clause-deck : goal.returns-in-Err-Faulty-clause-deck
 returns-in-Err-Faulty-clause-deck g c =
     let applied = rw (c.as_slice.ensures.value, c.in-Err-Faulty.field-0-is) at c.in-Err-Faulty.ensures in
-    rw c.in-Err-Faulty.field-0-is (line_fault (g.I.Input.remaining c.args.input.now)
+    rw (c.refused.ensures.refusal, c.refused.ensures.left, c.in-Err-Faulty.field-0-is) (line_fault (g.I.Input.remaining c.args.input.now)
     (g.I.Input.remaining c.loop-number.input) (g.I.Input.remaining c.next_line.new.input) c.loop-number.number
     c.loop-number.before c.next_line.new.line.items c.in-Err-Faulty.fault (omega arith)
     c.in_ok-next_line.ensures.text c.loop-number.invariant.told c.in_ok-next_line.ensures.ok applied)

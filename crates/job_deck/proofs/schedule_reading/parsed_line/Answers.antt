@@ -1,5 +1,5 @@
 use Rattle.job_deck.proofs.sessions.ScheduleLines.{reads_whole, reads_long, reads_nothing}
-use Rattle.job_deck.proofs.schedule_reading.read_schedule_line.Goals as goal
+use Rattle.job_deck.proofs.schedule_reading.parsed_line.Goals as goal
 
 pub returns-in-Ok-Whole-clause-line : goal.returns-in-Ok-Whole-clause-line
 returns-in-Ok-Whole-clause-line g c =
