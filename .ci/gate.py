@@ -49,7 +49,7 @@ SMALL = (
 BODIES = ("tools/wrong-bodies-test", "tools/wrong-bodies")
 CHECKS = (
     "decks", "pages", "schedules", "both-kinds", "busy", "threads", "sequential", "large", "mutations", "failures",
-    "allocations", "emulators", "trace", "random-sessions", "operate", "browser", "progress", "habits", "many-jobs",
+    "allocations", "emulators", "trace", "random-sessions", "operate", "scheduling", "browser", "progress", "habits", "many-jobs",
     "embedding",
 )
 DECKS = tuple(f"tools/checks/{name}" for name in CHECKS)
