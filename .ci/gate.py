@@ -20,10 +20,10 @@ The parts, in their order:
 - decks (tools/checks): what the program prints for them, for the commands of the pages, for worked schedules, for the
   largest decks, for those that are cut and bent, and where calls fail, when requests of both kinds are made, what a run
   with and without threads prints for drawn decks, and which events take memory; that a run ends soon beside other work;
-  that emulators are compared with it, that pages of sessions say what the machine does, that a machine is driven by
-  hand, installed, run many times and called from C; then that forgotten tokens are refused, and that `./cdc6600` builds
-  no program of which a crate isn't proved. A check that needs a program which isn't installed is left out, and that is
-  told.
+  that sources are assembled, that emulators are compared with it, that pages of sessions say what the machine does,
+  that a machine is driven by hand, installed, run many times and called from C; then that forgotten tokens are refused,
+  and that `./cdc6600` builds no program of which a crate isn't proved. A check that needs a program which isn't
+  installed is left out, and that is told.
 
 A small check and a check of decks that finds nothing says nothing. Where `rt ci` fails nothing more is tried.
 """
@@ -48,9 +48,9 @@ SMALL = (
 )
 BODIES = ("tools/wrong-bodies-test", "tools/wrong-bodies")
 CHECKS = (
-    "decks", "pages", "schedules", "both-kinds", "busy", "threads", "sequential", "large", "mutations", "failures",
-    "allocations", "emulators", "trace", "random-sessions", "operate", "scheduling", "exploring", "browser", "progress",
-    "habits", "many-jobs", "embedding",
+    "decks", "pages", "assembler", "schedules", "both-kinds", "busy", "threads", "sequential", "large", "mutations",
+    "failures", "allocations", "emulators", "trace", "random-sessions", "operate", "scheduling", "exploring", "browser",
+    "progress", "habits", "many-jobs", "embedding",
 )
 DECKS = tuple(f"tools/checks/{name}" for name in CHECKS)
 TOOLS = (".ci/spent-tokens", "tools/build-program-test")

@@ -9,6 +9,8 @@ from .faults import BadInput
 # its log. So an emulator that does 5,000 steps a second is never too slow.
 SECONDS, MORE = "20", "200"
 MOST_SECONDS = 86400
+# The name of a file that stands for standard input.
+STANDARD_INPUT = "-"
 
 
 def number(word, digits=6):
@@ -54,3 +56,14 @@ def bytes_of(file):
         return Path(file).read_bytes()
     except (OSError, ValueError) as fault:
         raise BadInput(f"{file}: {getattr(fault, 'strerror', None) or fault}") from None
+
+
+def standard_input():
+    """What standard input has.
+
+    Raises BadInput where it can't be read."""
+    try:
+        with open(0, "rb", closefd=False) as stream:
+            return stream.read()
+    except OSError as fault:
+        raise BadInput(f"standard input: {fault.strerror}") from None
