@@ -26,7 +26,8 @@ def summary(schedule):
         of_parts += part.ended - part.begun
     heads = [
         f"policy {schedule.policy}: {issued} instructions in {total} minor cycles, {rate} instructions a cycle",
-        f"the issuing position, {total} cycles:", f"the reservations, {len(clock.parts)} with {of_parts} cycles in all:",
+        f"the issuing position, {total} cycles:",
+        f"the reservations, {len(clock.parts)} with {of_parts} cycles in all:",
     ]
     lines = [*heads[:2], *rows(clock.issuing.work, clock.issuing.waits), heads[2], *rows(work, waits)]
     return "".join(f"{line}\n" for line in lines)
