@@ -1,7 +1,9 @@
 """What is printed of a schedule and of an exploration."""
 
+import sys
 from collections import Counter
 
+from drawing.following import Fault
 from drawing.telling import plural
 
 from .waits import CAUSES
@@ -31,6 +33,15 @@ def summary(schedule):
     ]
     lines = [*heads[:2], *rows(clock.issuing.work, clock.issuing.waits), heads[2], *rows(work, waits)]
     return "".join(f"{line}\n" for line in lines)
+
+
+def put(text):
+    """Prints a text as it is.
+
+    Raises Fault where standard output is closed."""
+    if sys.stdout is None:
+        raise Fault("standard output", "it is closed")
+    sys.stdout.write(text)
 
 
 def counted(number, one, several):
