@@ -15,7 +15,7 @@ LARGE = 5000
 
 @dataclass
 class Confirmed:
-    """What the machine confirmed: the sessions, the events that it made, the ones that it refused, the dumps by logs."""
+    """What the machine confirmed: the sessions, the events that it made and that it refused, and the dumps by logs."""
 
     sessions: int = 0
     made: int = 0

@@ -9,8 +9,8 @@ from dataclasses import dataclass
 
 @dataclass(eq=False)
 class Moment:
-    """The cycle of the last event of an order, the cycles at which parts are ready, and the moment and the event that led
-    to it. At `end` the last event but for freed banks has happened, and the last issue is over."""
+    """The cycle of the last event of an order, the cycles at which parts are ready, and the moment and the event that
+    led to it. At `end` the last event but for freed banks has happened, and the last issue is over."""
 
     now: int
     ready: dict

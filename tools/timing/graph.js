@@ -30,7 +30,8 @@
     const dot = byId(`state-${number}`);
     dot.classList.add("chosen");
     byId("scroll").scrollLeft = dot.cx.baseVal.value - byId("scroll").clientWidth / 2;
-    byId("name").textContent = `State ${number}, after ${state.layer} events; ways to it: ${state.orders}`;
+    const events = `${state.layer} event${state.layer === 1 ? "" : "s"}`;
+    byId("name").textContent = `State ${number}, after ${events}; ways to it: ${state.orders}`;
     byId("has").replaceChildren(...state.has.map(line));
     byId("edges").replaceChildren(...(state.edges.length ? state.edges.map(button) : [line("none: this is an end")]));
     byId("refused").replaceChildren(...state.refused.map(([event, answer]) => line(`${event}: ${answer}`)));
@@ -49,6 +50,8 @@
   };
   document.addEventListener("keydown", (event) => {
     if (!moves[event.key] || event.ctrlKey || event.altKey || event.metaKey) return;
+    // Elsewhere these keys scroll the page.
+    if (/Up|Down/.test(event.key) && document.activeElement !== byId("scroll")) return;
     event.preventDefault();
     go(moves[event.key]());
   });

@@ -200,4 +200,5 @@ class Schedule:
             raise Fault(self.program.path, f"it isn't drained after the log {self.log.text[:80]}")
         line = self.course.differing(self.dump)
         if line:
-            raise Fault(self.program.path, f"after the log {self.log.text[:80]} its dump has {line}, which the rules don't")
+            what = f"its dump has {line}, which isn't what the rules lead to"
+            raise Fault(self.program.path, f"after the log {self.log.text[:80]} {what}")

@@ -1,7 +1,9 @@
 """What is printed of a schedule and of an exploration."""
 
+import sys
 from collections import Counter
 
+from drawing.following import Fault
 from drawing.telling import plural
 
 from .waits import CAUSES
@@ -26,10 +28,20 @@ def summary(schedule):
         of_parts += part.ended - part.begun
     heads = [
         f"policy {schedule.policy}: {issued} instructions in {total} minor cycles, {rate} instructions a cycle",
-        f"the issuing position, {total} cycles:", f"the reservations, {len(clock.parts)} with {of_parts} cycles in all:",
+        f"the issuing position, {total} cycles:",
+        f"the reservations, {len(clock.parts)} with {of_parts} cycles in all:",
     ]
     lines = [*heads[:2], *rows(clock.issuing.work, clock.issuing.waits), heads[2], *rows(work, waits)]
     return "".join(f"{line}\n" for line in lines)
+
+
+def put(text):
+    """Prints a text as it is.
+
+    Raises Fault where standard output is closed."""
+    if sys.stdout is None:
+        raise Fault("standard output", "it is closed")
+    sys.stdout.write(text)
 
 
 def counted(number, one, several):
