@@ -22,6 +22,19 @@ def no_cause(_part):
     return ORDER
 
 
+def after(times, part, event):
+    """The event of a reservation that comes after this one, empty if none does, and how many cycles later it is
+    ready."""
+    if event == "read":
+        return "finish", part.cycles
+    if event == "finish":
+        return "store", 0
+    if event == "store" and part.address is not None:
+        return "accept", times["hopper"]
+    is_awaited = bool(part.channel) and event != "return"
+    return ("return", times["access"] if event == "accept" else 0) if is_awaited else ("", 0)
+
+
 @dataclass(eq=False)
 class Part:
     """Something that makes one event after another: a reservation, or the issuing position, whose number is 0.
@@ -81,7 +94,7 @@ class Clock:
         range has an absolute address."""
         part = Part(number, "read", self.now, unit, text, address, begun=self.now)
         part.cycles = self.times.unit(unit, is_taken)
-        part.channel = int(text[2]) if text.startswith("SA") and text[2] in "12345" else 0
+        part.channel = channel_of(text)
         self.parts.append(part)
         self.pending.append(part)
         return part
@@ -89,24 +102,11 @@ class Clock:
     def step(self, part):
         """A reservation makes its next event."""
         self.advance(part.ready)
-        if part.event == "read":
-            part.then("finish", self.now, part.cycles)
-        elif part.event == "finish":
-            part.then("store", self.now)
-        elif part.event == "store" and part.address is not None:
-            part.then("accept", self.now, self.times["hopper"])
-        elif part.event == "accept":
-            self.accept(part)
-        elif part.event == "store" and part.channel:
-            part.then("return", self.now)
-        else:
-            self.end(part)
-
-    def accept(self, part):
-        """A bank accepts the reference of a reservation."""
-        self.banks[part.address % BANKS] = self.now + self.times["bank"]
-        if part.channel:
-            part.then("return", self.now, self.times["access"])
+        if part.event == "accept":
+            self.banks[part.address % BANKS] = self.now + self.times["bank"]
+        event, cycles = after(self.times, part, part.event)
+        if event:
+            part.then(event, self.now, cycles)
         else:
             self.end(part)
 
@@ -129,6 +129,11 @@ class Clock:
         self.advance(self.issuing.ready)
         self.issuing.end(self.now)
         return self.now
+
+
+def channel_of(text):
+    """The channel of an instruction that loads, otherwise 0."""
+    return int(text[2]) if text.startswith("SA") and text[2] in "12345" else 0
 
 
 def is_taken(replays, before, after):

@@ -1,5 +1,5 @@
-"""Goes through a deck's program one instruction at a time: the text of each, where branches lead, and the words to which
-it refers.
+"""Goes through a deck's program one instruction at a time: the text of each, where branches lead, and the words to
+which it refers.
 
 The words come from `list`; values are computed here by the rules of docs/machine.md and docs/instructions.md, so that
 nothing is asked for each instruction. At the end of a schedule the registers are compared with the machine's dump.
@@ -93,15 +93,15 @@ class Course:
     # ---- a step ----
 
     def step(self):
-        """Does the next instruction; its text, whether it is a branch that leads elsewhere than to the next instruction,
-        and the absolute address of its reference, if it makes one in range."""
+        """Does the next instruction; its text, whether it is a branch that leads elsewhere than to the next one, and
+        the absolute address of its reference, if it makes one in range."""
         if self.held is None:
             at = self.absolute(self.p)
             if at is None:
                 self.is_halted = True
                 return "?fetch", False, None
             self.held = self.memory.get(at, 0)
-        text = items_of(f"{self.held:020o}")[self.parcel] if self.parcel in items_of(f"{self.held:020o}") else self.inner()
+        text = items_of(f"{self.held:020o}")[self.parcel]
         it = instruction(text)
         if not it or it.row.code == STOP:
             self.is_halted = True
@@ -113,10 +113,6 @@ class Course:
         following = self.p, self.parcel
         reference = self.carry_out(it.row.code, it.fields, here)
         return text, (self.p, self.parcel) != following, reference
-
-    def inner(self):
-        """The text at a parcel where no item of the held word begins, which comes by an exchange in its middle."""
-        return items_of("46000" * self.parcel + f"{self.held:020o}"[5 * self.parcel :])[self.parcel]
 
     def carry_out(self, code, fields, here):
         """What an instruction of the word here does; its reference."""
@@ -151,12 +147,11 @@ class Course:
     def increment(self, code, fields):
         """An increment, with its reference."""
         first, second = SUMS[int(code[1])].split(" ")
-        terms = self.registers[first][fields["j"]] & ONES18, 0
         if second == "K":
             addend = fields["K"]
         else:
             addend = self.registers["B"][fields["k"]] ^ (ONES18 if second == "-B" else 0)
-        total, number = add(terms[0], addend, ONES18), fields["i"]
+        total, number = add(self.registers[first][fields["j"]] & ONES18, addend, ONES18), fields["i"]
         letter = {"5": "A", "6": "B", "7": "X"}[code[0]]
         is_extended = letter == "X" and total >> 17
         self.set(letter, number, total | ONES60 ^ ONES18 if is_extended else total)

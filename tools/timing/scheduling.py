@@ -25,6 +25,13 @@ EXCHANGE, BANK = "exchange", "bank"
 NEVER = float("inf")
 
 
+def check_deck(program, session):
+    """Raises Fault where the deck of a session is refused."""
+    told = program.run(["list"], session.text.encode("latin-1")).told.decode("latin-1")
+    if told:
+        raise Fault(session.file, told.split("\n", maxsplit=1)[0].removeprefix("cdc6600: "))
+
+
 class Schedule:
     """A schedule that grows up to the end of a deck's run. `events` are its lines, `cycles` the minor cycle of each,
     and `issued` counts instructions."""
@@ -170,7 +177,7 @@ class Schedule:
         """Makes all events up to the end.
 
         Raises Fault where the deck is refused, or the program doesn't answer as it should."""
-        self.check_deck()
+        check_deck(self.program, self.session)
         self.course = Course(self.program, self.session)
         self.talk = Conversation(self.program.path, "\n".join([*self.session.deck, "end", ""]))
         try:
@@ -193,10 +200,5 @@ class Schedule:
             raise Fault(self.program.path, f"it isn't drained after the log {self.log.text[:80]}")
         line = self.course.differing(self.dump)
         if line:
-            raise Fault(self.program.path, f"after the log {self.log.text[:80]} its dump has {line}, which the rules don't")
-
-    def check_deck(self):
-        """Raises Fault where the deck is refused."""
-        told = self.program.run(["list"], self.session.text.encode("latin-1")).told.decode("latin-1")
-        if told:
-            raise Fault(self.session.file, told.split("\n", maxsplit=1)[0].removeprefix("cdc6600: "))
+            what = f"its dump has {line}, which isn't what the rules lead to"
+            raise Fault(self.program.path, f"after the log {self.log.text[:80]} {what}")

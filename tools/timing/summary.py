@@ -1,6 +1,8 @@
-"""The cycles of a schedule, and what they were for, as text."""
+"""What is printed of a schedule and of an exploration."""
 
 from collections import Counter
+
+from drawing.telling import plural
 
 from .waits import CAUSES
 
@@ -24,7 +26,32 @@ def summary(schedule):
         of_parts += part.ended - part.begun
     heads = [
         f"policy {schedule.policy}: {issued} instructions in {total} minor cycles, {rate} instructions a cycle",
-        f"the issuing position, {total} cycles:", f"the reservations, {len(clock.parts)} with {of_parts} cycles in all:",
+        f"the issuing position, {total} cycles:",
+        f"the reservations, {len(clock.parts)} with {of_parts} cycles in all:",
     ]
     lines = [*heads[:2], *rows(clock.issuing.work, clock.issuing.waits), heads[2], *rows(work, waits)]
     return "".join(f"{line}\n" for line in lines)
+
+
+def counted(number, one, several):
+    """A number with the word for what is counted."""
+    return f"{number} {plural(range(number), one, several)}"
+
+
+def report(exploration, confirmed):
+    """The lines of an exploration that the machine has confirmed."""
+    events = sum(len(node.edges) for node in exploration.nodes)
+    shortest, longest = exploration.extremes()
+    logs = [exploration.program.log(node.state.issued) for node in exploration.ends]
+    lines = [
+        f"{counted(exploration.count, 'state', 'states')}, {counted(events, 'event', 'events')} between them",
+        f"schedules: {exploration.orders}",
+        f"the shortest schedule takes {shortest.end} minor cycles, the longest {longest.end}",
+    ]
+    for log in dict.fromkeys(logs):
+        dumps = "one dump, that of replay" if log in confirmed.dumps else "no dump looked at"
+        lines.append(f"the log {log}: {counted(logs.count(log), 'last state', 'last states')}, {dumps}")
+    made = f"{confirmed.made} of {events} events in {counted(confirmed.sessions, 'session', 'sessions')}"
+    lines.append(f"the machine made {made}, and refused {confirmed.refused} others as the rules say")
+    lines.append("this is a look at one program; that it holds for all is the theorem in README.md")
+    return lines

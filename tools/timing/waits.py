@@ -57,6 +57,9 @@ def account(following, times):
 
 def faults_of(clock):
     """Where waits and work aren't the cycles of a part; nothing where all is right."""
-    parts = [clock.issuing, *clock.parts]
-    return [f"part {it.number}: {it.work} of work and {sum(it.waits.values())} of waits aren't the cycles from {it.begun} "
-            f"to {it.ended}" for it in parts if it.ended is not None and it.work + it.waits.total() != it.ended - it.begun]
+    faults = []
+    for it in (clock.issuing, *clock.parts):
+        if it.ended is not None and it.work + it.waits.total() != it.ended - it.begun:
+            counted = f"{it.work} of work and {it.waits.total()} of waits"
+            faults.append(f"part {it.number}: {counted} aren't the cycles from {it.begun} to {it.ended}")
+    return faults
