@@ -102,7 +102,7 @@ function showControls(step) {
 
 // The part of the picture that is in sight is that around the event's mark.
 function showCursor() {
-  const x = session.left + session.column * shown;
+  const x = session.left + session.column * session.columns[shown];
   const box = byId("scroll");
   for (const cursor of document.querySelectorAll(".cursor")) {
     cursor.setAttribute("x", x);
@@ -161,8 +161,11 @@ function press(event) {
 
 function point(event) {
   const x = event.clientX - byId("picture").getBoundingClientRect().left;
-  const n = Math.floor((x - session.left) / session.column);
-  if (n >= 0 && n < steps.length) {
+  const column = Math.floor((x - session.left) / session.column);
+  // In a column with several events each click goes to the next one.
+  const next = session.columns[shown] === column ? session.columns.indexOf(column, shown + 1) : -1;
+  const n = next >= 0 ? next : session.columns.findIndex((it) => it >= column);
+  if (column >= 0 && n >= 0) {
     go(n);
   }
 }

@@ -11,7 +11,7 @@ import xml.etree.ElementTree as ET
 from pathlib import Path
 from string import Template
 
-from .forms import COLUMN, COLOURS, EVENTS, KINDS, REFUSED, SVG, Form, picture_of
+from .forms import COLOURS, EVENTS, KINDS, REFUSED, SVG, Form, picture_of
 from .following import ENDS, IN_CHANNEL, IN_HOPPER, RESERVED
 from .judging import states_of
 from .panel import ROOM, Panel, holding
@@ -35,10 +35,10 @@ COLOUR_NAMES = {COLOURS[RESERVED]: "reserved", COLOURS[IN_HOPPER]: "hopper", COL
 class Page:
     """The page of a session: what each step shows, and the text of it all."""
 
-    def __init__(self, following, title, description="", links=""):
+    def __init__(self, following, title, description="", links="", cycles=None):
         self.following, self.title, self.description, self.links = following, title, description, links
         self.states = states_of(following)
-        self.words, self.form = Words(following, self.states), Form(following)
+        self.words, self.form = Words(following, self.states), Form(following, cycles)
         self.values = all_values(following, self.states)
 
     def steps(self):
@@ -85,7 +85,9 @@ class Page:
 
     def data(self, steps):
         """What the script reads."""
-        return {"steps": steps, "left": self.form.left, "column": COLUMN, "values": changes(self.values[0], {})}
+        form, values = self.form, changes(self.values[0], {})
+        columns = {"left": form.left, "column": form.column, "columns": form.column_of}
+        return {"steps": steps, "values": values, **columns}
 
     def ending(self):
         """The lines at the end: the dump, or that there is none."""
@@ -101,9 +103,9 @@ class Page:
         named = {"id": "picture", "role": "img", "aria-labelledby": "picture-name"}
         root.attrib.update({**named, "viewBox": f"0 0 {form.width} {form.height}"})
         name = ET.SubElement(root, f"{{{SVG}}}title", {"id": "picture-name"})
-        rows = "a row for each reservation and a column for each event"
+        rows = f"a row for each reservation and a column for each {'minor cycle' if form.is_timed else 'event'}"
         name.text = f"Timeline of {self.title}, {rows}. The table of all events says the same in words."
-        add_cursor(root, form.height, {"id": "cursor"})
+        add_cursor(root, form, {"id": "cursor"})
         for row in form.labels:
             form.add_label(root, row)
             form.add_row(root, row)
@@ -119,7 +121,7 @@ class Page:
     def heads(self):
         """The rows above that of the machine once more, which stay in sight while the others are scrolled."""
         root = picture_of(self.form.width, self.form.line_of(KINDS) + HEAD_MARGIN)
-        add_cursor(root, self.form.height, {})
+        add_cursor(root, self.form, {})
         for row in (EVENTS, KINDS):
             self.form.add_row(root, row)
         return ET.tostring(root, encoding="unicode")
@@ -135,9 +137,9 @@ def read(name):
     return (FOLDER / name).read_text(encoding="utf-8")
 
 
-def add_cursor(root, height, more):
-    """Adds the cursor, which has its place by the script, to a picture of a height."""
-    size = {"class": "cursor", "y": "3", "width": str(COLUMN), "height": str(height - 4), "rx": "4"}
+def add_cursor(root, form, more):
+    """Adds the cursor of a drawing to a picture. The script puts it at a column."""
+    size = {"class": "cursor", "y": "3", "width": str(form.column), "height": str(form.height - 4), "rx": "4"}
     ET.SubElement(root, f"{{{SVG}}}rect", {**more, **size})
 
 
