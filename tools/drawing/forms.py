@@ -1,5 +1,5 @@
-"""Draws a session that was followed: as text, or as a picture in SVG. A column is an event or, if the minor cycles of the
-events are given, a minor cycle with all its events."""
+"""Draws a session that was followed: as text, or as a picture in SVG. A column is an event or, if the minor cycles of
+the events are given, a minor cycle with all its events."""
 
 import xml.etree.ElementTree as ET
 from bisect import bisect_left
