@@ -49,8 +49,8 @@ SMALL = (
 BODIES = ("tools/wrong-bodies-test", "tools/wrong-bodies")
 CHECKS = (
     "decks", "pages", "assembler", "schedules", "both-kinds", "busy", "threads", "sequential", "large", "mutations",
-    "failures", "allocations", "emulators", "trace", "random-sessions", "operate", "scheduling", "exploring", "browser",
-    "progress", "habits", "many-jobs", "embedding",
+    "failures", "allocations", "emulators", "trace", "random-sessions", "values", "operate", "scheduling", "exploring",
+    "cycles", "browser", "progress", "habits", "many-jobs", "embedding",
 )
 DECKS = tuple(f"tools/checks/{name}" for name in CHECKS)
 TOOLS = (".ci/spent-tokens", "tools/build-program-test")

@@ -2,7 +2,9 @@
 
 import re
 
+from operating.conversation import Conversation
 from second_reading import UNITS
+from shared.decks import decks
 
 MEMORY_EVENTS = {*(f"accept {place}" for place in range(4)), *(f"return {channel}" for channel in range(1, 6))}
 NEXT = {"issue": "read", "read": "finish", "finish": "store"}
@@ -127,3 +129,18 @@ class Driver:
         if answer == "ok" and kind in ("store", "accept"):
             filled = "accept" if kind == "store" else "return"
             self.empty = {it for it in self.empty if not it.startswith(filled)}
+
+
+def drawn_session(program, draw):
+    """The deck of a session, and its events with their answers."""
+    stored = [it.text.decode("latin-1") for it in decks() if it.dump is not None]
+    deck = draw.choice(stored) if draw.random() < 0.25 else DrawnDeck(draw).text()
+    deck = deck[: deck.index("\nend\n") + len("\nend\n")]
+    driver, conversation, made = Driver(draw, deck), Conversation(program.path, deck), []
+    for _ in range(draw.randrange(100, 300)):
+        event = driver.event()
+        made.append((event, conversation.ask(event)))
+        driver.note(*made[-1])
+    last = draw.choice(["end", "drain"])
+    printed = conversation.ask_last(last)
+    return deck, [*made, (last, printed[0])], printed

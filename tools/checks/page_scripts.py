@@ -18,7 +18,10 @@ const numbers = [...document.querySelectorAll('#picture text[y="22"][text-anchor
 const inSight = (x) => within(x, byId("scroll")) && !within(x, byId("labels"));
 const pointed = numbers.filter((it) => within(middle(it), byId("cursor")) && inSight(middle(it)));
 const machine = [...document.querySelectorAll('[id^="machine-"]')];
+const values = [...document.querySelectorAll(".values tbody tr")].map((row) => [row.id.slice("values-".length),
+  [row.cells[1].textContent, row.cells[2].textContent, getComputedStyle(row.cells[0], "::before").content !== "none"]]);
 return {
+  values: Object.fromEntries(values),
   number: byId("number").textContent, event: byId("event").textContent, answer: byId("answer").textContent,
   words: byId("words").textContent, verdict: byId("verdict").textContent, live: byId("step").ariaLive,
   units: rows("units"), places: rows("places"), channels: rows("channels"), registers: rows("registers"),
@@ -39,6 +42,25 @@ return [
   ...(page > width ? [`the page scrolls to ${page}`] : []),
   ...wide.slice(0, 3).map((it) => `${it.tagName} ${it.id || it.className} is wider than the window`),
 ];
+"""
+
+# What isn't in sight while one steps: the column of the event in the picture, the panel, or the controls.
+HIDDEN = r"""
+const inWindow = (box) => box.bottom > 0 && box.top < innerHeight && box.right > 0 && box.left < innerWidth;
+const picture = document.getElementById("scroll").getBoundingClientRect();
+const cursor = document.getElementById("cursor").getBoundingClientRect();
+const middle = (cursor.left + cursor.right) / 2;
+const isPicture = inWindow(picture) && picture.top >= 0 && picture.left <= middle && middle <= picture.right;
+const others = ["panel", "next"].filter((id) => !inWindow(document.getElementById(id).getBoundingClientRect()));
+return [...(isPicture ? [] : ["the picture isn't in sight"]), ...others.map((id) => `#${id} isn't in sight`)];
+"""
+
+# What can be clicked, other than the links of a sentence, and has fewer than 24 pixels in a direction.
+SMALL = r"""
+const parts = [...document.querySelectorAll("button, input, .links a, .events th a, #cursor")];
+const size = (it) => it.getBoundingClientRect();
+return parts.filter((it) => it.checkVisibility() && (size(it).width < 24 || size(it).height < 24)).slice(0, 3)
+  .map((it) => `${it.tagName} ${it.id || it.textContent} has ${size(it).width} by ${size(it).height} pixels`);
 """
 
 # The brightness of the page, from 0 to 1, and each text that differs too little from what is behind it.

@@ -17,7 +17,7 @@ from shared.waiting import Missing, wait_until
 
 COLUMNS, LINES = 80, 24
 KEYS = {"Up": "\x1bA", "Down": "\x1bB", "Left": "\x1bD", "Enter": "\r", "Redraw": "\x0c", "Closed": "\x04",
-        "Interrupt": "\x03"}
+        "Interrupt": "\x03", "Right": "\x1bC", "Tab": "\t", "Earlier": "\x10"}
 
 
 class Screen:

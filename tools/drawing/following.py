@@ -27,8 +27,8 @@ RESERVED, IN_HOPPER, IN_CHANNEL = "-", "=", "~"
 PLACES = 4
 # A parcel with the instruction that does nothing.
 PASS = "46000"
-# The lines of a dump that shows no word.
-DUMP_LINES = 14
+# The lines of a dump that shows no word, and how many of the words that it shows have their values told.
+DUMP_LINES, WORDS = 14, 64
 
 
 class Fault(Exception):
@@ -118,6 +118,16 @@ class Replays:
         number = int(name[1])
         line, place = {"A": (3, number + 1), "B": (4, number + 1), "X": (5 + number, 1)}[name[0]]
         return plain(self.field(log, line, place))
+
+    @lru_cache(maxsize=None)
+    def values(self, log):
+        """The digits of the registers after a log, by their names, and of the words that the deck shows, by their
+        addresses in six digits: of the first ones of them."""
+        dump = self.dump(log)
+        values = {f"{kind}{number}": digits for kind, line in (("A", dump[3]), ("B", dump[4]))
+                  for number, digits in enumerate(line.split()[1:])}
+        values |= dict(line.split() for line in dump[5 : DUMP_LINES - 1])
+        return values | dict(line.split()[1:] for line in dump[DUMP_LINES - 1 : -1][:WORDS])
 
     def halt(self, log):
         """How the machine is halted after a log, or `running`."""

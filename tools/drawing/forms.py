@@ -1,6 +1,8 @@
-"""Draws a session that was followed: as text, or as a picture in SVG."""
+"""Draws a session that was followed: as text, or as a picture in SVG. A column is an event or, if the minor cycles of
+the events are given, a minor cycle with all its events."""
 
 import xml.etree.ElementTree as ET
+from bisect import bisect_left
 
 from .following import IN_CHANNEL, IN_HOPPER, LETTER, RESERVED
 
@@ -9,6 +11,8 @@ COLOURS = {RESERVED: "#cfe0f5", IN_HOPPER: "#f7dfa5", IN_CHANNEL: "#cdebc8"}
 REFUSED = "#b00000"
 # The sizes of the picture: of a line, of an event's column, and of a letter.
 LINE, COLUMN, LETTER_WIDTH, MARGIN = 22, 34, 8, 10
+# What is left free between two marks that are longer than a column.
+GAP = 10
 BAR_HEIGHT, BAR_RISE, LEAST_WIDTH = 14, 11, 880
 # The two rows above that of the machine.
 EVENTS, KINDS = -2, -1
@@ -20,52 +24,72 @@ LEGENDS = [
     "--- reserved in its unit   === in the hopper   ~~~ in its channel, still to return",
     "machine: Q exchange asked for, --- until X made   I issued without a unit   B8 bank 8 freed",
 ]
+CYCLES = "cycle: minor cycles by the file of times; a column has all events of its cycle, refused ones too"
 LETTERS = "The small letters say what each event is: l a return, q an ask, d the drain, e the end."
 
 
 class Form:
-    """The drawing: the labels of its rows, its marks and gaps by row and event, and the lines below it."""
+    """The drawing: the labels of its rows, its marks and gaps by row and column, and the lines below it. `column_of`
+    has the column of each event, and `events` the events of each column."""
 
-    def __init__(self, following):
-        self.following = following
+    def __init__(self, following, cycles=None):
+        self.following, self.is_timed = following, cycles is not None
+        self.column_of = cycles if self.is_timed else list(range(following.columns))
+        self.events = [[] for _ in range(max(self.column_of, default=-1) + 1)]
+        for n, column in enumerate(self.column_of):
+            self.events[column].append(n)
         reserved = [f"{row:2d} {it.unit:<10} {it.text}" for row, it in enumerate(following.rows) if row]
-        self.labels = dict(enumerate(["event", "", "machine", *reserved], EVENTS))
+        self.labels = dict(enumerate(["cycle" if self.is_timed else "event", "", "machine", *reserved], EVENTS))
         self.wide = max(len(label) for label in self.labels.values())
-        self.legends = [*LEGENDS, *[ACCESSES] * following.has_accesses, LETTERS]
-        # Where the first column of the picture begins, and how wide the columns and how high the rows are with it.
-        self.left, self.height = LETTER_WIDTH * self.wide + MARGIN, LINE * len(self.labels) + MARGIN
-        self.width = self.left + COLUMN * following.columns + 2 * MARGIN
+        self.legends = [*LEGENDS, *[ACCESSES] * following.has_accesses, *[CYCLES] * self.is_timed, LETTERS]
+        self.last_lines = [*following.refused, following.ending]
+        # The first event of each column or, in an empty one, the next event.
+        self.firsts = [bisect_left(self.column_of, column) for column in range(len(self.events))]
+        # The letters of the longest mark.
+        columns = range(len(self.events))
+        self.longest = max((len(self.mark(row, at)) for row in self.labels for at in columns), default=1)
+        self.arrange(self.wide, max(COLUMN, LETTER_WIDTH * self.longest + GAP), len(self.events))
 
-    def mark(self, row, n):
-        """What a row has at an event."""
+    def arrange(self, wide, column, columns):
+        """Arranges the picture for labels of so many letters, and for so many columns of a width: where the first one
+        begins, how wide the picture is, and how high its rows are together."""
+        self.left, self.height = LETTER_WIDTH * wide + MARGIN, LINE * len(self.labels) + MARGIN
+        self.column, self.width = column, self.left + column * columns + 2 * MARGIN
+
+    def mark(self, row, column):
+        """What a row has in a column."""
         if row == EVENTS:
-            return str(n + 1)
+            return str(column if self.is_timed else column + 1)
+        return "".join(self.mark_of_event(row, n) for n in self.events[column])
+
+    def mark_of_event(self, row, n):
+        """What a row has at an event."""
         if row == KINDS:
             return LETTER[self.following.session.events[n].split(" ")[0]].lower()
         return self.following.marks.get((row, n), "")
 
-    def gap(self, row, n):
-        """What a row has between an event and the one before."""
-        return self.following.gaps.get((row, n), "")
+    def gap(self, row, column):
+        """What a row has between a column and the one before."""
+        return self.following.gaps.get((row, self.firsts[column]), "")
 
     def text(self):
         """The drawing as text."""
-        columns = range(self.following.columns)
-        width = max(len(str(len(columns))) + 1, 4)
+        columns = range(len(self.events))
+        width = max(len(str(len(columns))) + 1, 4, self.longest + 1 if self.is_timed else 0)
         lines = []
         for row, label in self.labels.items():
             marks = "".join(self.padded(row, n, width) for n in columns)
             lines.append(f"{label:<{self.wide}}{marks}".rstrip(" "))
-        return "\n".join([*lines, "", *self.following.refused, self.following.ending, "", *self.legends, ""])
+        return "\n".join([*lines, "", *self.last_lines, "", *self.legends, ""])
 
-    def padded(self, row, n, width):
-        """The mark of an event, with what its row has before it."""
-        gap = self.gap(row, n) or " "
-        return (self.mark(row, n) or gap).rjust(width, gap)
+    def padded(self, row, column, width):
+        """The mark in a column, with what its row has before it."""
+        gap = self.gap(row, column) or " "
+        return (self.mark(row, column) or gap).rjust(width, gap)
 
     def picture(self):
         """The drawing as a picture."""
-        height = LINE * (len(self.labels) + len(self.following.refused) + len(self.legends) + 4)
+        height = LINE * (len(self.labels) + len(self.last_lines) + len(self.legends) + 3)
         root = picture_of(max(self.width, LEAST_WIDTH), height)
         for row in self.labels:
             self.add_label(root, row)
@@ -85,18 +109,19 @@ class Form:
 
     def add_row(self, root, row):
         """Adds a row's bars, and over them its marks."""
-        y, middle, columns = self.line_of(row), self.left + COLUMN // 2, range(self.following.columns)
-        for n in (n for n in columns if self.gap(row, n)):
-            add_bar(root, middle + COLUMN * (n - 1), y, COLUMN, self.gap(row, n))
-        for n in (n for n in columns if self.mark(row, n)):
-            mark = self.mark(row, n)
+        y, wide, middle = self.line_of(row), self.column, self.left + self.column // 2
+        columns = range(len(self.events))
+        for at in (at for at in columns if self.gap(row, at)):
+            add_bar(root, middle + wide * (at - 1), y, wide, self.gap(row, at))
+        for at in (at for at in columns if self.mark(row, at)):
+            mark = self.mark(row, at)
             colour = {"fill": REFUSED} if mark.startswith("E") else {}
-            add_text(root, middle + COLUMN * n, y, mark, {"text-anchor": "middle", **colour})
+            add_text(root, middle + wide * at, y, mark, {"text-anchor": "middle", **colour})
 
     def add_lines(self, root, y):
         """Adds the lines below the rows, the last of which stands at a height."""
         y += LINE
-        for line in [*self.following.refused, self.following.ending]:
+        for line in self.last_lines:
             y += LINE
             add_text(root, MARGIN, y, line)
         self.add_legends(root, y + LINE)

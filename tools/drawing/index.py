@@ -1,8 +1,10 @@
 """Writes the page that leads to the pages of several sessions."""
 
+import html
 import re
 from dataclasses import dataclass
 from string import Template
+from urllib.parse import quote
 
 from .following import Following
 from .page import marked_up, read
@@ -30,11 +32,17 @@ class Entry:
     def row(self):
         """Its item in the list."""
         counts = f"{self.following.columns} events, {len(self.following.rows) - 1} reservations"
+        says = f"<p>{marked_up(self.sentence)}.</p>" if self.shown else ""
         refused = f", refused {', '.join(self.refusals)}" if self.refusals else ""
         return (
-            f'<li class="card"><h2><a href="{self.name}.html">{self.name}</a></h2>'
-            f'<p>{marked_up(self.sentence)}.</p><p class="count">{counts}{refused}</p></li>\n'
+            f'<li class="card"><h2>{link(self.name, self.name)}</h2>'
+            f'{says}<p class="count">{counts}{refused}</p></li>\n'
         )
+
+
+def link(name, said):
+    """A link to the page of a session."""
+    return f'<a href="{quote(name)}.html">{html.escape(said)}</a>'
 
 
 def index(entries):
@@ -47,5 +55,5 @@ def links(names, name):
     """What leads from the page of a session to the others."""
     at = names.index(name)
     around = [("Before", names[at - 1]) if at else None, ("After", names[at + 1]) if at + 1 < len(names) else None]
-    found = "".join(f'<a href="{it[1]}.html">{it[0]}: {it[1]}</a>\n' for it in around if it)
+    found = "".join(f"{link(it[1], f'{it[0]}: {it[1]}')}\n" for it in around if it)
     return f'<nav class="links" aria-label="Sessions"><a href="index.html">All sessions</a>\n{found}</nav>\n'

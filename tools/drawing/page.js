@@ -6,6 +6,14 @@ const steps = session.steps;
 const boot = { machine: {}, units: {}, places: {}, channels: {}, banks: {}, registers: {} };
 const byId = (id) => document.getElementById(id);
 let shown = 0;
+let noting = 0;
+
+// The values after each step, by their names: an event has only those that it changes.
+const values = [];
+steps.reduce((before, step) => {
+  values.push({ ...before, ...step.values });
+  return values[values.length - 1];
+}, session.values);
 
 // Whether something is shown otherwise than before the event.
 const differs = (one, other) => JSON.stringify(one) !== JSON.stringify(other);
@@ -63,6 +71,14 @@ function showRegisters(step, before) {
   byId("unreserved").hidden = rows.length > 0;
 }
 
+function showValues(step) {
+  for (const element of document.querySelectorAll(".values tbody tr")) {
+    const name = element.id.slice("values-".length);
+    values[shown][name].forEach((text, at) => { element.cells[at + 1].textContent = text; });
+    element.classList.toggle("changed", name in step.values);
+  }
+}
+
 function showStep(step) {
   byId("which").textContent = `Event ${shown + 1}`;
   byId("event").textContent = step.event;
@@ -84,15 +100,20 @@ function showControls(step) {
   }
 }
 
+// The part of the picture that is in sight is that around the event's mark.
 function showCursor() {
-  const x = session.left + session.column * shown;
+  const x = session.left + session.column * session.columns[shown];
   const box = byId("scroll");
-  byId("cursor").setAttribute("x", x);
+  for (const cursor of document.querySelectorAll(".cursor")) {
+    cursor.setAttribute("x", x);
+  }
   const covered = byId("labels").getBoundingClientRect().width;
   box.scrollLeft = x + session.column / 2 - covered - (box.clientWidth - covered) / 2;
-  for (const row of document.querySelectorAll(".events tbody tr")) {
-    row.classList.toggle("current", row.id === `event-${shown + 1}`);
+  box.scrollTop = steps[shown].line - (box.clientHeight + byId("heads").clientHeight) / 2;
+  for (const row of document.querySelectorAll(".events .current")) {
+    row.classList.remove("current");
   }
+  byId(`row-${shown + 1}`).classList.add("current");
 }
 
 function show(n) {
@@ -103,6 +124,7 @@ function show(n) {
     showPart(part, step, before);
   }
   showMachine(step, before);
+  showValues(step);
   showBanks(step, before);
   showRegisters(step, before);
   showStep(step);
@@ -117,9 +139,15 @@ function named() {
   return found ? Number(found[1]) - 1 : shown;
 }
 
+// Shows a step, and has the address name it. A browser takes only so many changes of an address in a second.
+function go(n) {
+  show(n);
+  clearTimeout(noting);
+  noting = setTimeout(() => history.replaceState(null, "", `#event-${shown + 1}`), 200);
+}
+
 const moves = {
-  ArrowLeft: () => show(shown - 1), ArrowRight: () => show(shown + 1), Home: () => show(0),
-  End: () => show(steps.length - 1),
+  ArrowLeft: () => go(shown - 1), ArrowRight: () => go(shown + 1), Home: () => go(0), End: () => go(steps.length - 1),
 };
 
 const isPlain = (event) => !(event.altKey || event.ctrlKey || event.metaKey || event.shiftKey);
@@ -133,36 +161,60 @@ function press(event) {
 
 function point(event) {
   const x = event.clientX - byId("picture").getBoundingClientRect().left;
-  const n = Math.floor((x - session.left) / session.column);
-  if (n >= 0 && n < steps.length) {
-    show(n);
+  const column = Math.floor((x - session.left) / session.column);
+  // In a column with several events each click goes to the next one.
+  const next = session.columns[shown] === column ? session.columns.indexOf(column, shown + 1) : -1;
+  const n = next >= 0 ? next : session.columns.findIndex((it) => it >= column);
+  if (column >= 0 && n >= 0) {
+    go(n);
   }
 }
+
+const bringInSight = () => byId("stage").scrollIntoView();
 
 function follow(event) {
   const link = event.target.closest(".events a");
   if (link && isPlain(event)) {
     event.preventDefault();
-    history.replaceState(null, "", link.hash);
-    show(named());
+    go(Number(link.hash.match(/\d+/)[0]) - 1);
     byId("step").focus({ preventScroll: true });
-    byId("stepping").scrollIntoView();
+    bringInSight();
+  }
+}
+
+// An address that names an event leads to the picture and the panel, and no longer to the event's row in the table.
+function open() {
+  for (const row of document.querySelectorAll(".events tbody tr")) {
+    row.id = row.id.replace("event", "row");
+  }
+  turn();
+  window.addEventListener("load", turn);
+}
+
+function turn() {
+  show(named());
+  if (location.hash.startsWith("#event-")) {
+    bringInSight();
   }
 }
 
 function begin() {
   byId("stepping").hidden = false;
+  byId("panel").hidden = false;
+  byId("stage").classList.add("stepped");
   byId("first").addEventListener("click", moves.Home);
   byId("back").addEventListener("click", moves.ArrowLeft);
   byId("next").addEventListener("click", moves.ArrowRight);
   byId("last").addEventListener("click", moves.End);
-  byId("slider").addEventListener("input", (event) => show(Number(event.target.value) - 1));
-  byId("picture").addEventListener("click", point);
+  byId("slider").addEventListener("input", (event) => go(Number(event.target.value) - 1));
+  for (const id of ["picture", "heads"]) {
+    byId(id).addEventListener("click", point);
+  }
   document.addEventListener("keydown", press);
   document.addEventListener("click", follow);
-  window.addEventListener("hashchange", () => show(named()));
+  window.addEventListener("hashchange", turn);
   window.addEventListener("resize", showCursor);
-  show(named());
+  open();
 }
 
 if (steps.length) {

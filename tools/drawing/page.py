@@ -11,11 +11,12 @@ import xml.etree.ElementTree as ET
 from pathlib import Path
 from string import Template
 
-from .forms import COLUMN, COLOURS, REFUSED, SVG, Form, picture_of
+from .forms import COLOURS, EVENTS, KINDS, REFUSED, SVG, Form, picture_of
 from .following import ENDS, IN_CHANNEL, IN_HOPPER, RESERVED
 from .judging import states_of
 from .panel import ROOM, Panel, holding
 from .telling import sentence
+from .values import REGISTERS, all_values, changes, number_of
 from .words import Words
 
 FOLDER = Path(__file__).resolve().parent
@@ -23,6 +24,9 @@ HEADS = {
     "units": ("Unit", "No.", "Instruction", "Phase"), "places": ("Place", "No.", "Instruction", "Reference"),
     "channels": ("Channel", "No.", "Instruction", "Load"),
 }
+DATA = re.compile(r'<script type="application/json" id="session">(.*?)</script>', re.DOTALL)
+# What is left below the rows that stay in sight.
+HEAD_MARGIN = 6
 TITLES = {"units": "Units", "places": "Hopper", "channels": "Load channels"}
 # The colours of the picture by the names that page.css has for them.
 COLOUR_NAMES = {COLOURS[RESERVED]: "reserved", COLOURS[IN_HOPPER]: "hopper", COLOURS[IN_CHANNEL]: "channel"}
@@ -31,22 +35,29 @@ COLOUR_NAMES = {COLOURS[RESERVED]: "reserved", COLOURS[IN_HOPPER]: "hopper", COL
 class Page:
     """The page of a session: what each step shows, and the text of it all."""
 
-    def __init__(self, following, title, description="", links=""):
+    def __init__(self, following, title, description="", links="", cycles=None):
         self.following, self.title, self.description, self.links = following, title, description, links
         self.states = states_of(following)
-        self.words, self.form = Words(following, self.states), Form(following)
+        self.words, self.form = Words(following, self.states), Form(following, cycles)
+        self.values = all_values(following, self.states)
 
     def steps(self):
         """What each step shows, an event for each."""
         return [self.step(n) for n in range(self.following.columns)]
 
     def step(self, n):
-        """What is shown of an event: its line, its answer, the same in words, and the panel after it."""
+        """What is shown of an event: its line, its answer, the same in words, the panel after it, the values that it
+        has changed, and the row of the picture that it is about."""
         event, is_refused = self.following.session.events[n], self.following.is_refused(n)
         holds = holding(self.words.judge(n), event) if is_refused else []
         parts = Panel(self.words.judge(n + 1)).parts()
         return {"event": event, "answer": self.answer(n), "words": self.words.said(n), "refused": is_refused,
-                "holds": holds, **parts}
+                "holds": holds, "values": changes(self.values[n + 1], self.values[n]), "line": self.line(n), **parts}
+
+    def line(self, n):
+        """How far down in the picture the last row stands that the event n has a mark in."""
+        marked = [row for row in range(len(self.following.rows)) if (row, n) in self.following.marks]
+        return self.form.line_of(max(marked, default=0))
 
     def answer(self, n):
         """The answer to an event in a line. What the last line of a schedule prints stands at the page's end."""
@@ -60,8 +71,9 @@ class Page:
         return Template(read("page.html")).substitute(
             title=html.escape(self.title), description=self.lead(), links=self.links,
             style=read("page.css") + picture_style(), script=read("page.js"), picture=self.picture(),
-            labels=self.labels(), legends="".join(map(legend_of, self.form.legends)), count=len(steps),
-            banks=bank_cells(), **{part: table_of(part) for part in HEADS},
+            labels=self.labels(), heads=self.heads(), legends="".join(map(legend_of, self.form.legends)),
+            count=len(steps), banks=bank_cells(), **{part: table_of(part) for part in HEADS},
+            values=tables_of_values(self.values[0]),
             rows="".join(row_of(n, step, self.words.told(n)) for n, step in enumerate(steps)),
             ending=html.escape(self.ending()), data=json.dumps(self.data(steps)).replace("<", "\\u003c"),
             counted=f"{len(steps)} events, {len(following.rows) - 1} reservations",
@@ -73,7 +85,9 @@ class Page:
 
     def data(self, steps):
         """What the script reads."""
-        return {"steps": steps, "left": self.form.left, "column": COLUMN}
+        form, values = self.form, changes(self.values[0], {})
+        columns = {"left": form.left, "column": form.column, "columns": form.column_of}
+        return {"steps": steps, "values": values, **columns}
 
     def ending(self):
         """The lines at the end: the dump, or that there is none."""
@@ -89,10 +103,9 @@ class Page:
         named = {"id": "picture", "role": "img", "aria-labelledby": "picture-name"}
         root.attrib.update({**named, "viewBox": f"0 0 {form.width} {form.height}"})
         name = ET.SubElement(root, f"{{{SVG}}}title", {"id": "picture-name"})
-        rows = "a row for each reservation and a column for each event"
+        rows = f"a row for each reservation and a column for each {'minor cycle' if form.is_timed else 'event'}"
         name.text = f"Timeline of {self.title}, {rows}. The table of all events says the same in words."
-        cursor = {"id": "cursor", "y": "3", "width": str(COLUMN), "height": str(form.height - 4), "rx": "4"}
-        ET.SubElement(root, f"{{{SVG}}}rect", cursor)
+        add_cursor(root, form, {"id": "cursor"})
         for row in form.labels:
             form.add_label(root, row)
             form.add_row(root, row)
@@ -105,10 +118,29 @@ class Page:
             self.form.add_label(root, row)
         return ET.tostring(root, encoding="unicode")
 
+    def heads(self):
+        """The rows above that of the machine once more, which stay in sight while the others are scrolled."""
+        root = picture_of(self.form.width, self.form.line_of(KINDS) + HEAD_MARGIN)
+        add_cursor(root, self.form, {})
+        for row in (EVENTS, KINDS):
+            self.form.add_row(root, row)
+        return ET.tostring(root, encoding="unicode")
+
+
+def data_of(page):
+    """What the script of a page reads, by the page's text."""
+    return json.loads(DATA.search(page.text())[1])
+
 
 def read(name):
     """What a file beside this one has."""
     return (FOLDER / name).read_text(encoding="utf-8")
+
+
+def add_cursor(root, form, more):
+    """Adds the cursor of a drawing to a picture. The script puts it at a column."""
+    size = {"class": "cursor", "y": "3", "width": str(form.column), "height": str(form.height - 4), "rx": "4"}
+    ET.SubElement(root, f"{{{SVG}}}rect", {**more, **size})
 
 
 def marked_up(text):
@@ -132,6 +164,24 @@ def table_of(part):
     table = f'<table class="part"><thead><tr>{heads}</tr></thead>\n<tbody>\n{rows}</tbody></table>'
     title = f'<h3 id="title-{part}">{TITLES[part]}</h3>'
     return f'<section class="card {part}" aria-labelledby="title-{part}">{title}\n{table}</section>\n'
+
+
+def tables_of_values(values):
+    """The tables of the registers of each kind and of the words that the deck shows, with the values at boot."""
+    words = [name for name in values if name not in REGISTERS]
+    parts = [("Register", [name for name in REGISTERS if name[0] == kind], kind) for kind in "XAB"]
+    parts += [("Word", words, "M")] if words else []
+    return "".join(table_of_values(head, names, kind, values) for head, names, kind in parts)
+
+
+def table_of_values(head, names, kind, values):
+    """The table of some values."""
+    heads = "".join(f'<th scope="col">{it}</th>' for it in (head, "Octal", "Number"))
+    rows = "".join(
+        f'<tr id="values-{name}"><th scope="row">{name}</th><td>{values[name]}</td><td>{number_of(values[name])}</td>'
+        "</tr>\n" for name in names
+    )
+    return f'<table class="kind-{kind}"><thead><tr>{heads}</tr></thead>\n<tbody>\n{rows}</tbody></table>\n'
 
 
 def bank_cells():

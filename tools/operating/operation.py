@@ -10,9 +10,13 @@ from drawing.following import ENDS, EVENT, Fault, Following, Session
 from drawing.judging import Judge, Refusal
 from drawing.states import RUNNING, State
 from drawing.telling import plural, reservation
+from drawing.values import value_lines, values_of
 from drawing.words import Words
 
 from .conversation import Conversation
+
+# What a reservation does next in its unit, by its phase.
+NEXT = {"issued": "read", "read": "finish", "finished": "store"}
 
 
 @dataclass(frozen=True)
@@ -98,6 +102,34 @@ class Operation:
         """The lines that the program printed at the end."""
         return self.following.answers[len(self.events) - 1 :] if self.is_over else []
 
+    def past(self):
+        """A line for each event so far, with its number and its answer."""
+        answers = ["the dump" if it.startswith("P ") else it for it in self.following.answers]
+        return [f"{n:>4} {event:<18} {answer}" for n, (event, answer) in enumerate(zip(self.events, answers), 1)]
+
+    def value_lines(self):
+        """The values now in lines, those that the last event has changed with a mark."""
+        logs = ["none", *self.following.logs]
+        values = [values_of(Judge(*at)) for at in zip(self.states[-2:], [self.following] * 2, logs[-2:])]
+        return value_lines(values[-1], values[0])
+
+    def next_event(self):
+        """The event that a drain would make next: that of the oldest reservation, or the freeing of the bank that it
+        waits for. With nothing pending it is the exchange that is asked for, or else an issue. None where it would be
+        refused."""
+        judge, state = self.judge, self.states[-1]
+        if not state.pending:
+            return next((event for event in ("exchange", "issue") if not judge.refusal(event)), None)
+        event, _ = next(self.steps(state))
+        refusal = judge.refusal(event)
+        return f"bank {refusal.named}" if refusal and refusal.code == "E13" else event
+
+    def step_of(self, unit):
+        """The event that the reservation of a unit is to make next, or none."""
+        state = self.states[-1]
+        row = state.units.get(unit)
+        return f"{NEXT[state.phases[row]]} {unit}" if row else None
+
     def offers(self):
         """The events that may be tried, those that are made first, each kind oldest first."""
         if self.is_over:
@@ -120,13 +152,12 @@ class Operation:
 
     def steps(self, state):
         """What the pending reservations have to do next."""
-        following = {"issued": "read", "read": "finish", "finished": "store"}
         places = {row: place for place, row in state.places.items()}
         for row in state.pending:
             it = self.following.rows[row]
             about = reservation(self.following.rows, row)
             if row in state.phases:
-                yield f"{following[state.phases[row]]} {it.unit}", about
+                yield f"{NEXT[state.phases[row]]} {it.unit}", about
             elif row in places:
                 yield f"accept {places[row]}", about
             else:

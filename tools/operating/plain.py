@@ -2,10 +2,18 @@
 
 import sys
 
+try:
+    import readline
+except ImportError:
+    readline = None
+
 from .board import board, offered, wrapped
 from .commands import Quit
+from .phrases import completions
 
 PROMPT = "> "
+# So that a line is completed by the tab key, and a terminal gets no sequences that it may not know.
+BINDINGS = ("tab: complete", "set enable-bracketed-paste off", "set bell-style none")
 
 
 class Plain:
@@ -14,11 +22,13 @@ class Plain:
 
     def __init__(self, commands):
         self.commands, self.operation = commands, commands.operation
+        self.is_terminal = sys.stdin.isatty() and sys.stdout.isatty()
 
     def run(self):
         """Goes on up to `quit`, or the end of standard input."""
         sys.stdin.reconfigure(errors="surrogateescape")
         sys.stdout.reconfigure(errors="backslashreplace")
+        self.begin_lines()
         self.show(self.operation.said())
         for line in iter(self.typed, ""):
             meant, before = self.meant(line.strip()), len(self.operation.events)
@@ -27,14 +37,34 @@ class Plain:
             except Quit:
                 return
             # What changes no event has no machine to show, but an empty line asks for it.
-            if len(self.operation.events) != before or not meant:
+            if self.commands.pane:
+                print(*self.commands.lines(), sep="\n")
+                self.commands.pane = None
+            elif len(self.operation.events) != before or not meant:
                 self.show(said)
             else:
                 print(*wrapped(said), sep="\n")
 
-    @staticmethod
-    def typed():
+    def begin_lines(self):
+        """Has the lines of a terminal completed, and kept to be typed again."""
+        if readline and self.is_terminal:
+            readline.set_completer_delims("")
+            readline.set_completer(self.completion)
+            for binding in BINDINGS:
+                readline.parse_and_bind(binding)
+
+    def completion(self, typed, number):
+        """One of the lines that begin with what is typed, by its number from 0."""
+        found = completions(typed, [offer.event for offer in self.operation.offers()])
+        return found[number] if number < len(found) else None
+
+    def typed(self):
         """The next line of standard input, empty at its end."""
+        if self.is_terminal:
+            try:
+                return input(PROMPT) + "\n"
+            except EOFError:
+                return ""
         print(PROMPT, end="", flush=True)
         return sys.stdin.readline()
 
