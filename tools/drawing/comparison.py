@@ -45,12 +45,14 @@ class Timed:
                 if following.session.events[n] == "issue" and not following.is_refused(n)]
 
     def picture(self):
-        """The picture, and before it its labels, which stay in sight while it is scrolled."""
+        """The picture, and before it its labels once more, which stay in sight while it is scrolled."""
         form, labels = self.form, picture_of(self.form.left, self.form.height)
         root = picture_of(form.width, form.height)
-        root.attrib.update({"role": "img", "aria-label": f"Timeline of {self.name}, a column for each minor cycle"})
+        said = f"Timeline of {self.name}, a column for each minor cycle"
+        root.attrib.update({"role": "img", "aria-label": said, "viewBox": f"0 0 {form.width} {form.height}"})
         for row in form.labels:
             form.add_label(labels, row)
+            form.add_label(root, row)
             form.add_row(root, row)
         drawn = [ET.tostring(it, encoding="unicode") for it in (labels, root)]
         return f'<div class="pair"><div class="labels" aria-hidden="true">{drawn[0]}</div>\n{drawn[1]}</div>\n'
