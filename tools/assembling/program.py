@@ -5,7 +5,7 @@ from functools import partial
 
 from .faults import Faults, Wrong, quoted
 from .lines import Line, lines_of, read_line
-from .texts import Written, written
+from .texts import written
 from .values import NAME, REGISTER, WORD_BITS, fitted, value_of, within
 
 PARCELS, PASS = 4, 0o46000

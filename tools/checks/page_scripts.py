@@ -55,6 +55,13 @@ const others = ["panel", "next"].filter((id) => !inWindow(document.getElementByI
 return [...(isPicture ? [] : ["the picture isn't in sight"]), ...others.map((id) => `#${id} isn't in sight`)];
 """
 
+# The first number in sight in the pictures of two schedules: the leftmost one beside the labels.
+FIRST_COLUMN = r"""
+const covered = document.querySelector(".labels").getBoundingClientRect().right;
+const numbers = [...document.querySelectorAll('.pair > svg text[y="22"][text-anchor="middle"]')];
+return numbers.filter((it) => it.getBoundingClientRect().left >= covered)[0].textContent;
+"""
+
 # What can be clicked, other than the links of a sentence, and has fewer than 24 pixels in a direction.
 SMALL = r"""
 const parts = [...document.querySelectorAll("button, input, .links a, .events th a, #cursor")];

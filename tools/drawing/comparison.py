@@ -38,21 +38,29 @@ class Timed:
         """The instructions a minor cycle."""
         return f"{self.issued / self.total:.3f}" if self.total else "none"
 
+    def issues(self):
+        """The events that issue an instruction."""
+        following = self.following
+        return [n for n in range(following.columns)
+                if following.session.events[n] == "issue" and not following.is_refused(n)]
+
     def picture(self):
-        """The picture, and before it its labels, which stay in sight while it is scrolled."""
+        """The picture, and before it its labels once more, which stay in sight while it is scrolled."""
         form, labels = self.form, picture_of(self.form.left, self.form.height)
         root = picture_of(form.width, form.height)
-        root.attrib.update({"role": "img", "aria-label": f"Timeline of {self.name}, a column for each minor cycle"})
+        said = f"Timeline of {self.name}, a column for each minor cycle"
+        root.attrib.update({"role": "img", "aria-label": said, "viewBox": f"0 0 {form.width} {form.height}"})
         for row in form.labels:
             form.add_label(labels, row)
+            form.add_label(root, row)
             form.add_row(root, row)
         drawn = [ET.tostring(it, encoding="unicode") for it in (labels, root)]
         return f'<div class="pair"><div class="labels" aria-hidden="true">{drawn[0]}</div>\n{drawn[1]}</div>\n'
 
 
 def titles_of(files):
-    """The names of files without their folders, or the files where these are the same."""
-    names = [Path(file).name for file in files]
+    """The names of files without their folders and endings, or the files if these are the same."""
+    names = [Path(file).stem for file in files]
     return names if len(set(names)) == len(files) else files
 
 
@@ -88,6 +96,12 @@ class Comparison:
                       if any(it[code] for it in waits)]
         return found
 
+    def issue(self):
+        """Where the column of the first issue begins in the pictures, or the first column if there is no issue."""
+        form = self.sessions[0].form
+        columns = [it.form.column_of[n] for it in self.sessions for n in it.issues()]
+        return form.left + form.column * min(columns, default=0)
+
     def text(self):
         """The page."""
         names = [html.escape(it.name) for it in self.sessions]
@@ -95,6 +109,7 @@ class Comparison:
         pictures = "".join(f"<h2>{name}</h2>\n{it.picture()}" for name, it in zip(names, self.sessions))
         return Template(read("comparison.html")).substitute(
             style=read("page.css") + picture_style(), title=" and ".join(names), pictures=pictures, rows=rows,
+            issue=self.issue(),
             heads="".join(f'<th scope="col">{name}</th>' for name in names),
             legends="".join(map(legend_of, self.sessions[0].form.legends)),
         )

@@ -203,12 +203,16 @@ class Following:
         if told and not (found and self.session.deck_end and int(found[1]) > self.session.deck_end):
             raise Fault(self.session.file, told)
 
+    def check_schedule(self):
+        """Raises Fault where no schedule comes after the deck."""
+        if not self.session.events:
+            raise Fault(self.session.file, "no schedule comes after its deck; tools/schedule makes one")
+
     def follow(self):
         """Draws each event up to the schedule's end, or to a line that is none.
 
         Raises Fault where no schedule comes after the deck, or an answer doesn't fit."""
-        if not self.session.events:
-            raise Fault(self.session.file, "no schedule comes after its deck")
+        self.check_schedule()
         for n, event in enumerate(self.session.events):
             if not EVENT.fullmatch(event):
                 self.stop(n, "no event: " + re.sub(r"[^ -~]", "?", event)[:60])

@@ -71,7 +71,8 @@ class Page:
         return Template(read("page.html")).substitute(
             title=html.escape(self.title), description=self.lead(), links=self.links,
             style=read("page.css") + picture_style(), script=read("page.js"), picture=self.picture(),
-            labels=self.labels(), heads=self.heads(), legends="".join(map(legend_of, self.form.legends)),
+            labels=self.labels(), heads=self.heads(), corner=self.corner(),
+            legends="".join(map(legend_of, self.form.legends)),
             count=len(steps), banks=bank_cells(), **{part: table_of(part) for part in HEADS},
             values=tables_of_values(self.values[0]),
             rows="".join(row_of(n, step, self.words.told(n)) for n, step in enumerate(steps)),
@@ -120,11 +121,22 @@ class Page:
 
     def heads(self):
         """The rows above that of the machine once more, which stay in sight while the others are scrolled."""
-        root = picture_of(self.form.width, self.form.line_of(KINDS) + HEAD_MARGIN)
+        root = picture_of(self.form.width, self.head_height())
         add_cursor(root, self.form, {})
         for row in (EVENTS, KINDS):
             self.form.add_row(root, row)
         return ET.tostring(root, encoding="unicode")
+
+    def corner(self):
+        """The labels of these two rows, which stay in sight in both directions."""
+        root = picture_of(self.form.left, self.head_height())
+        for row in (EVENTS, KINDS):
+            self.form.add_label(root, row)
+        return ET.tostring(root, encoding="unicode")
+
+    def head_height(self):
+        """How high these two rows are together."""
+        return self.form.line_of(KINDS) + HEAD_MARGIN
 
 
 def data_of(page):

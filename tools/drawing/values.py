@@ -5,7 +5,6 @@ reservation is pending. Then the register or the word still has the value from b
 pending reservation has the same result, and a bank takes the references to one word in order.
 """
 
-from .following import PLACES
 from .instructions import stores
 from .judging import Judge
 
