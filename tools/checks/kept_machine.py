@@ -80,8 +80,8 @@ def faults_of_events(make, it):
 
 
 def faults_of_moments(make):
-    """Registers and words between the events of a session, which follow the effects made so far: a load sets its register
-    when it returns, and a store its word when the bank accepts it."""
+    """Registers and words between the events of a session, which follow the effects made so far: a load sets its
+    register when it returns, and a store its word when the bank accepts it."""
     it, faults, loaded, stored = session("one-word"), [], 0, 1
     with make() as machine:
         machine.boot(it.text)
