@@ -18,6 +18,7 @@ from dataclasses import dataclass, field
 
 from crates import Unreadable
 
+from .opening import attributes_of
 from .source import items_of, module_of
 
 LINE = re.compile(r"fn (\S+): (proved|not proved|no proof|could not tell|assumed|not assumed)\b(.*)")
@@ -140,9 +141,12 @@ def goals_of(lines, texts, item, crate):
         return [found for found in map(pattern.match, lines) if found and is_of("::".join([crate, *found[2].split("/")]), item, crate)]
 
     said = [found for found in map(LINE.match, lines) if found and is_of(found[1], item, crate)]
-    same = [it for it in items_of(item.path, texts.get(item.path, "")) if it.key() == item.key()]
+    text = texts.get(item.path, "")
+    same = [it for it in items_of(item.path, text) if it.key() == item.key()]
+    # A note names the first line that belongs to a function, which may be that of an attribute.
+    places = [(it.path, it.first - len(attributes_of(it, text.split("\n"))), it.last) for it in same]
     found = Goals(said, bool(said) and not any(it[2] not in ENDED or CALLS.search(it[3]) for it in said))
-    found.searched = searched_goals(said, lines, [(it.path, it.first, it.last) for it in same])
+    found.searched = searched_goals(said, lines, places)
     for it in found_by(ERROR):
         if NAMES.search(it[4]):
             found.gone.append((it[1], it[3], it[4]))
