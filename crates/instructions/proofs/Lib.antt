@@ -3,3 +3,4 @@ pub mod Sorted
 pub mod Finding
 pub mod Slots
 pub mod ResultLists
+pub mod MemoryUses

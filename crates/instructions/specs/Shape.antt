@@ -1,11 +1,14 @@
 -- What an instruction does with its value, whatever its opcode.
 -- Source: ours.
-use Rattle.std.specs.Prelude.{ℕ, Bool, true, false, List, [], ◌∷◌, ◌++◌}
+use Rattle.std.specs.Prelude.{ℕ, Bool, true, false, List, [], ◌∷◌, ◌++◌, Option, Some, None}
 use Rattle.instructions.specs.declared.instr.Reg.{Reg}
 use Rattle.instructions.specs.declared.instr.Reg.TheVariants.{X, A}
-use Rattle.instructions.specs.declared.instr.Target.TheVariants.{A as TargetA}
+use Rattle.instructions.specs.declared.instr.Target.{Target}
+use Rattle.instructions.specs.declared.instr.Target.TheVariants.{A as TargetA, B as TargetB, X as TargetX}
 use Rattle.instructions.specs.declared.instr.Instr.{Instr}
 use Rattle.instructions.specs.declared.instr.Instr.TheVariants.{ReturnJump, Jump, BranchX, BranchB, Increment}
+use Rattle.instructions.specs.declared.shape.MemoryUse.{MemoryUse}
+use Rattle.instructions.specs.declared.shape.MemoryUse.TheVariants as memory
 use Rattle.instructions.specs.Operands.{uses, by_reference}
 
 -- what an instruction does with its value: it writes registers, loads, stores, jumps or links
@@ -58,6 +61,20 @@ is_branch_shape (Loads n) = false
 is_branch_shape (Stores n) = false
 is_branch_shape Jumps = true
 is_branch_shape Links = true
+
+-- what its reference does, if it makes one
+unfoldable pub memory_of : Shape → Option MemoryUse
+memory_of (Sets rs) = None
+memory_of (Loads n) = Some (memory.Loads n)
+memory_of (Stores n) = Some (memory.Stores n)
+memory_of Jumps = None
+memory_of Links = Some memory.Links
+
+-- the same of one of 50 to 77, by what it sets
+abbrev pub memory_by : Target → ℕ → Option MemoryUse
+memory_by TargetA i = by_reference i None (Some (memory.Loads i)) (Some (memory.Stores i))
+memory_by TargetB i = None
+memory_by TargetX i = None
 
 -- it reads or writes a word of memory
 unfoldable pub has_reference : Shape → Bool

@@ -25,3 +25,4 @@ pub use instr::{
 };
 pub use refusal::{DeckFault, Halt, Refusal};
 pub use registers::{OperandRegisters, operand_registers, results, sources, unit_kind};
+pub use shape::MemoryUse;

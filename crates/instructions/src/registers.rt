@@ -5,7 +5,7 @@ ghost use Rattle.std.specs.Prelude.{option_to_list};
 ghost use Rattle.instructions.specs.Shape.{shape_of, loads_of, results as results_of_shape};
 ghost use Rattle.instructions.specs.Operands.{uses, stored, with_source, sources_of, base_reg, pair_reg, reg_eq};
 
-use crate::{Addends, Base, Digit, Instr, Pair, Reg, Target, UnitKind};
+use crate::{Addends, Base, Digit, Instr, MemoryUse, Pair, Reg, Target, UnitKind};
 use arrayvec::ArrayVec;
 
 /// B0, which is always zero.
@@ -41,30 +41,18 @@ pub fn unit_kind(instr: &Instr) -> Option<UnitKind>
     }
 }
 
-/// The X register that a load writes at its return, if the instruction is one: SA1 to SA5 are.
+/// The X register that a load writes at its return, if the instruction is one.
 #[tactic(auto, unfolding(crate::specs::Shape::shape_of, crate::specs::Shape::loads_of))]
 fn loaded(instr: &Instr) -> Option<Reg>
     ensures { loads_of (shape_of instr.now) ≡ option_to_list result }
 {
     match *instr {
-        Instr::Increment {
-            target: Target::A,
-            i,
-            ..
-        } if (1..=5).contains(&i.get()) => Some(Reg::X(i)),
+        Instr::Increment { target, i, .. } => match target.memory(i) {
+            Some(MemoryUse::Loads(_)) => Some(Reg::X(i)),
+            _ => None,
+        },
         _ => None,
     }
-}
-
-/// A list of the register, if there is one.
-fn listed(register: Option<Reg>) -> ArrayVec<Reg, 2>
-    ensures { result.items ≡ option_to_list register }
-{
-    let mut registers = ArrayVec::new();
-    if let Some(register) = register {
-        registers.push(register);
-    }
-    registers
 }
 
 /// The registers that an instruction sets: at most two, A before X, and never B0.
@@ -72,7 +60,10 @@ pub fn results(instr: &Instr) -> ArrayVec<Reg, 2>
     ensures uses { result.items ≡ (uses instr.now).results }
     ensures shape { result.items ≡ results_of_shape (shape_of instr.now) }
 {
-    let mut results = listed(instr.sets());
+    let mut results = ArrayVec::new();
+    if let Some(register) = instr.sets() {
+        results.push(register);
+    }
     if let Some(register) = loaded(instr) {
         results.push(register);
     }
@@ -114,22 +105,18 @@ fn is_same(left: Reg, right: Reg) -> bool
     left == right
 }
 
-/// Whether a register is one of these.
-fn is_among(reg: &Reg, sources: &[Reg]) -> bool
-    ensures { result ≡ list_any (reg_eq reg.now) sources.now }
-{
-    sources.iter().any(|seen| is_same(*reg, *seen))
-}
-
-/// Adds a register that is not there yet and is not B0.
-fn add(sources: &mut ArrayVec<Reg, 3>, reg: Reg)
+/// Adds a register that is not there yet and is not B0, if there is one.
+fn add(sources: &mut ArrayVec<Reg, 3>, register: Option<Reg>)
     requires { array_vec_len sources.old < 3 }
-    ensures items { sources.new.items ≡ with_source sources.old.items (Some reg) }
+    ensures items { sources.new.items ≡ with_source sources.old.items register }
     ensures len { array_vec_len sources.new ≤ array_vec_len sources.old + 1 }
 {
-    let is_zero = is_same(reg, Reg::B(Digit::default()));
-    if !is_zero && !is_among(&reg, sources) {
-        sources.push(reg);
+    let Some(register) = register else {
+        return;
+    };
+    let is_there = sources.iter().any(|source| is_same(register, *source));
+    if !is_same(register, Reg::default()) && !is_there {
+        sources.push(register);
     }
 }
 
@@ -144,31 +131,21 @@ pub struct OperandRegisters {
     pub outgoing: Option<Reg>,
 }
 
-impl OperandRegisters {
-    /// Operands of which none is stored.
-    #[inline(always)]
-    fn computed(first: Option<Reg>, second: Option<Reg>) -> Self
-        ensures first { result.first ≡ first }
-        ensures second { result.second ≡ second }
-        ensures outgoing { result.outgoing ≡ None }
-    {
-        OperandRegisters {
-            first,
-            second,
-            outgoing: None,
-        }
-    }
-}
+/// No operands.
+const NONE: OperandRegisters = OperandRegisters {
+    first: None,
+    second: None,
+    outgoing: None,
+};
 
-/// What SA6 and SA7 store.
+/// The X register that one of 50 to 77 stores: SA6 and SA7 do.
 #[inline(always)]
 fn stored(target: Target, i: Digit) -> Option<Reg>
     ensures { result ≡ stored target i }
 {
-    if target == Target::A && i.get() > 5 {
-        Some(Reg::X(i))
-    } else {
-        None
+    match target.memory(i) {
+        Some(MemoryUse::Stores(_)) => Some(Reg::X(i)),
+        _ => None,
     }
 }
 
@@ -180,28 +157,38 @@ pub fn operand_registers(instr: &Instr) -> OperandRegisters
     ensures outgoing { result.outgoing ≡ (uses instr.now).outgoing }
 {
     match *instr {
-        Instr::Stop | Instr::Pass | Instr::ReturnJump { .. } | Instr::Mask { .. } => {
-            OperandRegisters::computed(None, None)
-        }
-        Instr::Jump { i, .. } => OperandRegisters::computed(Some(Reg::B(i)), None),
-        Instr::BranchX { j, .. } | Instr::Copy { j, .. } => OperandRegisters::computed(
-            Some(Reg::X(j)),
-            None,
-        ),
-        Instr::BranchB { i, j, .. } => OperandRegisters::computed(Some(Reg::B(i)), Some(Reg::B(j))),
-        Instr::Invert { k, .. } | Instr::CountOnes { k, .. } => OperandRegisters::computed(
-            Some(Reg::X(k)),
-            None,
-        ),
-        Instr::Logical { j, k, .. } | Instr::LongAdd { j, k, .. } => OperandRegisters::computed(
-            Some(Reg::X(j)),
-            Some(Reg::X(k)),
-        ),
-        Instr::ShiftBy { i, .. } => OperandRegisters::computed(Some(Reg::X(i)), None),
-        Instr::ShiftNominal { j, k, .. } => OperandRegisters::computed(
-            Some(Reg::B(j)),
-            Some(Reg::X(k)),
-        ),
+        Instr::Stop | Instr::Pass | Instr::ReturnJump { .. } | Instr::Mask { .. } => NONE,
+        Instr::Jump { i, .. } => OperandRegisters {
+            first: Some(Reg::B(i)),
+            ..NONE
+        },
+        Instr::BranchX { j, .. } | Instr::Copy { j, .. } => OperandRegisters {
+            first: Some(Reg::X(j)),
+            ..NONE
+        },
+        Instr::BranchB { i, j, .. } => OperandRegisters {
+            first: Some(Reg::B(i)),
+            second: Some(Reg::B(j)),
+            ..NONE
+        },
+        Instr::Invert { k, .. } | Instr::CountOnes { k, .. } => OperandRegisters {
+            first: Some(Reg::X(k)),
+            ..NONE
+        },
+        Instr::Logical { j, k, .. } | Instr::LongAdd { j, k, .. } => OperandRegisters {
+            first: Some(Reg::X(j)),
+            second: Some(Reg::X(k)),
+            ..NONE
+        },
+        Instr::ShiftBy { i, .. } => OperandRegisters {
+            first: Some(Reg::X(i)),
+            ..NONE
+        },
+        Instr::ShiftNominal { j, k, .. } => OperandRegisters {
+            first: Some(Reg::B(j)),
+            second: Some(Reg::X(k)),
+            ..NONE
+        },
         Instr::Increment { target, i, addends } => match addends {
             Addends::Address { base, j, .. } => OperandRegisters {
                 first: Some(base.register(j)),
@@ -217,17 +204,6 @@ pub fn operand_registers(instr: &Instr) -> OperandRegisters
     }
 }
 
-/// Adds a register, if there is one.
-fn add_some(sources: &mut ArrayVec<Reg, 3>, reg: Option<Reg>)
-    requires { array_vec_len sources.old < 3 }
-    ensures items { sources.new.items ≡ with_source sources.old.items reg }
-    ensures len { array_vec_len sources.new ≤ array_vec_len sources.old + 1 }
-{
-    if let Some(reg) = reg {
-        add(sources, reg);
-    }
-}
-
 /// The registers that an instruction reads, at most three, each once and never B0: the operands, and then what a
 /// store sends.
 pub fn sources(instr: &Instr) -> ArrayVec<Reg, 3>
@@ -235,8 +211,8 @@ pub fn sources(instr: &Instr) -> ArrayVec<Reg, 3>
 {
     let operands = operand_registers(instr);
     let mut sources = ArrayVec::new();
-    add_some(&mut sources, operands.first);
-    add_some(&mut sources, operands.second);
-    add_some(&mut sources, operands.outgoing);
+    add(&mut sources, operands.first);
+    add(&mut sources, operands.second);
+    add(&mut sources, operands.outgoing);
     sources
 }

@@ -1,7 +1,37 @@
 ghost use Rattle.std.specs.Prelude.{◌≡◌, option_to_list};
-ghost use Rattle.instructions.specs.Shape.{shape_of, sets_of, is_branch_shape, has_reference, has_store};
+ghost use Rattle.instructions.specs.Shape.{shape_of, sets_of, is_branch_shape, has_reference, has_store, memory_of};
+ghost use Rattle.instructions.specs.Shape.{memory_by};
 
-use crate::{Instr, Reg, Target};
+use crate::{Digit, Instr, Reg, Target};
+
+/// What the reference of an instruction does (Control Data 60100000, increment unit and return jump).
+#[derive(Clone, Copy, Debug, PartialEq, Eq)]
+pub enum MemoryUse {
+    /// SA1 to SA5: it loads the X register of this number.
+    Loads(Digit),
+    /// SA6 and SA7: it stores the X register of this number.
+    Stores(Digit),
+    /// RJ: it stores the link word.
+    Links,
+}
+
+impl Target {
+    /// What the reference of an increment instruction that sets register `i` does, if it makes one. This is the one
+    /// place that tells SA0, the loads and the stores apart.
+    #[inline(always)]
+    pub fn memory(self, i: Digit) -> Option<MemoryUse>
+        ensures { result ≡ memory_by self i }
+    {
+        match self {
+            Target::A => match i.get() {
+                0 => None,
+                1..=5 => Some(MemoryUse::Loads(i)),
+                _ => Some(MemoryUse::Stores(i)),
+            },
+            Target::B | Target::X => None,
+        }
+    }
+}
 
 impl Instr {
     /// Whether it is a branch: it jumps, or may jump.
@@ -19,36 +49,37 @@ impl Instr {
         }
     }
 
+    /// What its reference to memory does, if it makes one: SA1 to SA7 and RJ do.
+    #[tactic(auto, unfolding(crate::specs::Shape::shape_of, crate::specs::Shape::memory_of))]
+    #[inline(always)]
+    pub fn memory(&self) -> Option<MemoryUse>
+        ensures { result ≡ memory_of (shape_of self.now) }
+    {
+        match *self {
+            Instr::ReturnJump { .. } => Some(MemoryUse::Links),
+            Instr::Increment { target, i, .. } => target.memory(i),
+            _ => None,
+        }
+    }
+
     /// Whether it makes a reference to memory: SA1 to SA7 and RJ.
-    #[tactic(auto, unfolding(crate::specs::Shape::shape_of, crate::specs::Shape::has_reference))]
+    #[tactic(auto, using(crate::proofs::MemoryUses::reference_used))]
     #[inline(always)]
     pub fn has_reference(&self) -> bool
         ensures { result ≡ has_reference (shape_of self.now) }
     {
-        match *self {
-            Instr::ReturnJump { .. } => true,
-            Instr::Increment {
-                target: Target::A,
-                i,
-                ..
-            } => i.get() != 0,
-            _ => false,
-        }
+        self.memory().is_some()
     }
 
     /// Whether it writes memory: SA6, SA7 and RJ.
-    #[tactic(auto, unfolding(crate::specs::Shape::shape_of, crate::specs::Shape::has_store))]
     pub fn has_store(&self) -> bool
         ensures { result ≡ has_store (shape_of self.now) }
     {
-        match *self {
-            Instr::ReturnJump { .. } => true,
-            Instr::Increment {
-                target: Target::A,
-                i,
-                ..
-            } => i.get() > 5,
-            _ => false,
+        match self.memory() {
+            None => false,
+            Some(MemoryUse::Loads(_)) => false,
+            Some(MemoryUse::Stores(_)) => true,
+            Some(MemoryUse::Links) => true,
         }
     }
 
