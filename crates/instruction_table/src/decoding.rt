@@ -222,19 +222,6 @@ fn entry_at(parcel: u16, following: u16) -> TableEntry
     }
 }
 
-/// The parcel after a position, and 0 after the last.
-#[inline(always)]
-fn following(word: Word60, position: u8) -> u16
-    ensures value { result ≡ following_at word position }
-    ensures range { result < 2 ^ 15 }
-{
-    if position < 3 {
-        parcel_of(word, position + 1)
-    } else {
-        0
-    }
-}
-
 /// The same as `decode`, with the two digits that the reading begins with. Where these are a constant, the compiler
 /// leaves only what is done with them.
 #[inline(always)]
@@ -245,7 +232,13 @@ pub fn decode_as(word: Word60, position: u8, digits: u16) -> Decoded
     ensures range { GoesOn position result }
 {
     let low = parcel_of(word, position) % 0x200;
-    match entry_at(digits * 0x200 + low, following(word, position)) {
+    // After the last parcel of a word no other follows.
+    let following = if position < 3 {
+        parcel_of(word, position + 1)
+    } else {
+        0
+    };
+    match entry_at(digits * 0x200 + low, following) {
         TableEntry::Short(instr) => Decoded::Legal(instr, position + 1),
         TableEntry::Long(instr) if position < 3 => Decoded::Legal(instr, position + 2),
         TableEntry::Long(_) => Decoded::Straddle,

@@ -21,7 +21,7 @@ pub use codes::opcode;
 pub use decoding::{Decoded, decode, decode_as, first_digits};
 pub use encoding::encode;
 pub use instructions::{
-    Addends, Addition, BTest, Base, DeckFault, Digit, Direction, Halt, Instr, Logic, Op,
+    Addends, Addition, BTest, Base, DeckFault, Digit, Direction, Halt, Instr, Logic, MemoryUse, Op,
     OperandRegisters, Pair, ParcelNumber, Refusal, Reg, SixBits, Target, Unit, UnitKind, XTest,
     operand_registers, results, sources, unit_kind,
 };

@@ -1,8 +1,9 @@
 -- A name for each list of definitions that a proof opens at once.
+use Rattle.instructions.specs.Shape.{memory_of}
 use Rattle.sequential.specs.Log.{entries_of, issued, run_after, steps_of}
 use Rattle.sequential.specs.State.{absolute, access_at, bounds_of, halt_by, move_to, store_word, write}
 use Rattle.sequential.specs.Step.{do_fetched, fetch, fetched_from, step, step_unless, word_at, word_seen}
-use Rattle.sequential.specs.Work.{refer_at}
+use Rattle.sequential.specs.Work.{refer_at, reference_for}
 
 -- the word that the next instruction is taken from
 unfoldable pub word_to_take : Unit {0}
@@ -28,3 +29,8 @@ step_cases = tt
 unfoldable pub no_entries : Unit {0}
 unfolding steps_of entries_of issued run_after
 no_entries = tt
+
+-- what the reference of an instruction does
+unfoldable pub reference_made : Unit {0}
+unfolding reference_for memory_of
+reference_made = tt

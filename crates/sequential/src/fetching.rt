@@ -1,6 +1,6 @@
 ghost use Rattle.std.specs.Prelude.{◌≡◌, ◌<◌};
 ghost use Rattle.sequential.specs.State.{bounds_of};
-ghost use Rattle.sequential.specs.Step.{classify, at_instruction, fetched_by, word_seen, fetch};
+ghost use Rattle.sequential.specs.Step.{at_instruction, fetched_by, word_seen, fetch};
 
 use crate::{ProgramPosition, State};
 use instruction_table::{Decoded, Halt, Instr, decode};
@@ -18,21 +18,8 @@ pub enum Fetched {
     Taking(Instr, ProgramPosition),
 }
 
-/// What an instruction does that stands at one position and ends at another.
-#[tactic(auto, unfolding(crate::specs::Step::classify))]
-#[inline(always)]
-fn classify(position: ProgramPosition, after: ProgramPosition, instr: &Instr) -> Fetched
-    ensures { result ≡ classify position after instr.now }
-{
-    match *instr {
-        Instr::Stop => Fetched::Halting(Halt::Stop, position),
-        Instr::Pass => Fetched::Passing(after),
-        _ => Fetched::Taking(*instr, after),
-    }
-}
-
 /// What the reading of a word does at a position that holds it.
-#[tactic(auto, unfolding(crate::specs::Step::fetched_by))]
+#[tactic(auto, unfolding(crate::specs::Step::fetched_by, crate::specs::Step::classify))]
 #[inline(always)]
 pub fn fetched_by(position: ProgramPosition, word: Word60, reading: Decoded) -> Fetched
     ensures { result ≡ fetched_by position.p position.parcel word reading }
@@ -42,11 +29,14 @@ pub fn fetched_by(position: ProgramPosition, word: Word60, reading: Decoded) -> 
         ..position
     };
     match reading {
-        Decoded::Legal(instr, next) => classify(
-            at_instruction,
-            ProgramPosition::after_parcel(position.p, word, next),
-            &instr,
-        ),
+        Decoded::Legal(Instr::Stop, _) => Fetched::Halting(Halt::Stop, at_instruction),
+        Decoded::Legal(instr, next) => {
+            let after = ProgramPosition::after_parcel(position.p, word, next);
+            match instr {
+                Instr::Pass => Fetched::Passing(after),
+                _ => Fetched::Taking(instr, after),
+            }
+        }
         Decoded::Refused(op) => Fetched::Halting(Halt::Illegal(op), at_instruction),
         Decoded::Straddle => Fetched::Halting(Halt::Straddle, at_instruction),
     }

@@ -4,7 +4,7 @@ ghost use Rattle.instructions.specs.Shape.{shape_of};
 ghost use Rattle.sequential.specs.Work.{operand_at, operands, number_in, address_in, link_word, word_in, jump_for};
 ghost use Rattle.sequential.specs.Work.{reference_for, fault_of};
 
-use instruction_table::{Instr, Reg, Target, operand_registers};
+use instruction_table::{Instr, MemoryUse, Reg, operand_registers};
 use registers::RegisterFile;
 use relocation::{Access, Area, relocate};
 use unit_ops::{Operands, UnitValue};
@@ -118,31 +118,19 @@ pub fn jump(instr: &Instr, value: &UnitValue) -> Option<Word18>
 
 /// The reference that an instruction makes: SA1 to SA5 load, SA6 and SA7 store, RJ stores its link word
 /// (Control Data 60100000), and all others make none.
-#[tactic(auto, unfolding(crate::specs::Work::reference_for, instructions::specs::Shape::shape_of))]
+#[tactic(auto, unfolding(crate::proofs::Opened::reference_made))]
 #[inline(always)]
 pub fn reference(instr: &Instr, value: &UnitValue) -> Option<ProgramReference>
     ensures { result ≡ reference_for (shape_of instr.now) value.now }
 {
-    let store = ProgramReference {
-        address: address(value),
-        access: Access::Store(word(value)),
+    let access = match instr.memory()? {
+        MemoryUse::Loads(n) => Access::Load(n),
+        MemoryUse::Stores(_) | MemoryUse::Links => Access::Store(word(value)),
     };
-    match *instr {
-        Instr::ReturnJump { .. } => Some(store),
-        Instr::Increment {
-            target: Target::A,
-            i,
-            ..
-        } => match i.get() {
-            0 => None,
-            1..=5 => Some(ProgramReference {
-                address: address(value),
-                access: Access::Load(i),
-            }),
-            _ => Some(store),
-        },
-        _ => None,
-    }
+    Some(ProgramReference {
+        address: address(value),
+        access,
+    })
 }
 
 impl ProgramReference {
