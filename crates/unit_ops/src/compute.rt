@@ -8,7 +8,8 @@ ghost use Rattle.word60.specs.Words.{bit};
 
 use crate::{Operands, UnitValue};
 use instructions::{
-    Addends, Addition, BTest, Digit, Direction, Instr, Logic, Pair, SixBits, Target, XTest,
+    Addends, Addition, BTest, Digit, Direction, Instr, Logic, MemoryUse, Pair, SixBits, Target,
+    XTest,
 };
 use word60::{Word18, Word60};
 
@@ -200,10 +201,10 @@ fn increment_value(target: Target, i: Digit, value: Word18, outgoing: Word60) ->
     ensures { result ≡ increment_value target i value outgoing }
 {
     match target {
-        Target::A => match i.get() {
-            0 => UnitValue::Index(value),
-            1..=5 => UnitValue::Load(value),
-            _ => UnitValue::Store(value, outgoing),
+        Target::A => match target.memory(i) {
+            None => UnitValue::Index(value),
+            Some(MemoryUse::Loads(_)) => UnitValue::Load(value),
+            Some(MemoryUse::Stores(_) | MemoryUse::Links) => UnitValue::Store(value, outgoing),
         },
         Target::B => UnitValue::Index(value),
         Target::X => UnitValue::Word(value.extend()),
