@@ -97,20 +97,6 @@ impl Default for Pending {
 }
 
 impl Pending {
-    /// Its stage, if it holds the unit.
-    #[tactic(auto, unfolding(crate::specs::Lookup::stage_at, crate::specs::Lookup::stage_in))]
-    pub(crate) fn stage_in(&self, unit: Unit) -> Option<Stage>
-        ensures { result ≡ stage_at unit self.now }
-    {
-        if !is_same_unit(self.unit, unit) {
-            return None;
-        }
-        match self.phase {
-            Phase::Before(stage) => Some(stage),
-            Phase::After(_) => None,
-        }
-    }
-
     /// Its word, if it waits in the channel.
     #[tactic(auto, unfolding(crate::specs::Lookup::arrival_at, crate::specs::Lookup::arrival_in))]
     pub(crate) fn arrival_in(&self, given: u8) -> Option<Arrival>

@@ -178,9 +178,11 @@ impl Slots {
         let Some(pending) = slot else {
             return None;
         };
-        match pending.stage_in(unit) {
-            Some(answer) => Some(Located { pending, answer }),
-            None => None,
+        let phase = pending.phase;
+        match phase {
+            Phase::Before(answer) => Some(Located { pending, answer }),
+            // In the slot of a unit there is none that has left it.
+            Phase::After(_) => None,
         }
     }
 

@@ -125,19 +125,20 @@ stage_nobody units places channels u i right e h =
 
 pub found_answer : (units places channels : List (Option Pending)) (u : FunctionalUnit) (i : ℕ) (m : Pending)
     (t : Stage) → IsRight units places channels → i ≡ unit_number u → get_or units i None ≡ Some m
-    → stage_at u m ≡ Some t → Some (record { pending = m; answer = t })
+    → m.phase ≡ Before t → Some (record { pending = m; answer = t })
     ≡ located (seek (stage_at u) (in_order (slots units places channels)))
 unfolding located
 found_answer units places channels u i m t right e h k =
     let p = stage_found units places channels u i m right e h in
-    let q : Some t ≡ Some p.0 = sym k ∙ p.2 in
+    let q : Before t ≡ Before p.0 = sym k ∙ p.1 in
     let tp : t ≡ p.0 = cc in
     ap (λ x. Some (record { pending = m; answer = x })) tp ∙ ap located (sym p.3)
 
 pub found_must : (units places channels : List (Option Pending)) (u : FunctionalUnit) (i : ℕ) (m : Pending)
-    → IsRight units places channels → i ≡ unit_number u → get_or units i None ≡ Some m → stage_at u m ≡ None → ⊥
-found_must units places channels u i m right e h k =
-    let p = stage_found units places channels u i m right e h in let q : None ≡ Some p.0 = sym k ∙ p.2 in cc
+    (l : Outstanding) → IsRight units places channels → i ≡ unit_number u → get_or units i None ≡ Some m
+    → m.phase ≡ After l → ⊥
+found_must units places channels u i m l right e h k =
+    let p = stage_found units places channels u i m right e h in let q : After l ≡ Before p.0 = sym k ∙ p.1 in cc
 
 -- ---- changed in its slot ----
 

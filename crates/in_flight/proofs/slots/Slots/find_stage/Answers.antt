@@ -14,18 +14,17 @@ returns-in_default c =
     (omega (arith, c.index_of-index.ensures.range, c.self.invariant.all_units)) ∙ c.in_default.is)))
     ∙ ap (λ ms. located (seek (stage_at c.args.unit) ms)) c.self.view_is
 
-pub returns-in-Some-stage_in : goal.returns-in-Some-stage_in
-returns-in-Some-stage_in c =
+pub returns-in-Before : goal.returns-in-Before
+returns-in-Before c =
     found_answer c.self.inside.units c.self.inside.places c.self.inside.channels c.args.unit c.index_of-index.result
-    c.in-Some.pending c.in-Some-stage_in.answer c.self.invariant c.index_of-index.ensures.value
+    c.in-Some.pending c.in-Before.answer c.self.invariant c.index_of-index.ensures.value
     (slot_any c.self.inside.units c.index_of-index.result c.index-self-index.result
     (omega (arith, c.index_of-index.ensures.range, c.self.invariant.all_units))
-    ∙ c.in-Some.is) (sym c.stage_in.ensures ∙ c.in-Some-stage_in.is)
+    ∙ c.in-Some.is) c.in-Before.is
     ∙ ap (λ ms. located (seek (stage_at c.args.unit) ms)) c.self.view_is
 
-pub returns-in-None : goal.returns-in-None
-returns-in-None c = absurd (found_must c.self.inside.units c.self.inside.places c.self.inside.channels c.args.unit
-    c.index_of-index.result c.in-Some.pending c.self.invariant c.index_of-index.ensures.value
+pub returns-in-After : goal.returns-in-After
+returns-in-After c = absurd (found_must c.self.inside.units c.self.inside.places c.self.inside.channels c.args.unit
+    c.index_of-index.result c.in-Some.pending c.in-After.field-0 c.self.invariant c.index_of-index.ensures.value
     (slot_any c.self.inside.units c.index_of-index.result c.index-self-index.result
-    (omega (arith, c.index_of-index.ensures.range, c.self.invariant.all_units)) ∙ c.in-Some.is) (sym c.stage_in.ensures
-    ∙ c.in-None.is))
+    (omega (arith, c.index_of-index.ensures.range, c.self.invariant.all_units)) ∙ c.in-Some.is) c.in-After.is)
