@@ -75,12 +75,14 @@ class Plan:
 
 
 def commit_of(root):
-    """The commit of a checkout, `unknown` if it has none, with a plus sign if its sources aren't those of the commit."""
+    """The commit of a checkout, `unknown` if it has none, with a plus sign if its sources aren't those of the
+    commit."""
     git = ["git", "-C", str(root)]
     found = subprocess.run([*git, "rev-parse", "--short=12", "HEAD"], capture_output=True, text=True, check=False)
     if found.returncode:
         return "unknown"
-    changed = subprocess.run([*git, "status", "--porcelain", "--", "crates", "crates.txt"], capture_output=True, check=False)
+    status = [*git, "status", "--porcelain", "--", "crates", "crates.txt"]
+    changed = subprocess.run(status, capture_output=True, check=False)
     return found.stdout.strip() + ("+" if changed.stdout else "")
 
 
@@ -121,8 +123,8 @@ class Building:
         return self.room / name / f"{name}{self.product.ending if name == self.top else '.rlib'}"
 
     def sources(self, name):
-        """The folder of a crate's sources. That of the crate that has the version is a copy, in which the commit and the
-        kit stand behind the number."""
+        """The folder of a crate's sources. That of the crate that has the version is a copy, in which the commit and
+        the kit stand behind the number."""
         folder = self.table.folder(name)
         if not (folder / VERSION).is_file():
             return folder

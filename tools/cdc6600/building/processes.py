@@ -19,7 +19,8 @@ class Ran:
 
 
 class Running:
-    """The commands that run, each with the processes that it started, so that all end together, and no new one begins."""
+    """The commands that run, each with the processes that it started, so that all end together, and no new one
+    begins."""
 
     def __init__(self):
         self.lock, self.children, self.is_ended = threading.Lock(), set(), False

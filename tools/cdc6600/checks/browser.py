@@ -5,15 +5,15 @@
 
 Each page is gone through by the keyboard, by its buttons and by its slider, and what is shown at each step is compared:
 the event with the session's line, its answer with that of `cdc6600 events`, at the end the dump, and the words and the
-panel with what tools/cdc6600/drawing works out. The cursor has to stand at the number of the event in the picture. Then it
-tries that a page asks for nothing but itself; that at a width of 360 pixels, and with everything twice as large,
+panel with what tools/cdc6600/drawing works out. The cursor has to stand at the number of the event in the picture. Then
+it tries that a page asks for nothing but itself; that at a width of 360 pixels, and with everything twice as large,
 nothing but the picture scrolls sideways; that the picture and the panel are in sight while one steps; that what can be
-clicked has 24 pixels at least; that the address names the step, and opens the page there;
-that in light and dark all text differs enough from what is behind it; that without scripts, and on paper, there are the
-picture and the table of all events, and no controls; and that each control has a role and a name for a screen reader.
-The page of tools/explore for the deck of the first run is tried by keys and a button, and in width and contrast. The
-page by minor cycles of a schedule is gone through by keyboard, with the cursor at the cycle of each event. The page of
-two schedules has to open at the first issue, and is tried in width and contrast.
+clicked has 24 pixels at least; that the address names the step, and opens the page there; that in light and dark all
+text differs enough from what is behind it; that without scripts, and on paper, there are the picture and the table of
+all events, and no controls; and that each control has a role and a name for a screen reader. The page of tools/explore
+for the deck of the first run is tried by keys and a button, and in width and contrast. The page by minor cycles of a
+schedule is gone through by keyboard, with the cursor at the cycle of each event. The page of two schedules has to open
+at the first issue, and is tried in width and contrast.
 
 It says nothing where all is right, else the page and what is wrong. It needs `chromium` and `chromedriver`: root has
 what is missing installed from Debian. CDC6600 may name the program to ask.

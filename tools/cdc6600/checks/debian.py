@@ -21,8 +21,8 @@ PATIENCE, MINUTES = 600, 30
 
 
 def flake8():
-    """The words that call flake8, or none if it isn't installed. Debian's package has no command of this name, but a module
-    of Debian's Python, which may be another than the one that runs this."""
+    """The words that call flake8, or none if it isn't installed. Debian's package has no command of this name, but a
+    module of Debian's Python, which may be another than the one that runs this."""
     for words in (["flake8"], [sys.executable, "-m", "flake8"], ["/usr/bin/python3", "-m", "flake8"]):
         with suppress(OSError):
             if not subprocess.run([*words, "--version"], capture_output=True, check=False).returncode:
@@ -41,8 +41,8 @@ def missing(check):
 
 
 def provide(check):
-    """Installs what the check of this name needs, where something is missing and this user may. Else it ends this process
-    with a line that says what is missing."""
+    """Installs what the check of this name needs, where something is missing and this user may. Else it ends this
+    process with a line that says what is missing."""
     wanted = missing(check)
     if not wanted:
         return

@@ -247,7 +247,8 @@ class Python:
     def faults(self, room):
         """How it ends with wrong words, and where its output can't be written; the faults."""
         it, missing, faults = deck("two-adds"), str(room.folder / "missing"), []
-        for words, status in (([], 2), ([missing, "x"], 7), ([str(it.file), str(it.file)], 7), ([self.library, missing], 7),
+        for words, status in (([], 2), ([missing, "x"], 7), ([str(it.file), str(it.file)], 7),
+                              ([self.library, missing], 7),
                               ([self.library, "/"], 7), ([self.library, str(PAGE)], 1), ([self.library, ""], 7)):
             faults += self.ended(words, status)
         good = [self.library, str(it.file)]
@@ -309,7 +310,8 @@ def faults_of_leaks(room):
     """What valgrind says of a machine by steps, if valgrind is there."""
     if not shutil.which("valgrind"):
         return []
-    words = ["valgrind", "-q", "--leak-check=full", "--error-exitcode=9", room.folder / "out/step", deck("two-adds").file]
+    words = ["valgrind", "-q", "--leak-check=full", "--error-exitcode=9"]
+    words += [room.folder / "out/step", deck("two-adds").file]
     ran = run([*words, "40"], capture_output=True, text=True)
     return differing("valgrind of out/step", (0, ""), (ran.returncode, ran.stderr))
 

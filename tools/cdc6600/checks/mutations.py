@@ -6,9 +6,10 @@
 The reader here follows docs/formats.md, and takes the codes and texts of instructions from the tables of
 docs/instructions.md, by shared/instructions.py; it shares nothing with the program. A case is a deck or session of
 decks/, or a deck that is drawn, with faults put in. A refused deck has to give status 1, its one fault line and no
-output, and its line has to have, at the column that the fault line names, what that names; an accepted one status 0 and its listing, and the deck of `at` and `word` lines that this listing makes has to
-give the same listing. Before the cases come each beginning of all-rows.deck, as it is and with an `end` line after it,
-and decks with as many lines as there may be.
+output, and its line has to have, at the column that the fault line names, what that names; an accepted one status 0 and
+its listing, and the deck of `at` and `word` lines that this listing makes has to give the same listing. Before the
+cases come each beginning of all-rows.deck, as it is and with an `end` line after it, and decks with as many lines as
+there may be.
 
 At the first difference it prints the seed, the case, the deck, and what was wanted and what came, and ends with status
 1. It prints nothing where there is none. CDC6600 may name the program to try; else `./cdc6600` builds it.

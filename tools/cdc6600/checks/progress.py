@@ -173,8 +173,8 @@ def short_run():
 
 
 def interrupted_run():
-    """A run at a terminal that Ctrl-C ends while it shows its seconds; the faults. The line can still be read, behind the
-    `^C` of the terminal, and the terminal is as before."""
+    """A run at a terminal that Ctrl-C ends while it shows its seconds; the faults. The line can still be read, behind
+    the `^C` of the terminal, and the terminal is as before."""
     ours, its = pty.openpty()
     before, shown = termios.tcgetattr(its), bytearray()
     with closing(os.fdopen(ours, "r+b", buffering=0)) as terminal:
@@ -196,7 +196,8 @@ def interrupted_run():
         after = termios.tcgetattr(its)
         os.close(its)
     if status != -signal.SIGINT or after != before or not re.fullmatch(rb"(   cdc6600: \d+ s\r)+\^C", shown):
-        return [f"an interrupted run: status {status}, {bytes(shown)!r} is shown, terminal {after != before and 'changed'}"]
+        terminal = "changed" if after != before else "as it was"
+        return [f"an interrupted run: status {status}, {bytes(shown)!r} is shown, the terminal is {terminal}"]
     return []
 
 

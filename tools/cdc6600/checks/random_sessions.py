@@ -7,8 +7,8 @@ reading of the session, second_reading.py, which asks the machine itself.
 A deck is one of decks/run, or a small one that is drawn. Its events are drawn one after another, some that fit and some
 that don't, and each is asked for when the one before it was answered. What is compared for each step: the event and its
 answer, the units with their reservations and phases, the places of the hopper, the load channels, the busy banks, the
-reserved registers and the package that is asked for; and that what tools/cdc6600/drawing/judging.py expects of the event is
-what the program answered.
+reserved registers and the package that is asked for; and that what tools/cdc6600/drawing/judging.py expects of the
+event is what the program answered.
 
 It says nothing where all agree, else the seed, the session's number and what differs. CDC6600 may name the program.
 """

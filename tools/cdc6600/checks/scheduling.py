@@ -39,8 +39,8 @@ BANK = ("core 256\nat 41\nword 100000000000000\nword 100000000000000\nat 100\nco
 #
 # In the deck of the first run, issued are SX1 at 26, SX2 at 28, both of 30 bits, and IX3 at 30. SX1 is stored at 29 and
 # SX2 at 31, so IX3 reads at 31, one cycle after its issue, and is stored at 34. IX4 needs the same unit: it could be
-# issued at 31, waits three cycles, and is issued at 34. NO follows at 35 and PS at 36. The last issue is over at 37, and
-# IX4 is stored then.
+# issued at 31, waits three cycles, and is issued at 34. NO follows at 35 and PS at 36. The last issue is over at 37,
+# and IX4 is stored then.
 #
 # Of the two loads, SA1 is issued at 26, stored at 29, accepted at 30 and returned at 35; its bank is busy up to 40. SA2
 # is issued at 28, stored at 31, could be accepted at 32, is accepted at 40 and returned at 45. PS is issued at 30, and

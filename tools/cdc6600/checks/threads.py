@@ -54,7 +54,7 @@ def faults():
             process.stdin.write(DECK.encode())
             process.stdin.close()
             wait_until(lambda: process.poll() is not None or are_working(process),
-                       lambda: f"{THREADS} threads to work; the turns of each: {[turns(it) for it in tasks_of(process)]}")
+                       lambda: f"{THREADS} threads to work; their turns: {[turns(it) for it in tasks_of(process)]}")
             return [f"the run has ended, with status {process.returncode}"] if process.poll() is not None else []
         finally:
             process.kill()

@@ -1,7 +1,8 @@
-"""Tests tools/wrong-bodies on a small workspace of its own, in a minute or two. Says nothing but a line where all is well.
+"""Tests tools/wrong-bodies on a small workspace of its own, in a minute or two. Says nothing but a line where all is
+well.
 
-Each edit below is handed to the runner as a wrong body. Those of REFUSED are wrong. Each of TOLD has to be told, in a line
-that says what is amiss: among them are right bodies in other words. Of those of UNSURE it can't tell.
+Each edit below is handed to the runner as a wrong body. Those of REFUSED are wrong. Each of TOLD has to be told, in a
+line that says what is amiss: among them are right bodies in other words. Of those of UNSURE it can't tell.
 """
 
 import os
@@ -200,14 +201,19 @@ TOLD = {
     "right": ([("if a < b { a } else { b }", "if b < a { b } else { a }")], "it is PROVED"),
     "comment_in_a_body": ([("// One more.", "// Two more.")], "it is PROVED"),
     "closure_called_first": ([("    again(x)", "    let found = again(x); found")], "it is PROVED"),
-    "definition_to_be_opened": ([("    two_more(x)", "    plus_one(plus_one(x))")], "with crate::specs::After::two_after opened"),
+    "definition_to_be_opened": (
+        [("    two_more(x)", "    plus_one(plus_one(x))")], "with crate::specs::After::two_after opened",
+    ),
     "answer_does_not_fit": (
         [("let one = plus_one(x);", "let one = plus_one(x + 1);"), ("    plus_one(one)", "    plus_one(one) - 1")],
         "without the written answers for returns",
     ),
     "comment_beside_it": ([("/// The number after this one.", "/// The next number.")], "it changes no function"),
     "beneath_a_weak_contract": ([("    x + x", "    x")], "it is PROVED"),
-    "name_gone": ([("let one = plus_one(x);", "let first = plus_one(x);"), ("    plus_one(one)", "    plus_one(first)")], "at no goal of the contract of two_more"),
+    "name_gone": (
+        [("let one = plus_one(x);", "let first = plus_one(x);"), ("    plus_one(one)", "    plus_one(first)")],
+        "at no goal of the contract of two_more",
+    ),
     "contract_changed": ([("result < 200", "result < 300")], "it changes a contract"),
     "not_there": ([("    x + 7", "    x + 8")], "stands 0 times"),
     "there_twice": ([("requires { x < 90 }", "requires { x < 91 }")], "stands 4 times"),
@@ -236,7 +242,8 @@ def write_workspace(root, edits, folder="wrong-bodies"):
 def runs(root, *words):
     """Runs the runner on the workspace, and returns its status and its lines."""
     words = [ROOT / "tools/wrong-bodies", "--root", root, "--at-once", "1", *words]
-    ran = subprocess.run(words, capture_output=True, text=True, env={**os.environ, "XDG_CACHE_HOME": f"{root}/cache"}, check=False)
+    environment = {**os.environ, "XDG_CACHE_HOME": f"{root}/cache"}
+    ran = subprocess.run(words, capture_output=True, text=True, env=environment, check=False)
     return ran.returncode, ran.stdout.strip().split("\n")
 
 
@@ -272,7 +279,10 @@ class Reading(unittest.TestCase):
         library = texts["src/lib.rt"]
         for right, name, wrong in (
             ("pub fn two_more(", "pub fn two_more_wrong_0(", "    plus_one(x)\n}"),
-            ("    #[inline]\n    pub fn with_another(", "    #[inline]\n    pub fn with_another_wrong_1(", "        self.count\n    }"),
+            (
+                "    #[inline]\n    pub fn with_another(", "    #[inline]\n    pub fn with_another_wrong_1(",
+                "        self.count\n    }",
+            ),
         ):
             self.assertIn(right, library)
             self.assertIn(wrong, library[library.index(name) :])
@@ -301,12 +311,13 @@ class Reading(unittest.TestCase):
 
     def test_definitions_of_a_goal_are_found(self):
         table = Table(self.crate.parent.parent)
-        for name, opened in (("two_after_the_next", ("crate::specs::After::two_after",)), ("adds_two", ())):
+        for name, wanted in (("two_after_the_next", ("crate::specs::After::two_after",)), ("adds_two", ())):
             body = self.body(name)
-            self.assertEqual(Opening(table, "tiny").of(body.touched[0], self.source, {"plus_one"}), opened)
+            self.assertEqual(Opening(table, "tiny").of(body.touched[0], self.source, {"plus_one"}), wanted)
 
     def test_attribute_keeps_its_lists(self):
-        above = ["    /// A word.", "    #[tactic(auto, using(crate::proofs::A::b), unfolding(crate::specs::A::c))]", "    #[inline]"]
+        tactic = "    #[tactic(auto, using(crate::proofs::A::b), unfolding(crate::specs::A::c))]"
+        above = ["    /// A word.", tactic, "    #[inline]"]
         wanted = "    #[tactic(auto, using(crate::proofs::A::b), unfolding(crate::specs::A::c, crate::specs::A::d))]"
         found = opened(above, ["crate::specs::A::c", "crate::specs::A::d"], self.body("with_no_other").touched[0])
         self.assertEqual(found, [above[0], above[2], wanted])
@@ -314,7 +325,8 @@ class Reading(unittest.TestCase):
     def test_what_nothing_cites_is_left_out(self):
         used = "use Rattle.tiny.proofs.f.Goals.{{{}}}"
         first = "pub returns : goal.returns\nunfolding g\nreturns c =\n    step [ then-a w ↦ w ]\n"
-        step, other = "step : else-a → ℕ\nstep c = 0\n", "pub index-requires : goal.index-requires\nindex-requires c = c.then-b\n"
+        step = "step : else-a → ℕ\nstep c = 0\n"
+        other = "pub index-requires : goal.index-requires\nindex-requires c = c.then-b\n"
         text = "\n".join([used.format("then-a, else-a, then-b"), "", first, step, other])
         self.assertEqual(without(text, {"returns"}).split(), [*used.format("then-b").split(), *other.split()])
         self.assertEqual(without(text, {"step"}), without(text, {"returns"}))
@@ -322,29 +334,33 @@ class Reading(unittest.TestCase):
 
     def test_group_has_each_body(self):
         text = merged(self.source, [self.body("adds_two"), self.body("larger_of_two")])["src/lib.rt"]
-        self.assertEqual(text, LIBRARY.replace("    x + 1\n", "    x + 2\n").replace("{ a } else { b }", "{ b } else { a }"))
+        wanted = LIBRARY.replace("    x + 1\n", "    x + 2\n").replace("{ a } else { b }", "{ b } else { a }")
+        self.assertEqual(text, wanted)
 
     def says(self, status, *lines):
         return outcome_of(self.body("adds_two").touched, "\n".join(lines), status, "tiny", self.source.texts).verdict
 
     def test_only_an_own_goal_counts(self):
-        left = "fn tiny::plus_one: no proof: expected answers in ./proofs/plus_one/Answers.antt; `search` did not prove `returns`"
+        left = "fn tiny::plus_one: no proof: expected answers in ./proofs/plus_one/Answers.antt; "
+        left += "`search` did not prove `returns`"
         self.assertTrue(self.says(1, left, "only=1 proved=0").refused)
-        self.assertFalse(self.says(1, "fn tiny::plus_one: no proof: it calls `tiny::least`, which is not proved", "only=1 proved=0").refused)
+        calls = "fn tiny::plus_one: no proof: it calls `tiny::least`, which is not proved"
+        self.assertFalse(self.says(1, calls, "only=1 proved=0").refused)
         self.assertFalse(self.says(1, left.replace("plus_one", "plus_two"), "only=1 proved=0").refused)
         both = self.says(1, left.replace("`returns`", "`least-requires`, `returns`"), "only=1 proved=0")
         self.assertEqual(both.words, "`returns` of plus_one")
         for goal in ("`least-requires`", "`sum-in-range`"):
             self.assertFalse(self.says(1, left.replace("`returns`", goal), "only=1 proved=0").refused)
         error = "./proofs/plus_one/Answers.antt:1:2: error: `returns`: "
-        self.assertTrue(self.says(1, error + "the two types differ", "fn tiny::plus_one: not proved", "only=1 proved=0").refused)
-        self.assertFalse(self.says(1, error + "`one` is not in scope", "fn tiny::plus_one: not proved", "only=1 proved=0").refused)
+        unproved = ("fn tiny::plus_one: not proved", "only=1 proved=0")
+        self.assertTrue(self.says(1, error + "the two types differ", *unproved).refused)
+        self.assertFalse(self.says(1, error + "`one` is not in scope", *unproved).refused)
 
     def test_note_at_an_attribute_is_of_its_function(self):
         item = self.body("adds_two").touched[0]
         lines = self.source.texts[item.path].split("\n")
         lines.insert(item.first, "#[tactic(auto)]")
-        note = f"note: {item.path}:{item.first + 1}:1: it is not proved that what the function ensures holds (`returns`)"
+        note = f"note: {item.path}:{item.number}:1: it is not proved that what the function ensures holds (`returns`)"
         said = "\n".join([note, "fn tiny::plus_one: not proved", "only=1 proved=0"])
         outcome = outcome_of(self.body("adds_two").touched, said, 1, "tiny", {item.path: "\n".join(lines)})
         self.assertEqual(outcome.goals[0].contract(), ["returns"])
@@ -363,8 +379,10 @@ class Reading(unittest.TestCase):
 
     def test_goals_that_rest_on_a_step_count(self):
         file, end = "./proofs/plus_one/Answers.antt:1:2: error: ", ["fn tiny::plus_one: not proved", "only=1 proved=0"]
-        rest = file + "2 declarations that depend on `step`, which was rejected, were not checked: returns-clause-a, returns-clause-b"
-        self.assertEqual(self.says(1, file + "`step`: the two types differ", rest, *end).words, "`returns-clause-a` of plus_one")
+        rest = file + "2 declarations that depend on `step`, which was rejected, were not checked: "
+        rest += "returns-clause-a, returns-clause-b"
+        found = self.says(1, file + "`step`: the two types differ", rest, *end)
+        self.assertEqual(found.words, "`returns-clause-a` of plus_one")
         self.assertFalse(self.says(1, file + "`step`: record `R` has no field `one`", rest, *end).refused)
         self.assertFalse(self.says(1, rest, *end).refused)
 
@@ -394,9 +412,11 @@ class Checking(unittest.TestCase):
         for name in refused:
             self.assertTrue(any(line.startswith(f"tiny/{name}: refused at `") for line in lines), (name, lines))
         for name, (_, reason) in told.items():
-            self.assertTrue(any(line.startswith(f"NOT REFUSED tiny/{name}: ") and reason in line for line in lines), (name, lines))
+            told = [line for line in lines if line.startswith(f"NOT REFUSED tiny/{name}: ") and reason in line]
+            self.assertTrue(told, (name, lines))
         for name in unsure:
-            self.assertTrue(any(line.startswith(f"CAN'T TELL tiny/{name}: `returns-clause-is` of double") for line in lines), (name, lines))
+            begins = f"CAN'T TELL tiny/{name}: `returns-clause-is` of double"
+            self.assertTrue(any(line.startswith(begins) for line in lines), (name, lines))
         count = len(refused) + len(told) + len(unsure)
         self.assertEqual(lines[-1], f"{count} wrong bodies, {len(told)} not refused, {len(unsure)} can't tell")
 

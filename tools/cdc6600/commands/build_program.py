@@ -13,7 +13,8 @@ each, and give way (by Unix's `nice`). This tool reads no tests and no wrong bod
 rules of `rt ci`, as those on layout and handles.
 
 On standard error it reports which crates are proved, and about how long the others will take, by the times in
-tools/cdc6600/building/crate-seconds. If a crate isn't proved, it prints the end of what the checker said of it, and ends with status 1.
+tools/cdc6600/building/crate-seconds. If a crate isn't proved, it prints the end of what the checker said of it, and
+ends with status 1.
 """
 
 import argparse

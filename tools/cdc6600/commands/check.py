@@ -5,8 +5,8 @@
     tools/check NAME --help          prints what a check does
 
 docs/CHANGING.md has a table of the checks, with what each one checks and when to run it. A check that finds nothing
-prints nothing. Its faults are printed, a line or a few lines for each. CDC6600 may name the program to try; otherwise it
-is the one that tools/build-program builds.
+prints nothing. Its faults are printed, a line or a few lines for each. CDC6600 may name the program to try; otherwise
+it is the one that tools/build-program builds.
 
 Exit status:
   0    the checks find nothing
@@ -30,7 +30,8 @@ HELP = ("-h", "--help")
 
 def help_text():
     """What --help prints."""
-    return f"{__doc__.strip()}\n\nThe checks:\n{textwrap.fill(' '.join(NAMES), 118, initial_indent='  ', subsequent_indent='  ')}"
+    listed = textwrap.fill(" ".join(NAMES), 118, initial_indent="  ", subsequent_indent="  ")
+    return f"{__doc__.strip()}\n\nThe checks:\n{listed}"
 
 
 def text_of(name):

@@ -80,8 +80,8 @@ def results_of(given, folder):
 def print_coverage(given):
     """Prints how many decks show each instruction and each edge."""
     cases, proved, progress, shown = sum(cases_of(given), []), Proved(), Progress(), []
-    for number, case in enumerate(cases, 1):
-        progress.show(f"deck {number} of {len(cases)}")
+    for at, case in enumerate(cases, 1):
+        progress.show(f"deck {at} of {len(cases)}")
         shown.append(shown_by(case, proved))
     progress.show("")
     coverage = Coverage(shown)

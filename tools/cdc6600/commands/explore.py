@@ -40,7 +40,8 @@ def arguments():
     form = parser.add_mutually_exclusive_group()
     form.add_argument("--html", action="store_true", help="write a page with the graph of states")
     form.add_argument("--session", choices=("shortest", "longest"), help="print a schedule of this kind as a session")
-    parser.add_argument("--times", metavar="FILE", help="the file of times, tools/cdc6600/timing/thornton.times by default")
+    parser.add_argument("--times", metavar="FILE",
+                        help="the file of times, tools/cdc6600/timing/thornton.times by default")
     parser.add_argument("--budget", metavar="N", type=count, default=BUDGET,
                         help=f"issue at most N instructions, {BUDGET} by default")
     parser.add_argument("--states", metavar="N", type=count, default=STATES,

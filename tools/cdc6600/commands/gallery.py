@@ -26,7 +26,8 @@ def arguments():
     parser.add_argument("folder", metavar="FOLDER", help="where the pages are written; it is made if it isn't there")
     parser.add_argument("files", metavar="SESSION", nargs="*", default=[],
                         help="a session, or a deck to be scheduled")
-    parser.add_argument("--times", metavar="FILE", help="the file of times, tools/cdc6600/timing/thornton.times by default")
+    parser.add_argument("--times", metavar="FILE",
+                        help="the file of times, tools/cdc6600/timing/thornton.times by default")
     return parser.parse_args()
 
 

@@ -14,9 +14,9 @@ and the scripts of tools/completions, by which a shell completes the program's c
     PREFIX/share/zsh/site-functions/_cdc6600
     PREFIX/share/fish/vendor_completions.d/cdc6600.fish
 
-If there is no executable of these sources, `tools/build-program` proves and builds it first, and tools/build-library the
-library, which takes some ten minutes. Each file is written beside its place and then renamed, so nobody finds half of
-one. What an earlier call has installed and this one doesn't is removed. With --uninstall all that the list names is
+If there is no executable of these sources, `tools/build-program` proves and builds it first, and tools/build-library
+the library, which takes some ten minutes. Each file is written beside its place and then renamed, so nobody finds half
+of one. What an earlier call has installed and this one doesn't is removed. With --uninstall all that the list names is
 removed, with the folders that were made for it and are empty then.
 
 Three variables of the environment are read: CDC6600 may name the executable to install, CDC6600_LIBRARY the folder with
@@ -65,7 +65,8 @@ TOOLS = (
 )
 # The parts of the package that these tools use, besides their own modules in `commands`.
 PACKAGES = (
-    ".", "assembling", "comparing", "drawing", "installing", "many_jobs", "operating", "random_decks", "shared", "timing",
+    ".", "assembling", "comparing", "drawing", "installing", "many_jobs", "operating", "random_decks", "shared",
+    "timing",
 )
 # What isn't installed with `--without` and its name.
 PARTS = ("completions", "library", "pages", "program", "tools")

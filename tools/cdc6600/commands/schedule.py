@@ -38,7 +38,8 @@ def budget(word):
 def arguments():
     parser = argparse.ArgumentParser(description=__doc__, formatter_class=argparse.RawDescriptionHelpFormatter)
     parser.add_argument("--policy", choices=POLICIES, default=TIMED, help=f"the order of events, {TIMED} by default")
-    parser.add_argument("--times", metavar="FILE", help="the file of times, tools/cdc6600/timing/thornton.times by default")
+    parser.add_argument("--times", metavar="FILE",
+                        help="the file of times, tools/cdc6600/timing/thornton.times by default")
     parser.add_argument("--budget", metavar="N", type=budget, default=BUDGET,
                         help=f"issue at most N instructions, {BUDGET} by default")
     parser.add_argument("--summary", action="store_true", help="print the cycles and the waits instead of the session")

@@ -27,7 +27,8 @@ def arguments():
     form.add_argument("--svg", action="store_true", help="draw a picture")
     form.add_argument("--html", action="store_true", help="write a page that steps through the events")
     parser.add_argument("--cycles", action="store_true", help="a column for each minor cycle instead of each event")
-    parser.add_argument("--times", metavar="FILE", help="the file of times, tools/cdc6600/timing/thornton.times by default")
+    parser.add_argument("--times", metavar="FILE",
+                        help="the file of times, tools/cdc6600/timing/thornton.times by default")
     parser.add_argument("--compare", action="store_true", help="with --html, compare the session with a second one")
     parser.add_argument("session", metavar="SESSION", help="a deck with a schedule after it")
     parser.add_argument("second", metavar="SECOND", nargs="?",

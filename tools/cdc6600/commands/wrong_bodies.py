@@ -1,13 +1,14 @@
 """Tries the wrong bodies of the crates: the prover has to refuse each at a goal of its own function's contract.
 
-    tools/wrong-bodies [CRATE..]     those of every crate, or of these; what was refused before, and is the same, is kept
-    tools/wrong-bodies --anew        all of them, whatever was kept
-    tools/wrong-bodies --after-rt-ci over the libraries that `rt ci` has just left in this checkout
+    tools/wrong-bodies [CRATE..]        those of every crate, or of these; what was refused before, and is the same,
+                                        is kept
+    tools/wrong-bodies --anew           all of them, whatever was kept
+    tools/wrong-bodies --after-rt-ci    over the libraries that `rt ci` has just left in this checkout
 
 A wrong body is an edit in crates/NAME/wrong-bodies/, or one of the promised ones in crates/NAME/must-fail/, which
-`rt ci` tries too. docs/CHANGING.md says how one is written. Bodies are tried in groups: tools/cdc6600/wrong_bodies/copies.py,
-and for the rest groups.py, say why one check can judge many. tools/cdc6600/wrong_bodies/verdicts.py says what a check refuses, and
-second.py when that counts.
+`rt ci` tries too. docs/CHANGING.md says how one is written. Bodies are tried in groups:
+tools/cdc6600/wrong_bodies/copies.py, and for the rest groups.py, say why one check can judge many.
+tools/cdc6600/wrong_bodies/verdicts.py says what a check refuses, and second.py when that counts.
 
 It prints a line for each body with its verdict and the goal, a line for each crate, and last the number of bodies, of
 those that aren't refused, and of those of which it can't tell. The status is 0 if each body is refused or of that last
@@ -34,8 +35,10 @@ def arguments():
     parser.add_argument("crates", nargs="*", metavar="CRATE", help="a crate of crates.txt; none: all of them")
     parser.add_argument("--anew", action="store_true", help="try all, whatever an earlier run kept")
     parser.add_argument("--once", action="store_true", help="check each body once, which takes a third of the time")
-    parser.add_argument("--after-rt-ci", action="store_true", help="`rt ci` has just ended well here: take over its libraries")
-    parser.add_argument("--at-once", type=int, default=0, help="how many checks run side by side (default: as the machine allows)")
+    parser.add_argument("--after-rt-ci", action="store_true",
+                        help="`rt ci` has just ended well here: take over its libraries")
+    parser.add_argument("--at-once", type=int, default=0,
+                        help="how many checks run side by side (default: as the machine allows)")
     parser.add_argument("--root", type=Path, default=ROOT, help=argparse.SUPPRESS)
     return parser.parse_args()
 
@@ -49,7 +52,8 @@ def chosen(table, names):
 
 
 def not_refused(crate):
-    """A line for each edit of a crate that can't be read, and for each body that wasn't refused. Silence is no refusal."""
+    """A line for each edit of a crate that can't be read, and for each body that wasn't refused. Silence is no
+    refusal."""
     lines = list(crate.faults)
     for body in crate.bodies:
         verdict = crate.verdicts.get(body.name)
@@ -99,10 +103,12 @@ def work():
     tries = try_all(table, crates, given)
     for crate in crates:
         total = len(crate.bodies) + len(crate.faults)
-        print(f"{crate.name}: {total} bodies, {len(crate.groups)} groups, {crate.seconds:.0f} seconds of processor time")
+        seconds = f"{crate.seconds:.0f} seconds of processor time"
+        print(f"{crate.name}: {total} bodies, {len(crate.groups)} groups, {seconds}")
     print(f"libraries: {len(tries.libraries)}, {tries.library_seconds:.0f} seconds of processor time")
     bad = len(faults) + sum(len(not_refused(crate)) for crate in crates)
-    total, unsure = sum(len(crate.bodies) + len(crate.faults) for crate in crates), sum(len(cant_tell(crate)) for crate in crates)
+    total = sum(len(crate.bodies) + len(crate.faults) for crate in crates)
+    unsure = sum(len(cant_tell(crate)) for crate in crates)
     print(f"{total} wrong bodies, {bad} not refused, {unsure} can't tell")
     return 1 if bad else 0
 

@@ -85,8 +85,9 @@ def end_group(process):
 
 
 class Emulator:
-    """A command that reads a deck on standard input, goes through the log that is its last argument, or in the file that
-    its last two arguments `--log FILE` name, and prints the dump. A call of it may take so many seconds, and so many more for each thousand steps of the log."""
+    """A command that reads a deck on standard input, goes through the log that is its last argument, or in the file
+    that its last two arguments `--log FILE` name, and prints the dump. A call of it may take so many seconds, and so
+    many more for each thousand steps of the log."""
 
     def __init__(self, command, seconds, slope):
         self.command, self.seconds, self.slope = command, seconds, slope
@@ -99,8 +100,8 @@ class Emulator:
             raise BadInput("the command has no word")
 
     def start(self, words, deck):
-        """Starts it on the file of a deck, with these last arguments. It begins a session, and so a group of processes, by which all that it starts
-        can be ended."""
+        """Starts it on the file of a deck, with these last arguments. It begins a session, and so a group of processes,
+        by which all that it starts can be ended."""
         piped = {"stdout": subprocess.PIPE, "stderr": subprocess.PIPE}
         try:
             with open(deck, "rb") as given:

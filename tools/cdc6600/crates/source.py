@@ -18,7 +18,8 @@ REQUIRES = re.compile(r"^ *requires\b", re.MULTILINE)
 CLAUSES = re.compile(r"^ *(?:requires|ensures)\b", re.MULTILINE)
 # A line of the comment above an item, or of its attributes.
 ABOVE = re.compile(r"\s*(?:///|#\[)")
-# What code calls with no call to be seen: by an operator, a `for`, a `?`, an index, a derived impl or the end of a scope.
+# What code calls with no call to be seen: by an operator, a `for`, a `?`, an index, a derived impl or the end of a
+# scope.
 UNSEEN_CALLS = frozenset(
     "add sub mul div rem neg not bitand bitor bitxor shl shr add_assign sub_assign eq ne cmp partial_cmp lt le gt ge "
     "next into_iter deref deref_mut index index_mut from into clone default fmt hash drop".split()
@@ -38,8 +39,8 @@ class Owner:
 
 @dataclass(frozen=True)
 class Item:
-    """A function, a constant or a macro: where it stands (`first` and `last` are line numbers from 0), its text, and the
-    comment and attributes above it."""
+    """A function, a constant or a macro: where it stands (`first` and `last` are line numbers from 0), its text, and
+    the comment and attributes above it."""
 
     path: str
     first: int
@@ -186,7 +187,8 @@ def first_above(lines, at):
 
 
 def last_line(lines, at, indentation):
-    """The last line of a function or a macro: its closing brace, or that of a declaration, which ends outside any brace."""
+    """The last line of a function or a macro: its closing brace, or that of a declaration, which ends outside any
+    brace."""
     head = lines[at].rstrip()
     if head.endswith(("}", ";")):
         return at

@@ -17,13 +17,13 @@ The parts, in their order:
 - wrong bodies: those of `must-fail` again and all others, in groups, over the libraries that `rt ci` left
   (tools/wrong-bodies --once, which keeps what it tried in the user's cache folder). A body with the verdict `can't
   tell` has neither passed nor failed, and the number of these is printed at the end;
-- decks (tools/cdc6600/checks): what the program prints for them, for the commands of the pages, for worked schedules, for the
-  largest decks, for those that are cut and bent, and where calls fail, when requests of both kinds are made, what a run
-  with and without threads prints for drawn decks, and which events take memory; that a run ends soon beside other work;
-  that sources are assembled, that emulators are compared with it, that pages of sessions say what the machine does,
-  that a machine is driven by hand, installed, run many times and called from C; then that forgotten tokens are refused,
-  and that `./cdc6600` builds no program of which a crate isn't proved. A check that needs a program which isn't
-  installed is left out, and that is told.
+- decks (tools/cdc6600/checks): what the program prints for them, for the commands of the pages, for worked schedules,
+  for the largest decks, for those that are cut and bent, and where calls fail, when requests of both kinds are made,
+  what a run with and without threads prints for drawn decks, and which events take memory; that a run ends soon beside
+  other work; that sources are assembled, that emulators are compared with it, that pages of sessions say what the
+  machine does, that a machine is driven by hand, installed, run many times and called from C; then that forgotten
+  tokens are refused, and that `./cdc6600` builds no program of which a crate isn't proved. A check that needs a program
+  which isn't installed is left out, and that is told.
 
 A small check and a check of decks that finds nothing says nothing. Where `rt ci` fails nothing more is tried.
 """
@@ -69,8 +69,8 @@ def is_silent(name):
 
 
 def counted(words, pattern, environment=None):
-    """Runs a command, prints what it says, and gives the numbers of its last line, of which the second is how many failed.
-    One that ends in another way has failed once."""
+    """Runs a command, prints what it says, and gives the numbers of its last line, of which the second is how many
+    failed. One that ends in another way has failed once."""
     numbers = None
     with subprocess.Popen(words, **PIPED, env=environment) as ran:
         for line in ran.stdout:
@@ -107,8 +107,8 @@ class Gate:
 
 
 def silent(names):
-    """How many of the checks, side by side, find nothing, and how many do. Those that need a program which isn't installed
-    are left out."""
+    """How many of the checks, side by side, find nothing, and how many do. Those that need a program which isn't
+    installed are left out."""
     ready = [name for name in names if is_ready(name)]
     with ThreadPoolExecutor(len(names)) as pool:
         found = list(pool.map(is_silent, ready))

@@ -38,8 +38,8 @@ PLACEHOLDER = re.compile(r"\bNAME\b|^crates/crate/")
 KINDS = (".rt", ".antt", ".edit", ".h", ".c", ".rs", ".py")
 LINK = re.compile(r"\]\(([^)\s]+)\)")
 ELSEWHERE = re.compile(r"[a-z]+:|#")
-# Comments of crates that name a file by the path that it had before it was moved. A crate's comments are part of what is
-# proved, so they change together with other changes of the crate. A row that is no longer needed is a fault.
+# Comments of crates that name a file by the path that it had before it was moved. A crate's comments are part of what
+# is proved, so they change together with other changes of the crate. A row that is no longer needed is a fault.
 MOVED = {
     ("crates/command_line/src/lib.rt", "tools/checks/pages"),
     ("crates/schedule_tests/src/lib.rt", "tools/checks/schedules"),

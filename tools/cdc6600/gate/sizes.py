@@ -4,7 +4,8 @@
     tools/check sizes --write    writes the table anew
 
 It fails too where a crate has more than 1,550 lines or 100 functions without its tests, or a function has more than 40
-lines. Some 1,500 lines are meant: a crate near that bound may still be mended, and is split when its subjects part. Tests are the files with `test` in their names, and all files of a crate whose name ends in `_tests`.
+lines. Some 1,500 lines are meant: a crate near that bound may still be mended, and is split when its subjects part.
+Tests are the files with `test` in their names, and all files of a crate whose name ends in `_tests`.
 """
 
 import sys

@@ -77,7 +77,8 @@ WORDS = [
         "the right to serve the reservations of a unit",
         "a slot: the field of one unit, place or load channel",
         crates(
-            "program_order machine machine_tests progress_word machine_lock unit_serving unit_workers thread_tests schedule_tests"
+            "program_order machine machine_tests progress_word machine_lock unit_serving unit_workers thread_tests"
+            " schedule_tests"
         ),
         r"one of the seats that a machine gives out",
         r"[Tt]oken|[Cc]laim|machine|[Ww]orker|[Tt]hread|[Ss]erve|reservation",

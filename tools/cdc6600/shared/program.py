@@ -47,9 +47,9 @@ def named_program():
 
 
 def program_path():
-    """The program that CDC6600 names; otherwise the one that is installed with the tools, if they are; otherwise the one
-    that `./cdc6600` runs, which is built first if its sources have changed. What is run then is the executable, without
-    the script's look at the sources at each run."""
+    """The program that CDC6600 names; otherwise the one that is installed with the tools, if they are; otherwise the
+    one that `./cdc6600` runs, which is built first if its sources have changed. What is run then is the executable,
+    without the script's look at the sources at each run."""
     if IS_CHECKOUT and not named_program():
         if subprocess.run([ROOT / "tools/build-program"], check=False).returncode:
             sys.exit(f"{sys.argv[0]}: the program could not be built")

@@ -1,8 +1,8 @@
 """Puts wrong bodies beside the right ones, so that one check judges many.
 
 A wrong body gets a copy of its function under a name of its own, with the same contract and with copies of the proof
-files. The copy calls what the function calls, the right bodies of it, and nothing calls the copy. So what the check says
-of a copy is said of that body alone, and any number of them can stand in one text.
+files. The copy calls what the function calls, the right bodies of it, and nothing calls the copy. So what the check
+says of a copy is said of that body alone, and any number of them can stand in one text.
 
 Some bodies can't stand so: a method of a trait's `impl`, which has no room for a second one; a function that calls
 itself, since its copy would call the right body; one whose proof has more files than answers and invariants; and an
@@ -25,7 +25,8 @@ TOGETHER = 24
 
 @dataclass(frozen=True)
 class Copy:
-    """A wrong body beside the right one: its edit's name, the copy as an item, its lines, and its proof files' texts."""
+    """A wrong body beside the right one: its edit's name, the copy as an item, its lines, and its proof files'
+    texts."""
 
     body: object
     item: Item
@@ -39,8 +40,8 @@ class Copy:
 
 
 def proof_folder(item, source, folder, part=()):
-    """The folder of a function's proof, whether there is one or not, and None if that isn't clear. With the part `fn`, that
-    of the proofs of its closures."""
+    """The folder of a function's proof, whether there is one or not, and None if that isn't clear. With the part `fn`,
+    that of the proofs of its closures."""
     if not item.owner:
         return Path(folder, "proofs", *module_of(item.path), *part, item.name)
     modules = source.types.get(item.owner, [])
@@ -61,7 +62,8 @@ def proof_folders(item, source, folder):
 
 
 def written_folders(item, folder):
-    """The folders that may have written proofs of a function, also of one that can't have a copy, and of its closures."""
+    """The folders that may have written proofs of a function, also of one that can't have a copy, and of its
+    closures."""
     for file in sorted(Path(folder, "proofs").rglob("*")):
         steps = file.relative_to(folder / "proofs").parts
         if file.is_dir() and is_of("::".join([folder.name, *steps]), item, folder.name):
@@ -76,7 +78,7 @@ def can_stand_beside(body, source, folder):
     folders = proof_folders(item, source, folder)
     if item.trait or not folders or folders[0].with_name(f"+{item.name}").exists():
         return False
-    is_method_of_trait = item.owner and re.search(rf"^(pub(\([^)]*\))? )?trait {item.owner}\b", source.texts[item.path], re.M)
+    is_method_of_trait = item.within.is_trait
     is_inside = path == item.path and item.first <= start and end <= item.last + 1
     own, closures = folders
     files = {file.name for file in own.iterdir()} if own.is_dir() else set()

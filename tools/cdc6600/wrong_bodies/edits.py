@@ -16,7 +16,8 @@ class Body:
     folder: str
     text: str
     regions: list = field(default_factory=list)  # (path, from, to, new text), by places in the right text
-    touched: list = field(default_factory=list)  # the functions that it changes, or that read a constant that it changes
+    # The functions that it changes, or that read a constant that it changes.
+    touched: list = field(default_factory=list)
     is_alone: bool = False
 
 
@@ -59,7 +60,8 @@ def read_body(file, source):
 
 
 def touch(body, path, text, at, new, source):
-    """Notes which functions a pair changes, and whether it concerns others. Says whether it leaves the contracts alone."""
+    """Notes which functions a pair changes, and whether it concerns others. Says whether it leaves the contracts
+    alone."""
     first = text[:at].count("\n")
     inside = next((item for item in items_of(path, text) if item.first <= first <= item.last), None)
     is_function = inside is not None and inside.kind == "function"
@@ -85,7 +87,8 @@ def region_of(path, right, wrong):
 
 
 def merged(source, bodies):
-    """The texts that have every one of these bodies. Each region is in the places of the right text, and no two overlap."""
+    """The texts that have every one of these bodies. Each region is in the places of the right text, and no two
+    overlap."""
     texts = {}
     regions = sorted((region for body in bodies for region in body.regions), key=lambda it: it[:3], reverse=True)
     for path, start, end, lines in regions:

@@ -14,7 +14,8 @@ from cdc6600.crates.source import UNSEEN_CALLS, names_in
 
 
 def reached(source, bodies):
-    """For each name of a function, constant or macro: the names that it reaches, by its right body or by a wrong one."""
+    """For each name of a function, constant or macro: the names that it reaches, by its right body or by a wrong
+    one."""
     named = {item.name for item in source.items}
     implied = {item.name for item in source.items if item.trait and item.name in UNSEEN_CALLS}
     direct = {}

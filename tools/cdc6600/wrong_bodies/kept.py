@@ -67,8 +67,8 @@ class Kept:
         return Verdict(*found) if found else None
 
     def keep(self, body, verdict):
-        """Writes a verdict at once, so that a run that is cut off has not tried for nothing. If there is no place to write
-        to, nothing is kept, and a later run tries all again."""
+        """Writes a verdict at once, so that a run that is cut off has not tried for nothing. If there is no place to
+        write to, nothing is kept, and a later run tries all again."""
         self.found[self.key(body)] = verdict.kind, verdict.words
         try:
             self.file.parent.mkdir(parents=True, exist_ok=True)

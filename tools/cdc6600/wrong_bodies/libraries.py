@@ -31,9 +31,10 @@ def stamps(root):
 
 
 def left_by_rt_ci(table):
-    """The stamp of each crate whose library `rt ci` left, where it left those of all that stand below too. That it ended
-    well here, and that nothing was changed since, its caller has to know."""
-    found = {name: stamp for name, stamp in stamps(table.root).items() if name in table.lines and is_left(table.folder(name), name)}
+    """The stamp of each crate whose library `rt ci` left, where it left those of all that stand below too. That it
+    ended well here, and that nothing was changed since, its caller has to know."""
+    known = {name: stamp for name, stamp in stamps(table.root).items() if name in table.lines}
+    found = {name: stamp for name, stamp in known.items() if is_left(table.folder(name), name)}
     return {name: stamp for name, stamp in found.items() if all(it in found for it in table.below(name))}
 
 

@@ -1,13 +1,14 @@
 """Finds the closed definitions that the goals of a function may name, so that a second check can open them.
 
-The tactics don't look into an `unfoldable` definition, unless the function's attribute opens it by `unfolding`. The right
-body is often proved with closed definitions, since the functions that it calls promise the same names. A body in other
-words, which calls other functions, isn't.
+The tactics don't look into an `unfoldable` definition, unless the function's attribute opens it by `unfolding`. The
+right body is often proved with closed definitions, since the functions that it calls promise the same names. A body in
+other words, which calls other functions, isn't.
 
 The definitions that are opened are named by the function's contract, by the contracts of the functions that the body
-calls, by the invariant of its type, or by a definition that is opened. The nearest LIMIT of them are taken, since a search
-among very many takes long and gives up. They belong to the crate or to a crate that its line in crates.txt lists. Calls
-are found by name alone, so some definitions are opened that no goal names. That costs time, and nothing else.
+calls, by the invariant of its type, or by a definition that is opened. The nearest LIMIT of them are taken, since a
+search among very many takes long and gives up. They belong to the crate or to a crate that its line in crates.txt
+lists. Calls are found by name alone, so some definitions are opened that no goal names. That costs time, and nothing
+else.
 """
 
 import re
@@ -24,7 +25,9 @@ DECLARATION = re.compile(r"(?:(abbrev|unfoldable) )?(?:pub )?(?:record |data )?(
 ATTRIBUTE = re.compile(r"\s*#\[tactic\(auto\b(.*)\)\]$")
 LIST = re.compile(r"(using|unfolding)\(([^)]*)\)")
 # What a type's declaration says of its values, and what its `Model` does.
-TYPE = re.compile(rf"^(?:{DECLARES.pattern}|impl(?:<[^{{]*>)? Model for (\w+))[^\n]*{{\n(.*?)^}}", re.MULTILINE | re.DOTALL)
+TYPE = re.compile(
+    rf"^(?:{DECLARES.pattern}|impl(?:<[^{{]*>)? Model for (\w+))[^\n]*{{\n(.*?)^}}", re.MULTILINE | re.DOTALL
+)
 SAID = re.compile(r"ghost (?!use\b).*?\}[,;]$", re.MULTILINE | re.DOTALL)
 # The attribute's paths are made of the names of Rust.
 RUST = re.compile(r"\w+")

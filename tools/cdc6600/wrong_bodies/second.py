@@ -1,16 +1,17 @@
 """Checks the bodies that one check refused once more, since that check alone says little of the contract.
 
-It refuses a right body in other words, too, if the tactics would have to open a definition for it, or if the function has
-a written proof, which fits no other text. The second check opens the definitions that the goals may name (opening.py), and
-leaves out the written answers that don't fit (written.py), so that search alone has to find these goals. It also checks
-the right body, without all that is answered for its contract. The verdict rests on the goals that neither check proves:
+It refuses a right body in other words, too, if the tactics would have to open a definition for it, or if the function
+has a written proof, which fits no other text. The second check opens the definitions that the goals may name
+(opening.py), and leaves out the written answers that don't fit (written.py), so that search alone has to find these
+goals. It also checks the right body, without all that is answered for its contract. The verdict rests on the goals that
+neither check proves:
 
 - There are none: the body isn't refused. No clause tells it from the right body.
 - Nothing is written for the contract: such a goal refuses the body.
 - Something is written: such a goal refuses the body if search proves it of the right body. A goal that the right body
   doesn't have counts so if search proves every goal of the same clause there.
-- Otherwise it can't be told. The body may be wrong, or may only need another proof. The invariant of a loop is always of
-  this kind, since it is written for the right body.
+- Otherwise it can't be told. The body may be wrong, or may only need another proof. The invariant of a loop is always
+  of this kind, since it is written for the right body.
 
 A goal that the first check proves counts as proved, since a search among opened definitions may give up.
 """
@@ -47,8 +48,9 @@ def unfit_answers(goals):
 
 @dataclass
 class Again:
-    """A body that is tried once more. For each function that it changes: what is opened, which answers don't fit and are
-    left out, and the answers of all goals of the contract, by their files; then all that is written for the contract."""
+    """A body that is tried once more. For each function that it changes: what is opened, which answers don't fit and
+    are left out, and the answers of all goals of the contract, by their files; then all that is written for the
+    contract."""
 
     body: object
     first: object  # the outcome of its first check
@@ -77,12 +79,13 @@ def again(body, first, opening, source, folder):
 
 
 def written_for(item, folder):
-    """The answers that are written for the contract of a function and of its closures, by their file and their name, and
-    the goals for which something is written: an answer or an invariant."""
+    """The answers that are written for the contract of a function and of its closures, by their file and their name,
+    and the goals for which something is written: an answer or an invariant."""
     answers, written = set(), set()
     for file in (file for at in written_folders(item, folder) for file in sorted(at.glob("*.antt"))):
         path = str(file.relative_to(folder))
-        names = {name for name in declared(file.read_text(encoding="utf-8")) if CONTRACT.match(name) or STATED.match(name)}
+        text = file.read_text(encoding="utf-8")
+        names = {name for name in declared(text) if CONTRACT.match(name) or STATED.match(name)}
         written |= {goal_in(path, name) for name in names}
         answers |= {(path, name) for name in names if file.name == "Answers.antt"}
     return answers, written
@@ -94,7 +97,7 @@ def in_place(it, body, left_out, source, folder):
     for item, paths, names in zip(body.touched, it.paths, left_out):
         above = attributes_of(item, source.texts[item.path].split("\n"))
         start = item.first - len(above)
-        if paths and not any(path == item.path and first < item.first and start < last for path, first, last, _ in regions):
+        if paths and not any(it[0] == item.path and it[1] < item.first and start < it[2] for it in regions):
             regions.append((item.path, start, item.first, opened(above, paths, item)))
         for path in {path for path, _ in names}:
             text = texts.get(path) or (folder / path).read_text(encoding="utf-8")
@@ -164,8 +167,9 @@ def opened_words(it):
 
 
 def after_one(body, first, folder):
-    """The verdict on a body that one check refused, if there is to be no other. Search proves each goal of the right body for
-    which nothing is written, so one of these that it doesn't prove refuses the body. Of the others nobody can tell."""
+    """The verdict on a body that one check refused, if there is to be no other. Search proves each goal of the right
+    body for which nothing is written, so one of these that it doesn't prove refuses the body. Of the others nobody can
+    tell."""
     unsure = ""
     for item, goals in zip(body.touched, first.goals):
         _, written = written_for(item, folder)
@@ -183,8 +187,8 @@ def original(left_out, suffix):
 
 
 def copies_again(them, suffixes, source, folder):
-    """The copies of the bodies that are tried once more, and the copy of the right body for each function that has written
-    answers, by the function's key."""
+    """The copies of the bodies that are tried once more, and the copy of the right body for each function that has
+    written answers, by the function's key."""
     copies, rights = [], {}
     for it, suffix in zip(them, suffixes):
         copies.append(copy_of(it.body, suffix, source, folder, it.paths[0], original(it.left_out[0], suffix)))

@@ -12,6 +12,7 @@ import tempfile
 import threading
 from concurrent.futures import FIRST_COMPLETED, ThreadPoolExecutor, wait
 from dataclasses import dataclass, field, replace
+from functools import partial
 from pathlib import Path
 
 from cdc6600.building import host
@@ -35,7 +36,8 @@ IN_A_WORKSPACE = 12
 
 @dataclass
 class Group:
-    """Wrong bodies that one check judges: in copies beside the right ones, or, where there are no copies, in their places."""
+    """Wrong bodies that one check judges: in copies beside the right ones, or, where there are no copies, in their
+    places."""
 
     bodies: list
     copies: list = field(default_factory=list)
@@ -51,7 +53,8 @@ class Group:
     def outcomes(self, ran, crate, texts):
         """What a check of these texts says of each body."""
         tried = self.copies or self.bodies
-        return {body.name: outcome_of(it.touched, ran.said, ran.status, crate, texts) for body, it in zip(self.bodies, tried)}
+        found = [outcome_of(it.touched, ran.said, ran.status, crate, texts) for it in tried]
+        return {body.name: outcome for body, outcome in zip(self.bodies, found)}
 
 
 @dataclass
@@ -110,8 +113,8 @@ def paths_of(group, source):
 
 
 def path_of(item, source):
-    """A function's path below its crate. A method has the module of its type. One of a trait's, and one of a type at some
-    arguments alone, isn't found by the type's name: its path is the whole module."""
+    """A function's path below its crate. A method has the module of its type. One of a trait's, and one of a type at
+    some arguments alone, isn't found by the type's name: its path is the whole module."""
     if not item.owner:
         return "::".join([*module_of(item.path), item.name])
     modules = source.types.get(item.owner, [])
@@ -134,7 +137,8 @@ class Tries:
         needed = {name for crate in tried for name in table.below(crate.name)}
         self.left = left_by_rt_ci(table) if needed and is_after_rt_ci else {}
         for name in (name for name in table.lines if name in needed):
-            self.tasks["library", name] = ([("library", it) for it in table.below(name)], lambda name=name: self.build(name))
+            waits = [("library", it) for it in table.below(name)]
+            self.tasks["library", name] = (waits, lambda name=name: self.build(name))
         for crate in tried:
             self.plan(crate, crate.name in needed and crate.name not in self.left)
 
@@ -143,10 +147,12 @@ class Tries:
         workspaces = len(crate.groups) if is_built else -(-len(crate.groups) // IN_A_WORKSPACE)
         for number, group in enumerate(crate.groups):
             waits = before if number < workspaces else [(crate.name, number - workspaces)]
-            self.tasks[crate.name, number] = (waits, lambda crate=crate, group=group: self.judge(crate, group, is_built))
+            judge = partial(self.judge, crate, group, is_built)
+            self.tasks[crate.name, number] = (waits, judge)
 
     def build(self, name):
-        """Gets a library: the one that `rt ci` left, or one that is built over what the checkout's own checks kept of it."""
+        """Gets a library: the one that `rt ci` left, or one that is built over what the checkout's own checks kept of
+        it."""
         lacking = next((it for it in self.table.below(name) if it in self.broken), None)
         if lacking:
             self.broken[name] = self.broken[lacking]
@@ -165,12 +171,15 @@ class Tries:
             self.broken[name] = str(fault)
 
     def workspace_of(self, crate, is_built):
-        """A workspace for a group's check: one that an earlier group has left, or a new one over what was kept of the crate."""
+        """A workspace for a group's check: one that an earlier group has left, or a new one over what was kept of the
+        crate."""
         with crate.lock:
             if crate.idle:
                 return crate.idle.pop()
-        workspace = Workspace(self.table, tempfile.mkdtemp(prefix=f"{crate.name}-", dir=self.room), crate.name, self.libraries)
-        workspace.take_kept(self.libraries[crate.name].folder if is_built else self.table.folder(crate.name), "incremental")
+        room = tempfile.mkdtemp(prefix=f"{crate.name}-", dir=self.room)
+        workspace = Workspace(self.table, room, crate.name, self.libraries)
+        folder = self.libraries[crate.name].folder if is_built else self.table.folder(crate.name)
+        workspace.take_kept(folder, "incremental")
         return workspace
 
     def judge(self, crate, group, is_built):
@@ -197,15 +206,16 @@ class Tries:
             folder = self.table.folder(crate.name)
             verdicts |= {body.name: after_one(body, found[body.name], folder) for body in refused}
             refused = []
-        verdicts |= self.look_again(crate, [body for body in refused if body.name not in apart], found, suffixes, workspace)
+        left = [body for body in refused if body.name not in apart]
+        verdicts |= self.look_again(crate, left, found, suffixes, workspace)
         for body in (body for body in refused if body.name in apart):
             verdicts |= self.look_again(crate, [body], found, {}, workspace)
         for body in group.bodies:
             crate.tell(body, verdicts[body.name])
 
     def look(self, crate, group, workspace):
-        """Checks a group. A body that isn't refused in it is tried again in its place and by itself, since the fault may be
-        another's. Returns what was found of each body, and the names of those that were tried again.
+        """Checks a group. A body that isn't refused in it is tried again in its place and by itself, since the fault
+        may be another's. Returns what was found of each body, and the names of those that were tried again.
 
         But where bodies in their places are tried together, and the check says of one that it only calls what isn't
         proved, the grouping missed a call, and is told."""
@@ -260,15 +270,16 @@ class Tries:
         return group.outcomes(ran, crate.name, {**crate.source.texts, **texts})
 
     def behind(self, key):
-        """How much waits for a task: libraries that stand below many come first, and then the crates with most to try."""
+        """How much waits for a task: libraries that stand below many come first, and then the crates with most to
+        try."""
         if key[0] == "library":
             above = [it for it in self.table.lines if key[1] in self.table.below(it) and ("library", it) in self.tasks]
             return True, len(above), len(self.table.below(key[1]))
         return False, self.sizes[key[0]], -key[1]
 
     def run(self, is_tried):
-        """Runs the tasks side by side, each once those that it waits for have ended and there is memory for it. It hands
-        out the name of each crate once all its groups are tried."""
+        """Runs the tasks side by side, each once those that it waits for have ended and there is memory for it. It
+        hands out the name of each crate once all its groups are tried."""
         left, done, busy = sorted(self.tasks, key=self.behind, reverse=True), set(), {}
         with ThreadPoolExecutor(self.at_once) as pool:
             try:

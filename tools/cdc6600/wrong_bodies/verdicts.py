@@ -1,7 +1,7 @@
 """Reads the output of `rt check`, and finds for each wrong body the goal at which the prover refuses it.
 
-Here is the verdict of one check. second.py has the verdict on a body that a check refuses. A check refuses a body only if it
-names a goal of the body's own function:
+Here is the verdict of one check. second.py has the verdict on a body that a check refuses. A check refuses a body only
+if it names a goal of the body's own function:
 
     fn F: no proof: .. `search` did not prove `GOAL`      where tactics prove the function, or
     fn F: not proved                                      with an error of a proof file of F that names the goal:
@@ -33,9 +33,14 @@ ERROR = re.compile(FILE + r"`([^`]+)`: (.*)")
 # What is said of a proof file at no declaration of it. Then the check may have passed over some.
 UNREAD = re.compile(FILE + r".*")
 # What is said of goals whose proof cites a step of the same file that isn't proved.
-RESTS = re.compile(FILE + r"\d+ declarations? that depends? on `([^`]+)`, which was rejected, (?:was|were) not checked: (.*)")
+RESTS = re.compile(
+    FILE + r"\d+ declarations? that depends? on `([^`]+)`, which was rejected, (?:was|were) not checked: (.*)"
+)
 # What is said of a proof file that names something which the edit took away, or that can't be read.
-NAMES = re.compile(r"has no field|is not in scope|has no `|was not admitted|is no name|operand is missing|expected the end|cannot continue")
+NAMES = re.compile(
+    r"has no field|is not in scope|has no `|was not admitted|is no name|operand is missing|expected the end"
+    r"|cannot continue"
+)
 CALLS = re.compile(r"it calls `")
 # What is said of a function where the check came to its end.
 ENDED = ("proved", "not proved", "no proof")
@@ -60,9 +65,9 @@ class Verdict:
 
 @dataclass
 class Goals:
-    """What a check leaves unproved of one function: goals that search didn't prove; declarations of a proof file that it
-    rejects, and those that name what is gone, each by the file's path and its name. `is_whole` says that the check came to
-    each goal: it comes to none of a function that calls a closure which isn't proved."""
+    """What a check leaves unproved of one function: goals that search didn't prove; declarations of a proof file that
+    it rejects, and those that name what is gone, each by the file's path and its name. `is_whole` says that the check
+    came to each goal: it comes to none of a function that calls a closure which isn't proved."""
 
     said: list = field(default_factory=list)
     is_whole: bool = False
@@ -90,7 +95,8 @@ class Goals:
 
 @dataclass(frozen=True)
 class Outcome:
-    """What one check says of a body: the verdict by that check alone, and of each function that it changes what is left."""
+    """What one check says of a body: the verdict by that check alone, and of each function that it changes what is
+    left."""
 
     verdict: Verdict
     goals: tuple = ()
@@ -99,9 +105,9 @@ class Outcome:
 def is_of(name, item, crate):
     """Whether a name of the check's output is the function's, or that of a closure in it.
 
-    A function is `crate::module::f`, and a method `crate::module::Type::f` by the type's own module. At some arguments of the
-    type alone it is `Type+8::f`, and one of a trait's is `TypeTrait::f`, with the trait's arguments behind it. A closure in
-    it is `crate::module::fn::f::closure..` or `crate::module::fn::Type::f::closure..`."""
+    A function is `crate::module::f`, and a method `crate::module::Type::f` by the type's own module. At some arguments
+    of the type alone it is `Type+8::f`, and one of a trait's is `TypeTrait::f`, with the trait's arguments behind it. A
+    closure in it is `crate::module::fn::f::closure..` or `crate::module::fn::Type::f::closure..`."""
     steps = name.split("::")
     if "fn" in steps[:-1]:
         at = steps.index("fn")
@@ -121,15 +127,16 @@ def goal_in(path, name):
 
 
 def searched_goals(found, lines, places):
-    """The goals that search didn't prove of a function and of its closures, of which all this was found. Of one that has a
-    proof file only a note says them, by its place in the source."""
+    """The goals that search didn't prove of a function and of its closures, of which all this was found. Of one that
+    has a proof file only a note says them, by its place in the source."""
     goals = []
     for name, says, rest in (it.groups() for it in found):
         path = f"{name.replace('::', '/')}/"
         left = [goal for words in LEFT.findall(rest) for goal in re.findall(r"`([^`]+)`", words)]
         if says == "not proved":
             noted = [it for it in map(NOTE.match, lines) if it]
-            left += [it[3] for it in noted if any(it[1] == at and first < int(it[2]) <= last + 1 for at, first, last in places)]
+            left += [it[3] for it in noted
+                     if any(it[1] == at and first < int(it[2]) <= last + 1 for at, first, last in places)]
         goals += [goal_in(path, goal) for goal in left]
     return goals
 
@@ -138,7 +145,8 @@ def goals_of(lines, texts, item, crate):
     """What a check of these texts leaves of a function."""
 
     def found_by(pattern):
-        return [found for found in map(pattern.match, lines) if found and is_of("::".join([crate, *found[2].split("/")]), item, crate)]
+        matches = filter(None, map(pattern.match, lines))
+        return [found for found in matches if is_of("::".join([crate, *found[2].split("/")]), item, crate)]
 
     said = [found for found in map(LINE.match, lines) if found and is_of(found[1], item, crate)]
     text = texts.get(item.path, "")
@@ -178,7 +186,8 @@ def own_goal(goals, item):
 
 
 def hold_to_verdict(lines, status):
-    """Raises where the check came to no verdict, by its last line, or where its status isn't the one of that verdict."""
+    """Raises where the check came to no verdict, by its last line, or where its status isn't the one of that
+    verdict."""
     ends = [found for found in map(ENDS.fullmatch, lines) if found]
     is_proved = len(ends) == 1 and (ends[0][3] == "proved" or ends[0][1] is not None and ends[0][1] == ends[0][2])
     if len(ends) == 1 and (status == 1 or status == 0 and is_proved):
@@ -211,4 +220,5 @@ def outcome_of(touched, said, status, crate, texts):
             return Outcome(Verdict(REFUSED, f"`{goal}` of {named(item)}"), goals)
     if reasons:
         return Outcome(Verdict(NOT_REFUSED, reasons[0]), goals)
-    return Outcome(Verdict(NOT_REFUSED, f"it is PROVED: no clause of {named(touched[0])} tells it from the right body"), goals)
+    told = f"it is PROVED: no clause of {named(touched[0])} tells it from the right body"
+    return Outcome(Verdict(NOT_REFUSED, told), goals)

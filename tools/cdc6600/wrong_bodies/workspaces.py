@@ -38,7 +38,8 @@ class Workspace:
         return self.folder / "out/rlib"
 
     def take_kept(self, folder, part):
-        """Takes what earlier checks of the crate kept, from the checkout or another workspace, once none is at work there."""
+        """Takes what earlier checks of the crate kept, from the checkout or another workspace, once none is at work
+        there."""
         held = os.open(folder, os.O_RDONLY)
         try:
             fcntl.flock(held, fcntl.LOCK_SH)
@@ -48,7 +49,8 @@ class Workspace:
             os.close(held)
 
     def take_library(self, folder, stamp):
-        """Takes the library that `rt ci` left there, and gives it the stamp by which `rt` sees that it is up to date."""
+        """Takes the library that `rt ci` left there, and gives it the stamp by which `rt` sees that it is up to
+        date."""
         self.take_kept(folder, "rlib")
         (self.rlib() / "stamp").write_text(stamp, encoding="utf-8")
 
@@ -56,8 +58,9 @@ class Workspace:
         """Proves and builds the crate as a library, or finds it built. Returns the seconds that it took."""
         ran = run(["rt", "lib", "--jobs", "1"], self.folder)
         if ran.status or not (self.rlib() / "stamp").is_file():
-            lines = [line for line in ran.said.split("\n") if "error" in line or "not proved" in line] or ran.said.strip().split("\n")
-            raise Unreadable(f"{self.crate}: the library as it stands isn't proved, so nothing was tried: {lines[-1][:200]}")
+            errors = [line for line in ran.said.split("\n") if "error" in line or "not proved" in line]
+            last = (errors or ran.said.strip().split("\n"))[-1][:200]
+            raise Unreadable(f"{self.crate}: the library as it stands isn't proved, so nothing was tried: {last}")
         return ran.seconds
 
     def check(self, texts, paths):

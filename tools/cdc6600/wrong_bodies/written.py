@@ -1,7 +1,7 @@
 """Leaves answers out of a written proof.
 
-An answer was written for the right body. If it doesn't fit another body, that shows nothing of the contract: a right body
-in other words may want another answer. So the goal is left to search, for the wrong body and for the right one.
+An answer was written for the right body. If it doesn't fit another body, that shows nothing of the contract: a right
+body in other words may want another answer. So the goal is left to search, for the wrong body and for the right one.
 """
 
 import re
@@ -19,8 +19,8 @@ def declared(text):
 
 
 def without(text, names):
-    """A proof file's text without the answers and steps of these names, those that cite one of them, and the steps and the
-    places that nothing cites any longer."""
+    """A proof file's text without the answers and steps of these names, those that cite one of them, and the steps and
+    the places that nothing cites any longer."""
     if not names:
         return text
     parts = declarations(text)
@@ -36,8 +36,8 @@ def without(text, names):
 
 
 def declarations(text):
-    """The declarations of a proof file by their names: of each its signature, with the line `unfolding` below it, and its
-    equations."""
+    """The declarations of a proof file by their names: of each its signature, with the line `unfolding` below it, and
+    its equations."""
     parts, name = {}, None
     for line in text.split("\n"):
         found = DECLARATION.match(line)
