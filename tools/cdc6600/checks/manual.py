@@ -4,7 +4,7 @@ import os
 from functools import cached_property
 from pathlib import Path
 
-from .waiting import run
+from cdc6600.shared.waiting import run
 
 # Where the tag of an entry begins in a line, and its text; a longer tag has a line of its own.
 TAG, TEXT = 7, 14

@@ -23,6 +23,7 @@ from importlib.util import find_spec
 from pathlib import Path
 
 from cdc6600.gate.parts import NAMES, called, command, module
+from cdc6600.shared.ending import shown
 from cdc6600.shared.program import ROOT
 
 HELP = ("-h", "--help")
@@ -53,13 +54,11 @@ def run_all(names):
 def main():
     words = sys.argv[1:]
     if words and words[0] in HELP:
-        print(help_text())
-        return 0
+        return shown("tools/check", help_text())
     if not words or words[0] not in NAMES:
         told = f"{words[0]} is no check" if words else "no check is named"
         print(f"tools/check: {told}; tools/check --help lists them", file=sys.stderr)
         return 2
     if words[1:] in ([it] for it in HELP):
-        print(text_of(words[0]))
-        return 0
+        return shown("tools/check", text_of(words[0]))
     return run_all(words) if len(words) > 1 and set(words).issubset(NAMES) else run_one(words[0], words[1:])

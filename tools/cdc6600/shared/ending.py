@@ -27,6 +27,15 @@ def flush_output():
         raise Unwritten(f"standard output: {fault.strerror}") from None
 
 
+def shown(name, text):
+    """Prints a text for the user of a script; the script's status."""
+    def work():
+        print(text)
+        return 0
+
+    return ended(name, work)
+
+
 def ended(name, main, *faults, status=1):
     """Calls the main function of a script; its status. A fault of one of these kinds is told in one line after the
     script's name, with this status. So is standard output that can't be written. An interrupt ends it quietly, and so

@@ -1,34 +1,26 @@
-#!/usr/bin/env python3
 """Compares the whole run of a deck by `run --sequential` with the replay of as many instructions, on the five decks of
-bench/replaying/make-deck; and for those that loop, with the run of the deck that has 64 requests for exchanges too, which
+`tools/bench make-deck`; and for those that loop, with the run of the deck that has 64 requests for exchanges too, which
 are as many as a deck may have.
 
-    bench/sequential/compare [TURNS]
+    tools/bench sequential [TURNS]
 
 The commands take turns, 15 of each if nothing else is said, and the least processor time of each counts. These ratios
 are printed for each deck: of the whole programs; of what an instruction costs, where the time of a replay with an empty
 log is taken off, which is mostly the reading of the deck; and of what an instruction costs with and without the
-requests. It stops at the first dump that differs. CDC6600 may name the program; else it is the one that ./cdc6600
-builds.
+requests. It stops at the first dump that differs. CDC6600 may name the program; otherwise it is the one that
+tools/build-program builds.
 """
 
 import os
-import re
 import subprocess
 import sys
 import tempfile
-from pathlib import Path
 
-sys.dont_write_bytecode = True
-ROOT = Path(__file__).resolve().parents[2]
-sys.path.insert(0, str(ROOT / "tools"))
+from cdc6600.shared.decks import log_of
+from cdc6600.shared.program import Program
 
-from shared.program import Program  # noqa: E402
+from .make_deck import INSTRUCTIONS, KINDS, PACKAGES, STRAIGHT, deck, log
 
-KINDS = ("repeating", "mixed", "loop", "references", "branches")
-# The straight-line decks have so many instructions for each of their packages, which are at 40, 60 and so on.
-PACKAGES = [0o40 + 0o20 * number for number in range(19)]
-STRAIGHT = 522_240
 LARGEST = 10_000_000
 MOST_REQUESTS = 64
 
@@ -41,15 +33,10 @@ class Deck:
     """A deck to be timed: its text, the log of its replay, and how many instructions that has."""
 
     def __init__(self, kind):
-        made = subprocess.run([ROOT / "bench/replaying/make-deck", kind], check=True, stdout=subprocess.PIPE)
-        self.kind, self.bare, self.is_loop = kind, made.stdout, kind not in ("repeating", "mixed")
-        if self.is_loop:
-            self.log, self.count, asks = f"E40 I{LARGEST}", LARGEST, []
-        else:
-            self.log = " ".join(f"E{package:o} I{STRAIGHT}" for package in PACKAGES)
-            self.count = STRAIGHT * len(PACKAGES)
-            asks = [(package, STRAIGHT * number) for number, package in enumerate(PACKAGES) if number]
-        self.text = self.with_requests(asks)
+        self.kind, self.bare, self.log, self.is_loop = kind, deck(kind), log(kind), kind not in STRAIGHT
+        self.count = LARGEST if self.is_loop else INSTRUCTIONS * len(PACKAGES)
+        asks = [(package, INSTRUCTIONS * number) for number, package in enumerate(PACKAGES) if number]
+        self.text = self.with_requests([] if self.is_loop else asks)
 
     def with_requests(self, asks):
         """The deck with these requests, each as its package and the number of instructions before it."""
@@ -57,8 +44,8 @@ class Deck:
         return self.bare.removesuffix(b"end\n") + lines.encode() + b"end\n"
 
     def with_many_requests(self):
-        """The deck with as many requests as it may have. The package at 40 isn't among them: after the first exchange it
-        has the registers of the booted machine, which runs nothing."""
+        """The deck with as many requests as it may have. The package at 40 isn't among them: after the first exchange
+        it has the registers of the booted machine, which runs nothing."""
         others = PACKAGES[1:]
         spread = self.count // (MOST_REQUESTS + 1)
         return self.with_requests((others[n % len(others)], spread * (n + 1)) for n in range(MOST_REQUESTS))
@@ -83,11 +70,6 @@ class Timed:
         self.best = took if self.best is None else min(self.best, took)
 
 
-def log_of(dump):
-    """The log at the end of a dump."""
-    return re.search(rb"\nLOG (.*)\n\Z", dump)[1].decode()
-
-
 def race(turns, timed):
     """Runs the commands by turns."""
     for _ in range(turns):
@@ -103,27 +85,27 @@ def check(what, left, right):
 
 def compare(path, kind, turns):
     """Times the commands on a deck and prints the ratios."""
-    deck = Deck(kind)
-    words = ["run", "--sequential", "--budget", str(deck.count)]
-    empty, replay = (Timed(path, ["replay", log], deck.bare) for log in ("none", deck.log))
-    run = Timed(path, words, deck.text)
+    job = Deck(kind)
+    words = ["run", "--sequential", "--budget", str(job.count)]
+    empty, replay = (Timed(path, ["replay", it], job.bare) for it in ("none", job.log))
+    run = Timed(path, words, job.text)
     race(turns, (empty, replay, run))
     check(kind, run, replay)
-    net, replay_net = ((it.best - empty.best) / deck.count * 1e9 for it in (run, replay))
-    print(f"{kind}: {deck.count} instructions, the dumps are the same")
+    net, replay_net = ((it.best - empty.best) / job.count * 1e9 for it in (run, replay))
+    print(f"{kind}: {job.count} instructions, the dumps are the same")
     print(f"  whole programs: {run.best:.4f} s to {replay.best:.4f} s, {run.best / replay.best:.2f} times")
     print(f"  an instruction: {net:.2f} ns to {replay_net:.2f} ns, {net / replay_net:.2f} times", flush=True)
-    if deck.is_loop:
-        compare_requests(path, deck, words, turns)
+    if job.is_loop:
+        compare_requests(path, job, words, turns)
 
 
-def compare_requests(path, deck, words, turns):
+def compare_requests(path, job, words, turns):
     """The same for the deck with requests and the one without."""
-    run, asked = Timed(path, words, deck.text), Timed(path, words, deck.with_many_requests())
+    run, asked = Timed(path, words, job.text), Timed(path, words, job.with_many_requests())
     race(turns, (run, asked))
-    replay = Timed(path, ["replay", log_of(asked.printed)], deck.with_many_requests())
+    replay = Timed(path, ["replay", log_of(asked.printed)], job.with_many_requests())
     replay.run()
-    check(f"{deck.kind} with requests", asked, replay)
+    check(f"{job.kind} with requests", asked, replay)
     print(f"  with {MOST_REQUESTS} requests: {asked.best:.4f} s to {run.best:.4f} s, {asked.best / run.best:.2f} times")
 
 
@@ -138,6 +120,3 @@ def main():
             print(fault, file=sys.stderr)
             return 1
     return 0
-
-
-sys.exit(main())

@@ -1,10 +1,9 @@
-#!/usr/bin/env python3
-"""Runs checks of tools/cdc6600/checks again and again beside processes that count without end, to see that no check depends on
-how busy the machine is.
+"""Runs checks again and again beside processes that count without end, to see that no check depends on how busy the
+machine is.
 
-    bench/busy-checks CHECK..                   20 rounds of these checks, side by side as in the gate
-    bench/busy-checks --in-turn CHECK..         one check after the other
-    bench/busy-checks --times 5 --busy 16 ..    5 rounds, beside 16 busy processes; 8 where nothing is said
+    tools/bench busy-checks CHECK..                   20 rounds of these checks, side by side as in the gate
+    tools/bench busy-checks --in-turn CHECK..         one check after the other
+    tools/bench busy-checks --times 5 --busy 16 ..    5 rounds, beside 16 busy processes; 8 where nothing is said
 
 It prints a line for each check that fails, with what the check said, and at the end how many runs there were and how
 many of them failed. The status is 1 if any failed. CDC6600 may name the program to try.
@@ -21,7 +20,9 @@ from concurrent.futures import ThreadPoolExecutor
 from contextlib import ExitStack, contextmanager
 from pathlib import Path
 
-ROOT = Path(__file__).resolve().parents[1]
+from cdc6600.gate.parts import NAMES, command
+from cdc6600.shared.program import ROOT
+
 TIMES, BUSY = 20, 8
 # A busy process ends by itself if this script is killed.
 COUNTING = """
@@ -38,11 +39,12 @@ def arguments():
     parser.add_argument("--times", metavar="N", type=int, default=TIMES, help=f"how many rounds, or {TIMES}")
     parser.add_argument("--busy", metavar="M", type=int, default=BUSY, help=f"how many busy processes, or {BUSY}")
     parser.add_argument("--in-turn", action="store_true", help="run the checks of a round one after the other")
-    parser.add_argument("checks", metavar="CHECK", nargs="+", help="the name of a check in tools/cdc6600/checks")
+    parser.add_argument("checks", metavar="CHECK", nargs="+",
+                        help="the name of a check, as `tools/check --help` lists it")
     given = parser.parse_args()
-    missing = [name for name in given.checks if not os.access(ROOT / "tools/cdc6600/checks" / name, os.X_OK)]
+    missing = [name for name in given.checks if name not in NAMES]
     if missing:
-        parser.error(f"tools/cdc6600/checks hasn't {', '.join(missing)}")
+        parser.error(f"there is no check {', '.join(missing)}")
     return given
 
 
@@ -60,7 +62,7 @@ def is_silent(name):
     """Whether a check finds nothing. What it says is printed where it doesn't."""
     begun = time.monotonic()
     piped = {"stdin": subprocess.DEVNULL, "stdout": subprocess.PIPE, "stderr": subprocess.STDOUT}
-    ran = subprocess.run([f"tools/cdc6600/checks/{name}"], cwd=ROOT, text=True, errors="replace", check=False, **piped)
+    ran = subprocess.run(command(name), cwd=ROOT, text=True, errors="replace", check=False, **piped)
     if ran.returncode:
         seconds = time.monotonic() - begun
         print(f"{name} fails with status {ran.returncode} after {seconds:.0f} s:\n{ran.stdout}", end="", flush=True)
@@ -85,7 +87,3 @@ def main():
     failed = sum(failures_of_round(given) for _ in range(given.times))
     print(f"{given.times * len(given.checks)} runs, {failed} failed")
     return 1 if failed else 0
-
-
-if __name__ == "__main__":
-    sys.exit(main())

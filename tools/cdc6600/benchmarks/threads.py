@@ -1,22 +1,22 @@
-#!/usr/bin/env python3
 """Runs the same deck by the threads of `cdc6600 run` and by those of a plain Rust program, in its two forms: threads
 that yield between tries, and threads that sleep on condition variables.
 
-    compare [TURNS [BUDGET [PROCESSORS [BUSY]]]]
+    tools/bench threads [TURNS [BUDGET [PROCESSORS [BUSY]]]]
 
-For each kind of deck of bench/replaying/make-deck it prints, for each program, the microseconds that an instruction
-takes, how that compares with `run`, and how many switches between threads and how many calls that wait for a lock or
-wake a thread which does (Linux's `futex`) an instruction takes. The latter are counted by `perf`, in a run of its own;
-without it there is a dash.
+For each kind of deck of `tools/bench make-deck` but `repeating` it prints, for each program, the microseconds that an
+instruction takes, how that compares with `run`, and how many switches between threads and how many calls that wait for
+a lock or wake a thread which does (Linux's `futex`) an instruction takes. The latter are counted by `perf`, in a run of
+its own; without it there is a dash.
 
 The programs take turns, 12 where nothing is said, with 100,000 instructions each, so that other work of the machine
 meets all of them; the shortest time of each counts, and the switches of that run. From each time that of a run of one
-instruction, which is mostly the deck's reading, is taken off. `compare 12 100000 0` does so on processor 0 alone, by
-`taskset`, and `compare 3 10000 0,1 4` on two processors on which four other processes count without end meanwhile.
+instruction, which is mostly the deck's reading, is taken off. `threads 12 100000 0` does so on processor 0 alone, by
+`taskset`, and `threads 3 10000 0,1 4` on two processors on which four other processes count without end meanwhile.
 
 Each program's log is replayed by `cdc6600 replay`, which has to print the same dump, and whose time is printed too:
-that is one instruction at a time, in one thread. `rustc` builds the plain program for the processor that the Rattle
-kit builds for."""
+that is one instruction at a time, in one thread. `rustc` builds the plain program, bench/running/plain.rs. CDC6600 may
+name the other one; else it is the one that tools/build-program builds.
+"""
 
 import argparse
 import contextlib
@@ -29,15 +29,14 @@ import tempfile
 import time
 from pathlib import Path
 
-sys.dont_write_bytecode = True
-HERE = Path(__file__).resolve().parent
-sys.path.insert(0, str(HERE.parents[1] / "tools"))
+from cdc6600.shared.program import program_path
 
-from shared.program import program_path  # noqa: E402
+from .make_deck import KINDS, deck
+from .racing import RUNNING, Failed, plain_program
 
-KINDS = ("mixed", "loop", "references", "branches")
+# What `repeating` would show, `mixed` shows.
+SHOWN = tuple(kind for kind in KINDS if kind != "repeating")
 FORMS = ("run", "yield", "sleep", "replay")
-RUNNING = 5  # The status of a machine that isn't halted at its end.
 LOCKS = "syscalls:sys_enter_futex"
 
 
@@ -53,22 +52,13 @@ def arguments():
     return given
 
 
-def plain_program(room):
-    """Builds the plain program."""
-    built = room / "plain"
-    options = ["--edition", "2021", "-C", "opt-level=3", "-C", "target-cpu=x86-64-v2"]
-    subprocess.run(["rustc", *options, "-o", built, HERE / "plain.rs"], check=True)
-    return str(built)
-
-
 class Race:
     """The programs on one deck."""
 
     def __init__(self, given, kind, room, programs):
         self.given, self.kind, self.programs = given, kind, programs
         self.deck, self.dump = room / "deck", room / "dump"
-        make = HERE.parent / "replaying" / "make-deck"
-        self.deck.write_bytes(subprocess.run([make, kind], capture_output=True, check=True).stdout)
+        self.deck.write_bytes(deck(kind))
 
     def words(self, form, budget):
         """The words by which a form makes so many instructions."""
@@ -87,7 +77,7 @@ class Race:
             took = time.perf_counter() - begun
         process.returncode = os.waitstatus_to_exitcode(status)
         if process.returncode not in (0, RUNNING):
-            sys.exit(f"compare: {' '.join(words)} ended with status {process.returncode}")
+            raise Failed(f"{' '.join(words)} ended with status {process.returncode}")
         return took, used.ru_nvcsw + used.ru_nivcsw
 
     def replays(self, form):
@@ -97,7 +87,7 @@ class Race:
         with self.deck.open("rb") as deck:
             again = subprocess.run([self.programs["run"], "replay", log], stdin=deck, capture_output=True, check=False)
         if again.stdout != printed:
-            sys.exit(f"compare: {self.kind}: the log of {form} doesn't replay to its dump")
+            raise Failed(f"{self.kind}: the log of {form} doesn't replay to its dump")
 
     def lock_calls(self, form):
         """How many calls for a lock an instruction takes, as text."""
@@ -133,13 +123,14 @@ def main():
     given = arguments()
     with tempfile.TemporaryDirectory() as room, contextlib.ExitStack() as others:
         room = Path(room)
-        programs = {"run": program_path(), "plain": plain_program(room)}
+        programs = {"run": program_path(), "plain": plain_program("running", room)}
         for _ in range(given.busy):
             other = others.enter_context(subprocess.Popen([*given.pinned, sys.executable, "-c", "while True: pass"]))
             others.callback(other.kill)
-        for kind in KINDS:
-            Race(given, kind, room, programs).print_times()
-
-
-if __name__ == "__main__":
-    main()
+        try:
+            for kind in SHOWN:
+                Race(given, kind, room, programs).print_times()
+        except Failed as fault:
+            print(f"{sys.argv[0]}: {fault}", file=sys.stderr)
+            return 1
+    return 0
