@@ -56,7 +56,7 @@ CALLED = (
     ("trace", ROOT / "decks/two-adds.deck"),
 )
 # What README.md names that only a checkout has.
-OF_CHECKOUT = re.compile(r"tools/(cdc6600/checks/.*|check|install|build-library|build-program)")
+OF_CHECKOUT = re.compile(r"tools/(install|build-library|build-program)")
 WITHOUT_LIBRARY = ("--without", "library")
 # A file of each other part.
 LEFT_OUT = {
