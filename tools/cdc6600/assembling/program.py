@@ -3,14 +3,14 @@
 from dataclasses import dataclass, field
 from functools import partial
 
+from cdc6600.limits import MOST_WORDS
+
 from .faults import Faults, Wrong, quoted
 from .lines import Line, lines_of, read_line
 from .texts import written
 from .values import NAME, REGISTER, WORD_BITS, fitted, value_of, within
 
 PARCELS, PASS = 4, 0o46000
-# The largest memory, in words.
-MOST_WORDS = 0o400000
 # After these the next instruction begins a word.
 UNCONDITIONAL = ("JP", "RJ", "PS")
 # The lines about the package, the memory and what is shown. They take no label and no word.

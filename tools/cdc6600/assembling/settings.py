@@ -2,12 +2,14 @@
 
 from functools import partial
 
+from cdc6600.limits import LEAST_WORDS, MOST_SHOWS, MOST_WORDS, PACKAGE_WORDS
+
 from .faults import Wrong, quoted
 from .lines import Line
-from .program import MOST_WORDS, SETTERS
+from .program import SETTERS
 from .values import INDEX_BITS, REGISTER, WORD_BITS, fitted, octal, value_of, within
 
-START, PACKAGE_WORDS, LEAST_WORDS, MOST_SHOWN = "START", 16, 32, 64
+START = "START"
 DEFAULTS = {"RA": 0o100, "EM": 0o10000, "PACKAGE": 0o40}
 # Where the package has its numbers: the word and its bit 0 for those of the table's first part, by docs/formats.md.
 MIDDLE, HEAD = 36, {"P": 0, "RA": 1, "FL": 2, "EM": 3}
@@ -82,8 +84,8 @@ class Settings:
     def show(self, line):
         """Reads a line that names words to be shown."""
         fields = self.fields(line, 1, 2, "expected an address, and how many words if they are several")
-        if len(self.shown) == MOST_SHOWN:
-            raise Wrong(line.column, f"a line too many of SHOW: expected at most {MOST_SHOWN}")
+        if len(self.shown) == MOST_SHOWS:
+            raise Wrong(line.column, f"a line too many of SHOW: expected at most {MOST_SHOWS}")
         address = self.value(*fields[0])
         count = within(self.value(*fields[1]), 1, MOST_WORDS, fields[1][1]) if len(fields) > 1 else 1
         self.shown.append((line, address, count))

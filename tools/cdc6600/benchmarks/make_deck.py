@@ -20,6 +20,8 @@ with other numbers than 0.
 import math
 import sys
 
+from cdc6600.limits import MOST_INSTRUCTIONS, MOST_WORDS
+
 KINDS = ("repeating", "mixed", "loop", "references", "branches")
 # The kinds of straight-line code, and how many words and instructions that has.
 STRAIGHT = ("repeating", "mixed")
@@ -137,7 +139,7 @@ def code(kind):
 
 def lines_of(kind):
     """The lines of a deck."""
-    yield "core 131072"
+    yield f"core {MOST_WORDS}"
     yield "at 40"
     for _ in PACKAGES:
         yield from (f"word {field}" for field in FIELDS)
@@ -157,7 +159,7 @@ def log(kind):
     """The longest log of such a deck: once through the straight-line code with each package, or a loop for as long as a
     log can be."""
     if kind not in STRAIGHT:
-        return "E40 I10000000"
+        return f"E40 I{MOST_INSTRUCTIONS}"
     return " ".join(f"E{package:o} I{INSTRUCTIONS}" for package in PACKAGES)
 
 

@@ -9,9 +9,10 @@ otherwise it is the one that tools/build-program builds.
 
 import subprocess
 
+from cdc6600.limits import LEAST_WORDS, MOST_WORDS
 from cdc6600.shared.program import program_path
 
-SIZES = (32, 131_072)
+SIZES = (LEAST_WORDS, MOST_WORDS)
 MEASURED = ("env", "time", "-f", "%M KiB")
 
 

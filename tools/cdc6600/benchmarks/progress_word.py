@@ -21,15 +21,15 @@ import tempfile
 import time
 from pathlib import Path
 
+from cdc6600.limits import MOST_INSTRUCTIONS, MOST_WORDS
 from cdc6600.shared.program import program_path
 
 from .racing import RUNNING, Failed
 
 # Nearly as many passes as fit into the largest memory, and a jump to the first: so nineteen jumps in a run.
 WORDS = 130_000
-BUDGET = 10_000_000
 DECK = "\n".join(
-    ["core 131072", "at 40", "word 0", "word 00000100000000000000", "word 00375721000000000000", "at 100"]
+    [f"core {MOST_WORDS}", "at 40", "word 0", "word 00000100000000000000", "word 00375721000000000000", "at 100"]
     + ["code NO; NO; NO; NO"] * WORDS
     + ["code EQ B0,B0,0", "start 40", "end", ""]
 )
@@ -84,13 +84,13 @@ def race(programs, runs, processors):
     for _ in range(runs):
         texts = set()
         for program in programs:
-            for budget in (1, BUDGET):
+            for budget in (1, MOST_INSTRUCTIONS):
                 took, text = seconds(program, budget, processors)
                 best[program, budget] = min(took, best.get((program, budget), took))
             texts.add(text)
         if len(texts) != 1:
             raise Failed("the two print different dumps")
-    return [(best[it, BUDGET] - best[it, 1]) / BUDGET * 1e9 for it in programs]
+    return [(best[it, MOST_INSTRUCTIONS] - best[it, 1]) / MOST_INSTRUCTIONS * 1e9 for it in programs]
 
 
 def main():

@@ -10,17 +10,16 @@ import os
 import tempfile
 from pathlib import Path
 
+from cdc6600.limits import MOST_WORDS
 from cdc6600.shared.program import program_path
 
 from .racing import timed
 
-WORDS = 131_072
-
 
 def deck():
     """The deck: each word has another value."""
-    words = (f"word {address * 8191:o}" for address in range(WORDS))
-    return "".join(f"{line}\n" for line in (f"core {WORDS}", *words, "start 0", "end"))
+    words = (f"word {address * 8191:o}" for address in range(MOST_WORDS))
+    return "".join(f"{line}\n" for line in (f"core {MOST_WORDS}", *words, "start 0", "end"))
 
 
 def main():

@@ -16,13 +16,11 @@ import subprocess
 import sys
 import tempfile
 
+from cdc6600.limits import MOST_ASKS, MOST_INSTRUCTIONS
 from cdc6600.shared.decks import log_of
 from cdc6600.shared.program import Program
 
 from .make_deck import INSTRUCTIONS, KINDS, PACKAGES, STRAIGHT, deck, log
-
-LARGEST = 10_000_000
-MOST_REQUESTS = 64
 
 
 class Differs(Exception):
@@ -34,7 +32,7 @@ class Deck:
 
     def __init__(self, kind):
         self.kind, self.bare, self.log, self.is_loop = kind, deck(kind), log(kind), kind not in STRAIGHT
-        self.count = LARGEST if self.is_loop else INSTRUCTIONS * len(PACKAGES)
+        self.count = MOST_INSTRUCTIONS if self.is_loop else INSTRUCTIONS * len(PACKAGES)
         asks = [(package, INSTRUCTIONS * number) for number, package in enumerate(PACKAGES) if number]
         self.text = self.with_requests([] if self.is_loop else asks)
 
@@ -47,8 +45,8 @@ class Deck:
         """The deck with as many requests as it may have. The package at 40 isn't among them: after the first exchange
         it has the registers of the booted machine, which runs nothing."""
         others = PACKAGES[1:]
-        spread = self.count // (MOST_REQUESTS + 1)
-        return self.with_requests((others[n % len(others)], spread * (n + 1)) for n in range(MOST_REQUESTS))
+        spread = self.count // (MOST_ASKS + 1)
+        return self.with_requests((others[n % len(others)], spread * (n + 1)) for n in range(MOST_ASKS))
 
 
 class Timed:
@@ -106,7 +104,7 @@ def compare_requests(path, job, words, turns):
     replay = Timed(path, ["replay", log_of(asked.printed)], job.with_many_requests())
     replay.run()
     check(f"{job.kind} with requests", asked, replay)
-    print(f"  with {MOST_REQUESTS} requests: {asked.best:.4f} s to {run.best:.4f} s, {asked.best / run.best:.2f} times")
+    print(f"  with {MOST_ASKS} requests: {asked.best:.4f} s to {run.best:.4f} s, {asked.best / run.best:.2f} times")
 
 
 def main():

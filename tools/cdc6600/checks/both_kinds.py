@@ -20,12 +20,12 @@ import re
 import sys
 from concurrent.futures import ThreadPoolExecutor
 
+from cdc6600.limits import PACKAGE_WORDS
 from cdc6600.shared.decks import log_of
 from cdc6600.shared.program import Program, tell
 
 BUDGET = 30000
 ISSUES_OF_A_WORD = 3
-PACKAGE_WORDS = 16
 # How many instructions are issued before each request, and how many requests are free.
 MANY = ([2 * number for number in range(34)], 30)
 KINDS = (MANY, ([0] * 4 + [1] * 4, 8), ([7], 1), ([0], 1), ([5, 4], 2), ([], 30), ([9] * 34, 0))

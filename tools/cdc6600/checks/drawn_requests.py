@@ -4,10 +4,10 @@ import re
 from dataclasses import dataclass
 from functools import cached_property
 
+from cdc6600.limits import PACKAGE_WORDS
 from cdc6600.random_decks.draws import Draws
 from cdc6600.random_decks.jobs import ADDRESS_BIT
 from cdc6600.random_decks.kinds import drawn_deck
-from cdc6600.random_decks.programs import PACKAGE_WORDS
 
 # The share of decks that get further requests, how many of them, and the share of these that are free.
 MORE, MANY, FREE = 0.5, (1, 5), 0.2

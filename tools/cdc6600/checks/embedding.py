@@ -33,6 +33,7 @@ from concurrent.futures import ThreadPoolExecutor
 from itertools import pairwise
 from pathlib import Path
 
+from cdc6600.limits import MOST_INSTRUCTIONS
 from cdc6600.shared.decks import PAGES, deck, decks, lines_of, log_of, rows_of, session, sessions
 from cdc6600.shared.program import ROOT, Ran, tell
 from cdc6600.shared.waiting import Missing, faults_found, run
@@ -177,10 +178,10 @@ def faults_of_arguments(functions):
         faults += differing(f"the log {log}", BAD_LOG, called(functions.replay, it.text, log))
     outside = Ran(2, NOTHING, b"cdc6600: E19 package range\n")
     faults += differing("the log E777", outside, called(functions.replay, it.text, b"E777"))
-    for budget in (0, 10_000_001, 2**64 - 1):
+    for budget in (0, MOST_INSTRUCTIONS + 1, 2**64 - 1):
         faults += differing(f"the budget {budget}", BAD_BUDGET, called(functions.events, asked.text, budget))
         faults += differing(f"a run with the budget {budget}", BAD_BUDGET, called(functions.run, it.text, budget))
-    largest = called(functions.events, asked.text, 10_000_000)
+    largest = called(functions.events, asked.text, MOST_INSTRUCTIONS)
     return faults + differing("the largest budget", Ran(0, asked.answers, NOTHING), largest)
 
 

@@ -18,23 +18,20 @@ import sys
 import tempfile
 from pathlib import Path
 
+from cdc6600.limits import MOST_ACCESSES, MOST_LINES, MOST_REQUESTS, MOST_SHOWS, MOST_WORDS
 from cdc6600.shared.decks import deck as stored
 from cdc6600.shared.program import Program
 
 # The largest sessions take longer than other input.
 MINUTES = 30
-SIZE = 131072
-RANGE = SIZE // 64
-REQUESTS = 1_000_000
-ACCESSES = 1_000_000
+RANGE = MOST_WORDS // MOST_SHOWS
 # An argument has at most 131,071 bytes.
 REPLAYED = 13_000
 # The stack in KiB that is enough for each command.
 STACK = 96
-MOST_LINES = 10_000_000
-FIELD_LENGTH = SIZE << 36
+FIELD_LENGTH = MOST_WORDS << 36
 STOPPED = 1 << 36
-WORDS = [FIELD_LENGTH if place == 2 else place for place in range(SIZE)]
+WORDS = [FIELD_LENGTH if place == 2 else place for place in range(MOST_WORDS)]
 # What an exchange leaves in the package's words: the registers at boot, all zero, and that it was stopped.
 BOOTED = [STOPPED if place == 7 else 0 for place in range(16)]
 
@@ -47,8 +44,8 @@ def program():
 
 def deck():
     """The lines of the deck."""
-    shows = [f"show {first:o} {first + RANGE - 1:o}" for first in range(0, SIZE, RANGE)]
-    return [f"core {SIZE}", "at 0", *[f"word {word:o}" for word in WORDS], "start 0", *shows, "end"]
+    shows = [f"show {first:o} {first + RANGE - 1:o}" for first in range(0, MOST_WORDS, RANGE)]
+    return [f"core {MOST_WORDS}", "at 0", *[f"word {word:o}" for word in WORDS], "start 0", *shows, "end"]
 
 
 def dump(held, halt, words, log):
@@ -57,7 +54,7 @@ def dump(held, halt, words, log):
     return [
         held,
         f"HALT {halt} FAULT none",
-        f"RA 000000 FL {SIZE:06o} EM 000000",
+        f"RA 000000 FL {MOST_WORDS:06o} EM 000000",
         f"A {addresses}",
         "B " + " ".join(f"{value:06o}" for value in (0, 1, 0, 3, 4, 5, 6, 7)),
         *[f"X{value} {value + 8:020o}" for value in range(8)],
@@ -110,7 +107,7 @@ def session_of_accesses(written, further):
 
 def most_accesses():
     """As many peripheral accesses as there may be. Refused ones don't count; one too many is refused first of all."""
-    written = ACCESSES // 2
+    written = MOST_ACCESSES // 2
     further = b"ppread 10\nppwrite 10 1\nppread 777777\nask 0\nexchange\nend\n"
     came = session_of_accesses(written, further)
     ok = [b"ok", b"ok 00000000000000000007"] * written
@@ -135,7 +132,7 @@ def replayed_accesses():
 def logs_of_files():
     """The largest logs, which no argument can hold: as many exchanges and as many accesses as there may be. The replay
     ends with the same log, from a file and from standard input; a log with one entry more is refused."""
-    text, kinds = b"core 32\nstart 0\nend\n", {"exchanges": ("E0", REQUESTS), "accesses": ("W10=7", ACCESSES)}
+    text, kinds = b"core 32\nstart 0\nend\n", {"exchanges": ("E0", MOST_REQUESTS), "accesses": ("W10=7", MOST_ACCESSES)}
     with tempfile.TemporaryDirectory() as room:
         log, deck_file = Path(room) / "log", Path(room) / "deck"
         deck_file.write_bytes(text)
@@ -193,12 +190,12 @@ def main():
     begun = [line[:28] for line in lines]
     compare("list", (status, begun, told), (0, [f"{place:06o} {word:020o} " for place, word in enumerate(WORDS)], ""))
 
-    status, lines, told = run(["events"], [*deck(), *["ask 0", "exchange"] * REQUESTS, "ask 0", "end"])
-    answers = 2 * REQUESTS
+    status, lines, told = run(["events"], [*deck(), *["ask 0", "exchange"] * MOST_REQUESTS, "ask 0", "end"])
+    answers = 2 * MOST_REQUESTS
     compare("requests", (status, lines[:answers], told), (0, ["ok"] * answers, ""))
     compare("one request more", (0, lines[answers : answers + 1], ""), (0, ["E3 budget"], ""))
-    log = " ".join(["E0"] * REQUESTS)
-    compare("their end", (0, lines[-SIZE - 1 :], ""), (0, dump("", "", WORDS, log)[-SIZE - 1 :], ""))
+    log = " ".join(["E0"] * MOST_REQUESTS)
+    compare("their end", (0, lines[-MOST_WORDS - 1 :], ""), (0, dump("", "", WORDS, log)[-MOST_WORDS - 1 :], ""))
     most_accesses()
     replayed_accesses()
     logs_of_files()

@@ -20,6 +20,7 @@ import random
 import re
 import sys
 
+from cdc6600.limits import LEAST_WORDS, MOST_ASKS, MOST_INSTRUCTIONS, MOST_LINES, MOST_SHOWS, MOST_WORDS, READ_OF_A_LINE
 from cdc6600.shared.decks import deck, decks, sessions
 from cdc6600.shared.instructions import ROWS, instruction, items_of
 from cdc6600.shared.program import Program
@@ -51,8 +52,6 @@ def within(holds, fault):
 class Deck:
     """What the lines of a deck have said so far; a method for each line, called with its fields."""
 
-    MOST_LINES = 10_000_000
-
     def __init__(self):
         self.size = None
         self.place = 0
@@ -63,7 +62,7 @@ class Deck:
 
     def core(self, size):
         size = number(size, 10, 6)
-        within(32 <= size <= 131072, "size")
+        within(LEAST_WORDS <= size <= MOST_WORDS, "size")
         within(self.size is None, "repeated")
         self.size = size
 
@@ -102,14 +101,14 @@ class Deck:
     def ask(self, at, when, count=None):
         within(when == (b"free" if count is None else b"after"), "unknown")
         at = number(at, 8, 6)
-        within(count is None or number(count, 10, 8) <= 10_000_000, "number")
-        within(self.asks < 64, "many")
+        within(count is None or number(count, 10, 8) <= MOST_INSTRUCTIONS, "number")
+        within(self.asks < MOST_ASKS, "many")
         self.package(at)
         self.asks += 1
 
     def show(self, first, last):
         first, last = number(first, 8, 6), number(last, 8, 6)
-        within(self.shows < 64, "many")
+        within(self.shows < MOST_SHOWS, "many")
         within(first <= last < self.size, "range")
         self.shows += 1
 
@@ -148,11 +147,11 @@ def judged(text):
     line = 0
     try:
         for line, content in enumerate(lines, 1):
-            within(line <= Deck.MOST_LINES, "lines")
+            within(line <= MOST_LINES, "lines")
             if deck.take(content):
                 return 0, listing_of(deck.words).encode(), b""
         line += 1
-        within(line <= Deck.MOST_LINES, "lines")
+        within(line <= MOST_LINES, "lines")
         raise Refused("no end")
     except Refused as fault:
         return 1, b"", f"cdc6600: E20 line {line}: {fault}\n".encode()
@@ -364,7 +363,7 @@ def is_at(line, column, text):
         "a blank too many": rest[:1] == b" " and (not before or before[-1:] == b" " or len(rest) == 1),
         "a blank is missing": before[-1:] == b";",
         "a field is missing": not rest,
-        "the line goes on": column == 201,
+        "the line goes on": column == READ_OF_A_LINE,
     }.get(text, False)
 
 
@@ -414,12 +413,12 @@ def judge_beginnings(program):
 
 def judge_most_lines(program):
     """Compares the longest deck that there may be, one that is a line longer, and the two without their ends."""
-    deck = b"core 32\nstart 0\n" + b"at 0\n" * (Deck.MOST_LINES - 3)
+    deck = b"core 32\nstart 0\n" + b"at 0\n" * (MOST_LINES - 3)
     compare(program, "a deck of all lines that there may be", deck + b"end\n", (0, b"", b""))
     refused = b"cdc6600: E20 line %d: %s\n"
-    compare(program, "a deck without end", deck, (1, b"", refused % (Deck.MOST_LINES, b"no end")))
+    compare(program, "a deck without end", deck, (1, b"", refused % (MOST_LINES, b"no end")))
     for last in (b"at 0\n", b"at 0\nend\n"):
-        wanted = (1, b"", refused % (Deck.MOST_LINES + 1, b"lines"))
+        wanted = (1, b"", refused % (MOST_LINES + 1, b"lines"))
         compare(program, "a deck of too many lines", deck + last, wanted)
 
 

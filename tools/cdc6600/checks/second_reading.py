@@ -9,14 +9,16 @@ with the event that was made. The registers that an instruction writes are read 
 import re
 from dataclasses import dataclass, field
 
+from cdc6600.limits import BANKS
+
 UNITS = (
     "branch", "boolean", "shift", "add", "longadd", "multiply1", "multiply2", "divide", "increment1", "increment2"
 )
-PLACES, CHANNELS, BANKS = range(4), range(1, 6), range(32)
+PLACES, CHANNELS = range(4), range(1, 6)
 # By what a unit can do next.
 PHASES = {"read": "issued", "finish": "read", "store": "finished"}
 TRIED = (
-    [f"return {channel}" for channel in CHANNELS] + [f"bank {bank}" for bank in BANKS]
+    [f"return {channel}" for channel in CHANNELS] + [f"bank {bank}" for bank in range(BANKS)]
     + [f"accept {place}" for place in PLACES] + [f"{event} {unit}" for unit in UNITS for event in PHASES]
 )
 NOTHING = "E15 nothing"

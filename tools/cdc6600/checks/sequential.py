@@ -28,6 +28,7 @@ from collections import Counter
 from concurrent.futures import ThreadPoolExecutor
 from itertools import pairwise, zip_longest
 
+from cdc6600.limits import DEFAULT_BUDGET
 from cdc6600.shared.decks import log_of
 from cdc6600.shared.program import Program, tell
 from cdc6600.shared.waiting import faults_found
@@ -35,8 +36,6 @@ from cdc6600.shared.waiting import faults_found
 from .drawn_requests import RequestingDeck
 
 FIRST, COUNT = 0, 550
-# The budget of a run that is given none.
-WHOLE = 1_000_000
 # A word has four instructions at most, so this many may come between a request that is due and its exchange.
 MOST_WAITED = 3
 # The statuses of a run that came to its end.
@@ -89,7 +88,7 @@ class Tried:
     """A drawn deck that is run with the whole budget or with a drawn one."""
 
     def __init__(self, program, deck, budget=None):
-        self.program, self.deck, self.budget, self.kinds = program, deck, budget or WHOLE, set()
+        self.program, self.deck, self.budget, self.kinds = program, deck, budget or DEFAULT_BUDGET, set()
         self.options = ["--budget", str(budget)] if budget else []
 
     def run(self, *options, deck=None):

@@ -18,20 +18,21 @@ import argparse
 
 from cdc6600.comparing.arguments import number
 from cdc6600.drawing.following import Fault, Session, text_of
+from cdc6600.limits import DEFAULT_BUDGET
 from cdc6600.shared.ending import ended
 from cdc6600.shared.program import Program
 from cdc6600.timing.scheduling import POLICIES, TIMED, Schedule
 from cdc6600.timing.summary import put, summary
 from cdc6600.timing.times import read_times
 
-# How many instructions are issued at most where nothing is said, and how many `events` issues at most.
-BUDGET, MOST = 1000, 1_000_000
+# How many instructions are issued at most where nothing is said.
+BUDGET = 1000
 
 
 def budget(word):
     """A number of instructions."""
-    if not 0 < number(word, 8) <= MOST:
-        raise argparse.ArgumentTypeError(f"{word} is no number from 1 to {MOST}")
+    if not 0 < number(word, 8) <= DEFAULT_BUDGET:
+        raise argparse.ArgumentTypeError(f"{word} is no number from 1 to {DEFAULT_BUDGET}")
     return int(word)
 
 

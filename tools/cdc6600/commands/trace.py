@@ -28,9 +28,10 @@ from cdc6600.comparing.arguments import STANDARD_INPUT, bytes_of, number, standa
 from cdc6600.comparing.faults import BadInput, ended
 from cdc6600.comparing.proved import Given, Proved
 from cdc6600.comparing.tracing import Trace
+from cdc6600.limits import MOST_INSTRUCTIONS
 
-# How many steps are printed where nothing is said, and how many instructions a run has at most.
-MOST, BUDGET = 10_000, 10_000_000
+# How many steps are printed where nothing is said.
+MOST = 10_000
 # A log has up to 12,000,000 steps.
 DIGITS, STEPS = 8, re.compile(r"([0-9]{1,8})(?:-([0-9]{1,8})?)?")
 
@@ -44,8 +45,8 @@ def count(word):
 
 def budget(word):
     """A number of instructions."""
-    if not 0 < number(word, DIGITS) <= BUDGET:
-        raise argparse.ArgumentTypeError(f"{word} is no number from 1 to {BUDGET}")
+    if not 0 < number(word, DIGITS) <= MOST_INSTRUCTIONS:
+        raise argparse.ArgumentTypeError(f"{word} is no number from 1 to {MOST_INSTRUCTIONS}")
     return int(word)
 
 

@@ -2,9 +2,9 @@
 
 from dataclasses import dataclass
 
+from cdc6600.limits import PACKAGE_WORDS
 from cdc6600.shared.instructions import instruction, items_of
 
-PACKAGE_WORDS = 16
 # What the steps are that aren't instructions, by the letters of their entries.
 OTHERS = {
     "E": "the exchange with the package at {}",

@@ -6,9 +6,11 @@ budget or for want of memory can't be told by a state.
 
 from dataclasses import dataclass
 
+from cdc6600.limits import BANKS, PACKAGE_WORDS
+
 from .following import Fault
 from .instructions import KINDS, kind_of, operands_of, results_of, stores
-from .states import BANKS, RUNNING, State
+from .states import RUNNING, State
 
 SAID = {
     "E1": "halted", "E2": "faulted", "E3": "budget", "E4": "branch pending", "E5": "exchange waiting",
@@ -17,7 +19,6 @@ SAID = {
     "E17": "exchange busy", "E18": "not drained", "E19": "package range", "E21": "out of memory", "E25": "mid word",
     "E26": "peripheral waits", "E27": "peripheral range",
 }
-PACKAGE_WORDS = 16
 
 
 @dataclass(frozen=True)

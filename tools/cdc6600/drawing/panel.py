@@ -4,9 +4,11 @@ A row of the panel is a few texts. There is one for each unit, place, channel, b
 are for the machine itself.
 """
 
+from cdc6600.limits import BANKS
+
 from .following import PLACES
 from .instructions import NAMES, UNITS
-from .states import BANKS, CHANNELS, RUNNING
+from .states import CHANNELS, RUNNING
 from .telling import enumerated
 
 

@@ -1,8 +1,10 @@
 """Says in words why an event is refused."""
 
+from cdc6600.limits import BANKS
+
 from .following import PLACES
 from .instructions import KINDS, NAMES
-from .states import BANKS, CHANNELS
+from .states import CHANNELS
 from .telling import enumerated, plural, reservation, reservations, sentence
 
 HALTS = {

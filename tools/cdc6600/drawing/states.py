@@ -8,10 +8,11 @@ which banks are busy, which registers are results still to come, whether the mac
 import copy
 from dataclasses import dataclass, field
 
+from cdc6600.limits import BANKS
+
 from .following import LETTER, PLACES, plain
 from .instructions import results_of
 
-BANKS = 32
 CHANNELS = range(1, 6)
 # How far the reservation of a unit is, by its mark.
 PHASES = {"I": "issued", "R": "read", "F": "finished"}

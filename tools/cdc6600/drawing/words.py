@@ -3,10 +3,12 @@
 Values are those that `replay` prints: by the program's theorem they are the machine's, whatever the order of events.
 """
 
+from cdc6600.limits import BANKS
+
 from .instructions import NAMES, kind_of, operands_of, results_of
 from .judging import Judge, Refusal
 from .refusing import why
-from .states import BANKS, RUNNING
+from .states import RUNNING
 from .telling import enumerated, of, plural, reservation, reservations, sentence
 
 

@@ -21,6 +21,7 @@ from dataclasses import dataclass
 from pathlib import Path
 from typing import Callable
 
+from cdc6600 import limits
 from cdc6600.crates.crate import crates
 from cdc6600.shared.decks import PAGES, deck, log_of, rows_of, session
 from cdc6600.shared.instructions import instruction
@@ -270,6 +271,17 @@ def test(path, *words):
     return named(f"crates/{path}", *words)
 
 
+def repeated(name, past, more=0):
+    """What goes past a limit that the tools repeat by this name; a source may have a number above it, by so much."""
+
+    def fault(value):
+        own = getattr(limits, name) + more
+        told = f"tools/cdc6600/limits.py: {name} makes this {own}, and the limit is {value}"
+        return past.fault(value) or (None if own == value else told)
+
+    return Past(past.text, fault)
+
+
 def nothing(why):
     """No input goes past the limit, for this reason."""
     return Past(f"nothing goes past it: {why}", lambda _: None)
@@ -279,6 +291,8 @@ def nothing(why):
 
 REGISTERS = nothing("an instruction has two results and three operands at most, which is proved at each push")
 PARCELS = nothing("an instruction has one parcel or two, which is proved at each push")
+TOO_MANY_LINES = check("large", "MOST_LINES", "too_many")
+LONG_LINES = repeated("READ_OF_A_LINE", check("mutations", "{less}, {value}, {more}"))
 LARGEST_LOG = check("large", "logs_of_files", "[*entries, entry]")
 WAITS = asleep("endless", "the thread for requests at any time")
 BITS = nothing("it is a pattern of bits, and no limit")
@@ -303,44 +317,58 @@ LIMITS = {
     ),
     # The machine.
     ("hopper/src/reference.rt", "PLACES"): answered("full-hopper", "E11 hopper full"),
-    ("hopper/src/reference.rt", "BANKS"): shown("all-banks"),
+    ("hopper/src/reference.rt", "BANKS"): repeated("BANKS", shown("all-banks")),
     ("machine/src/events.rt", "MOST_WORK"): nothing("the contract of `drain` says that nothing is pending after it"),
-    ("machine/src/judging.rt", "MOST_REQUESTS"): check("large", "REQUESTS = {value:_}", "one request more"),
-    ("machine/src/judging.rt", "MOST_ACCESSES"): check("large", "ACCESSES = {value:_}", "one too many"),
-    ("machine/src/processor.rt", "MOST_ISSUES"): test("operator_main/src/command_tests.rt", "{more}"),
+    ("machine/src/judging.rt", "MOST_REQUESTS"): repeated(
+        "MOST_REQUESTS", check("large", "MOST_REQUESTS", "one request more")
+    ),
+    ("machine/src/judging.rt", "MOST_ACCESSES"): repeated(
+        "MOST_ACCESSES", check("large", "MOST_ACCESSES", "one too many")
+    ),
+    ("machine/src/processor.rt", "MOST_ISSUES"): repeated(
+        "MOST_INSTRUCTIONS", test("operator_main/src/command_tests.rt", "{more}")
+    ),
     ("machine/src/processor/peripheral.rt", "ACCESS_ROOM"): check("allocations", "ACCESSES"),
-    ("relocation/src/area.rt", "PACKAGE_WORDS"): answered("asking", "E19 package range"),
+    ("relocation/src/area.rt", "PACKAGE_WORDS"): repeated("PACKAGE_WORDS", answered("asking", "E19 package range")),
     ("relocation/src/saved.rt", "PAGE"): size("second-page"),
-    ("relocation/src/storage.rt", "SMALLEST"): refused("size", 31, lambda number, value: number < value),
-    ("relocation/src/storage.rt", "LARGEST"): refused("size", 131073),
+    ("relocation/src/storage.rt", "SMALLEST"): repeated(
+        "LEAST_WORDS", refused("size", 31, lambda number, value: number < value)
+    ),
+    ("relocation/src/storage.rt", "LARGEST"): repeated("MOST_WORDS", refused("size", 131073)),
     ("relocation/src/storage.rt", "for k in .."): shown("all-banks"),
     # Decks, schedules and what is printed.
-    ("deck/src/applying.rt", "SHOWS"): check("mutations", "self.shows < {value}"),
-    ("deck/src/applying.rt", "ASKS"): requests("most-requests"),
-    ("deck/src/applying.rt", "MOST_ISSUES"): test("text_tests/src/deck_tests.rt", "after {more}"),
+    ("deck/src/applying.rt", "SHOWS"): repeated("MOST_SHOWS", check("mutations", "self.shows < MOST_SHOWS")),
+    ("deck/src/applying.rt", "ASKS"): repeated("MOST_ASKS", requests("most-requests")),
+    ("deck/src/applying.rt", "MOST_ISSUES"): repeated(
+        "MOST_INSTRUCTIONS", test("text_tests/src/deck_tests.rt", "after {more}")
+    ),
     ("deck/src/applying.rt", "PARCELS"): too_full(),
-    ("deck/src/reading.rt", "ArrayVec<u8, "): check("mutations", "{less}, {value}, {more}"),
-    ("deck/src/reading.rt", "for number in ..="): check("large", "MOST_LINES = {value:_}", "too_many"),
-    ("deck/src/reading.rt", "line: "): check("large", "MOST_LINES = {less:_}", "too_many"),
+    ("deck/src/reading.rt", "ArrayVec<u8, "): LONG_LINES,
+    ("deck/src/reading.rt", "for number in ..="): repeated("MOST_LINES", TOO_MANY_LINES),
+    ("deck/src/reading.rt", "line: "): repeated("MOST_LINES", TOO_MANY_LINES, more=1),
     ("deck/src/coding.rt", "ArrayVec<u16, "): check("mutations", "{less}, {value}, 256"),
-    ("device_text/src/line.rt", "ArrayVec<u8, "): check("mutations", "{less}, {value}, {more}"),
-    ("device_text/src/line.rt", "for _ in .."): check("mutations", "{less}, {value}, {more}"),
-    ("job_deck/src/session.rt", "for number in .."): check("large", "MOST_LINES = {less:_}", "too_many"),
-    ("job_deck/src/session.rt", "line: "): check("large", "MOST_LINES = {less:_}", "too_many"),
-    ("job_deck/src/logs.rt", "instructions: "): test("text_tests/src/printing_tests.rt", "I{more}"),
-    ("job_deck/src/schedule_reading.rt", "ArrayVec<u8, "): check("mutations", "{less}, {value}, {more}"),
+    ("device_text/src/line.rt", "ArrayVec<u8, "): LONG_LINES,
+    ("device_text/src/line.rt", "for _ in .."): LONG_LINES,
+    ("job_deck/src/session.rt", "for number in .."): repeated("MOST_LINES", TOO_MANY_LINES, more=1),
+    ("job_deck/src/session.rt", "line: "): repeated("MOST_LINES", TOO_MANY_LINES, more=1),
+    ("job_deck/src/logs.rt", "instructions: "): repeated(
+        "MOST_INSTRUCTIONS", test("text_tests/src/printing_tests.rt", "I{more}")
+    ),
+    ("job_deck/src/schedule_reading.rt", "ArrayVec<u8, "): LONG_LINES,
     ("job_deck/src/logs.rt", "exchanges: "): LARGEST_LOG,
     ("job_deck/src/logs.rt", "accesses: "): LARGEST_LOG,
     ("job_deck/src/dumping.rt", "for number in .."): nothing("there are eight X registers"),
     ("job_deck/src/listing.rt", "while parcel <"): nothing("a word has four parcels"),
-    ("operator_terms/src/budget.rt", "LARGEST_BUDGET"): test("operator_main/src/command_tests.rt", "{more}"),
+    ("operator_terms/src/budget.rt", "LARGEST_BUDGET"): repeated(
+        "MOST_INSTRUCTIONS", test("operator_main/src/command_tests.rt", "{more}")
+    ),
     ("operator_main/src/progress.rt", "QUIET"): check("progress", "is_shown=True"),
     ("operator_main/src/progress.rt", "Duration::from_secs("): check("progress", "is_shown=True"),
     ("operator_main/src/progress.rt", "MOST"): nothing("a run or a replay takes less than a day"),
     ("operator_main/src/progress.rt", "SHOWN"): nothing("the line has at most five digits, and 12 bytes beside them"),
     ("operator_main/src/program.rt", "FAULT_LINE"): nothing("the longest fault line has 229 bytes"),
     ("operator_main/src/fault_at.rt", "POSITION"): nothing("the longest text of a position has 189 bytes"),
-    ("refused_line/src/line_keeper.rt", "KEPT"): check("mutations", "{less}, {value}, {more}"),
+    ("refused_line/src/line_keeper.rt", "KEPT"): LONG_LINES,
     ("refused_line/src/position.rt", "SHOWN"): named("decks/pages/refusals.md", "'12345670123456701234567012345670'.."),
     ("refused_line/src/texts.rt", "BEFORE"): nothing("no text begins before the word and its blank end"),
     ("refused_line/src/texts.rt", "PARCELS"): too_full(),
@@ -383,10 +411,10 @@ def limits_in(source):
 
 def main():
     is_list = sys.argv[1:] == ["--list"]
-    limits = {limit for crate in crates() for source in crate.code for limit in limits_in(source)}
-    names = {(it.path, it.name) for it in limits}
+    found = {limit for crate in crates() for source in crate.code for limit in limits_in(source)}
+    names = {(it.path, it.name) for it in found}
     faults = [f"crates/{path} has no limit `{name.strip()}`" for path, name in LIMITS if (path, name) not in names]
-    for it in sorted(limits, key=lambda it: (it.path, it.name, it.value)):
+    for it in sorted(found, key=lambda it: (it.path, it.name, it.value)):
         limit, past = f"crates/{it.path}, {it.name.strip()} {it.value}", LIMITS.get((it.path, it.name))
         fault = fault_of(past, it.value) if past else "there is no row for it"
         faults += [f"{limit}: {fault}"] if fault else []

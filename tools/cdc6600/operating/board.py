@@ -5,7 +5,8 @@ import textwrap
 from cdc6600.drawing.following import PLACES
 from cdc6600.drawing.instructions import NAMES, UNITS
 from cdc6600.drawing.panel import Panel
-from cdc6600.drawing.states import BANKS, CHANNELS
+from cdc6600.drawing.states import CHANNELS
+from cdc6600.limits import BANKS
 
 WIDTH = 80
 # The units stand at the left, the hopper and the channels beside them.

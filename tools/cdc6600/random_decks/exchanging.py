@@ -1,9 +1,11 @@
 """Programs that are exchanged for each other while they run, and a monitor that changes their packages."""
 
+from cdc6600.limits import PACKAGE_WORDS
+
 from .draws import INDEX_ONES
 from .jobs import STOP, Job
 from .pieces import keep
-from .programs import PACKAGE_WORDS, Deck, Label, spelled
+from .programs import Deck, Label, spelled
 
 SIZE, TABLE, KEPT = 1024, 8, 96
 COUNTER, FREE_B, FREE_X = 7, range(1, 7), range(6)

@@ -1,11 +1,12 @@
 """Programs that end in every way: by a stop, a refused opcode, an instruction across the end of its word, a fetch or a
 reference out of range."""
 
+from cdc6600.limits import PACKAGE_WORDS
 from cdc6600.shared.instructions import ROWS
 
 from .jobs import ADDRESS_BIT, STOP, Job
 from .pieces import SHORT_ON_X, keep, on_registers
-from .programs import PACKAGE_WORDS, Deck, Less, Parcel, spelled
+from .programs import Deck, Less, Parcel, spelled
 
 SIZE, TABLE, KEPT = 1024, 8, 8
 # The first two digits of the codes of two parcels.

@@ -1,9 +1,11 @@
 """A program with its part of memory: a table of drawn words, further words, its code, and words in which it keeps what
 registers have."""
 
+from cdc6600.limits import PACKAGE_WORDS
+
 from .draws import INDEX_BITS
 from .pieces import on_registers
-from .programs import PACKAGE_WORDS, Code, Deck, Label, Package, spelled
+from .programs import Code, Deck, Label, Package, spelled
 
 TABLE = 32
 LEAST_MEMORY = 32

@@ -6,7 +6,6 @@ from functools import reduce
 from cdc6600.shared.instructions import ROWS, Instruction
 
 PARCELS = 4
-PACKAGE_WORDS = 16
 PASS = 0o46000
 
 

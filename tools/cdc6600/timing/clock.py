@@ -10,7 +10,7 @@ from collections import Counter
 from dataclasses import dataclass, field
 
 from cdc6600.drawing.following import ENDS
-from cdc6600.drawing.states import BANKS
+from cdc6600.limits import BANKS
 
 # What a part that waits is said to wait for if nothing else is known: the schedule makes its event later.
 ORDER = "order"

@@ -8,9 +8,10 @@ nothing is asked for each instruction. At the end of a schedule the registers ar
 import re
 
 from cdc6600.drawing.following import Fault
+from cdc6600.limits import PACKAGE_WORDS
 from cdc6600.shared.instructions import instruction, items_of
 
-PARCELS, PACKAGE_WORDS = 4, 16
+PARCELS = 4
 ADDRESSES, ONES18, ONES60 = 1 << 18, (1 << 18) - 1, (1 << 60) - 1
 LISTED = re.compile(r"([0-7]{6}) ([0-7]{20}) .*")
 RETURN_JUMP, JUMP, STOP, PASS = "010", "02", "00", "46"

@@ -12,7 +12,8 @@ from types import SimpleNamespace
 from cdc6600.drawing.following import Fault, Machine, Replays, Reservation, Session
 from cdc6600.drawing.instructions import KINDS, kind_of, results_of
 from cdc6600.drawing.judging import Judge
-from cdc6600.drawing.states import ADDRESS_MODE, BANKS, RUNNING, State
+from cdc6600.drawing.states import ADDRESS_MODE, RUNNING, State
+from cdc6600.limits import BANKS
 
 from .clock import after, is_taken
 from .fronts import Front, Moment

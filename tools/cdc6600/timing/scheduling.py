@@ -5,7 +5,7 @@ made that may have removed what it was refused for.
 """
 
 from cdc6600.drawing.following import Fault, Log
-from cdc6600.drawing.states import BANKS
+from cdc6600.limits import BANKS
 from cdc6600.operating.conversation import Conversation
 
 from .clock import ORDER, Clock
