@@ -1,6 +1,6 @@
 /* Calls each function of the library for C with one of its requests for memory refused: the first, then the second, and
  * so on until a call makes no more of them; the same with all later ones refused too. The calls with a machine that is
- * kept count as one, from its boot until it is freed. tools/checks/embedding builds it with the linker's --wrap of
+ * kept count as one, from its boot until it is freed. tools/check embedding builds it with the linker's --wrap of
  * malloc, realloc and free.
  *
  *     refused_memory SESSION LOG

@@ -2,10 +2,15 @@
 
 - Names: the comment that begins a crate names in backquotes what the crate has: a module, a definition, or a name in
   its code. It may also name what a crate below declares, a crate, and an instruction; but a module only of its own.
+- Paths of names: each part of a name such as `Lane::take`, in backquotes in any comment of a crate or in a page, is a
+  name in the code of a crate or of the kit's crates that it uses.
+- Beginnings: the comment that begins a crate names the file of the crate's tests, and ends with a sentence that says
+  where to begin: `Begin with ..`. A crate of tests only says where to begin.
 - Calls: a table of calls, whose head begins with `Call`, names public calls of the crates that its page names above it.
   `tools/check safety` checks the tables of docs/safety.md.
 - Paths: a path that begins with a folder of the repository is a file or a folder there, in the files of crates and in
-  pages. NAME stands for any name, and so does the crate in `crates/crate/`; `*` has to match something.
+  pages. In the tools' sources this holds for tools and pages, since tests name decks and crates that they make. NAME
+  stands for any name, and so does the crate in `crates/crate/`; `*` has to match something.
 - Links: the target of a link in a page is there. Targets elsewhere, in the web, aren't looked up.
 """
 
@@ -20,6 +25,8 @@ from cdc6600.shared.program import ROOT
 QUOTED = re.compile(r"`([^`]*)`")
 NAME = re.compile(r"\w+(?:(?:::|/)\w+)*")
 WORD = re.compile(r"\w+")
+PARTED = re.compile(r"[\w:]+(?:\(\))?")
+SENTENCE = re.compile(r"(?<=[.:]) (?=[A-Z`])")
 COMMENT = re.compile(r" *//")
 # What a source declares: items, clauses of contracts, fields and variants; and what a file of definitions does.
 ITEMS = (
@@ -35,6 +42,10 @@ OTHERS = {"cdc6600", "specs"}
 
 PATH = re.compile(r"(?<![\w/.-])(?:crates|decks|docs|tools|bench|\.ci)/[\w./*-]*")
 PLACEHOLDER = re.compile(r"\bNAME\b|^crates/crate/")
+# What the sources of tools may name falsely: this file has paths of the past, too.
+OF_TOOLS, OWN = ("tools/", "docs/", "bench/", ".ci/"), "tools/cdc6600/gate/names.py"
+# A name with parts that stands for any.
+ANY_NAME = "Type::function"
 KINDS = (".rt", ".antt", ".edit", ".h", ".c", ".rs", ".py")
 LINK = re.compile(r"\]\(([^)\s]+)\)")
 ELSEWHERE = re.compile(r"[a-z]+:|#")
@@ -45,6 +56,17 @@ MOVED = {
     ("crates/schedule_tests/src/lib.rt", "tools/checks/schedules"),
     ("crates/schedule_tests/src/schedule.rt", "tools/checks/schedules"),
 }
+
+# How the names of files of tests end.
+OF_TESTS = re.compile(r"_(?:tests|schedules)$")
+# The crates whose first comments don't follow the rule on beginnings yet. A crate that follows it is a fault here.
+NOT_YET = frozenset((
+    "word60 parcel instructions instruction_table unit_ops registers per_unit relocation hopper exchange_package "
+    "scoreboard sequential exchange_requests core_tests in_flight program_order fulfilled_requests sequential_run "
+    "machine machine_tests unit_queue signals progress_word machine_lock unit_serving unit_workers device_text deck "
+    "job_deck sequential_job operator_terms text_tests command_line deck_run embedding thread_tests schedule_tests "
+    "operator_main"
+).split())
 
 TABLE, CRATES = Table(ROOT), {crate.name: crate for crate in crates()}
 SAFETY = "docs/safety.md"
@@ -87,6 +109,60 @@ def faults_of_names():
                 yield f"{where}: there is no `{text}` in {crate.name}, nor below it"
 
 
+# ---- how the comment of a crate begins and ends ----
+
+
+def first_comment(crate):
+    """The path of a crate's first source, and the text of the comment that begins it."""
+    source = next(it for it in crate.sources if it.file.name in ("lib.rt", "main.rt"))
+    lines = [line.removeprefix("//!").strip() for line in source.lines if line.startswith("//!")]
+    return source.path, " ".join(lines)
+
+
+def fault_of_beginning(crate):
+    """What the first comment of a crate doesn't say, or nothing."""
+    tests = {source.file.stem for it in CRATES.values() for source in it.sources}
+    path, text = first_comment(crate)
+    named = {name for quoted in QUOTED.findall(text) for name in WORD.findall(quoted)}
+    if not SENTENCE.split(text)[-1].startswith("Begin with "):
+        return f"{path}: its first comment doesn't end with the place to begin"
+    if not crate.name.endswith("_tests") and not any(map(OF_TESTS.search, named & tests)):
+        return f"{path}: its first comment doesn't name the file of its tests"
+    return None
+
+
+def faults_of_beginnings():
+    """The crates whose first comments break the rule on beginnings, without those that don't follow it yet."""
+    for crate in CRATES.values():
+        fault = fault_of_beginning(crate)
+        if fault and crate.name not in NOT_YET:
+            yield fault
+        if not fault and crate.name in NOT_YET:
+            yield f"{crate.name}: its first comment follows the rule, so it doesn't belong in NOT_YET"
+
+
+# ---- the parts of names ----
+
+
+def words_of_all():
+    """The words of all code, with the names of the crates, modules and files of definitions."""
+    of_crates = (said(crate) | declared(crate) | set(TABLE.uses[crate.name]) for crate in CRATES.values())
+    return set(CRATES).union(*of_crates)
+
+
+WORDS = words_of_all()
+
+
+def faults_of_parts(name, lines):
+    """The names with parts that a file's comments, or a page, give to what no code has."""
+    is_page = name.endswith(".md")
+    for number, line in enumerate(lines, 1):
+        for text in QUOTED.findall(line) if is_page or COMMENT.match(line) else ():
+            is_parted = "::" in text and PARTED.fullmatch(text) and text != ANY_NAME
+            if is_parted and not WORDS.issuperset(WORD.findall(text)):
+                yield f"{name}:{number}: there is no `{text}`"
+
+
 def faults_of_calls(page, lines):
     """The calls of a page's tables that no crate has which the page names before."""
     calls, is_table = set(), False
@@ -120,7 +196,8 @@ def faults_of_paths(name, lines):
     for number, line in enumerate(lines, 1):
         for found in PATH.findall(line):
             path = found.removesuffix("**").rstrip(".")
-            if not is_there(path) and (name, path) not in MOVED:
+            is_made = name == OWN or name.startswith("tools/") and not path.startswith(OF_TOOLS)
+            if not is_there(path) and not is_made and (name, path) not in MOVED:
                 yield f"{name}:{number}: there is no {path}"
 
 
@@ -141,10 +218,11 @@ def faults_of_links(page, lines):
 
 
 def main():
-    faults, pages = [*faults_of_names(), *faults_of_moved()], tracked("*.md")
-    for name in [path for path in tracked("crates") if path.endswith(KINDS)] + pages:
+    faults, pages = [*faults_of_names(), *faults_of_beginnings(), *faults_of_moved()], tracked("*.md")
+    for name in [path for path in tracked("crates", "tools", "bench") if path.endswith(KINDS)] + pages:
         lines = (ROOT / name).read_text(encoding="utf-8").split("\n")
         faults += faults_of_paths(name, lines)
+        faults += faults_of_parts(name, lines) if name.endswith((".rt", ".md")) else []
         if name in pages:
             faults += faults_of_links(name, lines)
             faults += faults_of_calls(name, lines) if name != SAFETY else []
