@@ -10,7 +10,7 @@ The parts, in their order:
 - small checks, which take seconds: that docs/definitions.md names what is there, docs/safety.md each public call,
   docs/threads.md its example, docs/crates.md the sizes, docs/CHANGING.md the checks of the gate, that a deck or a test
   goes past each limit of the code, that a word with one meaning is used for nothing else, that what comments and pages
-  name is there, and the layout of pages;
+  name is there, the layout of pages, and the style of the Python sources;
 - `rt ci`: every proof from nothing, every test, the wrong bodies of `must-fail`, and the program's stored run. It keeps
   beside the kit what it proved and tried, by the sums of all that it read, and so proves and tries again only what
   changed, and what stands above that; tests and the program are run each time;
@@ -22,10 +22,10 @@ The parts, in their order:
   what a run with and without threads prints for drawn decks, and which events take memory; that a run ends soon beside
   other work; that sources are assembled, that emulators are compared with it, that pages of sessions say what the
   machine does, that a machine is driven by hand, installed, run many times and called from C; then that forgotten
-  tokens are refused, and that `./cdc6600` builds no program of which a crate isn't proved. A check that needs a program
-  which isn't installed is left out, and that is told.
+  tokens are refused, and that `./cdc6600` builds no program of which a crate isn't proved.
 
-A small check and a check of decks that finds nothing says nothing. Where `rt ci` fails nothing more is tried.
+The names of the checks are in parts.py. A check that needs a program which isn't installed is left out, and that is
+told. A check that finds nothing says nothing. Where `rt ci` fails nothing more is tried.
 """
 
 import os
