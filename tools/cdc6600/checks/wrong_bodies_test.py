@@ -412,8 +412,8 @@ class Checking(unittest.TestCase):
         for name in refused:
             self.assertTrue(any(line.startswith(f"tiny/{name}: refused at `") for line in lines), (name, lines))
         for name, (_, reason) in told.items():
-            told = [line for line in lines if line.startswith(f"NOT REFUSED tiny/{name}: ") and reason in line]
-            self.assertTrue(told, (name, lines))
+            named = [line for line in lines if line.startswith(f"NOT REFUSED tiny/{name}: ") and reason in line]
+            self.assertTrue(named, (name, lines))
         for name in unsure:
             begins = f"CAN'T TELL tiny/{name}: `returns-clause-is` of double"
             self.assertTrue(any(line.startswith(begins) for line in lines), (name, lines))
