@@ -97,7 +97,7 @@ def in_place(it, body, left_out, source, folder):
     for item, paths, names in zip(body.touched, it.paths, left_out):
         above = attributes_of(item, source.texts[item.path].split("\n"))
         start = item.first - len(above)
-        if paths and not any(it[0] == item.path and it[1] < item.first and start < it[2] for it in regions):
+        if paths and not any(at[0] == item.path and at[1] < item.first and start < at[2] for at in regions):
             regions.append((item.path, start, item.first, opened(above, paths, item)))
         for path in {path for path, _ in names}:
             text = texts.get(path) or (folder / path).read_text(encoding="utf-8")
