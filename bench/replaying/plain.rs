@@ -3,8 +3,8 @@
 //!
 //! `plain LOG` reads a deck of `core`, `at`, `word`, `start`, `show` and `end` lines on standard input, goes
 //! through the log and prints the dump, as `cdc6600 replay LOG` does. It takes deck and log to be right, and
-//! panics where they aren't. bench/running takes its parts; tools/checks/emulators compares it as an emulator, and
-//! copies of it with the faults that tools/checks/planted.py puts in.
+//! panics where they aren't. bench/running takes its parts; tools/check emulators compares it as an emulator, and
+//! copies of it with the faults that tools/cdc6600/checks/planted.py puts in.
 
 use std::fmt::Write;
 use std::io::Read;

@@ -1,0 +1,204 @@
+"""A source program, assembled: where its words are, what they have, and what its names stand for."""
+
+from dataclasses import dataclass, field
+from functools import partial
+
+from cdc6600.limits import MOST_WORDS
+
+from .faults import Faults, Wrong, quoted
+from .lines import Line, lines_of, read_line
+from .texts import written
+from .values import NAME, REGISTER, WORD_BITS, fitted, value_of, within
+
+PARCELS, PASS = 4, 0o46000
+# After these the next instruction begins a word.
+UNCONDITIONAL = ("JP", "RJ", "PS")
+# The lines about the package, the memory and what is shown. They take no label and no word.
+SETTINGS, SETTERS = ("RA", "FL", "EM", "CORE", "PACKAGE"), ("SET", "SHOW")
+ABOVE = " above this line"
+
+
+@dataclass
+class Coded:
+    """A word of instructions: its address, and the lines that they are from."""
+
+    address: int
+    parts: list = field(default_factory=list)
+    instructions: list = field(default_factory=list)
+
+    @property
+    def number(self):
+        """The number of its first line."""
+        return self.parts[0][0].number
+
+    @property
+    def free(self):
+        """How many parcels are free."""
+        return PARCELS - sum(it.parcels for _, it in self.parts)
+
+    def resolve(self, names, faults):
+        """Gives the values of names to its instructions."""
+        for line, it in self.parts:
+            try:
+                self.instructions.append(it.instruction(names))
+            except Wrong as wrong:
+                faults.add(line.number, wrong)
+
+    @property
+    def word(self):
+        """The word, filled up with passes."""
+        parcels = [parcel for it in self.instructions for parcel in it.parcels]
+        filled = (parcels + [PASS] * PARCELS)[:PARCELS]
+        return sum(parcel << 15 * (PARCELS - 1 - at) for at, parcel in enumerate(filled))
+
+    @property
+    def deck_line(self):
+        """Its line in a deck."""
+        return f"code {'; '.join(it.text for it in self.instructions)}"
+
+
+@dataclass
+class Given:
+    """A word of DATA: its address, its line, and the text of its value with its column."""
+
+    address: int
+    line: Line
+    text: str
+    column: int
+    word: int = 0
+
+    @property
+    def number(self):
+        """The number of its line."""
+        return self.line.number
+
+    def resolve(self, names, faults):
+        """Gives it its value."""
+        try:
+            self.word = fitted(value_of(self.text, self.column, names), WORD_BITS, self.column)
+        except Wrong as wrong:
+            faults.add(self.number, wrong)
+
+    @property
+    def deck_line(self):
+        """Its line in a deck."""
+        return f"word {self.word:020o}"
+
+
+class Program:
+    """A source program by its name and its text. Addresses are those of the program, from RA on."""
+
+    def __init__(self, name, text):
+        self.faults, self.texts = Faults(name), lines_of(text)
+        self.names, self.defined, self.words, self.settings = {}, {}, {}, []
+        # The next address, the highest one so far, the word that may take more instructions, and where lines begin.
+        self.address, self.top, self.open, self.begins = 0, 0, None, {}
+        for number, line in enumerate(self.texts, 1):
+            self.guarded(number, partial(self.read, number, line))
+        self.close()
+        for word in self.words.values():
+            word.resolve(self.names, self.faults)
+
+    def guarded(self, number, work):
+        """Does some work on a line, and keeps what is wrong with the line."""
+        try:
+            work()
+        except Wrong as wrong:
+            self.faults.add(number, wrong)
+
+    def read(self, number, text):
+        """Reads a line."""
+        line = read_line(number, text)
+        if " " in line.operands and line.operation not in SETTERS:
+            raise Wrong(line.fields[0][1] + len(line.fields[0][0]), "a blank in the operands: expected none, and two "
+                        "before a comment")
+        if line.operation == "EQU":
+            self.equal(line)
+            return
+        work = {"DATA": self.data, "BSS": self.reserve, "ORG": self.move}.get(line.operation)
+        is_setting = line.operation in (*SETTINGS, *SETTERS)
+        if line.label and (is_setting or line.operation == "ORG"):
+            raise Wrong(1, f"{line.operation} takes no label: expected a blank in column 1")
+        if line.label or work:
+            self.close()
+        if line.label:
+            self.guarded(number, partial(self.define, line, self.address))
+            self.begins[number] = self.address
+        if is_setting:
+            self.settings.append(line)
+        elif work:
+            work(line)
+        elif line.operation:
+            self.instruct(line, written(line))
+
+    def define(self, line, value):
+        """Defines the name in a line's first column."""
+        name = line.label
+        if not NAME.fullmatch(name):
+            raise Wrong(1, f"{quoted(name)} is no label: expected a capital letter and up to 19 capital letters and "
+                        "digits behind it")
+        if REGISTER.fullmatch(name):
+            raise Wrong(1, f"'{name}' is a register: expected another name")
+        if name in self.names:
+            raise Wrong(1, f"'{name}' is defined in line {self.defined[name]} too: expected another name")
+        self.names[name], self.defined[name] = value, line.number
+
+    def known(self, line):
+        """The value of a line's operands, by the names that are defined above it."""
+        if not line.operands:
+            raise Wrong(line.operands_column, f"no operand after {line.operation} and one blank: expected a value")
+        return value_of(line.operands, line.operands_column, self.names, ABOVE)
+
+    def equal(self, line):
+        """Defines a name that isn't a label."""
+        if not line.label:
+            raise Wrong(1, "EQU needs a name: expected one in column 1")
+        self.define(line, self.known(line))
+
+    def move(self, line):
+        """Goes on at another address."""
+        self.address = within(self.known(line), 0, MOST_WORDS - 1, line.operands_column)
+
+    def reserve(self, line):
+        """Leaves words free."""
+        count = within(self.known(line), 0, MOST_WORDS, line.operands_column)
+        self.begins[line.number] = self.address
+        self.address += count
+        self.top = max(self.top, self.address)
+
+    def data(self, line):
+        """Places the words of DATA."""
+        column = line.operands_column
+        if not line.operands:
+            raise Wrong(column, "no operands after DATA and one blank: expected values with commas between them")
+        for text in line.operands.split(","):
+            self.place(line, Given(self.address, line, text, column))
+            self.address += 1
+            column += len(text) + 1
+
+    def instruct(self, line, it):
+        """Places an instruction: in the word before if it has room, else in the next one."""
+        if self.open and self.open.free < it.parcels:
+            self.close()
+        is_new = not self.open
+        self.open = self.open or Coded(self.address)
+        self.open.parts.append((line, it))
+        if is_new:
+            self.place(line, self.open)
+        if line.operation in UNCONDITIONAL:
+            self.close()
+
+    def close(self):
+        """Fills up the word that may take more instructions, if there is one."""
+        if self.open:
+            self.open, self.address = None, self.address + 1
+
+    def place(self, line, word):
+        """Places a word."""
+        other = self.words.get(word.address)
+        if other:
+            raise Wrong(line.column, f"word {word.address:o} is placed by line {other.number} too: expected another "
+                        "ORG")
+        self.words[word.address] = word
+        self.begins.setdefault(line.number, word.address)
+        self.top = max(self.top, word.address + 1)

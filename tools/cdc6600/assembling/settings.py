@@ -1,0 +1,131 @@
+"""What a source program says of its exchange package, of the memory, and of what is shown."""
+
+from functools import partial
+
+from cdc6600.limits import LEAST_WORDS, MOST_SHOWS, MOST_WORDS, PACKAGE_WORDS
+
+from .faults import Wrong, quoted
+from .lines import Line
+from .program import SETTERS
+from .values import INDEX_BITS, REGISTER, WORD_BITS, fitted, octal, value_of, within
+
+START = "START"
+DEFAULTS = {"RA": 0o100, "EM": 0o10000, "PACKAGE": 0o40}
+# Where the package has its numbers: the word and its bit 0 for those of the table's first part, by docs/formats.md.
+MIDDLE, HEAD = 36, {"P": 0, "RA": 1, "FL": 2, "EM": 3}
+A_BITS, FIRST_X = 18, 8
+
+
+class Settings:
+    """The package, the memory and the shown words of a program. Addresses of memory count from its begin."""
+
+    def __init__(self, program):
+        self.program, self.values, self.lines, self.registers, self.shown = program, {}, {}, {}, []
+        for line in program.settings:
+            program.guarded(line.number, lambda line=line: self.read(line))
+        last = Line(max(len(program.texts), 1), "")
+        program.guarded(last.number, self.look_for_start)
+        self.reference = self.values.get("RA", DEFAULTS["RA"])
+        self.package = self.values.get("PACKAGE", DEFAULTS["PACKAGE"])
+        self.length = self.values.get("FL", program.top)
+        self.needed = max(self.reference + program.top, self.package + PACKAGE_WORDS, LEAST_WORDS)
+        self.size = min(max(self.needed, self.reference + self.length), MOST_WORDS)
+        self.judge(self.lines.get("CORE", last), self.judge_memory)
+        self.judge(self.lines.get("PACKAGE", self.lines.get("RA", last)), self.judge_package)
+        for line, *words in self.shown:
+            program.guarded(line.number, partial(self.judge_shown, line.operands_column, *words))
+
+    def judge(self, line, work):
+        """Makes a judgement which a line is to be blamed for."""
+        self.program.guarded(line.number, partial(work, line.column))
+
+    def value(self, text, column):
+        """The value of a text which begins at a column."""
+        return value_of(text, column, self.program.names)
+
+    def fields(self, line, least, most, wanted):
+        """The fields of a line's operands, so many."""
+        fields = line.fields
+        if len(fields) < least:
+            column = line.column + len(line.statement)
+            raise Wrong(column, f"too few operands after {line.operation} and one blank: {wanted}")
+        if len(fields) > most:
+            raise Wrong(fields[most][1], f"{quoted(fields[most][0])} is too much: {wanted}")
+        return fields
+
+    def read(self, line):
+        """Reads a line."""
+        if line.operation in SETTERS:
+            (self.set if line.operation == SETTERS[0] else self.show)(line)
+            return
+        name = line.operation
+        text, column = self.fields(line, 1, 1, "expected a value")[0]
+        if name in self.lines:
+            raise Wrong(line.column, f"{name} is in line {self.lines[name].number} too: expected it once")
+        self.lines[name] = line
+        value = self.value(text, column)
+        if name in ("CORE", "PACKAGE"):
+            least, most = (LEAST_WORDS, MOST_WORDS) if name == "CORE" else (0, MOST_WORDS - PACKAGE_WORDS)
+            self.values[name] = within(value, least, most, column)
+        else:
+            self.values[name] = fitted(value, INDEX_BITS, column)
+
+    def set(self, line):
+        """Reads a line that sets a register."""
+        wanted = "expected a register and a value"
+        (name, at), (text, column) = self.fields(line, 2, 2, wanted)
+        if not REGISTER.fullmatch(name) or name == "B0":
+            raise Wrong(at, f"{quoted(name)} can't be set: expected A0 to A7, B1 to B7 or X0 to X7")
+        if name in self.registers:
+            raise Wrong(at, f"{name} is set twice: expected one value for it")
+        self.registers[name] = 0
+        self.registers[name] = fitted(self.value(text, column), WORD_BITS if name[0] == "X" else INDEX_BITS, column)
+
+    def show(self, line):
+        """Reads a line that names words to be shown."""
+        fields = self.fields(line, 1, 2, "expected an address, and how many words if they are several")
+        if len(self.shown) == MOST_SHOWS:
+            raise Wrong(line.column, f"a line too many of SHOW: expected at most {MOST_SHOWS}")
+        address = self.value(*fields[0])
+        count = within(self.value(*fields[1]), 1, MOST_WORDS, fields[1][1]) if len(fields) > 1 else 1
+        self.shown.append((line, address, count))
+
+    def look_for_start(self):
+        """Looks for the label where the program begins."""
+        if START not in self.program.names:
+            raise Wrong(1, f"there is no label {START}: expected one where the program begins")
+
+    def judge_memory(self, column):
+        """Judges the size of the memory."""
+        if self.needed > MOST_WORDS:
+            raise Wrong(column, f"the program needs {self.needed:o} words of memory: expected at most {MOST_WORDS:o}")
+        self.size = self.values.get("CORE", self.size)
+        if self.size < self.needed:
+            raise Wrong(column, f"the program needs {self.needed:o} words of memory: expected at least as many of CORE")
+
+    def judge_package(self, column):
+        """Judges whether the package lies apart from the program."""
+        taken = [self.reference + address for address in self.program.words]
+        taken = [address for address in taken if 0 <= address - self.package < PACKAGE_WORDS]
+        if taken:
+            raise Wrong(column, f"the package at {self.package:o} has word {min(taken):o}, and so has the program: "
+                        "expected another PACKAGE or RA")
+
+    def judge_shown(self, column, address, count):
+        """Judges the words to be shown."""
+        last = address + count - 1
+        if address < -self.reference or self.reference + last >= self.size:
+            raise Wrong(column, f"words {octal(address)} to {octal(last)} don't all lie in memory: expected fewer "
+                        "words or a larger CORE")
+
+    @property
+    def package_words(self):
+        """The words of the package, in their order."""
+        words = [self.registers.get(f"X{at - FIRST_X}", 0) for at in range(PACKAGE_WORDS)]
+        head = {"P": self.program.names[START], "RA": self.reference, "FL": self.length,
+                "EM": self.values.get("EM", DEFAULTS["EM"])}
+        for at in range(FIRST_X):
+            words[at] = (self.registers.get(f"A{at}", 0) << A_BITS) + self.registers.get(f"B{at}", 0)
+        for name, at in HEAD.items():
+            words[at] += head[name] << MIDDLE
+        return words

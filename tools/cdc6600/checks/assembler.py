@@ -1,0 +1,262 @@
+"""Tries tools/assemble.
+
+- Each instruction of docs/instructions.md, with several registers and values, and each of the listings of decks/:
+  assembled and then listed by the program it has the same text, and the words of --listing are those of the program.
+- The sources of decks/pages/bad-sources.md have the faults that stand beside them, and no deck.
+- The programs of decks/source/ print the dumps beside them, and --listing shows their lines and words.
+- Passes, words that are begun anew, labels, values, the package and the memory give the lines of decks that are below.
+- Further errors than the first 20 are counted, a file that can't be read gives a line, and a reader that leaves or a
+  full disk ends the tool as it should.
+
+It prints a line for each fault, and ends with status 1 then; else it prints nothing. CDC6600 may name the program to
+try; else `./cdc6600` builds it.
+"""
+
+import itertools
+import os
+import re
+import subprocess
+import tempfile
+from concurrent.futures import ThreadPoolExecutor
+from functools import partial
+from pathlib import Path
+
+from cdc6600.shared.decks import FOLDER, PAGES, cells_of, decks
+from cdc6600.shared.instructions import FIELDS, ROWS
+from cdc6600.shared.program import ROOT, Program, Ran, tell
+from cdc6600.shared.waiting import faults_found
+
+TOOL, SOURCES, BAD = "tools/assemble", FOLDER / "source", PAGES / "bad-sources.md"
+PIPED = {"cwd": ROOT, "stdout": subprocess.PIPE, "stderr": subprocess.PIPE}
+# The numbers that stand for each field of a text in turn; a field with fewer of them begins again.
+TRIED = {"i": (0, 5, 7, 1), "j": (7, 0, 6, 2, 3), "k": (1, 7, 0, 4, 5, 2), "jk": (0, 1, 0o10, 0o74, 0o77),
+         "K": (0, 1, 0o377777, 0o400000, 0o777777, 0o12345)}
+TURNS = 12
+# No stored program has more instructions. One that is assembled wrongly may have no end.
+BUDGET = ("--budget", "2000")
+LISTED = re.compile(r"([0-7]{6}) ([0-7]{20}) (.*)")
+REFERENCE = 0o100
+# What the rows of the first table follow: sources without what each needs.
+BEFORE = "START PS\n"
+# A source without its first line, `START NO`, and the words that it places from word 0 on, as a deck has them.
+PLACED = (
+    # Passes: an instruction of two parcels that doesn't fit goes into the next word.
+    (" NO\n NO\n NO", "code NO; NO; NO; NO"),
+    (" NO\n SX1 B0+1\n NO", "code NO; NO; SX1 B0+1|code NO"),
+    (" NO\n NO\n SX1 B0+1", "code NO; NO; NO|code SX1 B0+1"),
+    (" SX1 B0+1\n SX1 B0+2\n BX1 X2", "code NO; SX1 B0+1|code SX1 B0+2; BX1 X2"),
+    # A labelled instruction begins a word, and so does what follows JP, RJ and PS, and DATA, BSS and ORG.
+    ("A NO\nB NO", "code NO|code NO|code NO"),
+    ("A\n NO\nB\nC\n NO", "code NO|code NO|code NO"),
+    (" JP B1+5\n NO", "code NO; JP B1+5|code NO"),
+    (" RJ 5\n NO", "code NO; RJ 5|code NO"),
+    (" PS\n NO", "code NO; PS|code NO"),
+    (" EQ B0,B0,5\n NO", "code NO; EQ B0,B0,5; NO"),
+    (" DATA 5\n NO", "code NO|word 00000000000000000005|code NO"),
+    (" BSS 0\n NO", "code NO|code NO"),
+    (" BSS 2\n NO", "code NO|at 103|code NO"),
+    (" ORG 5\n NO", "code NO|at 105|code NO"),
+    (" ORG 5\n NO\n ORG 1\n NO", "code NO|code NO|at 105|code NO"),
+    # These take no word, and begin none.
+    ("A EQU 5\n NO\n SHOW 0\n EM 0\n NO", "code NO; NO; NO"),
+    ("* A comment\n\n NO  and another one\n NO   SX1 B0+5", "code NO; NO; NO"),
+    # Labels at the edges of the program, and sums.
+    ("A SX1 B0+A\n SX1 B0+B\n SX1 B0+START\nB", "code NO|code SX1 B0+1; SX1 B0+3|code SX1 B0+0"),
+    ("A SX1 B0+A+2\n SX1 B0+A-1\n SX1 B0-A", "code NO|code SX1 B0+3; SX1 B0+0|code SX1 B0+777776"),
+    (" SX1 B0+-5\n SX1 B0-5", "code NO; SX1 B0+777772|code SX1 B0+777772"),
+    ("A SX1 B0+A-2\n SX1 B0-A+3", "code NO|code SX1 B0+777776; SX1 B0+2"),
+    ("A EQU 20D\n SA1 A2+A\n SA1 X3-A\n LX1 A", "code NO; SA1 A2+24|code SA1 X3+777753; LX1 24"),
+    ("A EQU 777777\nB EQU A-A\n RJ A\n RJ B", "code NO; RJ 777777|code RJ 0"),
+    ("A EQU 5\n NZ X1,A-6\n MX1 A+72\n MX1 10D", "code NO; NZ X1,777776; MX1 77|code MX1 12"),
+    (" ORG 377\nA RJ A\n", "code NO|at 477|code RJ 377"),
+    ("Z9 BSS 0\nA DATA A,-A,Z9+1,10B,10D,-37777777777777777777,777", "code NO|word 00000000000000000001|"
+     "word 77777777777777777776|word 00000000000000000002|word 00000000000000000010|word 00000000000000000012|"
+     "word 40000000000000000000|word 00000000000000000777"),
+    (" DATA 77777777777777777777", "code NO|word 77777777777777777777"),
+    (" NO\r\n NO\r", "code NO; NO; NO"),
+    (" NO  \u00fc\tc", "code NO; NO"),
+)
+# A source and its deck.
+WHOLE = (
+    ("START PS", "core 65|at 41|word 00000100000000000000|word 00000001000000000000|word 00010000000000000000|at 100|"
+     "code PS|start 40|end"),
+    ("START PS\n RA 0\n PACKAGE 1", "core 32|code PS|at 3|word 00000001000000000000|word 00010000000000000000|"
+     "start 1|end"),
+    (" DATA 5\nSTART PS\n RA 20\n FL 50\n EM 0\n CORE 1000D", "core 1000|at 20|word 00000000000000000005|code PS|"
+     "at 40|word 00000001000000000000|word 00000020000000000000|word 00000050000000000000|start 40|end"),
+    ("START PS\n RA 1000\n FL 500\n SET A0 START+1\n SET B7 -1\n SET X0 -5\n SET X7 A\nA BSS 2\n SHOW A 2\n SHOW A",
+     "core 832|at 40|word 00000000000001000000|word 00001000000000000000|word 00000500000000000000|"
+     "word 00010000000000000000|at 47|word 00000000000000777776|word 77777777777777777772|at 57|"
+     "word 00000000000000000001|at 1000|code PS|start 40|show 1001 1002|show 1001 1001|end"),
+    ("START PS\n ORG 377677\nA DATA A\n SHOW -100 400000\n SHOW A", "core 131072|at 41|word 00000100000000000000|"
+     "word 00377700000000000000|word 00010000000000000000|at 100|code PS|at 377777|word 00000000000000377677|start 40|"
+     "show 0 377777|show 377777 377777|end"),
+    ("START PS\n RA 377777\n FL 777777\n", "core 131072|at 41|word 00377777000000000000|word 00777777000000000000|"
+     "word 00010000000000000000|at 377777|code PS|start 40|end"),
+)
+
+
+def assembled(*words, text=b""):
+    """How the tool ends, and what it writes."""
+    with subprocess.Popen([TOOL, *words], **PIPED, stdin=subprocess.PIPE) as process:
+        printed, told = process.communicate(text)
+    return Ran(process.returncode, printed, told)
+
+
+def differing(what, wanted, came):
+    """A fault where something isn't as it should be."""
+    return [] if wanted == came else [f"{what}: wanted {wanted}, and not {came}"]
+
+
+def each_text():
+    """Texts of all instructions, several of each row; and all that the listings of decks/ have."""
+    found = {}
+    for row in ROWS.values():
+        names = set(FIELDS.findall(row.text))
+        for turn in range(TURNS):
+            fields = {name: TRIED[name][turn % len(TRIED[name])] for name in names}
+            found[row.spelled(fields)] = None
+    for it in decks():
+        for line in (it.listing or b"").decode().splitlines():
+            found.update((text, None) for text in LISTED.fullmatch(line)[3].split("; ") if text[0] != "?")
+    return list(found)
+
+
+def words_of_listing(lines):
+    """The words of a listing of the tool, by their addresses in memory."""
+    found = [re.match("([0-7]{6}) ([0-7]{20})(?: |$)", line) for line in lines]
+    return {int(it[1], 8) + REFERENCE: it[2] for it in found if it}
+
+
+def listed(program, deck):
+    """The words and texts that the program lists of a deck, by their addresses in memory, without the package."""
+    found = [LISTED.fullmatch(line) for line in program.run(["list"], deck).printed.decode().splitlines()]
+    return {int(it[1], 8): (it[2], it[3]) for it in found if int(it[1], 8) >= REFERENCE}
+
+
+def faults_of_round_trip(program):
+    """Assembles each instruction, in a word of its own, and lists it."""
+    texts = each_text()
+    source = "START PS\n" + "".join(f"L{number} {text}\n" for number, text in enumerate(texts))
+    deck, listing = assembled("-", text=source.encode()), assembled("--listing", "-", text=source.encode())
+    came, ours = listed(program, deck.printed), words_of_listing(listing.printed.decode().splitlines())
+    faults = differing("the round trip", (0, b"", 0, b""), (deck.status, deck.told, listing.status, listing.told))
+    faults += differing("the words of the round trip", len(texts) + 1, len(came))
+    for address, text in enumerate(texts, REFERENCE + 1):
+        word, items = came.get(address, ("", ""))
+        faults += differing(f"the list of {text}", text, re.sub("(; NO)*$", "", items))
+        faults += differing(f"the word of {text}", word, ours.get(address))
+    missing = [row.text for row in ROWS.values() if not any(row.pattern.fullmatch(text) for text in texts)]
+    return faults + [f"no instruction of {text} is tried" for text in missing]
+
+
+def faults_of_bad(text, told):
+    """Assembles a bad source, which has these faults."""
+    came = assembled("-", text=text.encode())
+    wanted = "".join(f"standard input:{line}\n" for line in told.split("\\n"))
+    return differing(f"the bad source {text!r}", Ran(1, b"", wanted.encode()), came)
+
+
+def bad_sources():
+    """The bad sources of the page, with their faults."""
+    for head, before in (("Lines", BEFORE), ("Whole sources", "")):
+        for source, told in cells_of(BAD, head)[1:]:
+            if source.startswith("`"):
+                yield before + source.strip("`").replace("\\n", "\n").replace("\\t", "\t"), told.replace("`", "")
+
+
+def faults_of_program(program, file):
+    """Assembles a stored source and runs the deck, with and without threads; its listing has its lines and words."""
+    source, deck = str(file.relative_to(ROOT)), assembled(file)
+    faults = differing(source, (0, b""), (deck.status, deck.told))
+    dump = file.with_suffix(".dump").read_bytes()
+    for words in (["run", *BUDGET], ["run", "--sequential", *BUDGET]):
+        faults += differing(f"{words} of {source}", Ran(0, dump, b""), program.run(words, deck.printed))
+    listing = assembled("--listing", file).printed.decode().splitlines()
+    words = {address: word for address, (word, _) in listed(program, deck.printed).items()}
+    faults += differing(f"the words in the listing of {source}", words, words_of_listing(listing))
+    shown = [line[28:] for line in listing if not re.fullmatch("[0-7]{6} [0-7]{20}", line)]
+    return faults + differing(f"the lines in the listing of {source}", file.read_text().splitlines(), shown)
+
+
+def faults_of_placed(text, wanted):
+    """Assembles a source, and compares the words that it places."""
+    came = assembled("-", text=f"START NO\n{text}".encode())
+    placed = came.printed.decode().partition("at 100\n")[2].partition("\nstart 40\n")[0]
+    return differing(f"the words of {text!r}", (0, b"", wanted), (came.status, came.told, placed.replace("\n", "|")))
+
+
+def faults_of_whole(program, text, wanted):
+    """Assembles a source, and compares the deck, which the program accepts."""
+    came = assembled("-", text=text.encode())
+    accepted = program.run(["list"], came.printed)
+    faults = differing(f"the list of {text!r}", (0, b""), (accepted.status, accepted.told))
+    return faults + differing(f"the deck of {text!r}", Ran(0, (wanted.replace("|", "\n") + "\n").encode(), b""), came)
+
+
+def faults_of_listing():
+    """A listing with each kind of line."""
+    source = "* A comment\nSTART SX1 B0+2\n NO  mid word\n SX2 B0+3\n\nA DATA 5,6\nB BSS 2\nC EQU 4\nD\n SHOW A"
+    wanted = [
+        " " * 28 + "* A comment", "000000 71100000024600046000 START SX1 B0+2", " " * 28 + " NO  mid word",
+        "000001 71200000034600046000  SX2 B0+3", "", "000002 00000000000000000005 A DATA 5,6",
+        "000003 00000000000000000006", "000004                      B BSS 2", " " * 28 + "C EQU 4",
+        "000006                      D", " " * 28 + " SHOW A",
+    ]
+    came = assembled("--listing", "-", text=source.encode())
+    return differing("the listing", (0, wanted, b""), (came.status, came.printed.decode().splitlines(), came.told))
+
+
+def faults_of_many():
+    """A source with 25 faults, and one with a long text and bytes that are no text."""
+    lines = assembled("-", text=b"START PS\n" + b" BAD\n" * 25).told.decode().splitlines()
+    numbers = [line.split(":")[1] for line in lines]
+    faults = differing("many faults", [*map(str, range(2, 22)), " 5 more faults"], numbers)
+    came = assembled("-", text=b"START PS\n \xff" + b"Q" * 50).told
+    return faults + differing("a long text", b"standard input:2:2: '\\xff" + b"Q" * 28 + b"..' is no", came[:62])
+
+
+def faults_of_call(command, status, told):
+    """Calls the tool by a shell; its status, and the last line that it tells."""
+    with subprocess.Popen(["bash", "-c", command], **PIPED, stdin=subprocess.DEVNULL) as process:
+        _, said = process.communicate()
+    return differing(command, (status, told), (process.returncode, (said.decode().splitlines() or [""])[-1]))
+
+
+def calls(folder):
+    """Calls of the tool with a file or an output that is at fault."""
+    sorting = SOURCES / "sorting.source"
+    (folder / "long.source").write_text("START PS\n" + " NO\n" * 100_000, encoding="ascii")
+    return (
+        (f"{TOOL} decks/nosuch", 2, f"{TOOL}: decks/nosuch: No such file or directory"),
+        (f"{TOOL} decks", 2, f"{TOOL}: decks: Is a directory"),
+        (f"env -u PYTHONUNBUFFERED {TOOL} {sorting} > /dev/full", 2,
+         f"{TOOL}: standard output: No space left on device"),
+        (f"{TOOL} --listing {sorting} >&-", 2, f"{TOOL}: standard output is closed"),
+        (f"{TOOL} {folder}/long.source | head -1 > {folder}/head; exit ${{PIPESTATUS[0]}}", 141, ""),
+        (f"{TOOL} - < /dev/null", 1,
+         "standard input:1:1: there is no label START: expected one where the program begins"),
+        (TOOL, 2, "assemble: error: the following arguments are required: FILE"),
+        (f"{TOOL} --list x y", 2, "assemble: error: unrecognized arguments: y"),
+        (f"{TOOL} --help", 0, ""),
+    )
+
+
+def works(program, folder):
+    """All that is tried, each as a call that gives its faults."""
+    yield partial(faults_of_round_trip, program)
+    files = sorted(SOURCES.glob("*.source"))
+    yield from (partial(faults_of_program, program, file) for file in files)
+    yield from (partial(faults_of_bad, *row) for row in bad_sources())
+    yield from (partial(faults_of_placed, *row) for row in PLACED)
+    yield from (partial(faults_of_whole, program, *row) for row in WHOLE)
+    yield from (partial(faults_of_call, *row) for row in calls(folder))
+    yield from (faults_of_listing, faults_of_many)
+
+
+def main():
+    program = Program()
+    os.environ.setdefault("CDC6600", program.path)
+    with ThreadPoolExecutor() as pool, tempfile.TemporaryDirectory() as room:
+        found = list(pool.map(faults_found, works(program, Path(room))))
+    return tell(list(itertools.chain.from_iterable(found)))

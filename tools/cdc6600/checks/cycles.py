@@ -1,0 +1,138 @@
+"""Tries what tools/timeline and tools/gallery draw by minor cycles.
+
+- A session with times that are given here is drawn as text, as a picture and as a page, and each mark has to be in the
+  cycle that was counted by hand.
+- The page that compares two schedules of a deck has to say of each what `tools/schedule --summary` says.
+- tools/gallery writes the pages of sessions and decks that it is given.
+- Bad input has one line, and a status.
+
+It says nothing where all is right, else what is wrong. CDC6600 may name the program to ask.
+"""
+
+import json
+import re
+import tempfile
+import xml.etree.ElementTree as ET
+from pathlib import Path
+
+from cdc6600.drawing.page import DATA
+from cdc6600.shared.decks import deck, session
+from cdc6600.shared.program import ROOT, tell
+from cdc6600.shared.waiting import run
+
+TIMELINE, GALLERY, SCHEDULE = (ROOT / "tools" / name for name in ("timeline", "gallery", "schedule"))
+TIMES = "issue15 1\nissue30 2\nboolean 3\nshift 3\nlongadd 4\nincrement 3\ndivide 8\nuntaken 5\ntaken 8\nhopper 1\n" \
+    "access 5\nbank 10\nexchange 0\n"
+# The cycles of the events of the session conflicts by these times. The increments of 30 bits are issued at 0 and 2, the
+# sum at 4. The first read comes after that issue, at 4; its increment stores at 7, the second one at 10, the sum at 14,
+# where the difference is issued. The last issue takes one cycle more.
+COUNTED = [0, 0, 0, 2, 4, 4, 4, 4, 7, 7, 7, 10, 10, 10, 14, 14, 14, 15]
+# What each row has in its cycles.
+MARKS = {
+    "machine": {0: "QX", 4: "E7", 15: "D"}, "1": {0: "I", 4: "R", 7: "FS"}, "2": {2: "I", 7: "R", 10: "FS"},
+    "3": {4: "IE9", 10: "R", 14: "FS"}, "4": {14: "I", 15: "D"},
+}
+# The letters of a label and of a column in this text.
+LABEL, COLUMN = 24, 5
+TD = re.compile(r'<tr><th scope="row">([^<]*)</th><td>([^<]*)</td><td>([^<]*)</td></tr>')
+
+
+def printed(*words):
+    """What a command prints; what it says to standard error where it prints nothing."""
+    ran = run(words, capture_output=True, text=True, cwd=ROOT)
+    return ran.stdout or ran.stderr
+
+
+def columns_of(line):
+    """The marks of a row of the text by their columns."""
+    cells = [line[at : at + COLUMN].strip(" -=~") for at in range(LABEL, len(line), COLUMN)]
+    return {column: mark for column, mark in enumerate(cells) if mark}
+
+
+def faults_of_text(words):
+    """Where the text has a mark in another cycle."""
+    lines = printed(TIMELINE, *words).splitlines()
+    rows = {line[:LABEL].split(" ")[0] or line[:LABEL].split()[0]: columns_of(line) for line in lines[2:7] if line}
+    return [f"the row {row} has {rows.get(row)}, and should have {marks}"
+            for row, marks in MARKS.items() if rows.get(row) != marks]
+
+
+def faults_of_picture(words):
+    """Where the picture has a mark under another number."""
+    texts = [it for it in ET.fromstring(printed(TIMELINE, "--svg", *words)).iter() if it.get("text-anchor") == "middle"]
+    numbers = {it.get("x"): int(it.text) for it in texts if it.get("y") == "22"}
+    came = [(numbers[it.get("x")], it.text) for it in texts if int(it.get("y")) > 44]
+    wanted = [pair for marks in MARKS.values() for pair in marks.items()]
+    return [] if came == wanted else [f"the picture has {came}, and should have {wanted}"]
+
+
+def faults_of_page(words):
+    """Where the page's cursor is in another column."""
+    data = json.loads(DATA.search(printed(TIMELINE, "--html", *words))[1])
+    came = data["columns"]
+    return [] if came == COUNTED else [f"the page has the cycles {came}, and should have {COUNTED}"]
+
+
+def faults_of_comparison(folder):
+    """What the page of two schedules says otherwise than their summaries."""
+    it, files, wanted = deck("sum-less-one").file, [], []
+    for policy in ("program-order", "timed"):
+        files.append(folder / f"{policy}.session")
+        files[-1].write_text(printed(SCHEDULE, "--policy", policy, it), encoding="latin-1")
+        wanted.append(re.search(r"(\d+) instructions in (\d+) .*, ([0-9.]+) inst",
+                                printed(SCHEDULE, "--summary", "--policy", policy, it)).groups())
+    rows = {name: values for name, *values in TD.findall(printed(TIMELINE, "--html", "--compare", *files))}
+    names = ("Instructions", "Minor cycles", "Instructions a minor cycle")
+    came = list(zip(*(rows.get(name, ("", "")) for name in names)))
+    faults = [] if came == wanted else [f"the page of two schedules says {came}, and should say {wanted}"]
+    waits = [int(values[1]) for name, values in rows.items() if name.startswith("·")]
+    heads = [int(values[1]) for name, values in rows.items() if name.startswith("Waits")]
+    return faults + [f"waits of {waits} aren't {heads} in all"] * (sum(waits) != sum(heads) or not waits)
+
+
+def faults_of_gallery(folder):
+    """What is wrong with the pages of sessions and decks that are given."""
+    odd = folder / "one & <two>.session"
+    odd.write_bytes(session("one-bank").text)
+    said = printed(GALLERY, folder / "pages", odd, deck("shift").file)
+    pages = sorted(it.name for it in (folder / "pages").glob("*"))
+    index = (folder / "pages/index.html").read_text(encoding="utf-8") if "index.html" in pages else said
+    is_right = pages == ["index.html", "one & <two>.html", "shift.html"]
+    faults = [] if is_right else [f"tools/gallery writes {pages}: {said}"]
+    links = ['<a href="one%20%26%20%3Ctwo%3E.html">one &amp; &lt;two&gt;</a>', '<a href="shift.html">shift</a>']
+    return faults + [f"index.html hasn't {link}" for link in links if link not in index]
+
+
+def faults_of_refusals(folder):
+    """Bad input that hasn't its line and its status."""
+    conflicts, other = session("conflicts").file, session("one-bank").file
+    missing = "/nowhere: No such file or directory"
+    trials = [
+        (1, "a fault of times", [TIMELINE, "--cycles", "--times", folder / "bad", conflicts], "column 9: 'x' .*"),
+        (1, "no times", [TIMELINE, "--cycles", "--times", "/nowhere", conflicts], missing),
+        (2, "times alone", [TIMELINE, "--times", "/nowhere", conflicts], "--times goes with --cycles or --compare"),
+        (2, "one session", [TIMELINE, "--html", "--compare", conflicts], "--compare takes --html and two sessions"),
+        (1, "two decks", [TIMELINE, "--html", "--compare", conflicts, other], "its deck isn't that of .*"),
+        (1, "no deck", [GALLERY, folder / "none", "/nowhere"], missing),
+        (1, "one name", [GALLERY, folder / "none", other, other], "another page is one-bank.html"),
+        (1, "a refused deck", [GALLERY, folder / "none", deck("refused").file], "E20 line 4: range, column 1: 'word'"),
+    ]
+    (folder / "bad").write_text("issue15 x\n", encoding="ascii")
+    faults = []
+    for status, name, words, told in trials:
+        ran = run(words, capture_output=True, text=True)
+        last = ran.stderr.splitlines()[-1:] or [""]
+        if ran.returncode != status or ran.stdout or not re.search(f"{told}$", last[0]) or "Traceback" in ran.stderr:
+            faults.append(f"{name}: it ends with {ran}")
+    return faults
+
+
+def main():
+    with tempfile.TemporaryDirectory() as name:
+        folder = Path(name)
+        (folder / "times").write_text(TIMES, encoding="ascii")
+        words = ["--cycles", "--times", folder / "times", session("conflicts").file]
+        faults = [fault for work in (faults_of_text, faults_of_picture, faults_of_page) for fault in work(words)]
+        for work in (faults_of_comparison, faults_of_gallery, faults_of_refusals):
+            faults += work(folder)
+    return tell(faults)

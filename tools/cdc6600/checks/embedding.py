@@ -1,0 +1,372 @@
+"""Builds the library for C and the four examples of docs/embedding.md, by the commands of that page, and compares what
+they and the library's functions print and tell with what is stored for the decks and sessions of decks/.
+
+- The functions, by the example in Python: the listing, the run, the replay of the log and the answers of each; the
+  refused decks of refusals.md; logs and budgets that are refused; each capacity around the length of what is printed.
+  The calls are made by several threads at once, and then by one with a stack of 64 KiB.
+- A machine that is kept, by the same example: for each session its events made one by one have the stored answers, and
+  its log, dump, registers and words are those of the dump. The events that cdc6600_next makes are answered as a session
+  of their lines answers them, and lead to the dump of the deck's run. Lines that say no event, calls without a machine
+  and with one that isn't drained, and a machine in place of another.
+- The examples in C and in Rust on each deck and each session; those in C and Python with files that aren't there, with
+  an output that can't be written, and, in Python, with a reader that leaves and an interrupt.
+- The version, which the program, the header and the library have alike; and tools/install with `pkg-config`.
+- By refused_memory.c, each request for memory refused in turn, under valgrind if that is there. It tells of memory that
+  isn't given back.
+
+It says nothing where all is right, else a line for each fault. CDC6600_LIBRARY may name the folder of the library to
+try, with its header; else tools/build-library builds it where a source is newer, and tells how far it is. It needs the
+C compiler `cc` and `rustc`: root has what is missing installed from Debian.
+"""
+
+import ctypes
+import importlib.util
+import os
+import re
+import shutil
+import signal
+import subprocess
+import sys
+import tempfile
+import threading
+from concurrent.futures import ThreadPoolExecutor
+from itertools import pairwise
+from pathlib import Path
+
+from cdc6600.limits import MOST_INSTRUCTIONS
+from cdc6600.shared.decks import PAGES, deck, decks, lines_of, log_of, rows_of, session, sessions
+from cdc6600.shared.program import ROOT, Ran, tell
+from cdc6600.shared.waiting import Missing, faults_found, run
+
+from . import kept_machine
+from .debian import provide
+
+PAGE, EXAMPLE = ROOT / "docs/embedding.md", ROOT / "crates/embedding/examples/cdc6600.py"
+KEPT = ROOT / "crates/embedding/out"
+SMALL_STACK = 64 * 1024
+NOTHING = b""
+BAD_LOG = Ran(2, NOTHING, b"cdc6600: bad log\n")
+BAD_BUDGET = Ran(2, NOTHING, NOTHING)
+# The commands of the page that build something, and not the one that builds the library.
+BUILDING = re.compile(r"    ((?:cc|rustc) .*)")
+WRAPPED = "-Wl,--wrap=malloc -Wl,--wrap=realloc -Wl,--wrap=free"
+COMPILER = f"cc -Wall -Wextra -Werror -I out {WRAPPED} -o out/refused_memory"
+# Where the constants of the version stand, beside the library's: in the program and in the header.
+VERSIONS = (
+    ("crates/command_line/src/version.rt", r'const VERSION: &str = "(.*)";'),
+    ("crates/embedding/include/cdc6600.h", r'#define CDC6600_VERSION "(.*)"'),
+)
+# What is installed of the library alone, and how it is used from there.
+LIBRARY_ALONE = [word for part in ("program", "tools", "pages", "completions") for word in ("--without", part)]
+PACKAGED = (
+    'cc $(pkg-config --cflags cdc6600) -o out/packaged "$PREFIX/share/doc/cdc6600/crates/embedding/examples/run.c" '
+    "$(pkg-config --libs cdc6600)"
+)
+# Words for the examples, with how these end: the status, and what the line of the fault has.
+WRONG_WORDS = (
+    ("run", [], 2, b"usage"), ("run", ["nowhere"], 7, b"nowhere: "), ("run", ["/"], 7, b"/: "),
+    ("step", [], 2, b"usage"), ("step", ["nowhere", "40"], 7, b"nowhere: "),
+    ("step", [PAGE, "40"], 1, b"cdc6600: E20 line 1: first"),
+)
+
+
+class Unbuilt(Exception):
+    """What isn't built, with what was said of it."""
+
+
+class Room:
+    """A folder in which the commands of the page run: it has the folders that they name, and `out`."""
+
+    def __init__(self, folder):
+        self.folder = Path(folder)
+        for name in ("crates", "decks", "tools"):
+            (self.folder / name).symlink_to(ROOT / name)
+
+    def build(self):
+        """Builds the library, if CDC6600_LIBRARY names none, and all that the page builds over it."""
+        named = os.environ.get("CDC6600_LIBRARY")
+        if not named and subprocess.run([ROOT / "tools/build-library", KEPT], check=False).returncode:
+            raise Unbuilt("the library could not be built")
+        (self.folder / "out").mkdir()
+        for name in ("libcdc6600.a", "cdc6600.h"):
+            (self.folder / "out" / name).symlink_to(Path(named or KEPT).resolve() / name)
+        for command in filter(None, map(BUILDING.fullmatch, lines_of(PAGE))):
+            self.run(command[1])
+        self.run(f"{COMPILER} tools/cdc6600/checks/refused_memory.c out/libcdc6600.a")
+
+    def run(self, command):
+        """Runs a command that has to end well."""
+        ran = run(["sh", "-c", command], cwd=self.folder, capture_output=True, text=True)
+        if ran.returncode:
+            raise Unbuilt(f"{command}: {ran.stderr.strip()}")
+
+    def ran(self, *words):
+        """How a program of `out` ends."""
+        words = [self.folder / "out" / words[0], *words[1:]]
+        ran = run(words, cwd=ROOT, capture_output=True)
+        return Ran(ran.returncode, ran.stdout, ran.stderr)
+
+
+def without_column(told):
+    """A fault line of the program as the library tells it, which names no column."""
+    return re.sub(rb", column .*", b"", told)
+
+
+def library(file):
+    """The library, by the class of the example in Python, whose other class kept_machine gets."""
+    spec = importlib.util.spec_from_file_location("cdc6600", EXAMPLE)
+    module = importlib.util.module_from_spec(spec)
+    spec.loader.exec_module(module)
+    kept_machine.Machine = module.Machine
+    return module.Library(file)
+
+
+def called(function, *given):
+    """How a call of the library ends, as a run of the program does."""
+    printed, told, status = function(*given)
+    return Ran(status, printed, told)
+
+
+def differing(what, wanted, came):
+    """A fault where a call ends otherwise than is wanted."""
+    return [] if wanted == came else [f"{what}: wanted {tuple(wanted)}, and not {tuple(came)}"]
+
+
+def budget_of(it):
+    """The budget among the further arguments of a deck's run, if there is one."""
+    return [int(words[1]) for words in pairwise(it.arguments) if words[0] == "--budget"]
+
+
+def faults_of_deck(room, functions, it):
+    """Lists, runs and replays a deck, by the functions and by the example in C; the faults."""
+    if it.dump is None:
+        refused = Ran(it.status, NOTHING, without_column(it.told))
+        faults = differing(f"list {it}", refused, called(functions.list, it.text))
+        faults += differing(f"run {it}", refused, called(functions.run, it.text))
+        return faults + differing(f"out/run {it}", refused, room.ran("run", it.file, "none"))
+    log, budget = log_of(it.dump), budget_of(it)
+    wanted = Ran(it.status, it.dump, without_column(it.told))
+    faults = differing(f"run {it}", wanted, called(functions.run, it.text, *budget))
+    if not budget:
+        faults += differing(f"out/run {it}", wanted, room.ran("run", it.file))
+    faults += differing(f"replay {it}", wanted, called(functions.replay, it.text, log.encode()))
+    faults += differing(f"out/run {it} '{log}'", wanted, room.ran("run", it.file, log))
+    if it.listing is not None:
+        faults += differing(f"list {it}", Ran(0, it.listing, NOTHING), called(functions.list, it.text))
+    return faults
+
+
+def faults_of_session(room, functions, it):
+    """Answers the events of a session, by the function and by the example in Rust; the faults."""
+    wanted = Ran(0, it.answers, NOTHING)
+    faults = differing(f"events {it}", wanted, called(functions.events, it.text))
+    return faults + differing(f"out/events {it}", wanted, room.ran("events", it.file))
+
+
+def faults_of_refusal(functions, text, fault):
+    """A row of refusals.md, a deck with its line and fault; the faults."""
+    shown = text.replace("\\n", "\n").replace("\\r", "\r").encode()
+    wanted = Ran(1, NOTHING, without_column(f"cdc6600: E20 line {fault}\n".encode()))
+    return differing(f"the deck {text}", wanted, called(functions.list, shown))
+
+
+def faults_of_arguments(functions):
+    """Logs and budgets at their edges; the faults."""
+    it, asked = deck("two-adds"), session("conflicts")
+    faults = []
+    for log in (b"I0", b"", b"\xff", b"E40 I6\x00"):
+        faults += differing(f"the log {log}", BAD_LOG, called(functions.replay, it.text, log))
+    outside = Ran(2, NOTHING, b"cdc6600: E19 package range\n")
+    faults += differing("the log E777", outside, called(functions.replay, it.text, b"E777"))
+    for budget in (0, MOST_INSTRUCTIONS + 1, 2**64 - 1):
+        faults += differing(f"the budget {budget}", BAD_BUDGET, called(functions.events, asked.text, budget))
+        faults += differing(f"a run with the budget {budget}", BAD_BUDGET, called(functions.run, it.text, budget))
+    largest = called(functions.events, asked.text, MOST_INSTRUCTIONS)
+    return faults + differing("the largest budget", Ran(0, asked.answers, NOTHING), largest)
+
+
+def faults_of_capacities(functions):
+    """Calls with room for nothing, for a part, for all and for more; the faults."""
+    it, faults = deck("two-adds"), []
+    function = functions.library.cdc6600_list
+    for capacity in (0, 1, len(it.listing) - 1, len(it.listing), len(it.listing) + 1):
+        room = ctypes.create_string_buffer(b"-" * (capacity + 8), capacity + 8)
+        line = ctypes.create_string_buffer(1)
+        lengths = [ctypes.c_size_t(length) for length in (len(it.text), capacity, 0)]
+        came = function(it.text, lengths[0], room, lengths[1], line, lengths[2])
+        wanted = it.listing[:capacity].ljust(capacity + 8, b"-")
+        ended = (came.printed, came.told, came.status)
+        faults += differing(f"list with room for {capacity}", ((len(it.listing), 0, 0), wanted), (ended, room.raw))
+    return faults
+
+
+def faults_of_version(functions):
+    """The version of the program, the header and the library, unless they are one."""
+    version, faults = functions.version().decode(), []
+    for name, pattern in VERSIONS:
+        found = re.findall(pattern, (ROOT / name).read_text(encoding="utf-8"))
+        faults += differing(f"the version of {name}", ([version],), (found,))
+    return faults
+
+
+def stepped(functions, it, address):
+    """What the example step.c prints of a deck."""
+    with kept_machine.Machine(functions) as machine:
+        machine.boot(it.text)
+        lines = [b"ask " + address + b": " + machine.event(b"ask " + address)[0]]
+        while lines[-1].partition(b": ")[2].startswith(b"ok"):
+            event, _, answer = machine.next()[0].partition(b"\n")
+            lines.append(event + b": " + answer)
+        registers = [b"X%d %020o\n" % (n, word) for n, word in enumerate(machine.registers()[0].x) if word]
+        return b"".join([*lines, machine.log()[0] + b"\n", *registers])
+
+
+def faults_of_examples(room, functions):
+    """The examples in C with wrong words, with an output that can't be written, and a machine by steps."""
+    faults, it = [], deck("two-adds")
+    for name, words, status, begin in WRONG_WORDS:
+        ran = room.ran(name, *words)
+        faults += differing(f"out/{name} {words}", (status, True), (ran.status, ran.told.startswith(begin)))
+    wanted = Ran(0, stepped(functions, it, b"40"), NOTHING)
+    faults += differing(f"out/step {it} 40", wanted, room.ran("step", it.file, "40"))
+    long = room.folder / "long.deck"
+    long.write_bytes(it.text + b"x" * 3_000_000)
+    faults += differing("out/run of a long file", Ran(0, it.dump, NOTHING), room.ran("run", long))
+    for words in (["run", it.file], ["step", it.file, "40"]):
+        with open("/dev/full", "wb") as full:
+            ran = run([room.folder / "out" / words[0], *words[1:]], stdout=full, stderr=subprocess.PIPE)
+        faults += differing(f"{words} to /dev/full", (7, 1), (ran.returncode, ran.stderr.count(b"\n")))
+    return faults
+
+
+class Python:
+    """The example in Python, as a program."""
+
+    def __init__(self, room):
+        self.words, self.library = [sys.executable, str(EXAMPLE)], str(room.folder / "out/libcdc6600.so")
+
+    def faults(self, room):
+        """How it ends with wrong words, and where its output can't be written; the faults."""
+        it, missing, faults = deck("two-adds"), str(room.folder / "missing"), []
+        for words, status in (([], 2), ([missing, "x"], 7), ([str(it.file), str(it.file)], 7),
+                              ([self.library, missing], 7),
+                              ([self.library, "/"], 7), ([self.library, str(PAGE)], 1), ([self.library, ""], 7)):
+            faults += self.ended(words, status)
+        good = [self.library, str(it.file)]
+        with open("/dev/full", "wb") as full:
+            faults += self.ended(good, 7, stdout=full)
+        faults += self.ended(good, 7, preexec_fn=lambda: os.close(1))
+        faults += self.ended([], 2, preexec_fn=lambda: os.close(2), lines=0)
+        ran = run([*self.words, *good], capture_output=True)
+        faults += differing("cdc6600.py", Ran(0, it.dump, NOTHING), Ran(ran.returncode, ran.stdout, ran.stderr))
+        return faults + self.interrupted(room) + self.unread(good)
+
+    def ended(self, words, status, lines=1, **streams):
+        """Calls it; a fault if it ends with another status, or tells more than a line or none."""
+        ran = run([*self.words, *words], stderr=subprocess.PIPE, **{"stdout": subprocess.DEVNULL, **streams})
+        return differing(f"cdc6600.py {words}", (status, lines), (ran.returncode, ran.stderr.count(b"\n")))
+
+    def interrupted(self, room):
+        """Interrupts it while it reads."""
+        pipe = room.folder / "pipe"
+        os.mkfifo(pipe)
+        with subprocess.Popen([*self.words, self.library, str(pipe)], stderr=subprocess.PIPE) as process:
+            with open(pipe, "wb"):
+                process.send_signal(signal.SIGINT)
+                told = process.communicate()[1]
+        return differing("cdc6600.py interrupted", (-signal.SIGINT, NOTHING), (process.returncode, told))
+
+    def unread(self, good):
+        """Has nobody read what it prints."""
+        reader, writer = os.pipe()
+        os.close(reader)
+        ran = run([*self.words, *good], stdout=writer, stderr=subprocess.PIPE)
+        os.close(writer)
+        return differing("cdc6600.py unread", (-signal.SIGPIPE, NOTHING), (ran.returncode, ran.stderr))
+
+
+def faults_of_installing(room):
+    """Installs the library alone, builds an example with what pkg-config says, and removes it."""
+    prefix = room.folder / "prefix"
+    words = {"cwd": room.folder, "capture_output": True, "text": True}
+    environment = {**os.environ, "CDC6600_LIBRARY": str(room.folder / "out"), "PREFIX": str(prefix),
+                   "PKG_CONFIG_PATH": str(prefix / "lib/pkgconfig")}
+    faults, it = [], deck("two-adds")
+    for command in ([ROOT / "tools/install", *LIBRARY_ALONE, prefix], ["sh", "-c", PACKAGED]):
+        ran = run(command, env=environment, **words)
+        faults += differing(f"{command}", (0, "", ""), (ran.returncode, ran.stdout, ran.stderr))
+    if not faults:
+        faults += differing("out/packaged", Ran(0, it.dump, NOTHING), room.ran("packaged", it.file))
+    run([ROOT / "tools/install", "--uninstall", prefix], env=environment, **words)
+    return faults + [f"--uninstall leaves {file}" for file in sorted(prefix.rglob("*"))]
+
+
+def faults_of_memory(room, it):
+    """Each request for memory refused in turn; the faults."""
+    came = room.ran("refused_memory", it.file, log_of(it.answers) or "none")
+    return [] if came == Ran(0, NOTHING, NOTHING) else [f"{it}: {line}" for line in came.printed.decode().splitlines()]
+
+
+def faults_of_leaks(room):
+    """What valgrind says of a machine by steps, if valgrind is there."""
+    if not shutil.which("valgrind"):
+        return []
+    words = ["valgrind", "-q", "--leak-check=full", "--error-exitcode=9"]
+    words += [room.folder / "out/step", deck("two-adds").file]
+    ran = run([*words, "40"], capture_output=True, text=True)
+    return differing("valgrind of out/step", (0, ""), (ran.returncode, ran.stderr))
+
+
+def fault_of_small_stack(functions, listed, replayed, asked):
+    """The calls for some decks and sessions again, by a thread with a stack of 64 KiB; a fault if one doesn't end."""
+    ended = []
+
+    def call_all():
+        ended.extend(functions.list(it)[2] for it in listed)
+        ended.extend(functions.run(it)[2] for it in listed)
+        ended.extend(functions.replay(text, log)[2] for text, log in replayed)
+        ended.extend(functions.events(it)[2] for it in asked)
+
+    before = threading.stack_size(SMALL_STACK)
+    thread = threading.Thread(target=call_all)
+    thread.start()
+    thread.join()
+    threading.stack_size(before)
+    wanted = 2 * len(listed) + len(replayed) + len(asked)
+    return [] if len(ended) == wanted else [f"with a small stack {len(ended)} calls of {wanted} end"]
+
+
+def works(room, functions):
+    """All that is tried, each as a call that gives its faults."""
+    for it in decks():
+        yield lambda it=it: faults_of_deck(room, functions, it)
+    for it in sessions():
+        yield lambda it=it: faults_of_session(room, functions, it)
+        yield lambda it=it: faults_of_memory(room, it)
+    for row in rows_of(PAGES / "refusals.md"):
+        yield lambda row=row: faults_of_refusal(functions, *row)
+    yield lambda: faults_of_arguments(functions)
+    yield lambda: faults_of_capacities(functions)
+    yield lambda: faults_of_version(functions)
+    yield lambda: faults_of_examples(room, functions)
+    yield lambda: Python(room).faults(room)
+    yield lambda: faults_of_installing(room)
+    yield lambda: faults_of_leaks(room)
+    yield from kept_machine.works(lambda: kept_machine.Machine(functions), functions.events, decks(), sessions())
+
+
+def main():
+    provide("embedding")
+    with tempfile.TemporaryDirectory() as folder:
+        room = Room(folder)
+        try:
+            room.build()
+        except (Unbuilt, Missing) as fault:
+            return tell([str(fault)])
+        functions = library(room.folder / "out/libcdc6600.so")
+        with ThreadPoolExecutor() as pool:
+            found = list(pool.map(faults_found, works(room, functions)))
+        replayed = [(it.text, log_of(it.dump).encode()) for it in decks() if it.dump]
+        asked = [it.text for it in sessions()]
+        found.append(fault_of_small_stack(functions, [it.text for it in decks()], replayed, asked))
+    return tell([fault for faults in found for fault in faults])

@@ -1,0 +1,61 @@
+"""The program cdc6600 with failing_calls.c, whose functions stand in the place of those of the C library: they fail
+where they are told to, and count the allocations."""
+
+import os
+import subprocess
+import sys
+from itertools import count
+from pathlib import Path
+
+from cdc6600.shared.program import Program
+from cdc6600.shared.waiting import Missing, run
+
+SOURCE = Path(__file__).resolve().with_suffix(".c")
+
+
+class Failing:
+    """The program, with the library of failing calls, which is built in a folder."""
+
+    def __init__(self, folder):
+        self.program, self.folder, self.runs = Program(), Path(folder), count()
+        self.library = self.folder / "failing_calls.so"
+        self.build(os.environ.get("CC", "cc"))
+
+    def build(self, compiler):
+        """Builds the library, or ends this process with a line that says why it can't."""
+        words = [compiler, "-O1", "-shared", "-fPIC", "-o", self.library, SOURCE, "-ldl"]
+        try:
+            run(words).check_returncode()
+        except (OSError, subprocess.CalledProcessError, Missing) as fault:
+            sys.exit(f"{SOURCE.name}: it could not be built: {fault}")
+
+    def run(self, words, text, call="", at=0, later=False, short=False):
+        """How a run ended, and whether a call failed."""
+        mark = self.folder / f"failed{next(self.runs)}"
+        how = {"FAILING_CALL": call, "FAILING_AT": str(at), "FAILING_MARK": str(mark), "LD_PRELOAD": str(self.library)}
+        how |= {"FAILING_FROM": "1"} if later else {}
+        how |= {"FAILING_SHORT": "1"} if short else {}
+        ran = self.program.run(words, text, environment=how)
+        failed = mark.exists()
+        mark.unlink(missing_ok=True)
+        return ran, failed
+
+    def allocations(self, words, text):
+        """How a run ended, and how often memory was asked for."""
+        counted = self.folder / f"counted{next(self.runs)}"
+        how = {"FAILING_CALL": "memory", "FAILING_COUNT": str(counted), "LD_PRELOAD": str(self.library)}
+        ran = self.program.run(words, text, environment=how)
+        number = int(counted.read_text(encoding="ascii"))
+        counted.unlink()
+        return ran, number
+
+    def allocations_by_line(self, words, text):
+        """How a run ended, and for each printed line how often memory was asked for before it was written. The run
+        reads a byte a call, so that a session writes each answer before it reads the next event."""
+        traced = self.folder / f"traced{next(self.runs)}"
+        how = {"FAILING_CALL": "memory", "FAILING_SHORT": "1", "FAILING_TRACE": str(traced)}
+        ran = self.program.run(words, text, environment=how | {"LD_PRELOAD": str(self.library)})
+        numbers = dict(map(int, line.split()) for line in traced.read_text(encoding="ascii").splitlines())
+        traced.unlink()
+        starts = [0, *(at + 1 for at, byte in enumerate(ran.printed) if byte == ord("\n"))]
+        return ran, [numbers[start] for start in starts[:-1]]

@@ -1,0 +1,45 @@
+"""Assembles a source program: writes the deck that it stands for to standard output.
+
+docs/assembler.md has the language. With --listing it prints the lines of the source instead, each with the address and
+the word that begin there.
+
+Of a source with faults it prints nothing on standard output, and on standard error a line for each fault, up to 20:
+
+    FILE:LINE:COLUMN: what is wrong, and what was expected
+
+The status is 0, or 1 if the source has faults, or 2 if it can't be read or the command line is refused.
+"""
+
+import argparse
+import sys
+
+from cdc6600.assembling.output import deck_of, listing_of
+from cdc6600.assembling.program import Program
+from cdc6600.assembling.settings import Settings
+from cdc6600.comparing.arguments import STANDARD_INPUT, bytes_of, standard_input
+from cdc6600.comparing.faults import ended
+
+
+def arguments():
+    parser = argparse.ArgumentParser(description=__doc__, formatter_class=argparse.RawDescriptionHelpFormatter)
+    parser.add_argument("--listing", action="store_true", help="print addresses, words and source side by side")
+    parser.add_argument("source", metavar="FILE", help="a file with a source program, or - for standard input")
+    return parser.parse_args()
+
+
+def work():
+    given = arguments()
+    is_standard = given.source == STANDARD_INPUT
+    text = standard_input() if is_standard else bytes_of(given.source)
+    program = Program("standard input" if is_standard else given.source, text.decode("utf-8", "backslashreplace"))
+    settings = Settings(program)
+    if program.faults.lines:
+        print("\n".join(program.faults.lines), file=sys.stderr)
+        return 1
+    lines = listing_of(program) if given.listing else deck_of(program, settings)
+    print("\n".join(lines))
+    return 0
+
+
+def main():
+    return ended("tools/assemble", work)

@@ -1,0 +1,65 @@
+"""Prints what `events` answers for a session, each answer beside its line of the schedule.
+
+With --values it prints the values of all registers and of the words that the deck shows after each event, in octal and
+as a number. A star stands before each value that the event has changed. CDC6600 may name the program to ask.
+"""
+
+import argparse
+import itertools
+import sys
+from pathlib import Path
+
+from cdc6600.drawing.following import Fault, Following, Session, text_of
+from cdc6600.drawing.judging import states_of
+from cdc6600.drawing.values import all_values, value_lines
+from cdc6600.shared.decks import session
+from cdc6600.shared.ending import ended
+from cdc6600.shared.program import Program
+
+
+def arguments():
+    parser = argparse.ArgumentParser(description=__doc__, formatter_class=argparse.RawDescriptionHelpFormatter)
+    parser.add_argument("--values", action="store_true", help="print the values after each event")
+    parser.add_argument("name", metavar="SESSION",
+                        help="a session of decks/sessions without the ending .session, or a file with a session")
+    return parser.parse_args()
+
+
+def session_of(name):
+    """The session of decks/sessions that has this name, or else the one in the file.
+
+    Raises Fault if there is neither."""
+    stored = session(name)
+    if stored.file.is_file():
+        return Session(str(stored), text_of(stored.file))
+    if not Path(name).exists():
+        raise Fault(name, "no such file, and no session of decks/sessions")
+    return Session(name, text_of(name))
+
+
+def blocks_of_values(following):
+    """The lines of the values after each event of a session, a block for each."""
+    following.follow()
+    values = all_values(following, states_of(following))
+    return ["".join(f"  {line}\n" for line in value_lines(*pair)) for pair in zip(values[1:], values)]
+
+
+def work():
+    given, program = arguments(), Program()
+    sys.stdout.reconfigure(errors="backslashreplace")
+    it = session_of(given.name)
+    following = Following(program, it, None, None)
+    following.check_schedule()
+    blocks = blocks_of_values(following) if given.values else []
+    ran = program.run(["events"], it.text.encode("latin-1"))
+    schedule = it.text.removesuffix("\n").split("\n")[it.deck_end :]
+    lines = itertools.zip_longest(schedule, ran.printed.decode().splitlines(), blocks, fillvalue="")
+    for line, answer, block in lines:
+        print(f"{line:<19}{answer}" if answer or not line else line)
+        sys.stdout.write(block)
+    sys.stderr.buffer.write(ran.told)
+    return ran.status
+
+
+def main():
+    return ended("tools/beside", work, Fault)

@@ -1,0 +1,129 @@
+"""Proves the program cdc6600 with all crates on which it stands, and builds it.
+
+    tools/build-program [--unproved] [--weights] [FILE]
+
+writes the executable to FILE, or to crates/operator_main/out/operator_main. What it was built from is written to
+FILE.sources: the checksum of tools/source-sum. If that is the same now, nothing is built. If another call builds the
+same FILE, this one waits for it.
+
+A crate is proved over what the crates below it state, as soon as those are proved. `rt ci`, which the gate runs, does
+the same, but it shares the processors among the crates that are ready when a check begins. So the long chain of crates
+that stand on one another often has a single one. Here the crates of the chain use all processors; the others use one
+each, and give way (by Unix's `nice`). This tool reads no tests and no wrong bodies, and holds no crate to the further
+rules of `rt ci`, as those on layout and handles.
+
+On standard error it reports which crates are proved, and about how long the others will take, by the times in
+tools/cdc6600/building/crate-seconds. If a crate isn't proved, it prints the end of what the checker said of it, and
+ends with status 1.
+"""
+
+import argparse
+import fcntl
+import subprocess
+import tempfile
+import time
+from contextlib import contextmanager
+from pathlib import Path
+
+from cdc6600.building import unproved
+from cdc6600.building.building import PROGRAM, Building, Unproved, ended, put, tell
+from cdc6600.building.forecast import MEASURED, MORE
+from cdc6600.building.processes import run
+from cdc6600.crates.kit import checker
+from cdc6600.crates.table import Table
+from cdc6600.shared.program import ROOT
+
+TARGET, UNPROVED = "x86_64-unknown-linux-gnu", ".unproved"
+SOURCE_SUM = ROOT / "tools/source-sum"
+WEIGHTS_HEAD = """\
+# The seconds of a processor that each crate took, as tools/build-program --weights writes them. A crate without a line
+# here is judged by its lines of code.
+"""
+
+
+def linked(building, file):
+    """Links the program with the kit's few calls of the system, into a file."""
+    libraries = [f"{building.kit}/c/libos_c.a", f"{building.kit}/c/liblibc_c.a"]
+    words = [f"{building.kit}/bin/rattle-link", "--target", TARGET, "--toolchain", f"{building.kit}/toolchain"]
+    ran = run([*words, "-o", str(file), str(building.made(building.top)), *libraries], building.room)
+    if ran.status:
+        raise Unproved(f"{ran.said.rstrip()}\ncdc6600: {building.top} isn't linked")
+    return file
+
+
+@contextmanager
+def locked(file):
+    """Within it no other call builds the same file. The kernel removes the lock of a call that is killed."""
+    file.parent.mkdir(parents=True, exist_ok=True)
+    with open(f"{file}.lock", "wb") as lock:
+        try:
+            fcntl.flock(lock, fcntl.LOCK_EX | fcntl.LOCK_NB)
+        except BlockingIOError:
+            tell(f"another call builds {file}; this one waits for it")
+            fcntl.flock(lock, fcntl.LOCK_EX)
+        yield
+
+
+def source_sum(root, *words):
+    """How tools/source-sum ends for a repository: its status, and what it prints."""
+    ran = subprocess.run([SOURCE_SUM, *words, root], stdout=subprocess.PIPE, check=False)
+    return ran.returncode, ran.stdout
+
+
+def write_weights(building):
+    """Writes the seconds of a processor that each crate took, or would have taken in one process."""
+    took = {name: seconds / (MORE if building.jobs(name) > 1 else 1) for name, seconds in building.seconds.items()}
+    rows = [f"{name} {took[name]:.0f}\n" for name in building.plan.crates]
+    (building.table.root / MEASURED).write_text("".join([WEIGHTS_HEAD, *rows]), encoding="utf-8")
+
+
+def made(given, root, room):
+    """Builds the executable in a folder; its file."""
+    table = Table(root)
+    if given.unproved:
+        tell("building the program without its proof, which takes one or two minutes")
+        return unproved.build(table, checker().parent.parent, given.program, room)
+    building = Building(table, given.program, PROGRAM, room)
+    building.prove_all()
+    if given.weights:
+        write_weights(building)
+    return linked(building, room / "linked")
+
+
+def arguments():
+    parser = argparse.ArgumentParser(description=__doc__, formatter_class=argparse.RawDescriptionHelpFormatter)
+    parser.add_argument("--unproved", action="store_true", help="build it without its proof, as FILE.unproved")
+    parser.add_argument("--weights", action="store_true", help=f"build it in any case, and write {MEASURED}")
+    parser.add_argument("file", type=Path, nargs="?", metavar="FILE", help="where the executable is written to")
+    parser.add_argument("--root", type=Path, default=ROOT, help=argparse.SUPPRESS)
+    parser.add_argument("--program", default="operator_main", help=argparse.SUPPRESS)
+    return parser.parse_args()
+
+
+def work():
+    given = arguments()
+    root = given.root.resolve()
+    file = given.file or root / f"crates/{given.program}/out/{given.program}"
+    file = file.with_name(f"{file.name}{UNPROVED * given.unproved}")
+    sources = file.with_name(f"{file.name}.sources")
+
+    def is_built():
+        return file.is_file() and not given.weights and source_sum(root, "--of", sources.absolute())[0] == 0
+
+    # Many calls at once that have nothing to build needn't wait for each other.
+    if is_built():
+        return 0
+    with locked(file), tempfile.TemporaryDirectory(prefix="cdc6600-") as room:
+        if is_built():
+            return 0
+        begun, (_, text) = time.time(), source_sum(root)
+        it = made(given, root, Path(room))
+        # Without this file the executable doesn't count, so it is never taken for that of other sources.
+        sources.unlink(missing_ok=True)
+        put(it, file, begun)
+        sources.write_bytes(text)
+    return 0
+
+
+def main():
+    return ended(work)

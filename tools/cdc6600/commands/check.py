@@ -1,0 +1,64 @@
+"""Runs checks of this project.
+
+    tools/check NAME..               these checks, one after another
+    tools/check NAME ARGUMENT..      a check with arguments of its own
+    tools/check NAME --help          prints what a check does
+
+docs/CHANGING.md has a table of the checks, with what each one checks and when to run it. A check that finds nothing
+prints nothing. Its faults are printed, a line or a few lines for each. CDC6600 may name the program to try; otherwise
+it is the one that tools/build-program builds.
+
+Exit status:
+  0    the checks find nothing
+  1    a check finds a fault, or can't be run
+  2    the command line is refused
+"""
+
+import ast
+import subprocess
+import sys
+import textwrap
+from importlib import import_module
+from importlib.util import find_spec
+from pathlib import Path
+
+from cdc6600.gate.parts import NAMES, called, command, module
+from cdc6600.shared.ending import shown
+from cdc6600.shared.program import ROOT
+
+HELP = ("-h", "--help")
+
+
+def help_text():
+    """What --help prints."""
+    listed = textwrap.fill(" ".join(NAMES), 118, initial_indent="  ", subsequent_indent="  ")
+    return f"{__doc__.strip()}\n\nThe checks:\n{listed}"
+
+
+def text_of(name):
+    """What a check says of itself. It isn't imported for that, since some checks look for the program then."""
+    return ast.get_docstring(ast.parse(Path(find_spec(module(name)).origin).read_text(encoding="utf-8")))
+
+
+def run_one(name, words):
+    """Runs a check in this process; its status."""
+    sys.argv = [called(name), *words]
+    return import_module(module(name)).main()
+
+
+def run_all(names):
+    """Runs checks one after another, each in a process of its own; the status of all."""
+    return 1 if any([subprocess.run(command(name), cwd=ROOT, check=False).returncode for name in names]) else 0
+
+
+def main():
+    words = sys.argv[1:]
+    if words and words[0] in HELP:
+        return shown("tools/check", help_text())
+    if not words or words[0] not in NAMES:
+        told = f"{words[0]} is no check" if words else "no check is named"
+        print(f"tools/check: {told}; tools/check --help lists them", file=sys.stderr)
+        return 2
+    if words[1:] in ([it] for it in HELP):
+        return shown("tools/check", text_of(words[0]))
+    return run_all(words) if len(words) > 1 and set(words).issubset(NAMES) else run_one(words[0], words[1:])

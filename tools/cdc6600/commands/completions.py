@@ -1,0 +1,28 @@
+"""Prints the script by which a shell completes the commands and options of cdc6600.
+
+    source <(tools/completions bash)            in bash, for the shell that runs
+    tools/completions fish | source             in fish
+
+tools/install installs the scripts for all three shells, where these look for them.
+"""
+
+import argparse
+import sys
+
+from cdc6600.installing.completions import SHELLS
+from cdc6600.shared.ending import ended
+
+
+def arguments():
+    parser = argparse.ArgumentParser(description=__doc__, formatter_class=argparse.RawDescriptionHelpFormatter)
+    parser.add_argument("shell", metavar="SHELL", choices=SHELLS, help="bash, zsh or fish")
+    return parser.parse_args()
+
+
+def work():
+    sys.stdout.write(SHELLS[arguments().shell]())
+    return 0
+
+
+def main():
+    return ended("tools/completions", work)

@@ -1,0 +1,103 @@
+"""Writes a page for each session into a folder, as `tools/timeline --html` does, and a page index.html that leads to
+them. If none is named, they are the sessions of decks/sessions, and the pages say what each one shows, as
+decks/README.md has it. A file that is a deck without a schedule gets the schedule of `tools/schedule`, and its page has
+a column for each minor cycle. CDC6600 may name the program to ask.
+"""
+
+import argparse
+from dataclasses import dataclass
+from pathlib import Path
+
+from cdc6600.drawing.following import Fault, Following, Session, text_of
+from cdc6600.drawing.index import Entry, index, links
+from cdc6600.drawing.page import Page
+from cdc6600.shared.decks import sessions, shown_by_sessions
+from cdc6600.shared.ending import ended
+from cdc6600.shared.program import Program
+from cdc6600.timing.clock import clocked
+from cdc6600.timing.scheduling import Schedule
+from cdc6600.timing.times import read_times
+
+INDEX = "index"
+
+
+def arguments():
+    parser = argparse.ArgumentParser(description=__doc__, formatter_class=argparse.RawDescriptionHelpFormatter)
+    parser.add_argument("folder", metavar="FOLDER", help="where the pages are written; it is made if it isn't there")
+    parser.add_argument("files", metavar="SESSION", nargs="*", default=[],
+                        help="a session, or a deck to be scheduled")
+    parser.add_argument("--times", metavar="FILE",
+                        help="the file of times, tools/cdc6600/timing/thornton.times by default")
+    return parser.parse_args()
+
+
+def write(folder, name, text):
+    """Writes a page."""
+    try:
+        folder.mkdir(parents=True, exist_ok=True)
+        (folder / name).write_text(text, encoding="utf-8")
+    except OSError as fault:
+        raise Fault(folder / name, fault.strerror) from None
+
+
+@dataclass(frozen=True)
+class Shown:
+    """A session of a page: its name, what it shows, how it was followed, and the minor cycle of each event if a column
+    is a cycle."""
+
+    name: str
+    says: str
+    following: Following
+    cycles: list | None = None
+
+
+def followed(program, file, text):
+    """A session that is followed to its end."""
+    following = Following(program, Session(file, text), None, None)
+    following.follow()
+    return following
+
+
+def stored(program):
+    """The sessions of decks/sessions."""
+    says = shown_by_sessions()
+    return [Shown(it.name, says.get(it.name, ""), followed(program, str(it), it.text.decode("latin-1")))
+            for it in sessions()]
+
+
+def named(program, file, times):
+    """The session in a file, or the one that a deck in a file is scheduled to."""
+    session = Session(file, text_of(file))
+    if session.events:
+        return Shown(Path(file).stem, "", followed(program, file, session.text))
+    schedule = Schedule(program, session, times)
+    schedule.make()
+    deck = session.text.split("\n")[: session.deck_end]
+    following = followed(program, file, "".join(f"{line}\n" for line in [*deck, *schedule.events, "end"]))
+    return Shown(Path(file).stem, f"`{Path(file).name}`, scheduled by `tools/schedule`", following,
+                 clocked(following, times))
+
+
+def check_names(files):
+    """Raises Fault where two files would have one page, or a page that leads to the others."""
+    names = [Path(file).stem for file in files]
+    for at, name in enumerate(names):
+        if name == INDEX or name in names[:at]:
+            raise Fault(files[at], f"another page is {name}.html")
+
+
+def work():
+    given, program = arguments(), Program()
+    check_names(given.files)
+    folder, times = Path(given.folder), read_times(given.times)
+    found = [named(program, file, times) for file in given.files] if given.files else stored(program)
+    names = [it.name for it in found]
+    for it in found:
+        page = Page(it.following, it.name, it.says, links(names, it.name), it.cycles)
+        write(folder, f"{it.name}.html", page.text())
+    write(folder, f"{INDEX}.html", index([Entry(it.name, it.says, it.following) for it in found]))
+    return 0
+
+
+def main():
+    return ended("tools/gallery", work, Fault)

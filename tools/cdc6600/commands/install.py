@@ -1,0 +1,181 @@
+"""Installs the program cdc6600, the library for C, and the tools, pages and decks that their users need:
+
+    PREFIX/bin/cdc6600                  the proved executable
+    PREFIX/bin/cdc6600-NAME             each tool, as cdc6600-timeline
+    PREFIX/lib/libcdc6600.a             the library, PREFIX/include/cdc6600.h its header, and
+    PREFIX/lib/pkgconfig/cdc6600.pc     what pkg-config says of it
+    PREFIX/share/man/man1/cdc6600.1     the manual page
+    PREFIX/share/doc/cdc6600            README.md, docs/, decks/, tools/ and the rest that README.md names, and the list
+                                        of what was installed
+
+and the scripts of tools/completions, by which a shell completes the program's commands and options:
+
+    PREFIX/share/bash-completion/completions/cdc6600
+    PREFIX/share/zsh/site-functions/_cdc6600
+    PREFIX/share/fish/vendor_completions.d/cdc6600.fish
+
+If there is no executable of these sources, `tools/build-program` proves and builds it first, and tools/build-library
+the library, which takes some ten minutes. Each file is written beside its place and then renamed, so nobody finds half
+of one. What an earlier call has installed and this one doesn't is removed. With --uninstall all that the list names is
+removed, with the folders that were made for it and are empty then.
+
+Three variables of the environment are read: CDC6600 may name the executable to install, CDC6600_LIBRARY the folder with
+the library, and what DESTDIR has stands before PREFIX wherever something is written or removed.
+"""
+
+import argparse
+import os
+import re
+import subprocess
+import sys
+from pathlib import Path
+
+from cdc6600.installing.completions import FILES, SHELLS
+from cdc6600.installing.installation import Fault, Installation, Piece
+from cdc6600.shared.program import ROOT, Program
+
+PROGRAM, DOCUMENTS = "bin/cdc6600", "share/doc/cdc6600"
+EMBEDDING = ROOT / "crates/embedding"
+
+# What the tools read, by its names from the repository's folder on.
+READ_BY_TOOLS = (
+    "docs/instructions.md",
+    "decks/README.md",
+    "decks/*.deck",
+    "decks/run/*.*",
+    "decks/sessions/*.*",
+)
+# The pages of a user, with what README.md names besides.
+PAGES = (
+    *READ_BY_TOOLS,
+    "README.md",
+    "decks/exercises/*.*",
+    "decks/source/*.*",
+    "docs/*.md",
+    "docs/*.svg",
+    "docs/*.png",
+    "docs/cdc6600.1",
+    "bench/README.md",
+    "crates/program_order/src/law.rt",
+    "crates/program_order/specs/Headline.antt",
+)
+TOOLS = (
+    "assemble", "beside", "compare", "completions", "conformance", "explore", "gallery", "operate", "random-deck",
+    "run-jobs", "schedule", "timeline", "trace",
+)
+# The parts of the package that these tools use, besides their own modules in `commands`.
+PACKAGES = (
+    ".", "assembling", "comparing", "drawing", "installing", "many_jobs", "operating", "random_decks", "shared",
+    "timing",
+)
+# What isn't installed with `--without` and its name.
+PARTS = ("completions", "library", "pages", "program", "tools")
+
+# How a tool is run from PREFIX/bin, wherever PREFIX is moved to.
+LAUNCHER = """#!/bin/sh
+exec "$(dirname "$(readlink -f "$0")")/../%s/tools/%s" "$@"
+"""
+# The program beside the pages, where README.md runs it.
+BESIDE = """#!/bin/sh
+exec "$(dirname "$(readlink -f "$0")")/../../../%s" "$@"
+"""
+
+
+def arguments():
+    parser = argparse.ArgumentParser(description=__doc__, formatter_class=argparse.RawDescriptionHelpFormatter)
+    parser.add_argument("--uninstall", action="store_true", help="remove what was installed there")
+    parser.add_argument("--without", metavar="PART", action="append", choices=PARTS, default=[],
+                        help="leave out the library, the tools, the pages, the completions, or the program with its "
+                        "manual page; may be given several times")
+    parser.add_argument("prefix", metavar="PREFIX", help="the folder for all of it, as /usr/local")
+    return parser.parse_args()
+
+
+def executable():
+    """The bytes of the executable that CDC6600 names, or of the one that tools/build-program builds."""
+    program = Program()
+    if not program.run(["--version"]).printed.startswith(b"cdc6600 "):
+        raise Fault(f"{program.path}: it isn't the program cdc6600")
+    return Path(program.path).read_bytes()
+
+
+def library():
+    """The folder of the library that CDC6600_LIBRARY names, or of the one that tools/build-library builds."""
+    named = os.environ.get("CDC6600_LIBRARY")
+    if not named and subprocess.run([ROOT / "tools/build-library", EMBEDDING / "out"], check=False).returncode:
+        raise Fault("the library could not be built")
+    return Path(named or EMBEDDING / "out")
+
+
+def library_pieces(prefix):
+    """The library with its header, and what pkg-config says of it below this prefix."""
+    folder = library()
+    header = (folder / "cdc6600.h").read_text(encoding="utf-8")
+    version = re.search(r'#define CDC6600_VERSION "(.*)"', header)
+    if not version:
+        raise Fault(f"{folder / 'cdc6600.h'}: it has no version")
+    page = (EMBEDDING / "cdc6600.pc.in").read_text(encoding="utf-8")
+    page = page.replace("@PREFIX@", re.sub(r"([ \\#$])", r"\\\1", str(prefix))).replace("@VERSION@", version[1])
+    yield Piece("lib/libcdc6600.a", (folder / "libcdc6600.a").read_bytes())
+    yield Piece("include/cdc6600.h", header.encode())
+    yield Piece("lib/pkgconfig/cdc6600.pc", page.encode())
+    yield from documents("crates/embedding/examples/*.*")
+
+
+def documents(*patterns):
+    """Files of the repository, to stand as they stand here."""
+    for pattern in patterns:
+        for file in sorted(ROOT.glob(pattern)):
+            mode = 0o755 if os.access(file, os.X_OK) else 0o644
+            yield Piece(f"{DOCUMENTS}/{file.relative_to(ROOT)}", file.read_bytes(), mode)
+
+
+def tool_pieces():
+    """The tools beside what they read, and a command for each."""
+    modules = ("__init__", *(name.replace("-", "_") for name in TOOLS))
+    yield from documents(*(f"tools/{name}" for name in TOOLS), *(f"tools/cdc6600/{name}/*.*" for name in PACKAGES))
+    yield from documents(*(f"tools/cdc6600/commands/{name}.py" for name in modules))
+    yield from documents(*READ_BY_TOOLS)
+    for name in TOOLS:
+        yield Piece(f"bin/cdc6600-{name}", (LAUNCHER % (DOCUMENTS, name)).encode(), 0o755)
+
+
+def pieces(prefix, without):
+    """All that is installed below this prefix, except for these parts."""
+    if "program" not in without:
+        yield Piece(PROGRAM, executable(), 0o755)
+        yield Piece("share/man/man1/cdc6600.1", (ROOT / "docs/cdc6600.1").read_bytes())
+    if "completions" not in without:
+        for shell, name in FILES.items():
+            yield Piece(name, SHELLS[shell]().encode())
+    if "library" not in without:
+        yield from library_pieces(prefix)
+    if "tools" not in without:
+        yield from tool_pieces()
+    if "pages" not in without:
+        yield Piece(f"{DOCUMENTS}/cdc6600", (BESIDE % PROGRAM).encode(), 0o755)
+        yield from documents(*PAGES)
+
+
+def work():
+    given = arguments()
+    if not given.prefix:
+        raise Fault("PREFIX is empty")
+    prefix = Path(given.prefix).absolute()
+    installation = Installation(f"{os.environ.get('DESTDIR', '')}{prefix}", f"{DOCUMENTS}/installed")
+    if given.uninstall:
+        installation.remove()
+    else:
+        installation.install(list({piece.name: piece for piece in pieces(prefix, given.without)}.values()))
+    return 0
+
+
+def main():
+    try:
+        return work()
+    except Fault as fault:
+        sys.exit(f"tools/install: {fault}")
+    except OSError as fault:
+        sys.exit(f"tools/install: {fault.filename}: {fault.strerror}")
+    except KeyboardInterrupt:
+        return 130

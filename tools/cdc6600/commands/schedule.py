@@ -1,0 +1,65 @@
+"""Writes a session for a deck: the deck's lines, and after them a schedule that takes the deck's program to its end.
+
+The machine is asked for each event by `cdc6600 events`, so it refuses no line of the schedule. The requests of the deck
+are made as `run --sequential` makes them. The policy says in which order events are made:
+
+  timed           units, hopper and banks take their minor cycles by the file of times, and each event is made as soon
+                  as its part is ready and the machine accepts it
+  greedy          each part makes its next event as soon as the machine accepts it, whatever it takes
+  program-order   each instruction is carried out to its end before the next one is issued
+
+With --summary the cycles, the instructions per cycle and the waits by their causes are printed instead. They are those
+of the file of times; nothing is said of a real machine. docs/scheduling.md explains them.
+
+The status is 0, or 1 for bad input. CDC6600 may name the program to ask.
+"""
+
+import argparse
+
+from cdc6600.comparing.arguments import number
+from cdc6600.drawing.following import Fault, Session, text_of
+from cdc6600.limits import DEFAULT_BUDGET
+from cdc6600.shared.ending import ended
+from cdc6600.shared.program import Program
+from cdc6600.timing.scheduling import POLICIES, TIMED, Schedule
+from cdc6600.timing.summary import put, summary
+from cdc6600.timing.times import read_times
+
+# How many instructions are issued at most where nothing is said.
+BUDGET = 1000
+
+
+def budget(word):
+    """A number of instructions."""
+    if not 0 < number(word, 8) <= DEFAULT_BUDGET:
+        raise argparse.ArgumentTypeError(f"{word} is no number from 1 to {DEFAULT_BUDGET}")
+    return int(word)
+
+
+def arguments():
+    parser = argparse.ArgumentParser(description=__doc__, formatter_class=argparse.RawDescriptionHelpFormatter)
+    parser.add_argument("--policy", choices=POLICIES, default=TIMED, help=f"the order of events, {TIMED} by default")
+    parser.add_argument("--times", metavar="FILE",
+                        help="the file of times, tools/cdc6600/timing/thornton.times by default")
+    parser.add_argument("--budget", metavar="N", type=budget, default=BUDGET,
+                        help=f"issue at most N instructions, {BUDGET} by default")
+    parser.add_argument("--summary", action="store_true", help="print the cycles and the waits instead of the session")
+    parser.add_argument("deck", metavar="DECK", help="a file with a deck; a schedule after it isn't read")
+    return parser.parse_args()
+
+
+def work():
+    given = arguments()
+    session, times = Session(given.deck, text_of(given.deck)), read_times(given.times)
+    schedule = Schedule(Program(), session, times, given.policy, given.budget)
+    schedule.make()
+    if given.summary:
+        put(summary(schedule))
+    else:
+        deck = session.text.split("\n")[: session.deck_end]
+        put("".join(f"{line}\n" for line in [*deck, *schedule.events, "end"]))
+    return 0
+
+
+def main():
+    return ended("tools/schedule", work, Fault)

@@ -1,0 +1,79 @@
+"""Draws what a session does, a row for each reservation and a column for each event of its schedule: as text, with
+--svg as a picture, or with --html as a page that steps through the events. The answers are those of `cdc6600 events`
+where no file of answers is given. With --cycles a column is a minor cycle by the file of times. With --compare the page
+of two schedules of one deck is written, by their minor cycles; SECOND is then the other session.
+
+docs/timeline.md explains the drawing; drawing/following.py follows the events, drawing/forms.py draws the rows, and
+drawing/page.py writes the page. CDC6600 may name the program to ask.
+"""
+
+import argparse
+import sys
+from pathlib import Path
+
+from cdc6600.drawing.comparison import Comparison
+from cdc6600.drawing.following import Fault, Following, Session, text_of
+from cdc6600.drawing.forms import Form
+from cdc6600.drawing.page import Page
+from cdc6600.shared.ending import ended
+from cdc6600.shared.program import Program
+from cdc6600.timing.clock import clocked
+from cdc6600.timing.times import read_times
+
+
+def arguments():
+    parser = argparse.ArgumentParser(description=__doc__, formatter_class=argparse.RawDescriptionHelpFormatter)
+    form = parser.add_mutually_exclusive_group()
+    form.add_argument("--svg", action="store_true", help="draw a picture")
+    form.add_argument("--html", action="store_true", help="write a page that steps through the events")
+    parser.add_argument("--cycles", action="store_true", help="a column for each minor cycle instead of each event")
+    parser.add_argument("--times", metavar="FILE",
+                        help="the file of times, tools/cdc6600/timing/thornton.times by default")
+    parser.add_argument("--compare", action="store_true", help="with --html, compare the session with a second one")
+    parser.add_argument("session", metavar="SESSION", help="a deck with a schedule after it")
+    parser.add_argument("second", metavar="SECOND", nargs="?",
+                        help="a file with what `events` prints for it; with --compare, another session of its deck")
+    given = parser.parse_args()
+    if given.times and not (given.cycles or given.compare):
+        parser.error("--times goes with --cycles or --compare")
+    if given.compare and not (given.html and given.second):
+        parser.error("--compare takes --html and two sessions")
+    return given
+
+
+def followed(program, file, named=None):
+    """A session that is followed to its end, with the answers in a file if one is named."""
+    following = Following(program, Session(file, text_of(file)), named, text_of(named) if named else None)
+    following.follow()
+    return following
+
+
+def page_of(given, program, times):
+    """The page that is asked for."""
+    if given.compare:
+        files = (given.session, given.second)
+        return Comparison([followed(program, file) for file in files], files, times).text()
+    following = followed(program, given.session, given.second)
+    return Page(following, Path(given.session).stem, cycles=cycles_of(following, times)).text()
+
+
+def cycles_of(following, times):
+    """The minor cycle of each event, if times are given."""
+    return clocked(following, times) if times else None
+
+
+def work():
+    given, program = arguments(), Program()
+    times = read_times(given.times) if given.cycles or given.compare else None
+    if given.html:
+        sys.stdout.reconfigure(encoding="utf-8", errors="replace")
+        sys.stdout.write(page_of(given, program, times))
+    else:
+        following = followed(program, given.session, given.second)
+        form = Form(following, cycles_of(following, times))
+        sys.stdout.write(form.picture() if given.svg else form.text())
+    return 0
+
+
+def main():
+    return ended("tools/timeline", work, Fault)

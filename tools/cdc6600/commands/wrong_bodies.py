@@ -1,0 +1,123 @@
+"""Tries the wrong bodies of the crates: the prover has to refuse each at a goal of its own function's contract.
+
+    tools/wrong-bodies [CRATE..]        those of every crate, or of these; what was refused before, and is the same,
+                                        is kept
+    tools/wrong-bodies --anew           all of them, whatever was kept
+    tools/wrong-bodies --after-rt-ci    over the libraries that `rt ci` has just left in this checkout
+
+A wrong body is an edit in crates/NAME/wrong-bodies/, or one of the promised ones in crates/NAME/must-fail/, which
+`rt ci` tries too. docs/CHANGING.md says how one is written. Bodies are tried in groups:
+tools/cdc6600/wrong_bodies/copies.py, and for the rest groups.py, say why one check can judge many.
+tools/cdc6600/wrong_bodies/verdicts.py says what a check refuses, and second.py when that counts.
+
+It prints a line for each body with its verdict and the goal, a line for each crate, and last the number of bodies, of
+those that aren't refused, and of those of which it can't tell. The status is 0 if each body is refused or of that last
+kind.
+"""
+
+import argparse
+import signal
+import sys
+import tempfile
+from pathlib import Path
+
+from cdc6600.building import host
+from cdc6600.crates.kit import kit
+from cdc6600.crates.table import Table, Unreadable
+from cdc6600.shared.program import ROOT
+from cdc6600.crates.crate import EDITS
+from cdc6600.wrong_bodies.tries import Tries, read_crate
+from cdc6600.wrong_bodies.verdicts import CANT_TELL, NOT_REFUSED
+
+
+def arguments():
+    parser = argparse.ArgumentParser(description=__doc__, formatter_class=argparse.RawDescriptionHelpFormatter)
+    parser.add_argument("crates", nargs="*", metavar="CRATE", help="a crate of crates.txt; none: all of them")
+    parser.add_argument("--anew", action="store_true", help="try all, whatever an earlier run kept")
+    parser.add_argument("--once", action="store_true", help="check each body once, which takes a third of the time")
+    parser.add_argument("--after-rt-ci", action="store_true",
+                        help="`rt ci` has just ended well here: take over its libraries")
+    parser.add_argument("--at-once", type=int, default=0,
+                        help="how many checks run side by side (default: as the machine allows)")
+    parser.add_argument("--root", type=Path, default=ROOT, help=argparse.SUPPRESS)
+    return parser.parse_args()
+
+
+def chosen(table, names):
+    """The crates to try, and a fault for each that crates.txt doesn't list."""
+    has_edits = {file.parent.parent.name for part in EDITS for file in table.root.glob(f"crates/*/{part}/*.edit")}
+    wanted = set(names) or has_edits
+    faults = [f"{name}: crates.txt lists no such crate" for name in sorted(wanted - set(table.lines))]
+    return [name for name in table.lines if name in wanted], faults
+
+
+def not_refused(crate):
+    """A line for each edit of a crate that can't be read, and for each body that wasn't refused. Silence is no
+    refusal."""
+    lines = list(crate.faults)
+    for body in crate.bodies:
+        verdict = crate.verdicts.get(body.name)
+        if verdict is None or verdict.kind == NOT_REFUSED:
+            lines.append(f"{crate.name}/{body.name}: {verdict.words if verdict else 'it was not tried'}")
+    return lines
+
+
+def cant_tell(crate):
+    """A line for each body of which it can't be told whether the contract refuses it."""
+    found = [(body.name, crate.verdicts.get(body.name)) for body in crate.bodies]
+    return [f"{crate.name}/{name}: {verdict.words}" for name, verdict in found if verdict and verdict.kind == CANT_TELL]
+
+
+def report(crate):
+    """Prints what came of each of a crate's bodies."""
+    for line in not_refused(crate):
+        print(f"NOT REFUSED {line}", flush=True)
+    for line in cant_tell(crate):
+        print(f"CAN'T TELL {line}", flush=True)
+    for body in crate.bodies:
+        verdict = crate.verdicts.get(body.name)
+        if verdict is not None and verdict.refused:
+            print(f"{crate.name}/{body.name}: refused at {verdict.words}", flush=True)
+
+
+def try_all(table, crates, given):
+    """Tries what is left to try, and reports each crate once that is done. Returns the run."""
+    by_name = {crate.name: crate for crate in crates}
+    with tempfile.TemporaryDirectory(prefix="wrong-bodies-") as room:
+        tries = Tries(table, crates, room, given.at_once or host.places(), given.after_rt_ci, given.once)
+        for crate in crates:
+            if not crate.groups:
+                report(crate)
+        tries.run(lambda name: report(by_name[name]))
+    return tries
+
+
+def work():
+    given = arguments()
+    table = Table(given.root)
+    names, faults = chosen(table, given.crates)
+    for fault in faults:
+        print(f"NOT REFUSED {fault}")
+    identity = kit()
+    crates = [read_crate(table, name, identity, given.anew, given.once) for name in names]
+    tries = try_all(table, crates, given)
+    for crate in crates:
+        total = len(crate.bodies) + len(crate.faults)
+        seconds = f"{crate.seconds:.0f} seconds of processor time"
+        print(f"{crate.name}: {total} bodies, {len(crate.groups)} groups, {seconds}")
+    print(f"libraries: {len(tries.libraries)}, {tries.library_seconds:.0f} seconds of processor time")
+    bad = len(faults) + sum(len(not_refused(crate)) for crate in crates)
+    total = sum(len(crate.bodies) + len(crate.faults) for crate in crates)
+    unsure = sum(len(cant_tell(crate)) for crate in crates)
+    print(f"{total} wrong bodies, {bad} not refused, {unsure} can't tell")
+    return 1 if bad else 0
+
+
+def main():
+    for number in (signal.SIGTERM, signal.SIGHUP):
+        signal.signal(number, lambda *_: sys.exit(1))
+    try:
+        return work()
+    except Unreadable as reason:
+        print(f"tools/wrong-bodies: {reason}")
+        return 1

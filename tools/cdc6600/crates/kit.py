@@ -1,0 +1,27 @@
+"""The kit by which the crates are proved."""
+
+import shutil
+import subprocess
+from pathlib import Path
+
+from .table import Unreadable
+
+
+def checker():
+    """The checker, which stands beside `rt`."""
+    found = shutil.which("rt")
+    beside = Path(found).resolve().parent / "rattle" if found else None
+    if beside is None or not beside.is_file():
+        raise Unreadable(
+            "there is no rt with a checker `rattle` beside it: the kit isn't installed, or is laid out in another way"
+        )
+    return beside
+
+
+def kit():
+    """The words that identify the kit: what `rt` says of itself, and the size and the date of the checker."""
+    said = subprocess.run(["rt", "version"], capture_output=True, text=True, check=False)
+    if said.returncode or not said.stdout.strip():
+        raise Unreadable("`rt version` doesn't say which kit this is")
+    status = checker().stat()
+    return f"{said.stdout.strip()} {status.st_size} {status.st_mtime_ns}"

@@ -1,0 +1,49 @@
+"""What the text of an instruction says: the kind of unit that it takes, its operands, and its results.
+
+A text that is none, as `?30` or `?straddle` in a listing, takes no unit.
+"""
+
+import re
+
+from cdc6600.shared.instructions import instruction
+
+# The units of each kind, lowest number first, and their names in sentences.
+KINDS = {
+    "branch": ("branch",), "boolean": ("boolean",), "shift": ("shift",), "add": ("add",), "longadd": ("longadd",),
+    "multiply": ("multiply1", "multiply2"), "divide": ("divide",), "increment": ("increment1", "increment2"),
+}
+UNITS = tuple(unit for kind in KINDS.values() for unit in kind)
+NAMES = dict(zip(UNITS, (
+    "Branch", "Boolean", "Shift", "Add", "Long Add", "Multiply 1", "Multiply 2", "Divide", "Increment 1", "Increment 2"
+)))
+# The unit of an instruction that takes none, as docs/instructions.md has it.
+NO_UNIT = "none"
+# The register of the result comes after the first letter. A branch has none.
+RESULT = re.compile(r"[A-Z]([ABX][0-7]) ")
+LOADED, STORED = re.compile(r"SA([1-5]) "), re.compile(r"SA[67] |RJ ")
+
+
+def kind_of(text):
+    """The kind of unit that an instruction takes, or none."""
+    found = instruction(text)
+    if not found or found.row.unit == NO_UNIT:
+        return None
+    return found.row.unit.lower().replace(" ", "")
+
+
+def results_of(text):
+    """The registers that an instruction writes. B0 is none; a load has two, the last of which comes by its return."""
+    written, loaded = RESULT.match(text), LOADED.match(text)
+    found = [it for it in (written and written[1], loaded and f"X{loaded[1]}") if it]
+    return [register for register in found if register != "B0"]
+
+
+def operands_of(text):
+    """The registers whose values an instruction uses, in the order in which they count, each once. B0 is none."""
+    found = instruction(text)
+    return found.operands if found else []
+
+
+def stores(text):
+    """Whether an instruction stores a word of memory: its X register, or the link word of a return jump."""
+    return bool(STORED.match(text))

@@ -1,0 +1,219 @@
+"""Writes a session that was followed as a page of HTML, which needs nothing beside itself.
+
+Without scripts the page has the picture and a table of all events. With them it has a cursor that steps through the
+events, and for each step the panel of the machine. page.html is the frame, page.css how it looks, page.js the cursor.
+"""
+
+import html
+import json
+import re
+import xml.etree.ElementTree as ET
+from pathlib import Path
+from string import Template
+
+from .following import ENDS, IN_CHANNEL, IN_HOPPER, RESERVED
+from .forms import COLOURS, EVENTS, KINDS, REFUSED, SVG, Form, picture_of
+from .judging import states_of
+from .panel import ROOM, Panel, holding
+from .telling import sentence
+from .values import REGISTERS, all_values, changes, number_of
+from .words import Words
+
+FOLDER = Path(__file__).resolve().parent
+HEADS = {
+    "units": ("Unit", "No.", "Instruction", "Phase"), "places": ("Place", "No.", "Instruction", "Reference"),
+    "channels": ("Channel", "No.", "Instruction", "Load"),
+}
+DATA = re.compile(r'<script type="application/json" id="session">(.*?)</script>', re.DOTALL)
+# What is left below the rows that stay in sight.
+HEAD_MARGIN = 6
+TITLES = {"units": "Units", "places": "Hopper", "channels": "Load channels"}
+# The colours of the picture by the names that page.css has for them.
+COLOUR_NAMES = {COLOURS[RESERVED]: "reserved", COLOURS[IN_HOPPER]: "hopper", COLOURS[IN_CHANNEL]: "channel"}
+
+
+class Page:
+    """The page of a session: what each step shows, and the text of it all."""
+
+    def __init__(self, following, title, description="", links="", cycles=None):
+        self.following, self.title, self.description, self.links = following, title, description, links
+        self.states = states_of(following)
+        self.words, self.form = Words(following, self.states), Form(following, cycles)
+        self.values = all_values(following, self.states)
+
+    def steps(self):
+        """What each step shows, an event for each."""
+        return [self.step(n) for n in range(self.following.columns)]
+
+    def step(self, n):
+        """What is shown of an event: its line, its answer, the same in words, the panel after it, the values that it
+        has changed, and the row of the picture that it is about."""
+        event, is_refused = self.following.session.events[n], self.following.is_refused(n)
+        holds = holding(self.words.judge(n), event) if is_refused else []
+        parts = Panel(self.words.judge(n + 1)).parts()
+        return {"event": event, "answer": self.answer(n), "words": self.words.said(n), "refused": is_refused,
+                "holds": holds, "values": changes(self.values[n + 1], self.values[n]), "line": self.line(n), **parts}
+
+    def line(self, n):
+        """How far down in the picture the last row stands that the event n has a mark in."""
+        marked = [row for row in range(len(self.following.rows)) if (row, n) in self.following.marks]
+        return self.form.line_of(max(marked, default=0))
+
+    def answer(self, n):
+        """The answer to an event in a line. What the last line of a schedule prints stands at the page's end."""
+        answer = self.following.answers[n]
+        is_dump = self.following.session.events[n] in ENDS and answer != "NOT DRAINED"
+        return "the dump" if is_dump else answer
+
+    def text(self):
+        """The page."""
+        following, steps = self.following, self.steps()
+        return Template(read("page.html")).substitute(
+            title=html.escape(self.title), description=self.lead(), links=self.links,
+            style=read("page.css") + picture_style(), script=read("page.js"), picture=self.picture(),
+            labels=self.labels(), heads=self.heads(), corner=self.corner(),
+            legends="".join(map(legend_of, self.form.legends)),
+            count=len(steps), banks=bank_cells(), **{part: table_of(part) for part in HEADS},
+            values=tables_of_values(self.values[0]),
+            rows="".join(row_of(n, step, self.words.told(n)) for n, step in enumerate(steps)),
+            ending=html.escape(self.ending()), data=json.dumps(self.data(steps)).replace("<", "\\u003c"),
+            counted=f"{len(steps)} events, {len(following.rows) - 1} reservations",
+        )
+
+    def lead(self):
+        """What the session shows, as sentences."""
+        return marked_up(self.description) + "." * bool(self.description)
+
+    def data(self, steps):
+        """What the script reads."""
+        form, values = self.form, changes(self.values[0], {})
+        columns = {"left": form.left, "column": form.column, "columns": form.column_of}
+        return {"steps": steps, "values": values, **columns}
+
+    def ending(self):
+        """The lines at the end: the dump, or that there is none."""
+        following, last = self.following, self.following.columns - 1
+        if last >= 0 and following.session.events[last] in ENDS:
+            return "\n".join(following.answers[last:])
+        return following.ending
+
+    def picture(self):
+        """The rows of the picture, with a cursor behind their marks, and a text that stands for them."""
+        form = self.form
+        root = picture_of(form.width, form.height)
+        named = {"id": "picture", "role": "img", "aria-labelledby": "picture-name"}
+        root.attrib.update({**named, "viewBox": f"0 0 {form.width} {form.height}"})
+        name = ET.SubElement(root, f"{{{SVG}}}title", {"id": "picture-name"})
+        rows = f"a row for each reservation and a column for each {'minor cycle' if form.is_timed else 'event'}"
+        name.text = f"Timeline of {self.title}, {rows}. The table of all events says the same in words."
+        add_cursor(root, form, {"id": "cursor"})
+        for row in form.labels:
+            form.add_label(root, row)
+            form.add_row(root, row)
+        return ET.tostring(root, encoding="unicode")
+
+    def labels(self):
+        """The labels of the rows once more, which stay in sight while the picture is scrolled."""
+        root = picture_of(self.form.left, self.form.height)
+        for row in self.form.labels:
+            self.form.add_label(root, row)
+        return ET.tostring(root, encoding="unicode")
+
+    def heads(self):
+        """The rows above that of the machine once more, which stay in sight while the others are scrolled."""
+        root = picture_of(self.form.width, self.head_height())
+        add_cursor(root, self.form, {})
+        for row in (EVENTS, KINDS):
+            self.form.add_row(root, row)
+        return ET.tostring(root, encoding="unicode")
+
+    def corner(self):
+        """The labels of these two rows, which stay in sight in both directions."""
+        root = picture_of(self.form.left, self.head_height())
+        for row in (EVENTS, KINDS):
+            self.form.add_label(root, row)
+        return ET.tostring(root, encoding="unicode")
+
+    def head_height(self):
+        """How high these two rows are together."""
+        return self.form.line_of(KINDS) + HEAD_MARGIN
+
+
+def data_of(page):
+    """What the script of a page reads, by the page's text."""
+    return json.loads(DATA.search(page.text())[1])
+
+
+def read(name):
+    """What a file beside this one has."""
+    return (FOLDER / name).read_text(encoding="utf-8")
+
+
+def add_cursor(root, form, more):
+    """Adds the cursor of a drawing to a picture. The script puts it at a column."""
+    size = {"class": "cursor", "y": "3", "width": str(form.column), "height": str(form.height - 4), "rx": "4"}
+    ET.SubElement(root, f"{{{SVG}}}rect", {**more, **size})
+
+
+def marked_up(text):
+    """A text of a page in Markdown as sentences in HTML: what stands in backquotes is code."""
+    return re.sub(r"`([^`]*)`", r"<code>\1</code>", html.escape(sentence(text)))
+
+
+def picture_style():
+    """The rules by which the picture has the page's colours, light or dark."""
+    bars = "".join(f'svg rect[fill="{colour}"] {{ fill: var(--{name}); }}\n' for colour, name in COLOUR_NAMES.items())
+    return bars + f'svg text[fill="{REFUSED}"] {{ fill: var(--refused); }}\n'
+
+
+def table_of(part):
+    """The table of a part of the panel, with an empty row for each that it has room for."""
+    heads = "".join(f'<th scope="col">{head}</th>' for head in HEADS[part])
+    rows = "".join(
+        f'<tr id="{part}-{key}"><th scope="row">{label}</th><td></td><td></td><td></td></tr>\n'
+        for key, label in ROOM[part].items()
+    )
+    table = f'<table class="part"><thead><tr>{heads}</tr></thead>\n<tbody>\n{rows}</tbody></table>'
+    title = f'<h3 id="title-{part}">{TITLES[part]}</h3>'
+    return f'<section class="card {part}" aria-labelledby="title-{part}">{title}\n{table}</section>\n'
+
+
+def tables_of_values(values):
+    """The tables of the registers of each kind and of the words that the deck shows, with the values at boot."""
+    words = [name for name in values if name not in REGISTERS]
+    parts = [("Register", [name for name in REGISTERS if name[0] == kind], kind) for kind in "XAB"]
+    parts += [("Word", words, "M")] if words else []
+    return "".join(table_of_values(head, names, kind, values) for head, names, kind in parts)
+
+
+def table_of_values(head, names, kind, values):
+    """The table of some values."""
+    heads = "".join(f'<th scope="col">{it}</th>' for it in (head, "Octal", "Number"))
+    rows = "".join(
+        f'<tr id="values-{name}"><th scope="row">{name}</th><td>{values[name]}</td><td>{number_of(values[name])}</td>'
+        "</tr>\n" for name in names
+    )
+    return f'<table class="kind-{kind}"><thead><tr>{heads}</tr></thead>\n<tbody>\n{rows}</tbody></table>\n'
+
+
+def bank_cells():
+    """A cell for each bank."""
+    return "".join(f'<li id="banks-{key}">{label}</li>' for key, label in ROOM["banks"].items())
+
+
+def legend_of(line):
+    """A line that says what some marks mean. It has the bars' colours where the text has three of their letters."""
+    said = html.escape(line)
+    for gap, colour in COLOURS.items():
+        said = said.replace(3 * gap, f'<span class="bar" style="background: var(--{COLOUR_NAMES[colour]})"></span>')
+    return f"<li>{said.replace('   ', ' &#xB7; ')}</li>\n"
+
+
+def row_of(n, step, told):
+    """The row of the event n, from 0, in the table of all events."""
+    event, answer = (html.escape(step[name]) for name in ("event", "answer"))
+    kind = ' class="refused"' if step["refused"] else ""
+    return (
+        f'<tr id="event-{n + 1}"{kind}><th scope="row"><a href="#event-{n + 1}">{n + 1}</a></th>'
+        f"<td><code>{event}</code></td><td><code>{answer}</code></td><td>{html.escape(told)}</td></tr>\n"
+    )

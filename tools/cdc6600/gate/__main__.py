@@ -1,0 +1,7 @@
+"""Runs the gate, by .ci/run."""
+
+import sys
+
+from .gate import main
+
+sys.exit(main())

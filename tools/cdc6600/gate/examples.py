@@ -1,0 +1,24 @@
+"""Checks that each block of code in docs/threads.md stands in the test that it is from. It says nothing where all is
+right."""
+
+from pathlib import Path
+
+from cdc6600.shared.program import ROOT
+
+PAGE, TEST = "docs/threads.md", "crates/thread_tests/src/example_tests.rt"
+FENCE = "```"
+
+
+def blocks_of(lines):
+    """The blocks of a page, each with the number of the line that begins it."""
+    fences = [number for number, line in enumerate(lines, 1) if line.startswith(FENCE)]
+    return [(first, lines[first : last - 1]) for first, last in zip(fences[::2], fences[1::2])]
+
+
+def main():
+    source = (ROOT / TEST).read_text(encoding="utf-8")
+    blocks = blocks_of((ROOT / PAGE).read_text(encoding="utf-8").split("\n"))
+    missing = [number for number, block in blocks if "".join(f"{line}\n" for line in block) not in source]
+    for number in missing:
+        print(f"{PAGE}:{number}: not in {Path(TEST).name}")
+    return 1 if missing else 0

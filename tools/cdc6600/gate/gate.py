@@ -1,0 +1,189 @@
+"""The gate. Its last line is a count, `N passed, M failed`, and the lines before it say what each part took.
+
+    .ci/run           everything, but what earlier runs found of the very same text is kept, crate by crate
+    .ci/run --anew    everything, whatever was kept
+    .ci/run quick     a look while something is changed: the small checks, and what changed since the last look is
+                      proved. It tries no wrong body and runs no test
+
+The parts, in their order:
+
+- small checks, which take seconds: that docs/definitions.md names what is there, docs/safety.md each public call,
+  docs/threads.md its example, docs/crates.md the sizes, docs/CHANGING.md the checks of the gate, that a deck or a test
+  goes past each limit of the code, that a word with one meaning is used for nothing else, that what comments and pages
+  name is there, the layout of pages, and the style of the Python sources;
+- `rt ci`: every proof from nothing, every test, the wrong bodies of `must-fail`, and the program's stored run. It keeps
+  beside the kit what it proved and tried, by the sums of all that it read, and so proves and tries again only what
+  changed, and what stands above that; tests and the program are run each time;
+- wrong bodies: those of `must-fail` again and all others, in groups, over the libraries that `rt ci` left
+  (tools/wrong-bodies --once, which keeps what it tried in the user's cache folder). A body with the verdict `can't
+  tell` has neither passed nor failed, and the number of these is printed at the end;
+- decks (tools/cdc6600/checks): what the program prints for them, for the commands of the pages, for worked schedules,
+  for the largest decks, for those that are cut and bent, and where calls fail, when requests of both kinds are made,
+  what a run with and without threads prints for drawn decks, and which events take memory; that a run ends soon beside
+  other work; that sources are assembled, that emulators are compared with it, that pages of sessions say what the
+  machine does, that a machine is driven by hand, installed, run many times and called from C; then that forgotten
+  tokens are refused, and that `./cdc6600` builds no program of which a crate isn't proved.
+
+The names of the checks are in parts.py. A check that needs a program which isn't installed is left out, and that is
+told. A check that finds nothing says nothing. Where `rt ci` fails nothing more is tried.
+"""
+
+import os
+import re
+import resource
+import subprocess
+import sys
+import time
+from concurrent.futures import ThreadPoolExecutor
+from pathlib import Path
+
+from cdc6600.checks.debian import missing
+from cdc6600.shared.program import ROOT
+
+from .parts import BODIES, BUILDING, DECKS, NAMES, SMALL, called, command
+
+RUNNER = "tools/wrong-bodies"
+# What `rt ci` builds.
+PROGRAM = "crates/operator_main/out/operator_main"
+# The page whose table says what each of them checks.
+PAGE = "docs/CHANGING.md"
+PROOFS = re.compile(r"(\d+) passed, (\d+) failed")
+TRIED = re.compile(r"(\d+) wrong bodies, (\d+) not refused, (\d+) can't tell")
+PIPED = {"stdout": subprocess.PIPE, "stderr": subprocess.STDOUT, "text": True, "errors": "replace"}
+# A check takes up to 4.3 GB.
+MEMORY_OF_A_CHECK = 5_000_000
+
+
+def processor_seconds():
+    """What all commands that have ended took."""
+    used = resource.getrusage(resource.RUSAGE_CHILDREN)
+    return used.ru_utime + used.ru_stime
+
+
+def is_silent(name):
+    """Whether a check finds nothing: it ends with 0. What it says is printed where it doesn't."""
+    ran = subprocess.run(command(name), **PIPED, check=False)
+    if ran.returncode:
+        print(f"{called(name)}:\n{ran.stdout}", end="", flush=True)
+    return ran.returncode == 0
+
+
+def counted(words, pattern, environment=None):
+    """Runs a command, prints what it says, and gives the numbers of its last line, of which the second is how many
+    failed. One that ends in another way has failed once."""
+    numbers = None
+    with subprocess.Popen(words, **PIPED, env=environment) as ran:
+        for line in ran.stdout:
+            print(line, end="", flush=True)
+            numbers = pattern.fullmatch(line.strip())
+    if not numbers:
+        return 0, 1, *[0] * (pattern.groups - 2)
+    passed, failed, *others = map(int, numbers.groups())
+    return passed, failed or (1 if ran.returncode else 0), *others
+
+
+class Gate:
+    """The parts that were gone through: what passed, what failed, and how long each took."""
+
+    def __init__(self):
+        self.passed, self.failed, self.took, self.unsure = 0, 0, [], None
+
+    def part(self, name, work):
+        """Goes through a part, whose work gives what passed and what failed."""
+        begun, used = time.monotonic(), processor_seconds()
+        passed, failed = work()
+        self.passed += passed
+        self.failed += failed
+        self.took.append((name, time.monotonic() - begun, processor_seconds() - used))
+
+    def end(self):
+        """Prints the times and the count; the status."""
+        for name, seconds, used in self.took:
+            print(f"{name}: {seconds / 60:.1f} minutes, {used / 60:.1f} of processors")
+        if self.unsure is not None:
+            print(f"wrong bodies with the verdict can't tell: {self.unsure}")
+        print(f"{self.passed} passed, {self.failed} failed", flush=True)
+        return 1 if self.failed else 0
+
+
+def silent(names):
+    """How many of the checks, side by side, find nothing, and how many do. Those that need a program which isn't
+    installed are left out."""
+    ready = [name for name in names if is_ready(name)]
+    with ThreadPoolExecutor(len(names)) as pool:
+        found = list(pool.map(is_silent, ready))
+    return found.count(True), found.count(False)
+
+
+def small_checks():
+    """The small checks, and that the page has a row for each check of the gate."""
+    passed, failed = silent(SMALL)
+    rows = re.findall(r"^\| `([^`]*)` \|", Path(PAGE).read_text(encoding="utf-8"), re.MULTILINE)
+    absent = [it for it in (RUNNER, *map(called, NAMES)) if it not in rows]
+    for it in absent:
+        print(f"{PAGE}: no row of a table begins with `{it}`", flush=True)
+    return (passed, failed + 1) if absent else (passed + 1, failed)
+
+
+def proofs(is_anew):
+    """`rt ci` starts a check only where there is memory for what it may need at most, by its size. With the two largest
+    beside each other processors stay idle; where there is memory for a check on each, all are used."""
+    environment, processors = dict(os.environ), len(os.sched_getaffinity(0))
+    available = re.search(r"MemAvailable:\s+(\d+)", Path("/proc/meminfo").read_text(encoding="ascii"))
+    if available and int(available[1]) >= processors * MEMORY_OF_A_CHECK:
+        environment.setdefault("RT_JOBS", str(processors))
+    passed, failed = counted(["rt", "ci", *["--anew"] * is_anew], PROOFS, environment)
+    if not failed:
+        # `rt ci` has just built the program of these sources, so the checks needn't build it.
+        Path(f"{PROGRAM}.sources").write_bytes(subprocess.check_output(["tools/source-sum"]))
+    return passed, failed
+
+
+def bodies(gate, is_anew):
+    """The runner's own tests, and then all wrong bodies: how many were refused, and how many weren't."""
+    passed, failed = silent([BODIES])
+    tried, let_through, gate.unsure = counted([RUNNER, "--after-rt-ci", "--once", *["--anew"] * is_anew], TRIED)
+    return passed + max(tried - let_through - gate.unsure, 0), failed + let_through
+
+
+def is_ready(name):
+    """Whether the programs are installed that a check needs; it is told which one isn't."""
+    absent = missing(name)
+    if absent:
+        print(f"{called(name)} is left out: {' and '.join(absent)} isn't installed", flush=True)
+    return not absent
+
+
+def changed():
+    """What changed since the last look, by the work that was kept of it."""
+    ended = subprocess.run(["rt", "all", "check"], check=False).returncode
+    return (0, 1) if ended else (1, 0)
+
+
+def whole(gate, is_anew):
+    """Every part, up to one in which something fails."""
+    gate.part("small checks", small_checks)
+    if not gate.failed:
+        gate.part("proofs and tests", lambda: proofs(is_anew))
+    if not gate.failed:
+        gate.part("wrong bodies", lambda: bodies(gate, is_anew))
+        gate.part("decks", lambda: silent((*DECKS, *BUILDING)))
+
+
+def quick(gate):
+    """The parts of a look in between."""
+    gate.part("small checks", small_checks)
+    gate.part("what changed", changed)
+
+
+def main():
+    os.chdir(ROOT)
+    gate, words = Gate(), sys.argv[1:]
+    if words == ["quick"]:
+        quick(gate)
+    elif words in ([], ["--anew"]):
+        whole(gate, bool(words))
+    else:
+        print("usage: .ci/run [quick | --anew]", file=sys.stderr)
+        return 2
+    return gate.end()

@@ -1,0 +1,230 @@
+"""Checks that what comments and pages name is there. It prints a line for each fault, and nothing if there is none.
+
+- Names: the comment that begins a crate names in backquotes what the crate has: a module, a definition, or a name in
+  its code. It may also name what a crate below declares, a crate, and an instruction; but a module only of its own.
+- Paths of names: each part of a name such as `Lane::take`, in backquotes in any comment of a crate or in a page, is a
+  name in the code of a crate or of the kit's crates that it uses.
+- Beginnings: the comment that begins a crate names the file of the crate's tests, and ends with a sentence that says
+  where to begin: `Begin with ..`. A crate of tests only says where to begin.
+- Calls: a table of calls, whose head begins with `Call`, names public calls of the crates that its page names above it.
+  `tools/check safety` checks the tables of docs/safety.md.
+- Paths: a path that begins with a folder of the repository is a file or a folder there, in the files of crates and in
+  pages. In the tools' sources this holds for tools and pages, since tests name decks and crates that they make. NAME
+  stands for any name, and so does the crate in `crates/crate/`; `*` has to match something.
+- Links: the target of a link in a page is there. Targets elsewhere, in the web, aren't looked up.
+"""
+
+import re
+import subprocess
+
+from cdc6600.crates.crate import crates
+from cdc6600.crates.table import Table
+from cdc6600.shared.instructions import ROWS
+from cdc6600.shared.program import ROOT
+
+QUOTED = re.compile(r"`([^`]*)`")
+NAME = re.compile(r"\w+(?:(?:::|/)\w+)*")
+WORD = re.compile(r"\w+")
+PARTED = re.compile(r"[\w:]+(?:\(\))?")
+SENTENCE = re.compile(r"(?<=[.:]) (?=[A-Z`])")
+COMMENT = re.compile(r" *//")
+# What a source declares: items, clauses of contracts, fields and variants; and what a file of definitions does.
+ITEMS = (
+    re.compile(r"\b(?:fn|struct|enum|trait|type|const|static|law) (\w+)"),
+    re.compile(r"\b(?:requires|ensures) (\w+) \{"),
+    re.compile(r"^ +(?:pub )?(\w+):", re.MULTILINE),
+    re.compile(r"^    ([A-Z]\w*)\b", re.MULTILINE),
+)
+DEFINITION = re.compile(r"^(?:(?:abbrev|unfoldable) )?pub (?:(?:record|data) )?(\w+)", re.MULTILINE)
+INSTRUCTIONS = {re.match("[A-Z]+", row.text)[0] for row in ROWS.values()}
+# Other words of comments: the program, and the folder of a crate's definitions.
+OTHERS = {"cdc6600", "specs"}
+
+PATH = re.compile(r"(?<![\w/.-])(?:crates|decks|docs|tools|bench|\.ci)/[\w./*-]*")
+PLACEHOLDER = re.compile(r"\bNAME\b|^crates/crate/")
+# What the sources of tools may name falsely: this file has paths of the past, too.
+OF_TOOLS, OWN = ("tools/", "docs/", "bench/", ".ci/"), "tools/cdc6600/gate/names.py"
+# A name with parts that stands for any.
+ANY_NAME = "Type::function"
+KINDS = (".rt", ".antt", ".edit", ".h", ".c", ".rs", ".py")
+LINK = re.compile(r"\]\(([^)\s]+)\)")
+ELSEWHERE = re.compile(r"[a-z]+:|#")
+# Comments of crates that name a file by the path that it had before it was moved. A crate's comments are part of what
+# is proved, so they change together with other changes of the crate. A row that is no longer needed is a fault.
+MOVED = {
+    ("crates/command_line/src/lib.rt", "tools/checks/pages"),
+    ("crates/schedule_tests/src/lib.rt", "tools/checks/schedules"),
+    ("crates/schedule_tests/src/schedule.rt", "tools/checks/schedules"),
+}
+
+# How the names of files of tests end.
+OF_TESTS = re.compile(r"_(?:tests|schedules)$")
+# The crates whose first comments don't follow the rule on beginnings yet. A crate that follows it is a fault here.
+NOT_YET = frozenset((
+    "word60 parcel instructions instruction_table unit_ops registers per_unit relocation hopper exchange_package "
+    "scoreboard sequential exchange_requests core_tests in_flight program_order fulfilled_requests sequential_run "
+    "machine machine_tests unit_queue signals progress_word machine_lock unit_serving unit_workers device_text deck "
+    "job_deck sequential_job operator_terms text_tests command_line deck_run embedding thread_tests schedule_tests "
+    "operator_main"
+).split())
+
+TABLE, CRATES = Table(ROOT), {crate.name: crate for crate in crates()}
+SAFETY = "docs/safety.md"
+
+# ---- names and calls ----
+
+
+def declared(crate):
+    """What the sources and definitions of a crate declare."""
+    found = {name for source in crate.sources for item in ITEMS for name in item.findall(source.text)}
+    for file in crate.files("specs"):
+        found.update(DEFINITION.findall(file.read_text(encoding="utf-8")))
+    return found
+
+
+def said(crate):
+    """The words of a crate's code, with the names of its modules and of its files of definitions."""
+    files = {source.file.stem for source in crate.sources} | {file.stem for file in crate.files("specs")}
+    code = (line for source in crate.sources for line in source.lines if not COMMENT.match(line))
+    return files.union(*(WORD.findall(line) for line in code))
+
+
+def named_at_the_head(crate):
+    """What the comment that begins a crate names, each with its path and line."""
+    for source in (it for it in crate.sources if it.file.name in ("lib.rt", "main.rt")):
+        for number, line in enumerate(source.lines, 1):
+            for text in QUOTED.findall(line) if line.startswith("//!") else []:
+                if NAME.fullmatch(text) and not PATH.fullmatch(text):
+                    yield f"{source.path}:{number}", text
+
+
+def faults_of_names():
+    """The names in the comments that begin the crates that neither the crate has nor one below it."""
+    names = {crate.name: declared(crate) for crate in CRATES.values()}
+    for crate in CRATES.values():
+        known = said(crate) | names[crate.name] | INSTRUCTIONS | OTHERS | set(CRATES)
+        known = known.union(TABLE.uses[crate.name], *(names[below] for below in TABLE.below(crate.name)))
+        for where, text in named_at_the_head(crate):
+            if not known.issuperset(re.split("::|/", text)):
+                yield f"{where}: there is no `{text}` in {crate.name}, nor below it"
+
+
+# ---- how the comment of a crate begins and ends ----
+
+
+def first_comment(crate):
+    """The path of a crate's first source, and the text of the comment that begins it."""
+    source = next(it for it in crate.sources if it.file.name in ("lib.rt", "main.rt"))
+    lines = [line.removeprefix("//!").strip() for line in source.lines if line.startswith("//!")]
+    return source.path, " ".join(lines)
+
+
+def fault_of_beginning(crate):
+    """What the first comment of a crate doesn't say, or nothing."""
+    tests = {source.file.stem for it in CRATES.values() for source in it.sources}
+    path, text = first_comment(crate)
+    named = {name for quoted in QUOTED.findall(text) for name in WORD.findall(quoted)}
+    if not SENTENCE.split(text)[-1].startswith("Begin with "):
+        return f"{path}: its first comment doesn't end with the place to begin"
+    if not crate.name.endswith("_tests") and not any(map(OF_TESTS.search, named & tests)):
+        return f"{path}: its first comment doesn't name the file of its tests"
+    return None
+
+
+def faults_of_beginnings():
+    """The crates whose first comments break the rule on beginnings, without those that don't follow it yet."""
+    for crate in CRATES.values():
+        fault = fault_of_beginning(crate)
+        if fault and crate.name not in NOT_YET:
+            yield fault
+        if not fault and crate.name in NOT_YET:
+            yield f"{crate.name}: its first comment follows the rule, so it doesn't belong in NOT_YET"
+
+
+# ---- the parts of names ----
+
+
+def words_of_all():
+    """The words of all code, with the names of the crates, modules and files of definitions."""
+    of_crates = (said(crate) | declared(crate) | set(TABLE.uses[crate.name]) for crate in CRATES.values())
+    return set(CRATES).union(*of_crates)
+
+
+WORDS = words_of_all()
+
+
+def faults_of_parts(name, lines):
+    """The names with parts that a file's comments, or a page, give to what no code has."""
+    is_page = name.endswith(".md")
+    for number, line in enumerate(lines, 1):
+        for text in QUOTED.findall(line) if is_page or COMMENT.match(line) else ():
+            is_parted = "::" in text and PARTED.fullmatch(text) and text != ANY_NAME
+            if is_parted and not WORDS.issuperset(WORD.findall(text)):
+                yield f"{name}:{number}: there is no `{text}`"
+
+
+def faults_of_calls(page, lines):
+    """The calls of a page's tables that no crate has which the page names before."""
+    calls, is_table = set(), False
+    for number, line in enumerate(lines, 1):
+        is_table = line.startswith("| Call |") or is_table and line.startswith("|")
+        if is_table:
+            for call in QUOTED.findall(line.split("|")[1]):
+                if call not in calls:
+                    yield f"{page}:{number}: no crate named above has a call `{call}`"
+        else:
+            for crate in (CRATES[name] for name in QUOTED.findall(line) if name in CRATES):
+                calls.update(name for label in crate.public_calls for name in (label, label.rpartition("::")[2]))
+
+
+# ---- paths and links ----
+
+
+def tracked(*patterns):
+    """The files that are part of the repository and match a pattern, by their paths."""
+    listed = subprocess.run(["git", "ls-files", *patterns], cwd=ROOT, check=True, capture_output=True, text=True)
+    return [path for path in listed.stdout.splitlines() if (ROOT / path).is_file()]
+
+
+def is_there(path):
+    """Whether there is a file or a folder at a path, or one that it stands for."""
+    return bool(PLACEHOLDER.search(path)) or (any(ROOT.glob(path)) if "*" in path else (ROOT / path).exists())
+
+
+def faults_of_paths(name, lines):
+    """The paths that a file names and that aren't there."""
+    for number, line in enumerate(lines, 1):
+        for found in PATH.findall(line):
+            path = found.removesuffix("**").rstrip(".")
+            is_made = name == OWN or name.startswith("tools/") and not path.startswith(OF_TOOLS)
+            if not is_there(path) and not is_made and (name, path) not in MOVED:
+                yield f"{name}:{number}: there is no {path}"
+
+
+def faults_of_moved():
+    """The rows of MOVED that no comment needs."""
+    for name, path in sorted(MOVED):
+        file = ROOT / name
+        if not file.is_file() or path not in file.read_text(encoding="utf-8"):
+            yield f"{name}: it doesn't name {path}, so its row of MOVED isn't needed"
+
+
+def faults_of_links(page, lines):
+    """The targets of a page's links that aren't there."""
+    for number, line in enumerate(lines, 1):
+        for target in LINK.findall(line):
+            if not ELSEWHERE.match(target) and not (ROOT / page).parent.joinpath(target.partition("#")[0]).exists():
+                yield f"{page}:{number}: the link leads to no file: {target}"
+
+
+def main():
+    faults, pages = [*faults_of_names(), *faults_of_beginnings(), *faults_of_moved()], tracked("*.md")
+    for name in [path for path in tracked("crates", "tools", "bench") if path.endswith(KINDS)] + pages:
+        lines = (ROOT / name).read_text(encoding="utf-8").split("\n")
+        faults += faults_of_paths(name, lines)
+        faults += faults_of_parts(name, lines) if name.endswith((".rt", ".md")) else []
+        if name in pages:
+            faults += faults_of_links(name, lines)
+            faults += faults_of_calls(name, lines) if name != SAFETY else []
+    print("\n".join(faults), end="\n" if faults else "")
+    return 1 if faults else 0

@@ -1,0 +1,31 @@
+"""The checks by their names, in the parts of the gate. `tools/check NAME` runs one."""
+
+# They look at sources and pages alone, and take seconds.
+SMALL = ("definitions", "safety", "examples", "sizes", "limits", "words", "names", "layout", "style")
+# They try the tools that prove and that try wrong bodies, on small workspaces.
+BODIES = "wrong-bodies-test"
+BUILDING = ("spent-tokens", "build-program-test")
+# They try the program and the tools.
+DECKS = (
+    "decks", "pages", "assembler", "schedules", "both-kinds", "busy", "threads", "sequential", "large", "mutations",
+    "failures", "allocations", "emulators", "trace", "random-sessions", "values", "operate", "scheduling", "exploring",
+    "cycles", "browser", "progress", "habits", "many-jobs", "embedding",
+)
+NAMES = (*SMALL, BODIES, *DECKS, *BUILDING)
+# Those whose modules are in the folder of the gate.
+OF_GATE = (*SMALL, "spent-tokens")
+
+
+def command(name):
+    """The words that run a check."""
+    return ["tools/check", name]
+
+
+def called(name):
+    """The name of a check as its page and its faults have it."""
+    return " ".join(command(name))
+
+
+def module(name):
+    """The name of a check's module."""
+    return f"cdc6600.{'gate' if name in OF_GATE else 'checks'}.{name.replace('-', '_')}"

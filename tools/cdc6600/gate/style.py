@@ -1,0 +1,33 @@
+"""Checks the style of all Python of the project by flake8, with the settings of .flake8. It prints a line for each
+fault, and nothing if there is none. Called by itself as root, it installs flake8 from Debian's packages if it isn't
+there.
+"""
+
+import subprocess
+import sys
+
+from cdc6600.checks.debian import flake8, provide
+from cdc6600.shared.program import ROOT
+
+SHEBANG = b"python3"
+
+
+def is_python(file):
+    """Whether a file is Python: by its name, or by its first line if its name has no ending."""
+    if not file.is_file() or file.suffix:
+        return file.suffix == ".py" and file.is_file()
+    with file.open("rb") as text:
+        return SHEBANG in text.readline()
+
+
+def sources():
+    """The files of the repository that are Python, by their paths."""
+    listed = subprocess.run(["git", "ls-files"], cwd=ROOT, check=True, capture_output=True, text=True).stdout
+    return [path for path in listed.splitlines() if is_python(ROOT / path)]
+
+
+def main():
+    provide("style")
+    ran = subprocess.run([*flake8(), *sources()], cwd=ROOT, stdout=subprocess.PIPE, text=True, check=False)
+    sys.stdout.write(ran.stdout)
+    return 1 if ran.returncode else 0

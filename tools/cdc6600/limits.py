@@ -1,0 +1,22 @@
+"""The limits of the program that the tools and checks repeat, each once.
+
+The program has them in its own sources. `tools/check limits` compares those that the sources have as a number.
+"""
+
+# The words of a memory, the words of an exchange package, and the banks over which a memory's words are spread.
+LEAST_WORDS, MOST_WORDS = 32, 131_072
+PACKAGE_WORDS = 16
+BANKS = 32
+# A deck may have so many lines, and so may a deck with the session after it.
+MOST_LINES = 10_000_000
+# The `show` lines of a deck, and its `ask` lines.
+MOST_SHOWS = 64
+MOST_ASKS = 64
+# The bytes of a line that are read: one more than a line may have.
+READ_OF_A_LINE = 201
+# The instructions of a run, of an entry of a log and of an `ask` line, and those of a run without a budget of its own.
+MOST_INSTRUCTIONS = 10_000_000
+DEFAULT_BUDGET = 1_000_000
+# The requests of a machine, with as many exchanges, and its peripheral accesses.
+MOST_REQUESTS = 1_000_000
+MOST_ACCESSES = 1_000_000

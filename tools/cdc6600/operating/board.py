@@ -1,0 +1,74 @@
+"""The machine in lines of a terminal."""
+
+import textwrap
+
+from cdc6600.drawing.following import PLACES
+from cdc6600.drawing.instructions import NAMES, UNITS
+from cdc6600.drawing.panel import Panel
+from cdc6600.drawing.states import CHANNELS
+from cdc6600.limits import BANKS
+
+WIDTH = 80
+# The units stand at the left, the hopper and the channels beside them.
+LEFT = 39
+
+
+def board(judge):
+    """The lines that show a state, of at most 80 characters: ten with the parts side by side, and those below."""
+    state, rows = judge.state, judge.rows
+    left = [unit_line(state, rows, unit) for unit in UNITS]
+    right = [place_line(state, rows, place) for place in range(PLACES)]
+    right += [channel_line(state, rows, channel) for channel in CHANNELS]
+    right += [""] * (len(left) - len(right))
+    beside = [f"{one:<{LEFT}}{other}".rstrip(" ")[:WIDTH] for one, other in zip(left, right)]
+    return [*beside, *about_machine(judge)]
+
+
+def unit_line(state, rows, unit):
+    """The line of a unit."""
+    row = state.units.get(unit)
+    return line_of(f"{NAMES[unit]:<12}", rows, row, state.phases[row] if row else "")
+
+
+def place_line(state, rows, place):
+    """The line of a place of the hopper."""
+    row = state.places.get(place)
+    address = rows[row].address if row else 0
+    return line_of(f"Place {place}  ", rows, row, f"{address:o} bank {address % BANKS}")
+
+
+def channel_line(state, rows, channel):
+    """The line of a load channel."""
+    row = state.channels.get(channel)
+    return line_of(f"Channel {channel}", rows, row, "to return" if row in state.loaded else "in the hopper")
+
+
+def line_of(label, rows, row, more):
+    """The line of a part with a reservation, or with none."""
+    return f"{label}{row:>3} {rows[row].text:<13} {more}" if row else f"{label}  -"
+
+
+def about_machine(judge):
+    """The lines of the machine itself, of its busy banks and of its reserved registers, by reservation."""
+    parts, state = Panel(judge).machine(), judge.state
+    return [
+        f"Machine: {parts['Machine']}. Exchange: {parts['Exchange']}."[:WIDTH], f"Next: {parts['Next']}"[:WIDTH],
+        *wrapped(f"Busy banks: {by_reservation(state.banks)}"),
+        *wrapped(f"Reserved registers: {by_reservation(state.registers)}"),
+    ]
+
+
+def by_reservation(parts):
+    """Some parts, each with the number of the reservation that has it."""
+    return ", ".join(f"{part} by {row}" for part, row in sorted(parts.items())) or "none"
+
+
+def wrapped(text):
+    """The lines of a text that is said, with room beside them for a cursor."""
+    return textwrap.wrap(text, WIDTH - 1, break_on_hyphens=False)
+
+
+def offered(offer):
+    """An event that may be tried, in a line."""
+    held = f"{offer.refusal.answer}  " if offer.refusal else ""
+    return f"{offer.event:<18} {held}{offer.about}"[: WIDTH - 4].rstrip(" ")

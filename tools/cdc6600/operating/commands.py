@@ -1,0 +1,111 @@
+"""What is typed to drive a machine: events, and commands."""
+
+import re
+
+from cdc6600.drawing.following import EVENT, Fault
+from cdc6600.drawing.instructions import NAMES, UNITS
+
+from .phrases import near
+
+HELP = (
+    "Type an event, as in docs/formats.md, or a command: next makes the event that a drain would make next, through "
+    "UNIT takes a unit to its store event, values and past show the values and the past events, undo takes the last "
+    "event back, save FILE writes the deck and the events as a session, quit ends."
+)
+OVER = "The session is at its end. undo takes its last event back, save FILE saves it, quit ends."
+# What may be shown instead of the machine.
+VALUES, PAST = PANES = ("values", "past")
+
+
+class Quit(Exception):
+    """The operation is at its end."""
+
+
+class Commands:
+    """Carries out what is typed, on an operation. A file that is named once is that of later saves too. `pane` is what
+    is shown instead of the machine, or none."""
+
+    def __init__(self, operation, file):
+        self.operation, self.file, self.pane = operation, file, None
+
+    def carry_out(self, typed):
+        """Carries out a line; what is said of it. Raises Quit at the end, and Fault where the program fails."""
+        line = " ".join(typed.split())
+        word, _, rest = line.partition(" ")
+        if word == "save":
+            return self.save(rest)
+        if word == "through":
+            return self.through(rest)
+        if line in PANES:
+            return self.turn(line)
+        commands = {
+            "undo": self.undo, "quit": self.quit, "next": self.next, "help": lambda: HELP, "?": lambda: HELP,
+            "": self.operation.said,
+        }
+        return commands[line]() if line in commands else self.make(line)
+
+    def turn(self, pane):
+        """Shows the values or the past events instead of the machine, and the machine again where they are shown."""
+        self.pane = None if self.pane == pane else pane
+        return self.operation.said()
+
+    def lines(self):
+        """The lines of what is shown instead of the machine."""
+        return self.operation.value_lines() if self.pane == VALUES else self.operation.past()
+
+    def next(self):
+        """Makes the event that a drain would make next, or with nothing pending the exchange or an issue."""
+        if self.operation.is_over:
+            return OVER
+        event = self.operation.next_event()
+        if event is None:
+            return f"Nothing is pending, and issue is refused: {self.operation.judge.refusal('issue').answer}."
+        return self.make(event)
+
+    def through(self, unit):
+        """Takes a unit to its store event, or as far as it may go."""
+        if unit not in UNITS:
+            return f"Say which unit: through {UNITS[0]}, for example.{near(f'read {unit}').replace('read', 'through')}"
+        if self.operation.is_over:
+            return OVER
+        made, event, refusal = 0, self.operation.step_of(unit), None
+        while event and not refusal:
+            refusal = self.operation.judge.refusal(event)
+            if not refusal:
+                self.operation.make(event)
+                made, event = made + 1, self.operation.step_of(unit)
+        held = f" {event} would be refused: {refusal.answer}." if refusal else ""
+        return f"{self.operation.said()}{held}" if made else held.strip(" ") or f"{NAMES[unit]} isn't reserved."
+
+    def make(self, event):
+        """Makes an event."""
+        if not EVENT.fullmatch(event):
+            shown = re.sub(r"[^ -~]", "?", event)[:40]
+            return f"That is no event and no command: {shown}.{near(event) or ' ? says what may be typed.'}"
+        if self.operation.is_over:
+            return OVER
+        self.operation.make(event)
+        return self.operation.said()
+
+    def undo(self):
+        """Takes the last event back."""
+        if not self.operation.events:
+            return "There is no event to take back."
+        return f"Taken back: {self.operation.take_back()}. {self.operation.said()}"
+
+    def save(self, named):
+        """Saves the session. What keeps it from being written is told, and nothing else happens."""
+        file = named or self.file
+        if not file:
+            return "Say where: save FILE."
+        try:
+            self.operation.save(file)
+        except Fault as fault:
+            return f"Not saved: {ascii(str(fault))[1:-1]}."
+        self.file = file
+        return f"Saved in {ascii(file)[1:-1]}, {self.operation.progress}."
+
+    @staticmethod
+    def quit():
+        """Ends the operation."""
+        raise Quit

@@ -1,0 +1,192 @@
+"""A machine that is driven by hand: the events made so far, with their answers, states and words."""
+
+import errno
+import os
+import re
+from dataclasses import dataclass
+from pathlib import Path
+
+from cdc6600.drawing.following import ENDS, EVENT, Fault, Following, Session
+from cdc6600.drawing.judging import Judge, Refusal
+from cdc6600.drawing.states import RUNNING, State
+from cdc6600.drawing.telling import plural, reservation
+from cdc6600.drawing.values import value_lines, values_of
+from cdc6600.drawing.words import Words
+
+from .conversation import Conversation
+
+# What a reservation does next in its unit, by its phase.
+NEXT = {"issued": "read", "read": "finish", "finished": "store"}
+
+
+@dataclass(frozen=True)
+class Offer:
+    """An event that may be tried: its line, what it is about, and its refusal, or none where it is made."""
+
+    event: str
+    about: str
+    refusal: Refusal | None
+
+
+class Operation:
+    """A session that grows by an event at a time. Its program answers each one, and an event is taken back by a new run
+    of the schedule without it."""
+
+    def __init__(self, program, file, text):
+        """Makes the events of the schedule that comes after the deck, up to its end or drain, if there is one.
+
+        Raises Fault where the deck is refused, or a line of the schedule is no event."""
+        self.program, self.file = program, file
+        given = Session(file, text)
+        lines = text.split("\n")[: given.deck_end]
+        # A deck without its end is refused as it was given.
+        self.deck = "".join(f"{line}\n" for line in lines) or text
+        self.package = re.search(r"^start ([0-7]+)$", self.deck, re.MULTILINE)
+        self.conversation = None
+        self.replay([event for event in given.events if event not in ENDS])
+
+    def replay(self, events):
+        """Begins anew, and makes these events."""
+        self.close()
+        self.following = Following(self.program, Session(self.file, self.deck), None, "")
+        self.states = [State()]
+        self.conversation = Conversation(self.program.path, self.deck)
+        for event in events:
+            if not EVENT.fullmatch(event):
+                raise Fault(self.file, "no event: " + re.sub(r"[^ -~]", "?", event)[:60])
+            self.make(event)
+
+    @property
+    def events(self):
+        """The events made so far, refused ones too."""
+        return self.following.session.events
+
+    @property
+    def progress(self):
+        """How many events were made."""
+        return f"after {len(self.events)} {plural(self.events, 'event', 'events')}"
+
+    @property
+    def is_over(self):
+        """Whether the schedule has its last line."""
+        return self.events[-1:] != [] and self.events[-1] in ENDS
+
+    @property
+    def judge(self):
+        """What an event would be answered now."""
+        return Judge(self.states[-1], self.following, self.following.log.text)
+
+    def make(self, event):
+        """Makes an event, or has it refused. Raises Fault where the program gives no answer that fits."""
+        is_last = event in ENDS
+        answers = self.conversation.ask_last(event) if is_last else [self.conversation.ask(event)]
+        self.following.take(event, answers)
+        self.states.append(self.states[-1].after(self.following, len(self.events) - 1))
+
+    def take_back(self):
+        """Takes the last event back; its line."""
+        event = self.events[-1]
+        self.replay(self.events[:-1])
+        return event
+
+    def said(self):
+        """The last event, its answer and what it means, or that there was none."""
+        if not self.events:
+            return "The machine is booted: halted by a stop, with empty registers. It waits for an exchange."
+        n = len(self.events) - 1
+        is_dump = self.is_over and self.following.answers[n] != "NOT DRAINED"
+        answer = "the dump" if is_dump else self.following.answers[n]
+        return f"{self.events[n]} -> {answer}. {Words(self.following, self.states).told(n)}"
+
+    def ending(self):
+        """The lines that the program printed at the end."""
+        return self.following.answers[len(self.events) - 1 :] if self.is_over else []
+
+    def past(self):
+        """A line for each event so far, with its number and its answer."""
+        answers = ["the dump" if it.startswith("P ") else it for it in self.following.answers]
+        return [f"{n:>4} {event:<18} {answer}" for n, (event, answer) in enumerate(zip(self.events, answers), 1)]
+
+    def value_lines(self):
+        """The values now in lines, those that the last event has changed with a mark."""
+        logs = ["none", *self.following.logs]
+        values = [values_of(Judge(*at)) for at in zip(self.states[-2:], [self.following] * 2, logs[-2:])]
+        return value_lines(values[-1], values[0])
+
+    def next_event(self):
+        """The event that a drain would make next: that of the oldest reservation, or the freeing of the bank that it
+        waits for. With nothing pending it is the exchange that is asked for, or else an issue. None where it would be
+        refused."""
+        judge, state = self.judge, self.states[-1]
+        if not state.pending:
+            return next((event for event in ("exchange", "issue") if not judge.refusal(event)), None)
+        event, _ = next(self.steps(state))
+        refusal = judge.refusal(event)
+        return f"bank {refusal.named}" if refusal and refusal.code == "E13" else event
+
+    def step_of(self, unit):
+        """The event that the reservation of a unit is to make next, or none."""
+        state = self.states[-1]
+        row = state.units.get(unit)
+        return f"{NEXT[state.phases[row]]} {unit}" if row else None
+
+    def offers(self):
+        """The events that may be tried, those that are made first, each kind oldest first."""
+        if self.is_over:
+            return []
+        judge = self.judge
+        offers = [Offer(event, about, judge.refusal(event)) for event, about in self.candidates()]
+        return sorted(offers, key=lambda offer: offer.refusal is not None)
+
+    def candidates(self):
+        """Each event that some part of the machine has to do now, with what it is about."""
+        state = self.states[-1]
+        asked = [("exchange", f"with the package at {state.asked}")] if state.asked else []
+        package = self.package[1].lstrip("0") or "0"
+        request = [] if state.asked else [(f"ask {package}", "the package of the deck's start line")]
+        halted = request if state.halt != RUNNING else []
+        running = [] if halted else request
+        ends = [("drain", "carries out all that is pending, and ends"), ("end", "ends the schedule as it is")]
+        issue = [("issue", self.judge.next_text if not halted else "")]
+        return [*asked, *halted, *issue, *self.steps(state), *self.banks(state), *running, *ends]
+
+    def steps(self, state):
+        """What the pending reservations have to do next."""
+        places = {row: place for place, row in state.places.items()}
+        for row in state.pending:
+            it = self.following.rows[row]
+            about = reservation(self.following.rows, row)
+            if row in state.phases:
+                yield f"{NEXT[state.phases[row]]} {it.unit}", about
+            elif row in places:
+                yield f"accept {places[row]}", about
+            else:
+                yield f"return {it.channel}", about
+
+    @staticmethod
+    def banks(state):
+        """The banks that may be freed."""
+        return [(f"bank {bank}", "is busy") for bank in sorted(state.banks)]
+
+    def check_target(self, file):
+        """Raises Fault where a file is the deck, or stands in no folder."""
+        if Path(file).exists() and Path(file).samefile(self.file):
+            raise Fault(file, "it is the deck itself, and isn't written over")
+        if not Path(file).parent.is_dir():
+            raise Fault(file, os.strerror(errno.ENOENT))
+
+    def save(self, file):
+        """Writes the deck and the events as a session. Raises Fault where that can't be done."""
+        self.check_target(file)
+        events = self.events if self.is_over else [*self.events, "end"]
+        try:
+            Path(file).write_bytes((self.deck + "".join(f"{event}\n" for event in events)).encode("latin-1"))
+        except OSError as fault:
+            raise Fault(file, fault.strerror) from None
+        except ValueError:
+            raise Fault(file, "that is no name of a file") from None
+
+    def close(self):
+        """Ends the program that answers."""
+        if self.conversation:
+            self.conversation.end()

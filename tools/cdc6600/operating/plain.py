@@ -1,0 +1,84 @@
+"""Drives a machine by lines."""
+
+import sys
+
+from .board import board, offered, wrapped
+from .commands import Quit
+from .phrases import completions
+
+try:
+    import readline
+except ImportError:
+    readline = None
+
+
+PROMPT = "> "
+# So that a line is completed by the tab key, and a terminal gets no sequences that it may not know.
+BINDINGS = ("tab: complete", "set enable-bracketed-paste off", "set bell-style none")
+
+
+class Plain:
+    """The machine, and the events that may be tried, in lines of standard output. Lines of standard input say what is
+    done: the number of an event that is offered, an event, or a command."""
+
+    def __init__(self, commands):
+        self.commands, self.operation = commands, commands.operation
+        self.is_terminal = sys.stdin.isatty() and sys.stdout.isatty()
+
+    def run(self):
+        """Goes on up to `quit`, or the end of standard input."""
+        sys.stdin.reconfigure(errors="surrogateescape")
+        sys.stdout.reconfigure(errors="backslashreplace")
+        self.begin_lines()
+        self.show(self.operation.said())
+        for line in iter(self.typed, ""):
+            meant, before = self.meant(line.strip()), len(self.operation.events)
+            try:
+                said = self.commands.carry_out(meant)
+            except Quit:
+                return
+            # What changes no event has no machine to show, but an empty line asks for it.
+            if self.commands.pane:
+                print(*self.commands.lines(), sep="\n")
+                self.commands.pane = None
+            elif len(self.operation.events) != before or not meant:
+                self.show(said)
+            else:
+                print(*wrapped(said), sep="\n")
+
+    def begin_lines(self):
+        """Has the lines of a terminal completed, and kept to be typed again."""
+        if readline and self.is_terminal:
+            readline.set_completer_delims("")
+            readline.set_completer(self.completion)
+            for binding in BINDINGS:
+                readline.parse_and_bind(binding)
+
+    def completion(self, typed, number):
+        """One of the lines that begin with what is typed, by its number from 0."""
+        found = completions(typed, [offer.event for offer in self.operation.offers()])
+        return found[number] if number < len(found) else None
+
+    def typed(self):
+        """The next line of standard input, empty at its end."""
+        if self.is_terminal:
+            try:
+                return input(PROMPT) + "\n"
+            except EOFError:
+                return ""
+        print(PROMPT, end="", flush=True)
+        return sys.stdin.readline()
+
+    def meant(self, line):
+        """The event that a number stands for; any other line as it is."""
+        offers = self.operation.offers()
+        is_number = line.isdecimal() and 1 <= int(line) <= len(offers)
+        return offers[int(line) - 1].event if is_number else line
+
+    def show(self, said):
+        """Shows what is said, the machine, and what may be tried."""
+        print(f"\n--- {self.operation.progress} ---")
+        print(*board(self.operation.judge), sep="\n")
+        print("", *wrapped(said), *self.operation.ending(), "", sep="\n")
+        for number, offer in enumerate(self.operation.offers(), 1):
+            print(f"{number:>2} {offered(offer)}")

@@ -1,0 +1,154 @@
+"""Drives a machine on a whole terminal."""
+
+import curses
+
+from cdc6600.drawing.following import Fault
+
+from .board import WIDTH, board, offered, wrapped
+from .commands import PAST, Quit
+from .phrases import completed
+
+LINES = 24
+KEYS = "Up, Down, Enter: make one. Left: undo. Right: next. Tab completes. ?: help"
+# How often a key is read anew where none came.
+TRIES = 100
+# By how many lines the past events are scrolled at once.
+PAGE = 8
+ENTER = ("\n", "\r", curses.KEY_ENTER)
+ERASE = ("\b", "\x7f", curses.KEY_BACKSPACE)
+CLOSED, REDRAW, COMPLETE = "\x04", "\x0c", "\t"
+# The keys that bring back a line typed before, and one typed after it.
+EARLIER, LATER = "\x10", "\x0e"
+
+
+class Screen:
+    """The machine, the events that may be tried, and a line that is typed, on the terminal's window. At the end of the
+    session it has what was printed there instead. `chosen` is the event, or then the first line, that is in sight."""
+
+    def __init__(self, window, commands):
+        self.window, self.commands, self.operation = window, commands, commands.operation
+        self.typed, self.chosen, self.said = "", 0, self.operation.said()
+        # The lines that were typed, which of them is shown, and by how many lines the past events are scrolled.
+        self.lines, self.at, self.scrolled = [], 0, 0
+        self.offers = self.operation.offers()
+
+    def run(self):
+        """Goes on up to `quit`."""
+        curses.set_escdelay(25)
+        while True:
+            self.draw()
+            try:
+                self.press(self.key())
+            except Quit:
+                return
+
+    def key(self):
+        """The next key. What is no letter in the terminal's code is passed over."""
+        for _ in range(TRIES):
+            try:
+                return self.window.get_wch()
+            except curses.error:
+                pass
+        raise Fault("the terminal", "no key can be read")
+
+    def press(self, key):
+        """Does what a key stands for."""
+        choices = {curses.KEY_UP: -1, curses.KEY_DOWN: 1}
+        if key in choices:
+            last = len(self.offers or self.operation.ending()) - 1
+            self.chosen = max(min(self.chosen + choices[key], last), 0)
+        elif key in ENTER:
+            self.carry_out(self.typed or (self.offers[self.chosen].event if self.offers else ""))
+        elif key in (curses.KEY_LEFT, curses.KEY_RIGHT):
+            self.carry_out("undo" if key == curses.KEY_LEFT else "next")
+        elif key in (curses.KEY_PPAGE, curses.KEY_NPAGE):
+            self.scrolled = max(self.scrolled + (PAGE if key == curses.KEY_PPAGE else -PAGE), 0)
+        elif key == CLOSED:
+            raise Quit
+        else:
+            self.edit(key)
+
+    def edit(self, key):
+        """Changes the line that is typed, or draws everything anew."""
+        if key in ERASE:
+            self.typed = self.typed[:-1]
+        elif key == REDRAW:
+            self.window.clear()
+        elif key == COMPLETE:
+            self.complete()
+        elif key in (EARLIER, LATER):
+            self.bring_back(-1 if key == EARLIER else 1)
+        elif key == "?" and not self.typed:
+            self.carry_out("?")
+        elif isinstance(key, str) and " " <= key <= "~":
+            self.typed += key
+
+    def complete(self):
+        """Completes what is typed. Where it may become several lines, these are told."""
+        before = self.typed
+        self.typed, found = completed(self.typed, [offer.event for offer in self.offers])
+        if self.typed == before and len(found) != 1:
+            self.said = f"It may become: {', '.join(it.strip(' ') for it in found)}." if found else "Nothing begins so."
+
+    def bring_back(self, step):
+        """Brings back a line that was typed."""
+        self.at = min(max(self.at + step, 0), len(self.lines))
+        self.typed = self.lines[self.at] if self.at < len(self.lines) else ""
+
+    def carry_out(self, line):
+        """Carries out a line, and offers what may be tried then."""
+        self.lines += [self.typed] * bool(self.typed)
+        self.typed, self.at, self.scrolled = "", len(self.lines), 0
+        self.said = self.commands.carry_out(line)
+        self.offers, self.chosen = self.operation.offers(), 0
+
+    def draw(self):
+        """Draws everything, or that the terminal is too small."""
+        self.window.erase()
+        height, width = self.window.getmaxyx()
+        if height < LINES or width < WIDTH:
+            self.put(0, f"The terminal is too small: it takes {WIDTH} columns and {LINES} lines."[: width - 1])
+        else:
+            self.draw_all(height)
+        self.window.refresh()
+
+    def draw_all(self, height):
+        """Draws the title, what is said, the machine, what may be tried, and the line that is typed."""
+        title = f"{ascii(self.operation.file)[1:-1]}, {self.operation.progress}"
+        self.put(0, f"{title:<{WIDTH - 1}}"[: WIDTH - 1], curses.A_REVERSE)
+        said = wrapped(self.said)
+        if self.operation.is_over and not self.commands.pane:
+            self.put_all([*said, "", *self.operation.ending()[self.chosen :]][: height - 2])
+        else:
+            # What is said is always there whole, and at least one of the events.
+            lines = [*self.pane(height - 3 - len(said)), *said]
+            below = min(len(self.offers), height - 2 - len(lines))
+            self.put_all(lines)
+            self.draw_offers(height - 1 - below, below)
+        shown = (f"> {self.typed}"[-(WIDTH - 2) :], curses.A_NORMAL) if self.typed else (KEYS, curses.A_DIM)
+        self.put(height - 1, *shown)
+
+    def pane(self, height):
+        """The machine in at most so many lines, or what is shown instead of it."""
+        lines = self.commands.lines() if self.commands.pane else board(self.operation.judge)
+        if self.commands.pane != PAST:
+            return lines[:height]
+        self.scrolled = min(self.scrolled, max(len(lines) - height, 0))
+        return lines[max(len(lines) - height - self.scrolled, 0) :][:height]
+
+    def put_all(self, lines):
+        """Puts lines below the title."""
+        for at, line in enumerate(lines, 1):
+            self.put(at, line)
+
+    def draw_offers(self, at, count):
+        """Draws as many of the events that may be tried as there is room for, the chosen one among them."""
+        first = max(self.chosen - count + 1, 0)
+        for number, offer in enumerate(self.offers[first : first + count], first):
+            is_chosen = number == self.chosen
+            look = curses.A_REVERSE if is_chosen else curses.A_DIM if offer.refusal else curses.A_NORMAL
+            self.put(at + number - first, f"{'>' if is_chosen else ' '} {offered(offer)}", look)
+
+    def put(self, line, text, look=curses.A_NORMAL):
+        """Puts a text into a line of the window."""
+        self.window.addstr(line, 0, text, look)

@@ -1,0 +1,100 @@
+"""The program cdc6600, run with a time limit that only a run without end exceeds."""
+
+import os
+import subprocess
+import sys
+import tempfile
+from contextlib import contextmanager
+from pathlib import Path
+from typing import NamedTuple
+
+from .waiting import MINUTES, Missing, finish
+
+ROOT = Path(__file__).resolve().parents[3]
+# The program of these tools: in a checkout the one that is built, otherwise the one that tools/install put beside them.
+IS_CHECKOUT = (ROOT / "crates.txt").is_file()
+BUILT = ROOT / ("crates/operator_main/out/operator_main" if IS_CHECKOUT else "../../../bin/cdc6600")
+
+
+# How many bytes of a log go into an argument. Linux takes at most 131,071.
+OF_AN_ARGUMENT = 100_000
+
+
+@contextmanager
+def words_of_log(log):
+    """The words by which a command like `replay` gets a log: the log itself, or, if it is too long for an argument, the
+    option for its file and the name of a file that holds it meanwhile."""
+    if len(log) <= OF_AN_ARGUMENT:
+        yield [log]
+        return
+    with tempfile.NamedTemporaryFile("w", prefix="cdc6600-", suffix=".log", encoding="ascii") as file:
+        file.write(log)
+        file.flush()
+        yield ["--log", file.name]
+
+
+class Ran(NamedTuple):
+    """How a run ended: its status, and what it wrote to standard output and to standard error."""
+
+    status: int
+    printed: bytes
+    told: bytes
+
+
+def named_program():
+    """The program that CDC6600 names, or none."""
+    return os.environ.get("CDC6600") or None
+
+
+def program_path():
+    """The program that CDC6600 names; otherwise the one that is installed with the tools, if they are; otherwise the
+    one that `./cdc6600` runs, which is built first if its sources have changed. What is run then is the executable,
+    without the script's look at the sources at each run."""
+    if IS_CHECKOUT and not named_program():
+        if subprocess.run([ROOT / "tools/build-program"], check=False).returncode:
+            sys.exit(f"{sys.argv[0]}: the program could not be built")
+    return named_program() or str(BUILT)
+
+
+class NoProgram(SystemExit):
+    """There is no such program. Where nobody looks for this, it ends the script with a line that says so."""
+
+    def __init__(self, path, what):
+        self.line = f"{path}: {what}"
+        super().__init__(f"{sys.argv[0]}: {self.line}")
+
+
+class Program:
+    """The program, to be run any number of times."""
+
+    def __init__(self, path=None):
+        self.path = path or program_path()
+
+    def run(self, words, text=b"", minutes=MINUTES, environment=None):
+        """Runs it with these words and this standard input. A run that doesn't end within so many minutes is killed,
+        and its status is that of `timeout`, 124.
+
+        Raises NoProgram where there is none."""
+        pipes = {"stdin": subprocess.PIPE, "stdout": subprocess.PIPE, "stderr": subprocess.PIPE}
+        try:
+            process = subprocess.Popen([self.path, *words], **pipes, env=environment)
+        except OSError as fault:
+            raise NoProgram(self.path, fault.strerror) from None
+        with process:
+            try:
+                printed, told = finish(process, self.path, text, minutes)
+            except Missing:
+                return Ran(124, b"", b"waited %d minutes for its end\n" % minutes)
+        return Ran(process.returncode, printed, told)
+
+    def replay(self, log, text):
+        """Runs the replay of a log of any length on a deck."""
+        with words_of_log(log) as words:
+            return self.run(["replay", *words], text)
+
+
+def tell(faults):
+    """Writes each fault to standard error, after the name of the check that runs; its status."""
+    for fault in faults:
+        print(f"{sys.argv[0]}: {fault}", file=sys.stderr)
+    return 1 if faults else 0

@@ -1,0 +1,27 @@
+"""Starts the tools: the commands in tools/ call this and have nothing else.
+
+An interrupt may come while the modules of a tool are imported. It is kept quiet from here on; later the tool handles it
+itself. So this module imports nothing that takes long, and the tool's own module is imported by its name.
+"""
+
+import sys
+from importlib import import_module
+
+
+def is_interrupt(fault):
+    """Whether a fault is an interrupt, or comes from one."""
+    while fault is not None and not isinstance(fault, KeyboardInterrupt):
+        fault = fault.__cause__ or fault.__context__
+    return fault is not None
+
+
+def hook(kind, fault, trace):
+    """Shows no traceback of an interrupt. Python ends by the signal afterwards."""
+    if not is_interrupt(fault):
+        sys.__excepthook__(kind, fault, trace)
+
+
+def start(name):
+    """Runs the tool of a module of `cdc6600.commands`, and ends with its status."""
+    sys.excepthook = hook
+    sys.exit(import_module(f"cdc6600.commands.{name}").main())

@@ -1,0 +1,204 @@
+"""Makes a schedule for a deck, event by event, and asks the machine whether each event may be made.
+
+An event that the machine refuses changes nothing and isn't part of the schedule. It is tried again when an event was
+made that may have removed what it was refused for.
+"""
+
+from cdc6600.drawing.following import Fault, Log
+from cdc6600.limits import BANKS
+from cdc6600.operating.conversation import Conversation
+
+from .clock import ORDER, Clock
+from .course import Course
+from .requests import Requests
+
+TIMED, GREEDY, PROGRAM_ORDER = POLICIES = ("timed", "greedy", "program-order")
+# The events that may remove what an event is refused for, by the number of the refusal.
+REMOVING = {
+    "E1": "exchange", "E2": "exchange", "E4": "store", "E5": "exchange", "E6": "store accept", "E7": "store",
+    "E8": "store return", "E9": "store return", "E10": "read", "E11": "accept", "E12": "store", "E13": "bank",
+    "E14": "accept", "E18": "store accept return", "E25": "issue",
+}
+BUDGET_USED = "E3"
+EXCHANGE, BANK = "exchange", "bank"
+# After the last cycle of any schedule.
+NEVER = float("inf")
+
+
+def check_deck(program, session):
+    """Raises Fault where the deck of a session is refused."""
+    told = program.run(["list"], session.text.encode("latin-1")).told.decode("latin-1")
+    if told:
+        raise Fault(session.file, told.split("\n", maxsplit=1)[0].removeprefix("cdc6600: "))
+
+
+class Schedule:
+    """A schedule that grows up to the end of a deck's run. `events` are its lines, `cycles` the minor cycle of each,
+    and `issued` counts instructions."""
+
+    def __init__(self, program, session, times, policy=TIMED, budget=1000):
+        self.program, self.session, self.policy, self.budget = program, session, policy, budget
+        self.clock = Clock(times, self.cause)
+        # The cycle up to which parts may be ready. The greedy policy doesn't look at it.
+        self.limit = NEVER if policy == GREEDY else 0
+        self.course, self.requests = None, Requests(session.deck)
+        self.log, self.events, self.cycles, self.issued, self.dump = Log(), [], [], 0, []
+        self.refused, self.places, self.asked = {}, {}, None
+        self.talk = None
+
+    def cause(self, part):
+        """What a part that is ready waits for: its refusal, or the order of the schedule."""
+        return self.refused.get(part, ORDER)
+
+    # ---- the machine ----
+
+    def ask(self, key, line):
+        """Asks for an event. The answer if it is made, otherwise none, and the refusal is kept."""
+        answer = self.talk.ask(line)
+        if answer.startswith("ok"):
+            return answer
+        self.refused[key] = answer.split(" ")[0]
+        if self.refused[key] not in REMOVING:
+            raise Fault(self.program.path, f"it answers {answer} to event {len(self.events) + 1}, {line}")
+        if self.refused[key] == "E13" and self.policy == GREEDY:
+            self.refused[BANK] = int(answer.split(" ")[-1])
+        return None
+
+    def made(self, line):
+        """Adds an event that was made, at the clock's cycle."""
+        kind = line.split(" ")[0]
+        self.events.append(line)
+        self.cycles.append(self.clock.now)
+        for key, code in list(self.refused.items()):
+            if code in REMOVING and kind in REMOVING[code].split(" "):
+                del self.refused[key]
+
+    # ---- the parts of the machine ----
+
+    def make_issue(self):
+        """Issues the next instruction; whether that is done."""
+        self.make_request()
+        if self.issued == self.budget:
+            self.refused[self.clock.issuing] = BUDGET_USED
+        if self.clock.issuing in self.refused or self.clock.issuing.ready > self.limit:
+            return False
+        answer = None if self.is_held() else self.ask(self.clock.issuing, "issue")
+        if not answer:
+            return False
+        self.log.add_instruction()
+        text, is_taken, address = self.course.step()
+        self.clock.issue(text)
+        if answer != "ok":
+            unit, number = answer.split(" ")[1:]
+            self.clock.reserve(int(number), unit, text, is_taken, address)
+        self.issued += 1
+        self.made("issue")
+        return True
+
+    def is_held(self):
+        """Whether the policy doesn't issue now. In program order nothing is issued while something is pending."""
+        return self.policy == PROGRAM_ORDER and bool(self.clock.pending)
+
+    def line(self, part):
+        """The line of a reservation's next event."""
+        if part.event == "accept":
+            return f"accept {next(place for place, other in self.places.items() if other is part)}"
+        return f"{part.event} {part.channel if part.event == 'return' else part.unit}"
+
+    def make_step(self, part):
+        """A reservation makes its next event; whether that is done."""
+        if part in self.refused or part.ready > self.limit:
+            return False
+        line, event = self.line(part), part.event
+        if not self.ask(part, line):
+            return False
+        self.clock.step(part)
+        if event == "store" and part.address is not None:
+            self.places[min(place for place in range(len(self.places) + 1) if place not in self.places)] = part
+        elif event == "accept":
+            del self.places[int(line[-1])]
+        self.made(line)
+        return True
+
+    def make_bank(self, bank):
+        """A bank is freed, if its time is over; whether that is done. The greedy policy frees a bank for which a
+        reference waits."""
+        is_wanted = self.policy != GREEDY or self.refused.get(BANK) == bank
+        if not is_wanted or self.clock.banks[bank] > self.limit:
+            return False
+        self.refused.pop(BANK, None)
+        line = f"bank {bank}"
+        if not self.ask(line, line):
+            return False
+        self.clock.free(bank)
+        self.made(line)
+        return True
+
+    def make_request(self):
+        """Asks for an exchange, if that is due and no other one is asked for."""
+        package = self.requests.next(self.issued) if self.asked is None else None
+        if package is not None:
+            self.asked = f"{int(package, 8):o}"
+            self.ask(EXCHANGE, f"ask {self.asked}")
+            self.made(f"ask {self.asked}")
+
+    def make_exchange(self):
+        """Makes the exchange that is asked for; whether that is done."""
+        self.make_request()
+        if self.asked is None:
+            return False
+        if EXCHANGE in self.refused or self.clock.issuing.ready > self.limit or not self.ask(EXCHANGE, EXCHANGE):
+            return False
+        self.clock.exchange()
+        self.course.exchange(int(self.asked, 8))
+        self.log.add(f"E{self.asked}")
+        self.asked = None
+        self.made(EXCHANGE)
+        return True
+
+    # ---- the whole ----
+
+    def sweep(self):
+        """Offers each part of the machine one event; whether one was made."""
+        parts, banks = list(self.clock.pending), sorted(bank for bank in self.clock.banks if bank < BANKS)
+        issues = [self.make_exchange, self.make_issue]
+        steps = [lambda part=part: self.make_step(part) for part in parts]
+        steps += [lambda bank=bank: self.make_bank(bank) for bank in banks]
+        return [make() for make in (issues + steps if self.policy == GREEDY else steps + issues)].count(True) > 0
+
+    def next_cycle(self):
+        """The next cycle at which a part is ready, or none. A bank alone is no reason to go on."""
+        cycles = [part.ready for part in (self.clock.issuing, *self.clock.pending) if part.ready > self.limit]
+        if self.clock.pending or self.asked is not None:
+            cycles += [cycle for cycle in self.clock.banks.values() if cycle > self.limit]
+        return min(cycles, default=None)
+
+    def make(self):
+        """Makes all events up to the end.
+
+        Raises Fault where the deck is refused, or the program doesn't answer as it should."""
+        check_deck(self.program, self.session)
+        self.course = Course(self.program, self.session)
+        self.talk = Conversation(self.program.path, "\n".join([*self.session.deck, "end", ""]))
+        try:
+            while True:
+                while self.sweep():
+                    pass
+                cycle = self.next_cycle()
+                if cycle is None:
+                    break
+                self.limit = cycle
+            self.dump = self.talk.ask_last("end")
+        finally:
+            self.talk.end()
+        self.clock.close()
+        self.check_dump()
+
+    def check_dump(self):
+        """Raises Fault where the last line isn't answered by the dump to which the instructions lead."""
+        if self.dump[-1] != f"LOG {self.log.text}" or len(self.dump) == 2:
+            raise Fault(self.program.path, f"it isn't drained after the log {self.log.text[:80]}")
+        line = self.course.differing(self.dump)
+        if line:
+            what = f"its dump has {line}, which isn't what the rules lead to"
+            raise Fault(self.program.path, f"after the log {self.log.text[:80]} {what}")

@@ -1,0 +1,68 @@
+"""What is printed of a schedule and of an exploration."""
+
+import sys
+from collections import Counter
+
+from cdc6600.drawing.following import Fault
+from cdc6600.drawing.telling import plural
+
+from .waits import CAUSES
+
+WIDTH = 34
+
+
+def rows(work, waits):
+    """A line for the work and each cause of waits, the causes in the order of the refusals' numbers."""
+    found = [("work", work)] + [(f"waits: {CAUSES[code]}", waits[code]) for code in CAUSES if waits[code]]
+    return [f"  {name:<{WIDTH}}{cycles:>9}" for name, cycles in found]
+
+
+def summary(schedule):
+    """The summary of a schedule that was made."""
+    clock, issued = schedule.clock, schedule.issued
+    total = clock.issuing.ended
+    rate = f"{issued / total:.3f}" if total else "none"
+    waits, work, of_parts = Counter(), sum(part.work for part in clock.parts), 0
+    for part in clock.parts:
+        waits.update(part.waits)
+        of_parts += part.ended - part.begun
+    heads = [
+        f"policy {schedule.policy}: {issued} instructions in {total} minor cycles, {rate} instructions a cycle",
+        f"the issuing position, {total} cycles:",
+        f"the reservations, {len(clock.parts)} with {of_parts} cycles in all:",
+    ]
+    lines = [*heads[:2], *rows(clock.issuing.work, clock.issuing.waits), heads[2], *rows(work, waits)]
+    return "".join(f"{line}\n" for line in lines)
+
+
+def put(text):
+    """Prints a text as it is.
+
+    Raises Fault where standard output is closed."""
+    if sys.stdout is None:
+        raise Fault("standard output", "it is closed")
+    sys.stdout.write(text)
+
+
+def counted(number, one, several):
+    """A number with the word for what is counted."""
+    return f"{number} {plural(range(number), one, several)}"
+
+
+def report(exploration, confirmed):
+    """The lines of an exploration that the machine has confirmed."""
+    events = sum(len(node.edges) for node in exploration.nodes)
+    shortest, longest = exploration.extremes()
+    logs = [exploration.program.log(node.state.issued) for node in exploration.ends]
+    lines = [
+        f"{counted(exploration.count, 'state', 'states')}, {counted(events, 'event', 'events')} between them",
+        f"schedules: {exploration.orders}",
+        f"the shortest schedule takes {shortest.end} minor cycles, the longest {longest.end}",
+    ]
+    for log in dict.fromkeys(logs):
+        dumps = "one dump, that of replay" if log in confirmed.dumps else "no dump looked at"
+        lines.append(f"the log {log}: {counted(logs.count(log), 'last state', 'last states')}, {dumps}")
+    made = f"{confirmed.made} of {events} events in {counted(confirmed.sessions, 'session', 'sessions')}"
+    lines.append(f"the machine made {made}, and refused {confirmed.refused} others as the rules say")
+    lines.append("this is a look at one program; that it holds for all is the theorem in README.md")
+    return lines

@@ -1,0 +1,214 @@
+"""Checks the bodies that one check refused once more, since that check alone says little of the contract.
+
+It refuses a right body in other words, too, if the tactics would have to open a definition for it, or if the function
+has a written proof, which fits no other text. The second check opens the definitions that the goals may name
+(opening.py), and leaves out the written answers that don't fit (written.py), so that search alone has to find these
+goals. It also checks the right body, without all that is answered for its contract. The verdict rests on the goals that
+neither check proves:
+
+- There are none: the body isn't refused. No clause tells it from the right body.
+- Nothing is written for the contract: such a goal refuses the body.
+- Something is written: such a goal refuses the body if search proves it of the right body. A goal that the right body
+  doesn't have counts so if search proves every goal of the same clause there.
+- Otherwise it can't be told. The body may be wrong, or may only need another proof. The invariant of a loop is always
+  of this kind, since it is written for the right body.
+
+A goal that the first check proves counts as proved, since a search among opened definitions may give up.
+"""
+
+import re
+from dataclasses import dataclass, field, replace
+
+from cdc6600.crates.source import names_in
+
+from .copies import copy_of, written_folders
+from .opening import attributes_of, opened, own_lists
+from .verdicts import CANT_TELL, CONTRACT, NOT_REFUSED, REFUSED, Verdict, goal_in, named
+from .written import declared, without
+
+# What a file Invariants.antt states: it is part of the written proof.
+STATED = re.compile("invariant-|requires$|ensures$")
+
+
+def right(body, name, source):
+    """The right body in the place of a wrong one, as if it were an edit of this name."""
+    regions = [(path, start, end, source.texts[path].split("\n")[start:end]) for path, start, end, _ in body.regions]
+    return replace(body, name=name, regions=regions)
+
+
+def called(body, item):
+    """The names of what a body calls."""
+    return item.names() | names_in("\n".join(line for region in body.regions for line in region[3]))
+
+
+def unfit_answers(goals):
+    """The answers that don't fit, by their file and their goal."""
+    return {(path, name) for path, name, *_ in [*goals.rejected, *goals.gone] if path.endswith("/Answers.antt")}
+
+
+@dataclass
+class Again:
+    """A body that is tried once more. For each function that it changes: what is opened, which answers don't fit and
+    are left out, and the answers of all goals of the contract, by their files; then all that is written for the
+    contract."""
+
+    body: object
+    first: object  # the outcome of its first check
+    paths: list = field(default_factory=list)
+    left_out: list = field(default_factory=list)
+    answers: list = field(default_factory=list)
+    written: list = field(default_factory=list)
+
+    def is_another(self):
+        """Whether there is anything to be opened or left out."""
+        return any(self.paths) or any(self.left_out) or any(self.written)
+
+
+def again(body, first, opening, source, folder):
+    """What is opened and left out for a body that a check refused."""
+    found = Again(body, first)
+    for item, goals in zip(body.touched, first.goals):
+        own = own_lists(attributes_of(item, source.texts[item.path].split("\n")))["unfolding"]
+        paths = opening.of(item, source, called(body, item))
+        found.paths.append([path for path in paths if path not in own])
+        found.left_out.append(unfit_answers(goals))
+        answers, written = written_for(item, folder)
+        found.answers.append(answers)
+        found.written.append(written)
+    return found
+
+
+def written_for(item, folder):
+    """The answers that are written for the contract of a function and of its closures, by their file and their name,
+    and the goals for which something is written: an answer or an invariant."""
+    answers, written = set(), set()
+    for file in (file for at in written_folders(item, folder) for file in sorted(at.glob("*.antt"))):
+        path = str(file.relative_to(folder))
+        text = file.read_text(encoding="utf-8")
+        names = {name for name in declared(text) if CONTRACT.match(name) or STATED.match(name)}
+        written |= {goal_in(path, name) for name in names}
+        answers |= {(path, name) for name in names if file.name == "Answers.antt"}
+    return answers, written
+
+
+def in_place(it, body, left_out, source, folder):
+    """A body with what is opened, to be tried in its place, and the texts of the proof files without these answers."""
+    regions, texts = list(body.regions), {}
+    for item, paths, names in zip(body.touched, it.paths, left_out):
+        above = attributes_of(item, source.texts[item.path].split("\n"))
+        start = item.first - len(above)
+        if paths and not any(at[0] == item.path and at[1] < item.first and start < at[2] for at in regions):
+            regions.append((item.path, start, item.first, opened(above, paths, item)))
+        for path in {path for path, _ in names}:
+            text = texts.get(path) or (folder / path).read_text(encoding="utf-8")
+            texts[path] = without(text, {name for its, name in names if its == path})
+    return replace(body, regions=regions), texts
+
+
+def clause_of(goal):
+    """The clause of a goal, wherever in the function it is asked for."""
+    return goal.split("-")[0], goal.partition("clause-")[2]
+
+
+def left_of(first, second):
+    """The goals of the contract that neither of two checks proves."""
+    goals, still = first.every(), second.every()
+    if second.is_whole:
+        return [goal for goal in still if goal in goals or not first.is_whole]
+    return [goal for goal in goals if goal in still] or goals
+
+
+def is_refusal(goal, control, written):
+    """Whether it says something of the contract that search doesn't prove this goal of a body. `control` is what search
+    leaves of the right body."""
+    if not written:
+        return True
+    if is_of_loop(goal, written) or control is None or not control.is_whole:
+        return False
+    left = control.every()
+    return goal not in left and (goal in written or clause_of(goal) not in map(clause_of, left))
+
+
+def is_of_loop(goal, written):
+    """Whether a goal is that of a loop whose invariant is written."""
+    return f"invariant-{goal.rpartition('-')[0]}" in written
+
+
+def settled(it, second, control):
+    """The verdict on a body, by its first check, its second one, and that of the right body, if there was one."""
+    if not second.goals:
+        return Verdict(NOT_REFUSED, f"once more, {second.verdict.words}{opened_words(it)}")
+    unsure = []
+    for number, item in enumerate(it.body.touched):
+        if not it.first.goals[number].contract():
+            continue
+        left = left_of(it.first.goals[number], second.goals[number])
+        rights = control.goals[number] if control and control.goals else None
+        found = [goal for goal in left if is_refusal(goal, rights, it.written[number])]
+        if found:
+            return Verdict(REFUSED, f"`{found[0]}` of {named(item)}")
+        unsure += [(goal, item) for goal in left]
+    if unsure:
+        goal, item = unsure[0]
+        is_loop = any(is_of_loop(goal, written) for written in it.written)
+        why = "the invariant is written for" if is_loop else "search proves no more of"
+        return Verdict(CANT_TELL, f"`{goal}` of {named(item)}: {why} the right body")
+    words = "it is PROVED, each goal by one of two checks" if second.verdict.refused else second.verdict.words
+    return Verdict(NOT_REFUSED, words + opened_words(it))
+
+
+def opened_words(it):
+    """What was opened and left out, in words."""
+    paths = sorted({path for paths in it.paths for path in paths})
+    names = sorted({name for left_out in it.left_out for _, name in left_out})
+    opened_here = [f"with {', '.join(paths)} opened"] if paths else []
+    without_them = [f"without the written answers for {', '.join(names)}"] if names else []
+    return f" ({' and '.join([*opened_here, *without_them])})"
+
+
+def after_one(body, first, folder):
+    """The verdict on a body that one check refused, if there is to be no other. Search proves each goal of the right
+    body for which nothing is written, so one of these that it doesn't prove refuses the body. Of the others nobody can
+    tell."""
+    unsure = ""
+    for item, goals in zip(body.touched, first.goals):
+        _, written = written_for(item, folder)
+        clauses = set(map(clause_of, written))
+        found = [goal for goal in goals.contract() if not is_of_loop(goal, written) and clause_of(goal) not in clauses]
+        if found:
+            return Verdict(REFUSED, f"`{found[0]}` of {named(item)}")
+        unsure = unsure or "".join(f"`{goal}` of {named(item)}" for goal in goals.contract()[:1])
+    return Verdict(CANT_TELL, f"{unsure}: one check says only that what is written for the right body doesn't fit")
+
+
+def original(left_out, suffix):
+    """The answers by the files of which a copy's are copies."""
+    return {(path.replace(f"_{suffix}/", "/"), name) for path, name in left_out}
+
+
+def copies_again(them, suffixes, source, folder):
+    """The copies of the bodies that are tried once more, and the copy of the right body for each function that has
+    written answers, by the function's key."""
+    copies, rights = [], {}
+    for it, suffix in zip(them, suffixes):
+        copies.append(copy_of(it.body, suffix, source, folder, it.paths[0], original(it.left_out[0], suffix)))
+        key = it.body.touched[0].key()
+        if it.written[0] and key not in rights:
+            body = right(it.body, f"the right body {len(rights)}", source)
+            rights[key] = copy_of(body, f"right_{len(rights)}", source, folder, it.paths[0], it.answers[0])
+    return copies, rights
+
+
+def in_places_again(them, source, folder):
+    """The bodies that are tried once more in their places, the right bodies of those that have written answers, and the
+    texts of the proof files for both."""
+    bodies, rights, texts, rights_texts = [], [], {}, {}
+    for it in them:
+        body, proofs = in_place(it, it.body, it.left_out, source, folder)
+        bodies.append(body)
+        texts |= proofs
+        if any(it.written):
+            body, proofs = in_place(it, right(it.body, it.body.name, source), it.answers, source, folder)
+            rights.append(body)
+            rights_texts |= proofs
+    return bodies, texts, rights, rights_texts

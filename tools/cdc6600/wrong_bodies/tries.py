@@ -1,0 +1,304 @@
+"""Tries the wrong bodies of crates: gets the libraries that they stand on, and checks group after group.
+
+Each group is checked once, and the bodies that this check refuses once more (second.py), unless one check is to do.
+
+Libraries that `rt ci` has just proved are taken over, and others are built. Where a crate is built as a library for
+others, its groups run side by side, each in a workspace that begins with what that build kept. A crate that isn't built
+begins with nothing: its groups run in turn in few workspaces, over one another's work, and only the functions that they
+name, and those that these call, are ever proved.
+"""
+
+import tempfile
+import threading
+from concurrent.futures import FIRST_COMPLETED, ThreadPoolExecutor, wait
+from dataclasses import dataclass, field, replace
+from functools import partial
+from pathlib import Path
+
+from cdc6600.building import host
+from cdc6600.building.processes import stop_all
+from cdc6600.crates.source import Sources, module_of
+from cdc6600.crates.table import Unreadable
+
+from .copies import beside, can_stand_beside, copied
+from .edits import merged, read_bodies
+from .groups import grouped
+from .kept import Kept, sum_of
+from .libraries import left_by_rt_ci
+from .opening import Opening
+from .second import after_one, again, copies_again, in_places_again, settled
+from .verdicts import CALLS, NOT_REFUSED, Outcome, Verdict, outcome_of
+from .workspaces import Workspace
+
+# How many groups are tried in one workspace that began with nothing, where a crate has more.
+IN_A_WORKSPACE = 12
+
+
+@dataclass
+class Group:
+    """Wrong bodies that one check judges: in copies beside the right ones, or, where there are no copies, in their
+    places."""
+
+    bodies: list
+    copies: list = field(default_factory=list)
+    proofs: dict = field(default_factory=dict)  # proof files with answers left out, for bodies in their places
+
+    def texts(self, source):
+        return beside(self.copies, source) if self.copies else merged(source, self.bodies) | self.proofs
+
+    def functions(self):
+        """The functions that are wrong."""
+        return [item for it in self.copies or self.bodies for item in it.touched]
+
+    def outcomes(self, ran, crate, texts):
+        """What a check of these texts says of each body."""
+        tried = self.copies or self.bodies
+        found = [outcome_of(it.touched, ran.said, ran.status, crate, texts) for it in tried]
+        return {body.name: outcome for body, outcome in zip(self.bodies, found)}
+
+
+@dataclass
+class Crate:
+    """A crate whose bodies are tried: what is left to try, and what came of it. Its groups may run side by side."""
+
+    name: str
+    source: Sources
+    bodies: list
+    kept: Kept
+    opening: Opening
+    groups: list = field(default_factory=list)
+    verdicts: dict = field(default_factory=dict)  # by the name of the body
+    faults: list = field(default_factory=list)
+    seconds: float = 0.0
+    idle: list = field(default_factory=list)  # the workspaces in which no group is being checked
+    lock: threading.Lock = field(default_factory=threading.Lock)
+
+    def tell(self, body, verdict):
+        with self.lock:
+            self.verdicts[body.name] = verdict
+            if verdict.kind != NOT_REFUSED:
+                self.kept.keep(body, verdict)
+
+    def spent(self, seconds):
+        with self.lock:
+            self.seconds += seconds
+
+
+def read_crate(table, name, identity, anew, is_once):
+    """Reads a crate's bodies, and takes the verdicts that were kept of the very same text."""
+    source = Sources.read(table.folder(name))
+    bodies, faults = read_bodies(table.folder(name), source)
+    kept = Kept(name, sum_of(table, name, identity), anew, is_once)
+    crate = Crate(name, source, bodies, kept, Opening(table, name), faults=faults)
+    for body in bodies:
+        verdict = crate.kept.verdict(body)
+        if verdict:
+            crate.verdicts[body.name] = replace(verdict, words=f"{verdict.words} (kept)")
+    crate.groups = groups_of([body for body in bodies if body.name not in crate.verdicts], source, table.folder(name))
+    return crate
+
+
+def groups_of(bodies, source, folder):
+    """The groups of bodies: copies of those that can stand beside the right ones, and the others in their places."""
+    beside_right = [body for body in bodies if can_stand_beside(body, source, folder)]
+    others = [body for body in bodies if body not in beside_right]
+    copies = [Group([copy.body for copy in part], part) for part in copied(beside_right, source, folder)]
+    return [*copies, *map(Group, grouped(others, source))]
+
+
+def paths_of(group, source):
+    """What `rt check --only` is to prove for a group, or nothing where a path isn't known and all has to be proved."""
+    found = {path_of(item, source) for item in group.functions()}
+    return [] if None in found else sorted(found)
+
+
+def path_of(item, source):
+    """A function's path below its crate. A method has the module of its type. One of a trait's, and one of a type at
+    some arguments alone, isn't found by the type's name: its path is the whole module."""
+    if not item.owner:
+        return "::".join([*module_of(item.path), item.name])
+    modules = source.types.get(item.owner, [])
+    if len(modules) != 1:
+        return None
+    is_part = item.trait or item.within.is_instance
+    return "::".join([*modules[0], *([] if is_part else [item.owner, item.name])]) or None
+
+
+class Tries:
+    """The run: the libraries that are built, and the tasks that are left, each with the names of those it waits for."""
+
+    def __init__(self, table, crates, room, at_once, is_after_rt_ci, is_once=False):
+        self.table, self.room, self.at_once, self.is_once = table, Path(room), at_once, is_once
+        self.libraries, self.broken, self.tasks, self.library_seconds = {}, {}, {}, 0.0
+        tried = [crate for crate in crates if crate.groups]
+        # How much there is to check of a crate, about: its functions and those of its wrong bodies.
+        self.sizes = {crate.name: len(crate.source.functions()) + 4 * len(crate.bodies) for crate in tried}
+        self.groups = {crate.name: {(crate.name, number) for number in range(len(crate.groups))} for crate in tried}
+        needed = {name for crate in tried for name in table.below(crate.name)}
+        self.left = left_by_rt_ci(table) if needed and is_after_rt_ci else {}
+        for name in (name for name in table.lines if name in needed):
+            waits = [("library", it) for it in table.below(name)]
+            self.tasks["library", name] = (waits, lambda name=name: self.build(name))
+        for crate in tried:
+            self.plan(crate, crate.name in needed and crate.name not in self.left)
+
+    def plan(self, crate, is_built):
+        before = [("library", it) for it in self.table.below(crate.name)] + [("library", crate.name)] * is_built
+        workspaces = len(crate.groups) if is_built else -(-len(crate.groups) // IN_A_WORKSPACE)
+        for number, group in enumerate(crate.groups):
+            waits = before if number < workspaces else [(crate.name, number - workspaces)]
+            judge = partial(self.judge, crate, group, is_built)
+            self.tasks[crate.name, number] = (waits, judge)
+
+    def build(self, name):
+        """Gets a library: the one that `rt ci` left, or one that is built over what the checkout's own checks kept of
+        it."""
+        lacking = next((it for it in self.table.below(name) if it in self.broken), None)
+        if lacking:
+            self.broken[name] = self.broken[lacking]
+            return
+        try:
+            workspace = Workspace(self.table, tempfile.mkdtemp(prefix=f"{name}-", dir=self.room), name, self.libraries)
+            if name in self.left:
+                workspace.take_library(self.table.folder(name), self.left[name])
+            else:
+                workspace.take_kept(self.table.folder(name), "incremental")
+                if (self.table.folder(name) / "out/rlib/stamp").is_file():
+                    workspace.take_kept(self.table.folder(name), "rlib")
+                self.library_seconds += workspace.build_library()
+            self.libraries[name] = workspace
+        except (Unreadable, OSError) as fault:
+            self.broken[name] = str(fault)
+
+    def workspace_of(self, crate, is_built):
+        """A workspace for a group's check: one that an earlier group has left, or a new one over what was kept of the
+        crate."""
+        with crate.lock:
+            if crate.idle:
+                return crate.idle.pop()
+        room = tempfile.mkdtemp(prefix=f"{crate.name}-", dir=self.room)
+        workspace = Workspace(self.table, room, crate.name, self.libraries)
+        folder = self.libraries[crate.name].folder if is_built else self.table.folder(crate.name)
+        workspace.take_kept(folder, "incremental")
+        return workspace
+
+    def judge(self, crate, group, is_built):
+        """Checks a group and tells each body's verdict."""
+        lacking = next((it for it in [*self.table.below(crate.name), crate.name] if it in self.broken), None)
+        try:
+            if lacking:
+                raise Unreadable(self.broken[lacking])
+            workspace = self.workspace_of(crate, is_built)
+            self.judge_in(workspace, crate, group)
+            with crate.lock:
+                crate.idle.append(workspace)
+        except (Unreadable, OSError) as fault:
+            for body in group.bodies:
+                crate.tell(body, Verdict(NOT_REFUSED, f"it wasn't tried: {fault}"))
+
+    def judge_in(self, workspace, crate, group):
+        """Checks a group, and the bodies that this refuses once more. Tells each body's verdict."""
+        found, apart = self.look(crate, group, workspace)
+        verdicts = {body.name: found[body.name].verdict for body in group.bodies}
+        suffixes = {copy.body.name: copy.suffix for copy in group.copies}
+        refused = [body for body in group.bodies if verdicts[body.name].refused]
+        if self.is_once:
+            folder = self.table.folder(crate.name)
+            verdicts |= {body.name: after_one(body, found[body.name], folder) for body in refused}
+            refused = []
+        left = [body for body in refused if body.name not in apart]
+        verdicts |= self.look_again(crate, left, found, suffixes, workspace)
+        for body in (body for body in refused if body.name in apart):
+            verdicts |= self.look_again(crate, [body], found, {}, workspace)
+        for body in group.bodies:
+            crate.tell(body, verdicts[body.name])
+
+    def look(self, crate, group, workspace):
+        """Checks a group. A body that isn't refused in it is tried again in its place and by itself, since the fault
+        may be another's. Returns what was found of each body, and the names of those that were tried again.
+
+        But where bodies in their places are tried together, and the check says of one that it only calls what isn't
+        proved, the grouping missed a call, and is told."""
+        found, is_alone = self.outcomes(crate, group, workspace), len(group.bodies) == 1 and not group.copies
+        apart = set()
+        for body in group.bodies:
+            verdict = found[body.name].verdict
+            if verdict.refused or is_alone:
+                continue
+            if not group.copies and CALLS.search(verdict.words):
+                words = f"its group has a function that it calls, which the grouping missed: {verdict.words}"
+                found[body.name] = Outcome(Verdict(NOT_REFUSED, words))
+            else:
+                found[body.name] = self.outcomes(crate, Group([body]), workspace)[body.name]
+                apart.add(body.name)
+        return found, apart
+
+    def look_again(self, crate, bodies, found, suffixes, workspace):
+        """Checks bodies that one check refused once more, and returns the verdicts on those for which something can be
+        opened or left out. They are in copies if there are suffixes, and else in their places."""
+        folder, controls = self.table.folder(crate.name), {}
+        them = [again(body, found[body.name], crate.opening, crate.source, folder) for body in bodies]
+        them = [it for it in them if it.is_another()]
+        if not them:
+            return {}
+        if suffixes:
+            copies, rights = copies_again(them, [suffixes[it.body.name] for it in them], crate.source, folder)
+            every = [*copies, *rights.values()]
+            outcomes = self.outcomes(crate, Group([copy.body for copy in every], every), workspace)
+            for it in them:
+                if it.body.touched[0].key() in rights:
+                    controls[it.body.name] = outcomes[rights[it.body.touched[0].key()].body.name]
+        else:
+            there, proofs, rights, rights_proofs = in_places_again(them, crate.source, folder)
+            outcomes = self.outcomes(crate, Group(there, proofs=proofs), workspace)
+            if rights:
+                controls = self.outcomes(crate, Group(rights, proofs=rights_proofs), workspace)
+        if len(them) > 1 and not all(outcomes[it.body.name].goals for it in them):
+            # The check came to no verdict, perhaps for the sake of one of them.
+            verdicts = [self.look_again(crate, [it.body], found, suffixes, workspace) for it in them]
+            return {name: verdict for each in verdicts for name, verdict in each.items()}
+        return {it.body.name: settled(it, outcomes[it.body.name], controls.get(it.body.name)) for it in them}
+
+    def outcomes(self, crate, group, workspace):
+        texts, paths = group.texts(crate.source), paths_of(group, crate.source)
+        ran = workspace.check(texts, paths)
+        if paths and ran.status == 2:
+            # The check knows no function of such a path: then it proves all of the crate.
+            crate.spent(ran.seconds)
+            ran = workspace.check(texts, [])
+        crate.spent(ran.seconds)
+        return group.outcomes(ran, crate.name, {**crate.source.texts, **texts})
+
+    def behind(self, key):
+        """How much waits for a task: libraries that stand below many come first, and then the crates with most to
+        try."""
+        if key[0] == "library":
+            above = [it for it in self.table.lines if key[1] in self.table.below(it) and ("library", it) in self.tasks]
+            return True, len(above), len(self.table.below(key[1]))
+        return False, self.sizes[key[0]], -key[1]
+
+    def run(self, is_tried):
+        """Runs the tasks side by side, each once those that it waits for have ended and there is memory for it. It
+        hands out the name of each crate once all its groups are tried."""
+        left, done, busy = sorted(self.tasks, key=self.behind, reverse=True), set(), {}
+        with ThreadPoolExecutor(self.at_once) as pool:
+            try:
+                while left or busy:
+                    for key in self.ready(left, done, self.at_once - len(busy), not busy):
+                        left.remove(key)
+                        busy[pool.submit(self.tasks[key][1])] = key
+                    for ended in wait(busy, timeout=10, return_when=FIRST_COMPLETED).done:
+                        key = busy.pop(ended)
+                        ended.result()
+                        done.add(key)
+                        if self.groups.get(key[0], {key}) <= done and key[0] != "library":
+                            is_tried(key[0])
+            except BaseException:
+                stop_all()
+                raise
+
+    def ready(self, left, done, room, is_first):
+        """The tasks to start now: as many as there is room for, and one at least where nothing runs."""
+        found = [key for key in left if all(it in done for it in self.tasks[key][0])][:room]
+        memory = host.free_memory() // host.NEEDED
+        return found[: max(memory, 1 if is_first else 0)]
