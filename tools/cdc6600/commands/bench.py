@@ -31,6 +31,7 @@ BENCHMARKS = {
     "soak": "whether runs end, again and again",
     "busy-checks": "whether checks pass beside busy processes",
     "make-deck": "prints a deck that the others use",
+    "ways": "how many functions data passes through on its way",
 }
 HELP = ("-h", "--help")
 
