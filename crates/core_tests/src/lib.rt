@@ -1,10 +1,9 @@
 //! Tests of the crates below `in_flight`, and of `per_unit` and `exchange_requests`, by what these crates hand out.
 //! The crate hands out nothing itself.
 //!
-//! There is a file for each crate or subject. The first table is `RESERVES_A_FREE_UNIT` in
-//! `board_tests`: calls to a new scoreboard, one a row, with the answer of each. Where an
-//! instruction is needed the tables have its text. `fixtures` has what constants can hold in position
-//! of registers and words.
+//! There is a file for each crate or subject. Where an instruction is needed the tables have its text. `fixtures` has
+//! registers and words, which constants can't hold. The first table is `RESERVES_A_FREE_UNIT`: calls to a new
+//! scoreboard, one a row, with the answer of each. Begin with that table, in `board_tests`.
 #![tactic(auto)]
 
 #[cfg(test)]

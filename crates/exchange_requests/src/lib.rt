@@ -10,8 +10,9 @@
 //! waits and none is due; or it is out of budget in mid word, where no exchange can be made. A run makes
 //! no request after more instructions than it has issued by then.
 //!
-//! Callers rely on `Requests::take_due`: it gives the request that is due, and each once. Begin there. `in_order` gives
-//! all requests of a run as a list.
+//! Callers rely on `Requests::take_due`: it gives the request that is due, and each once. `in_order` gives all requests
+//! of a run as a list. Its tests are in `crates/core_tests/src/exchange_requests_tests.rt`. Begin with
+//! `Requests::take_due`.
 #![tactic(auto)]
 
 ghost use Rattle.std.specs.Prelude.{◌≡◌, ◌<◌, ◌+◌, ◌^◌, ◌++◌, ◌∷◌, ◌||◌, true, false, None, is_some, option_to_list};

@@ -15,7 +15,8 @@
 //! each exchange to one of them by these rules.
 //!
 //! Callers rely on `are_fulfilled`, which answers just this, in a time that grows with the exchanges and not with the
-//! instructions. Begin there; `judging` finds for each exchange the request that it was made for.
+//! instructions. `judging` finds for each exchange the request that it was made for. Its tests are in
+//! `crates/text_tests/src/fulfilled_requests_tests.rt`. Begin with `are_fulfilled`.
 #![tactic(auto)]
 
 mod exchanges;

@@ -2,10 +2,10 @@
 //! keeps them by the unit, the place of the hopper or the load channel that each has, beside the
 //! scoreboard and the hopper, which judge them.
 //!
-//! Callers rely on `InFlight::reserve`, `read`, `may_store`, `accept` and `return_load`: each
-//! refuses exactly for the first conflict that `specs/Tests` finds in the list of pending
-//! instructions, and leaves exactly the list that `specs/Flight` defines. Begin with `InFlight` in
-//! `flight`; `pending` has how far an instruction may have come.
+//! Callers rely on `InFlight::reserve`, `read`, `may_store`, `accept` and `return_load`: each refuses exactly for the
+//! first conflict that `specs/Tests` finds in the list of pending instructions, and leaves exactly the list that
+//! `specs/Flight` defines. `pending` has how far an instruction may have come. Its tests are in
+//! `crates/machine_tests/src/flight_tests.rt`. Begin with `InFlight` in `flight`.
 #![tactic(auto)]
 
 mod flight;

@@ -7,8 +7,9 @@
 //! 6400/6600 Reference Manual, publication 60100000), without its floating-point instructions; an
 //! item says so where something is this project's choice.
 //!
-//! Callers rely on `decode`: it reads each pattern exactly as `specs/Table` says, and wherever the
-//! parcels of an instruction stand it reads that instruction. Begin with `decode` in `decoding`.
+//! Callers rely on `decode`: it reads each pattern exactly as `specs/Table` says, and wherever the parcels of an
+//! instruction stand it reads that instruction. Its tests are in `crates/core_tests/src/instruction_table_tests.rt`.
+//! Begin with `decode` in `decoding`.
 #![tactic(auto)]
 
 mod codes;

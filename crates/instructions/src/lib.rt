@@ -6,9 +6,10 @@
 //! 60100000), without its floating-point instructions; an item says so where something is this
 //! project's choice.
 //!
-//! Callers rely on `operand_registers`, `results` and `unit_kind`: they answer exactly what the
-//! instruction's row of `uses` in `specs/Operands` says. Begin with `Instr` in `instr`, then
-//! `registers`. `refusal` has why the machine halts, and everything that may be refused.
+//! Callers rely on `operand_registers`, `results` and `unit_kind`: they answer exactly what the instruction's row of
+//! `uses` in `specs/Operands` says. `shape` says which instructions refer to memory, and `refusal` has why the machine
+//! halts and everything that may be refused. Its tests are in `crates/core_tests/src/instructions_tests.rt`. Begin with
+//! `Instr` in `instr`, then `registers`.
 #![tactic(auto)]
 
 mod below;

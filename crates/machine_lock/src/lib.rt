@@ -5,8 +5,9 @@
 //! own log on the memory that was booted, and that log begins with what the thread had seen. Each
 //! other call says by `Seen` what its caller has then seen of the log.
 //!
-//! Begin with `Shared` in `shared`; `guard` has the machine while its lock is held, and `locked` what the lock keeps true.
-//! `Seen` and `Naming` are those of `progress_word`. docs/threads.md has an example.
+//! `guard` has the machine while its lock is held, and `locked` what the lock keeps true. `Seen` and `Naming` are those
+//! of `progress_word`. docs/threads.md has an example. Its tests are in `crates/thread_tests/src/lock_tests.rt` and
+//! `crates/thread_tests/src/guard_tests.rt`. Begin with `Shared` in `shared`.
 #![tactic(auto)]
 
 mod guard;

@@ -1,10 +1,10 @@
 //! Tests of `in_flight` and of the machine, by what they hand out. The crate hands out nothing
 //! itself.
 //!
-//! The first table is `PAST_ALL` in `event_tests`: events, one a row, with the answer of each.
-//! `list_machine` has the machine a second time, as a plain list that is scanned for each conflict, and
-//! `list_machine_tests` asks both the same generated events. `reached_tests` has callers that know only
-//! by contracts what led to their machine. `token_tests` has the calls with tokens.
+//! `list_machine` is the machine a second time, as a plain list that is scanned for each conflict, and
+//! `list_machine_tests` asks both the same generated events. `reached_tests` has callers that know only by contracts
+//! what led to their machine. `token_tests` has the calls with tokens. Begin with `PAST_ALL` in `event_tests`: events,
+//! one a row, with the answer of each.
 #![tactic(auto)]
 
 #[cfg(test)]

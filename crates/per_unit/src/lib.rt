@@ -1,7 +1,7 @@
 //! Something of each of the seven units in use, as a lane or a worker's thread of each.
 //!
 //! Callers rely on `PerUnit::get`, which finds the one of a unit, and on `zip` and `map`, which keep what belongs to
-//! one unit together. Begin there.
+//! one unit together. Its tests are in `crates/core_tests/src/per_unit_tests.rt`. Begin with `PerUnit::get`.
 #![tactic(auto)]
 
 ghost use Rattle.std.specs.Prelude.{◌≡◌, ◌∷◌, [], IfSome, MatchOption, Some, None, is_some};

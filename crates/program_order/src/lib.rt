@@ -6,8 +6,9 @@
 //! on the law `what_is_reached_is_faithful`: whatever led from boot to a machine, its log is what
 //! was done, and drained it is the replay of that log.
 //!
-//! Begin with `Event` in `event` and the four theorems in `law`, then read `specs/Events`.
-//! `snapshot` is a state with the log that leads to it.
+//! `snapshot` is a state with the log that leads to it. Its tests are in `crates/machine_tests/src/event_tests.rt` and
+//! `crates/machine_tests/src/reached_tests.rt`. Begin with `Event` in `event` and the four theorems in `law`, then read
+//! `specs/Events`.
 #![tactic(auto)]
 
 mod event;

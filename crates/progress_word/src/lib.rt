@@ -5,8 +5,9 @@
 //! again learns a log that begins with what it knew, and two callers that meet have no step in common.
 //!
 //! Callers rely on `Word::record` and `Word::compare`, by which a machine's pass adds a step for a caller or tells a
-//! caller the log so far, and on `Seen`, which is what a caller keeps. Begin with `Word` in `word`; `rule` has the steps
-//! that the word's rule allows. Nothing here takes the lock of the machine: whoever has the machine's pass has its lock.
+//! caller the log so far, and on `Seen`, which is what a caller keeps. `rule` has the steps that the word's rule
+//! allows. Nothing here takes the lock of the machine: whoever has the machine's pass has its lock. Its tests are in
+//! `crates/thread_tests/src/lock_tests.rt`. Begin with `Word` in `word`.
 #![tactic(auto)]
 
 mod rule;

@@ -1,10 +1,10 @@
 //! Worked schedules: lists of events from boot on, each with its answer, and all that they leave.
 //! The crate hands out nothing.
 //!
-//! Each schedule is made in every way in which events are made: as the lines of a session, one by
-//! one, as one list, and by the calls of a machine under its lock. The first table is `SCHEDULES`
-//! in `register_schedules`; `schedule` has what a row says, and `schedule_tests` makes each row.
-//! `tools/checks/schedules` gives the same rows to the program.
+//! Each schedule is made in every way in which events are made: as the lines of a session, one by one, as one list, and
+//! by the calls of a machine under its lock. `schedule` has what a row says, and `schedule_tests` makes each row.
+//! `tools/check schedules` gives the same rows to the program. Begin with the table `SCHEDULES` in
+//! `register_schedules`.
 #![tactic(auto)]
 
 #[cfg(test)]

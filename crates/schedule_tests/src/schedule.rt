@@ -1,6 +1,6 @@
 //! What a worked schedule has. The schedules stand by subject in register_schedules.rt, reference_schedules.rt,
 //! branch_schedules.rt and exchange_schedules.rt. schedule_tests.rt makes each of them by each way in which events are
-//! made, and tools/checks/schedules gives them to the program.
+//! made, and `tools/check schedules` gives them to the program.
 
 use super::dump::Dump;
 

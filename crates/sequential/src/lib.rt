@@ -3,9 +3,9 @@
 //! It is the measure of the machine whose units work side by side: the theorem compares that
 //! machine, when drained, with the state to which `replay` comes by the log.
 //!
-//! Callers rely on `step` and `replay`: they leave exactly the state that `specs/Step` and
-//! `specs/Replay` define. Begin with `step` in `stepping`; `fetching` says what an instruction does
-//! before a unit works, `work` what its value does, and `log` keeps what was done.
+//! Callers rely on `step` and `replay`: they leave exactly the state that `specs/Step` and `specs/Replay` define.
+//! `fetching` says what an instruction does before a unit works, `work` what its value does, and `log` keeps what was
+//! done. Its tests are in `crates/core_tests/src/sequential_tests.rt`. Begin with `step` in `stepping`.
 #![tactic(auto)]
 
 mod fetching;

@@ -13,7 +13,8 @@
 //! Callers rely on `run`: its log and its final state are those of `IsSequentialRun` in `specs/Run`, which reads like
 //! this list. Two laws are handed out for their contracts alone. `a_run_has_one_result`: there is only one such log and
 //! one such state. `a_run_by_one_is_made_by_events`: the machine with instructions in flight can make that log, so the
-//! theorem speaks of this run too. Begin with `Course::turn` in `course`.
+//! theorem speaks of this run too. Its tests are in `crates/text_tests/src/sequential_run_tests.rt`. Begin with
+//! `Course::turn` in `course`.
 #![tactic(auto)]
 
 mod course;

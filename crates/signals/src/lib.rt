@@ -12,8 +12,8 @@
 //! - If other processes want the processors, a yield returns only after milliseconds. The clock of the issuing thread
 //!   shows that (`Pace`), and then no thread looks for a while: each sleeps at once.
 //!
-//! Callers rely on `Waiting::until_raised` to return. Begin with `Signals`; `Told` has the events that a thread
-//! reports.
+//! Callers rely on `Waiting::until_raised` to return. `Told` has the events that a thread reports. Its tests are in
+//! `crates/thread_tests/src/signal_tests.rt`. Begin with `Signals`.
 #![tactic(auto)]
 
 mod pace;

@@ -6,8 +6,8 @@
 //! (`BTest` of `instructions`), that a nominal shift to the right by more than 63 bits leaves +0,
 //! and the zeros of sums and the long shifts and masks (`word60`).
 //!
-//! Callers rely on `value`: for each instruction that has a unit it answers exactly `value_of` of
-//! `specs/Values`. Begin with `value` in `compute`, beside that definition.
+//! Callers rely on `value`: for each instruction that has a unit it answers exactly `value_of` of `specs/Values`. Its
+//! tests are in `crates/core_tests/src/unit_ops_tests.rt`. Begin with `value` in `compute`, next to that definition.
 #![tactic(auto)]
 
 mod compute;

@@ -4,9 +4,9 @@
 //! The 6600 had no such thing: the scoreboard drove all units at once (Thornton, scoreboard). Lanes
 //! are this project's choice, for a machine whose units are threads.
 //!
-//! Callers rely on `Lane::send` and `Lane::take`: what was taken, followed by what still waits, is
-//! what was sent, in order, and nothing comes after `Item::Closed`. Begin with `Lane` in `ends`;
-//! `rule` has the steps that the queue allows.
+//! Callers rely on `Lane::send` and `Lane::take`: what was taken, followed by what still waits, is what was sent, in
+//! order, and nothing comes after `Item::Closed`. `rule` has the steps that the queue allows. Its tests are in
+//! `crates/thread_tests/src/queue_tests.rt`. Begin with `Lane` in `ends`.
 #![tactic(auto)]
 
 ghost use Rattle.std.specs.Prelude.{◌≡◌, [], MatchResult};

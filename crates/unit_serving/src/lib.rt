@@ -2,9 +2,9 @@
 //! machine's lock and computes without the lock.
 //!
 //! Callers rely on `serve`, which takes one reservation from its note to its store, and on `worker`, whose tally says
-//! what became of the notes that it took. Begin with `serve` in `service`; `unit_worker` serves the notes of a lane,
-//! `tally` is its account, `memory_worker` takes references through memory, and a worker calls its `gate` before it
-//! computes and after it has stored.
+//! what became of the notes that it took. `unit_worker` serves the notes of a lane, `tally` is its account,
+//! `memory_worker` takes references through memory, and a worker calls its `gate` before it computes and after it has
+//! stored. Its tests are in `crates/thread_tests/src/thread_tests.rt`. Begin with `serve` in `service`.
 #![tactic(auto)]
 
 mod gate;

@@ -4,8 +4,9 @@
 //!
 //! Callers rely on `run_threads`: it ends with a snapshot of the machine that it was given, with that machine's boot
 //! memory and budget, whose log begins with that machine's and keeps to the budget. Nothing promises that a run ends.
-//! Begin with `run_threads` in `threaded_run`; `issuing` issues, `worker_lanes` starts the workers of the units, and
-//! `asking` makes the requests at any time. `unit_serving` has what a worker does with a reservation.
+//! `issuing` issues, `worker_lanes` starts the workers of the units, and `asking` makes the requests at any time.
+//! `unit_serving` has what a worker does with a reservation. Its tests are in
+//! `crates/thread_tests/src/thread_tests.rt`. Begin with `run_threads` in `threaded_run`.
 #![tactic(auto)]
 
 mod asking;

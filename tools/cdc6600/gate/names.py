@@ -53,19 +53,14 @@ ELSEWHERE = re.compile(r"[a-z]+:|#")
 # is proved, so they change together with other changes of the crate. A row that is no longer needed is a fault.
 MOVED = {
     ("crates/command_line/src/lib.rt", "tools/checks/pages"),
-    ("crates/schedule_tests/src/lib.rt", "tools/checks/schedules"),
-    ("crates/schedule_tests/src/schedule.rt", "tools/checks/schedules"),
 }
 
 # How the names of files of tests end.
 OF_TESTS = re.compile(r"_(?:tests|schedules)$")
 # The crates whose first comments don't follow the rule on beginnings yet. A crate that follows it is a fault here.
 NOT_YET = frozenset((
-    "word60 parcel instructions instruction_table unit_ops registers per_unit relocation hopper exchange_package "
-    "scoreboard sequential exchange_requests core_tests in_flight program_order fulfilled_requests sequential_run "
-    "machine machine_tests unit_queue signals progress_word machine_lock unit_serving unit_workers device_text deck "
-    "job_deck sequential_job operator_terms text_tests command_line deck_run embedding thread_tests schedule_tests "
-    "operator_main"
+    "hopper scoreboard device_text deck job_deck sequential_job operator_terms text_tests command_line deck_run "
+    "embedding operator_main"
 ).split())
 
 TABLE, CRATES = Table(ROOT), {crate.name: crate for crate in crates()}
