@@ -339,7 +339,7 @@ def code_of(parcel):
 
 def faults_of_page(_):
     """What is shown on the page and isn't printed."""
-    return ran("checks/pages", PAGE).told.decode().splitlines()
+    return ran("check", "pages", PAGE).told.decode().splitlines()
 
 
 def works(tried):
