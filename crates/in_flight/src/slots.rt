@@ -11,7 +11,6 @@ ghost use Rattle.in_flight.specs.inner.Slots.{HasRoom, places_with, channels_wit
 use crate::{Arrival, Outstanding, Pending, Phase, Stage};
 use hopper::Reference;
 use instruction_table::Unit;
-use scoreboard::unit_number;
 use std::marker::Model;
 
 /// A pending instruction that was located, with its answer to what was asked.
@@ -48,7 +47,7 @@ fn index_of(unit: Unit) -> usize
     ensures value { result ≡ unit_number unit }
     ensures range { result < 10 }
 {
-    usize::from(unit_number(unit))
+    unit as usize
 }
 
 impl Pending {
