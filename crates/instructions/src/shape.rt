@@ -16,8 +16,8 @@ pub enum MemoryUse {
 }
 
 impl Target {
-    /// What the reference of an increment instruction that sets register `i` does, if it makes one. This is the one
-    /// place that tells SA0, the loads and the stores apart.
+    /// What the reference of an increment instruction that sets register `i` does, if it makes one. No other function
+    /// decides which of SA0 to SA7 load and which store.
     #[inline(always)]
     pub fn memory(self, i: Digit) -> Option<MemoryUse>
         ensures { result ≡ memory_by self i }

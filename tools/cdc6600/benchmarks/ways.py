@@ -1,17 +1,17 @@
-"""Counts the functions that data passes through on its way, by what an unproved build of the program executes under gdb.
+"""Counts the functions that data passes through on its way, by what an unproved build executes under gdb.
 
     tools/bench ways [--list]
 
 - word: a `word` line of a deck, from its bytes to the word in memory;
-- lane: IX3 X1+X2 under `run`, from the turn of the loop that issues it until its reservation is on the lane of its unit;
+- lane: IX3 X1+X2 under `run`, from the turn of the loop that issues it until its reservation is on the unit's lane;
 - stored: the same until its result is stored;
 - reference: SA6 A0+5 under `run`, from its store event until the word is in memory;
 - fault: a fault of a deck, from the function that finds it until it is written, with the callers that hand it on.
 
-A function is one that the sources spell out: of closures, of derived implementations and of what drops a value none
-counts. Nor do these, which carry nothing of the instruction: the conversions between numbers (`get`, `from_bits`, ..), the
-wake-ups between threads (crate `signals`) and the order of requests for exchanges (crate `exchange_requests`). Each
-function counts once, however often it is entered.
+A function is one that the sources spell out: closures, derived implementations and what drops a value don't count. Nor
+do these, which carry nothing of the instruction: the conversions between numbers (`get`, `from_bits`, ..), the wake-ups
+between threads (crate `signals`) and the order of requests for exchanges (crate `exchange_requests`). Each function
+counts once, however often it is entered.
 
 It also counts, in the sources, the errors that are converted by hand, and the types and constants whose name stands in
 several crates. With --list the functions and places are printed too.
@@ -102,8 +102,8 @@ def word():
 
 
 def lane(run):
-    """The way of an issued instruction to its lane, in the thread that issues: one turn of the loop that issues, without
-    the issue after it, which the budget refuses while the lock is held."""
+    """The way of an issued instruction to its lane, in the thread that issues: one turn of the loop that issues. The
+    issue after it, which the budget refuses while the lock is held, doesn't count."""
     start = first(run, STEP)
     thread = run[start][0]
     again = first(run, ISSUE, first(run, ISSUE, start) + 1)

@@ -335,7 +335,7 @@ LIMITS = {
         "LEAST_WORDS", refused("size", 31, lambda number, value: number < value)
     ),
     ("relocation/src/storage.rt", "LARGEST"): repeated("MOST_WORDS", refused("size", 131073)),
-    ("relocation/src/storage.rt", "for k in .."): shown("all-banks"),
+    ("relocation/src/storage.rt", "BANKS"): repeated("BANKS", shown("all-banks")),
     # Decks, schedules and what is printed.
     ("deck/src/applying.rt", "SHOWS"): repeated("MOST_SHOWS", check("mutations", "self.shows < MOST_SHOWS")),
     ("deck/src/applying.rt", "ASKS"): repeated("MOST_ASKS", requests("most-requests")),
