@@ -131,20 +131,16 @@ pub struct OperandRegisters {
     pub outgoing: Option<Reg>,
 }
 
-/// No operands.
-const NONE: OperandRegisters = OperandRegisters {
-    first: None,
-    second: None,
-    outgoing: None,
-};
-
-/// The X register that one of 50 to 77 stores: SA6 and SA7 do.
+/// The X register that SA6 and SA7 store.
 #[inline(always)]
-fn stored(target: Target, i: Digit) -> Option<Reg>
-    ensures { result ≡ stored target i }
+fn stored(instr: &Instr) -> Option<Reg>
+    ensures { result ≡ (uses instr.now).outgoing }
 {
-    match target.memory(i) {
-        Some(MemoryUse::Stores(_)) => Some(Reg::X(i)),
+    match *instr {
+        Instr::Increment { target, i, .. } => match target.memory(i) {
+            Some(MemoryUse::Stores(_)) => Some(Reg::X(i)),
+            _ => None,
+        },
         _ => None,
     }
 }
@@ -156,51 +152,27 @@ pub fn operand_registers(instr: &Instr) -> OperandRegisters
     ensures second { result.second ≡ (uses instr.now).second }
     ensures outgoing { result.outgoing ≡ (uses instr.now).outgoing }
 {
-    match *instr {
-        Instr::Stop | Instr::Pass | Instr::ReturnJump { .. } | Instr::Mask { .. } => NONE,
-        Instr::Jump { i, .. } => OperandRegisters {
-            first: Some(Reg::B(i)),
-            ..NONE
+    let (first, second) = match *instr {
+        Instr::Stop | Instr::Pass | Instr::ReturnJump { .. } | Instr::Mask { .. } => (None, None),
+        Instr::Jump { i, .. } => (Some(Reg::B(i)), None),
+        Instr::BranchX { j, .. } | Instr::Copy { j, .. } => (Some(Reg::X(j)), None),
+        Instr::BranchB { i, j, .. } => (Some(Reg::B(i)), Some(Reg::B(j))),
+        Instr::Invert { k, .. } | Instr::CountOnes { k, .. } => (Some(Reg::X(k)), None),
+        Instr::Logical { j, k, .. } | Instr::LongAdd { j, k, .. } => (
+            Some(Reg::X(j)),
+            Some(Reg::X(k)),
+        ),
+        Instr::ShiftBy { i, .. } => (Some(Reg::X(i)), None),
+        Instr::ShiftNominal { j, k, .. } => (Some(Reg::B(j)), Some(Reg::X(k))),
+        Instr::Increment { addends, .. } => match addends {
+            Addends::Address { base, j, .. } => (Some(base.register(j)), None),
+            Addends::Registers { pair, j, k } => (Some(pair.register(j)), Some(Reg::B(k))),
         },
-        Instr::BranchX { j, .. } | Instr::Copy { j, .. } => OperandRegisters {
-            first: Some(Reg::X(j)),
-            ..NONE
-        },
-        Instr::BranchB { i, j, .. } => OperandRegisters {
-            first: Some(Reg::B(i)),
-            second: Some(Reg::B(j)),
-            ..NONE
-        },
-        Instr::Invert { k, .. } | Instr::CountOnes { k, .. } => OperandRegisters {
-            first: Some(Reg::X(k)),
-            ..NONE
-        },
-        Instr::Logical { j, k, .. } | Instr::LongAdd { j, k, .. } => OperandRegisters {
-            first: Some(Reg::X(j)),
-            second: Some(Reg::X(k)),
-            ..NONE
-        },
-        Instr::ShiftBy { i, .. } => OperandRegisters {
-            first: Some(Reg::X(i)),
-            ..NONE
-        },
-        Instr::ShiftNominal { j, k, .. } => OperandRegisters {
-            first: Some(Reg::B(j)),
-            second: Some(Reg::X(k)),
-            ..NONE
-        },
-        Instr::Increment { target, i, addends } => match addends {
-            Addends::Address { base, j, .. } => OperandRegisters {
-                first: Some(base.register(j)),
-                second: None,
-                outgoing: stored(target, i),
-            },
-            Addends::Registers { pair, j, k } => OperandRegisters {
-                first: Some(pair.register(j)),
-                second: Some(Reg::B(k)),
-                outgoing: stored(target, i),
-            },
-        },
+    };
+    OperandRegisters {
+        first,
+        second,
+        outgoing: stored(instr),
     }
 }
 
