@@ -4,20 +4,20 @@ use Rattle.std.proofs.Common.{Some, None, refl, sym, ap, ◌∙◌, subst, get_o
 use Rattle.std.specs.Prelude.{Err, Ok}
 use Rattle.std.specs.List.{list_any, position, position_or_len, remove}
 use Rattle.std.proofs.lemmas.Bool.{eqb-true, ltb-false}
-use Rattle.std.proofs.lemmas.List.{get_or-take, length-take-le, take-append-drop}
+use Rattle.std.proofs.lemmas.List.{get_or-take, length-set, length-take-le, take-append-drop}
 use Rattle.std.proofs.lemmas.List.Quantifiers.{position-Some}
 use Rattle.std.proofs.lemmas.List.Sums.{fails_before_first}
 use Rattle.std.proofs.Math.Seq.{drop-cons}
 use Rattle.instructions.specs.declared.refusal.Refusal.TheVariants.{BankBusy, OlderAtAddress}
-use Rattle.instructions.specs.Each.{Each}
+use Rattle.instructions.specs.Each.{Each, Pairs}
 use Rattle.instructions.specs.Finding.{Found, seek, put_back}
 use Rattle.instructions.proofs.Finding.{seek_around, seek_nobody}
-use Rattle.instructions.proofs.Lists.{each_append, pairs_push}
+use Rattle.instructions.proofs.Lists.{each_append, each_left, each_right, pairs_push, pairs_without}
 use Rattle.hopper.specs.declared.entered.Entered.{Entered}
 use Rattle.hopper.specs.declared.reference.Reference.{Reference}
 use Rattle.hopper.specs.Hopper.{bank_of}
 use Rattle.hopper.specs.Queue.{stands_at, reference_at, place_for, holds_back, accept_answer, accepted}
-use Rattle.hopper.specs.inner.View.{IsRight, found_at}
+use Rattle.hopper.specs.inner.View.{IsRight}
 use Rattle.hopper.proofs.Standing.{place_free}
 
 -- ---- one enters ----
@@ -33,6 +33,16 @@ entered_right es busy p reference r h =
     }
 
 -- ---- the one that is looked for ----
+
+-- what is found where a reference stands in a place, and so many entered before it
+abbrev pub found_at : List Entered → ℕ → ℕ → Reference → Found Entered Reference
+found_at entered place index reference =
+    record {
+      earlier = take index entered;
+      item = record { place = place; reference = reference };
+      answer = reference;
+      later = drop (suc index) entered;
+    }
 
 each_at : (P : Entered → Type 0) (es : List Entered) (d : Entered) → ((k : ℕ) → k < length es → P (get_or es k d))
     → Each P es
@@ -132,3 +142,17 @@ unfolding accepted put_back
 accepted_view es busy p i bank reference o e b =
     ap (λ n. record { entered = remove es i; busy = set busy n true }) b
     ∙ ap (accepted (record { entered = es; busy = busy })) (sym e)
+
+pub left_right : (es : List Entered) (busy : List Bool) (i bank : ℕ) (e : Entered) → i < length es → e ≡ get_or es i e
+    → IsRight es busy → IsRight (remove es i) (set busy bank true)
+left_right es busy i bank e l h r =
+    let split = parted es i e l h in
+    let p = subst (Each (λ d. d.place < 4)) split r.placed in
+    record {
+      all_banks = length-set busy bank true ∙ r.all_banks;
+      placed = each_append (λ d. d.place < 4) (take i es) (drop (suc i) es)
+          (each_left (λ d. d.place < 4) (take i es) (e ∷ drop (suc i) es) p)
+          (each_right (λ d. d.place < 4) (take i es) (e ∷ drop (suc i) es) p).1;
+      apart = pairs_without (λ c d. c.place ≢ d.place) (take i es) e (drop (suc i) es)
+          (subst (Pairs (λ c d. c.place ≢ d.place)) split r.apart);
+    }

@@ -1,5 +1,4 @@
 ghost use Rattle.std.specs.Prelude.{◌≡◌};
-ghost use Rattle.hopper.specs.Queue.{stands_at, is_for, stores_here, holds_back};
 
 use crate::Reference;
 use instructions::Digit;
@@ -28,39 +27,5 @@ impl Default for Entered {
                 access: Access::Load(Digit::default()),
             },
         }
-    }
-}
-
-impl Entered {
-    /// Whether it stands in the place.
-    #[tactic(auto, unfolding(crate::specs::Queue::stands_at))]
-    pub(crate) fn stands_at(&self, place: u8) -> bool
-        ensures { result ≡ stands_at place self.now }
-    {
-        self.place == place
-    }
-
-    /// Whether it holds back a later reference.
-    #[tactic(auto, unfolding(crate::specs::Queue::holds_back))]
-    pub(crate) fn holds_back(&self, later: &Reference) -> bool
-        ensures { result ≡ holds_back later.now self.now }
-    {
-        self.reference.keeps_order(later)
-    }
-
-    /// Whether it is for an absolute address.
-    #[tactic(auto, unfolding(crate::specs::Queue::is_for))]
-    pub(crate) fn is_for(&self, address: u32) -> bool
-        ensures { result ≡ is_for address self.now }
-    {
-        self.reference.address == address
-    }
-
-    /// Whether it stores to an absolute address.
-    #[tactic(auto, unfolding(crate::specs::Queue::stores_here))]
-    pub(crate) fn stores_to(&self, address: u32) -> bool
-        ensures { result ≡ stores_here address self.now }
-    {
-        self.reference.stores_to(address)
     }
 }

@@ -3,9 +3,8 @@ ghost use Rattle.std.specs.Prelude.{MatchResult};
 ghost use Rattle.std.specs.List.{list_any};
 ghost use Rattle.instructions.specs.Finding.{seek};
 ghost use Rattle.hopper.specs.Queue.{reference_at, place_for, enter_answer, accept_answer, accepted, free_answer};
-ghost use Rattle.hopper.specs.Queue.{is_for, stores_here};
+ghost use Rattle.hopper.specs.Queue.{stands_at, is_taken, is_for, stores_here, holds_back};
 
-use crate::places::{any_for, any_store, free_place, is_busy, reference_to_accept};
 use crate::{BANKS, Entered, PLACES, Reference, bank_of};
 use arrayvec::ArrayVec;
 use instructions::Refusal;
@@ -31,6 +30,33 @@ impl Model for Hopper {
     ghost view = { λ h. record { entered = h.entered.items; busy = h.busy } };
 
     ghost invariant = { λ h. IsRight h.entered.items h.busy };
+}
+
+/// The lowest-numbered place in which nothing stands.
+#[tactic(auto, unfolding(crate::proofs::Opened::places_in_order))]
+fn free_place(entered: &[Entered]) -> Option<u8>
+    ensures { result ≡ place_for entered.now }
+{
+    let is_taken = |place: u8|
+        ensures { result ≡ is_taken entered.entry.now place }
+    {
+        entered.iter().any(
+            |waiting|
+                ensures { result ≡ stands_at place waiting.now }
+            { waiting.place == place },
+        )
+    };
+    if !is_taken(0) {
+        Some(0)
+    } else if !is_taken(1) {
+        Some(1)
+    } else if !is_taken(2) {
+        Some(2)
+    } else if !is_taken(3) {
+        Some(3)
+    } else {
+        None
+    }
 }
 
 impl Hopper {
@@ -78,22 +104,36 @@ impl Hopper {
     /// In this order, and then nothing changes: `Nothing` where nothing stands in the place or there is no such
     /// place; `BankBusy` where the bank of the address is busy; `OlderAtAddress` where one that entered earlier waits
     /// at the same address and at least one of the two stores.
+    #[tactic(auto, unfolding(crate::proofs::Opened::one_that_waits))]
     pub fn accept(&mut self, place: u8) -> Result<Reference, Refusal>
         ensures answer { result ≡ accept_answer self.old.busy (seek (reference_at place) self.old.entered) }
         ensures after { MatchResult result
             (λ reference. self.new ≡ accepted self.old (seek (reference_at place) self.old.entered))
             (λ refusal. self.new ≡ self.old) }
     {
-        let (index, reference) = match reference_to_accept(
-            self.entered.as_slice(),
-            &self.busy,
-            place,
-        ) {
-            Ok(found) => found,
-            Err(refusal) => return Err(refusal),
+        let entered = self.entered.as_slice();
+        let Some(index) = entered.iter().position(
+            |waiting|
+                ensures { result ≡ stands_at place waiting.now }
+            { waiting.place == place },
+        )
+        else {
+            return Err(Refusal::Nothing);
         };
+        let reference = entered[index].reference;
+        let bank = bank_of(reference.address);
+        if self.busy[usize::from(bank)] {
+            return Err(Refusal::BankBusy(bank));
+        }
+        if entered[..index].iter().any(
+            |older|
+                ensures { result ≡ holds_back reference older.now }
+            { older.reference.keeps_order(&reference) },
+        ) {
+            return Err(Refusal::OlderAtAddress);
+        }
         self.entered.remove(index);
-        self.busy[usize::from(bank_of(reference.address))] = true;
+        self.busy[usize::from(bank)] = true;
         Ok(reference)
     }
 
@@ -107,7 +147,7 @@ impl Hopper {
             (λ freed. self.new ≡ record self.old { busy = slice_set self.old.busy bank false })
             (λ refusal. self.new ≡ self.old) }
     {
-        if is_busy(&self.busy, bank) {
+        if self.is_bank_busy(bank) {
             self.busy[usize::from(bank)] = false;
             Ok(())
         } else {
@@ -116,23 +156,36 @@ impl Hopper {
     }
 
     /// Whether a reference to an absolute address waits, be it a load or a store.
+    #[tactic(auto, unfolding(crate::specs::Queue::is_for))]
     pub fn waits_for(&self, address: u32) -> bool
         ensures { result ≡ list_any (is_for address) self.now.entered }
     {
-        any_for(self.entered.as_slice(), address)
+        self.entered.as_slice().iter().any(
+            |waiting|
+                ensures { result ≡ is_for address waiting.now }
+            { waiting.reference.address == address },
+        )
     }
 
     /// Whether a store to an absolute address waits.
+    #[tactic(auto, unfolding(crate::specs::Queue::stores_here))]
     pub fn store_for(&self, address: u32) -> bool
         ensures { result ≡ list_any (stores_here address) self.now.entered }
     {
-        any_store(self.entered.as_slice(), address)
+        self.entered.as_slice().iter().any(
+            |waiting|
+                ensures { result ≡ stores_here address waiting.now }
+            { waiting.reference.stores_to(address) },
+        )
     }
 
     /// Whether the bank of a number is busy; one above 31 isn't.
     pub fn is_bank_busy(&self, bank: u8) -> bool
         ensures { result ≡ slice_index_or self.now.busy bank false }
     {
-        is_busy(&self.busy, bank)
+        match self.busy.get(usize::from(bank)) {
+            Some(answer) => *answer,
+            None => false,
+        }
     }
 }

@@ -9,7 +9,6 @@
 
 mod entered;
 mod hopper;
-mod places;
 mod reference;
 
 pub use entered::Entered;

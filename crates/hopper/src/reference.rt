@@ -1,5 +1,5 @@
 ghost use Rattle.std.specs.Prelude.{◌≡◌, ◌<◌};
-ghost use Rattle.hopper.specs.Hopper.{bank_of, is_store, keep_order, stores_to};
+ghost use Rattle.hopper.specs.Hopper.{bank_of, keep_order, stores_to};
 
 use relocation::Access;
 
@@ -27,24 +27,14 @@ pub fn bank_of(address: u32) -> u8
     (address % 32) as u8
 }
 
-/// Whether a reference stores.
-#[tactic(auto, unfolding(crate::specs::Hopper::is_store))]
-fn is_store(access: &Access) -> bool
-    ensures { result ≡ is_store access.now }
-{
-    match access {
-        Access::Load(_) => false,
-        Access::Store(_) => true,
-    }
-}
-
 impl Reference {
     /// Whether memory has to take it and another one in the order in which they entered: at least one of them stores,
     /// and both are to one absolute address.
-    #[tactic(auto, unfolding(crate::specs::Hopper::keep_order))]
+    #[tactic(auto, unfolding(crate::specs::Hopper::keep_order, crate::specs::Hopper::is_store))]
     pub fn keeps_order(&self, other: &Reference) -> bool
         ensures { result ≡ keep_order other.now.address other.now.access self.now.address self.now.access }
     {
+        let is_store = |access: &Access| matches!(access, Access::Store(_));
         (is_store(&other.access) || is_store(&self.access)) && self.address == other.address
     }
 

@@ -13,9 +13,9 @@ ghost use Rattle.scoreboard.specs.Answers.{turn_answer, reserve_answer, reserved
 
 use crate::fields::{
     any_reference, any_store, any_turn, any_writer, expect, first_produced, first_unit,
-    forget_in_taken, free_unit_for, is_taken, is_to_be_read, put_left, result_to_be_read,
+    forget_in_taken, free_unit, is_to_be_read, put_left, result_to_be_read,
 };
-use crate::{Issued, Progress, Writer, Writers, unit_number};
+use crate::{Issued, Progress, Reservation, Writer, Writers};
 use instructions::{Digit, Instr, Refusal, Reg, Unit, results, sources};
 use std::marker::Model;
 
@@ -57,7 +57,7 @@ fn index_of(unit: Unit) -> usize
     ensures value { result ≡ unit_number unit }
     ensures range { result < 10 }
 {
-    usize::from(unit_number(unit))
+    unit as usize
 }
 
 /// The number of the channel, as a digit.
@@ -99,7 +99,7 @@ impl Board {
             (unit_for reservation_of self.old.issued (uses instr.now).unit) }
         ensures after { self.new ≡ reserved self.old instr.now result }
     {
-        let Some(unit) = free_unit_for(&self.units, instr) else {
+        let Some(unit) = free_unit(&self.units, instr) else {
             return Err(Refusal::UnitBusy(first_unit(instr)));
         };
         let results = results(instr);
@@ -111,7 +111,14 @@ impl Board {
         let sources = sources(instr);
         let number = self.last + 1;
         self.producers[index] = self.writers.of(sources.as_slice());
-        self.units[index] = Some(Issued::new(instr, unit, number));
+        self.units[index] = Some(Issued {
+            number,
+            reservation: Reservation {
+                instr: *instr,
+                unit,
+                progress: Progress::Reserved { has_read: false },
+            },
+        });
         expect(&mut self.writers, instr, unit);
         self.last = number;
         Ok((unit, number))
@@ -211,7 +218,7 @@ impl Board {
         ensures { result ≡ list_any (λ x. is_branch x.reservation) self.now.issued }
     {
         // Branch takes no other instructions than branches.
-        is_taken(&self.units, Unit::Branch)
+        self.units[Unit::Branch as usize].is_some()
     }
 
     /// Whether an instruction was issued whose reference hasn't come to its store event.
@@ -251,11 +258,10 @@ impl Board {
         let Some(issued) = slot else {
             return;
         };
-        let written = issued.reservation.instr.sets();
         self.units[index] = None;
         put_left(&mut self.channels, &issued);
-        // The unit is entered as the writer of these registers alone.
-        self.writers.set_any(written, &None);
+        // The unit is entered as the writer of this register alone.
+        self.writers.set(issued.reservation.instr.sets(), None);
         // Nobody was issued after the last one, so nobody waits for it.
         if issued.number != self.last {
             forget_in_taken(&self.units, &mut self.producers, &Writer::OfUnit(unit));
@@ -277,7 +283,7 @@ impl Board {
         let number = digit(channel);
         self.channels[index] = None;
         // The channel is entered as the writer of this register alone.
-        self.writers.set(Reg::X(number), None);
+        self.writers.set(Some(Reg::X(number)), None);
         if issued.number != self.last {
             forget_in_taken(&self.units, &mut self.producers, &Writer::OfChannel(number));
         }

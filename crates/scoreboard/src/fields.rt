@@ -2,12 +2,11 @@
 //! unit.
 
 ghost use Rattle.std.specs.Prelude.{option_to_list};
-ghost use Rattle.std.specs.Prelude.{IfSome, ◌≡◌, ◌≤◌, ◌<◌, ◌||◌, ◌∷◌, [], length, find, is_some};
+ghost use Rattle.std.specs.Prelude.{IfSome, ◌≡◌, ◌≤◌, ◌<◌, ◌||◌, length, find, is_some};
 ghost use Rattle.std.specs.List.{list_any};
 ghost use Rattle.instructions.specs.declared.instr.Unit.TheVariants.{Branch};
 ghost use Rattle.instructions.specs.Operands.{uses};
-ghost use Rattle.scoreboard.specs.Conflicts.{first_free};
-ghost use Rattle.scoreboard.specs.Units.{units_of, first_unit};
+ghost use Rattle.scoreboard.specs.Units.{first_unit};
 ghost use Rattle.scoreboard.specs.Reservations.{has_turn, has_store_turn};
 ghost use Rattle.scoreboard.specs.inner.Fields.{slot_at, in_increment, is_taken, slot_is, slot_reads};
 ghost use Rattle.scoreboard.specs.inner.Fields.{slot_has_turn, free_for, channels_with, writers_with, forget_in_taken};
@@ -19,7 +18,7 @@ ghost use Rattle.scoreboard.specs.inner.View.{first_produced};
 
 use crate::issued::channel;
 use crate::writer::forget_in;
-use crate::{Issued, Progress, Writer, Writers, unit_number};
+use crate::{Issued, Progress, Writer, Writers};
 use instructions::{Instr, Reg, Unit, UnitKind, unit_kind};
 
 /// Whether there is a writer among the three.
@@ -42,22 +41,21 @@ pub(crate) fn first_produced(registers: &[Reg], producers: &[Option<Writer>]) ->
     None
 }
 
-/// Whether the slot's instruction has a lower number and has still to read the register.
-#[tactic(auto, unfolding(crate::specs::inner::Fields::slot_reads))]
-fn slot_reads(slot: &Option<Issued>, number: u64, register: &Reg) -> bool
-    ensures { result ≡ slot_reads number register.now slot.now }
-{
-    match slot {
-        None => false,
-        Some(issued) => issued.number < number && issued.reservation.has_to_read(register),
-    }
-}
-
 /// Whether an instruction of a lower number has still to read the register.
+#[tactic(auto, unfolding(crate::specs::inner::Fields::slot_reads))]
 pub(crate) fn is_to_be_read(slots: &[Option<Issued>], number: u64, register: &Reg) -> bool
     ensures { result ≡ list_any (slot_reads number register.now) slots.now }
 {
-    slots.iter().any(|slot| slot_reads(slot, number, register))
+    slots.iter().any(
+        |slot|
+            ensures { result ≡ slot_reads number register.entry.now slot.now }
+        {
+            match slot {
+                Some(issued) => issued.number < number && issued.reservation.has_to_read(register),
+                None => false,
+            }
+        },
+    )
 }
 
 /// The register, if there is one and an instruction of a lower number has still to read it.
@@ -74,111 +72,71 @@ pub(crate) fn result_to_be_read(
     }
 }
 
-/// Whether the unit's instruction has a lower number and a reference that hasn't come to its store event.
-#[tactic(auto, unfolding(crate::specs::inner::Fields::slot_has_turn))]
-fn unit_has_turn(units: &[Option<Issued>], unit: Unit, number: u64) -> bool
-    requires { length units.now ≡ 10 }
-    ensures { result ≡ slot_has_turn number (slot_at units.now unit) }
-{
-    match &units[usize::from(unit_number(unit))] {
-        None => false,
-        Some(issued) => issued.number < number && issued.reservation.has_turn(),
-    }
-}
-
 /// Whether an instruction of a lower number has a reference that hasn't come to its store event. No unit but Branch
 /// and the Increment units takes such instructions.
+#[tactic(auto, unfolding(crate::specs::inner::Fields::slot_has_turn))]
 pub(crate) fn any_turn(units: &[Option<Issued>], number: u64) -> bool
     requires { length units.now ≡ 10 }
     ensures { result ≡ (slot_has_turn number (slot_at units.now Branch)
         || in_increment (slot_has_turn number) units.now) }
 {
-    unit_has_turn(units, Unit::Branch, number)
-        || unit_has_turn(units, Unit::Increment1, number)
-        || unit_has_turn(units, Unit::Increment2, number)
-}
-
-/// Whether the unit's instruction has a reference that hasn't come to its store event.
-#[tactic(auto, unfolding(crate::specs::inner::Fields::slot_is))]
-fn unit_has_reference(units: &[Option<Issued>], unit: Unit) -> bool
-    requires { length units.now ≡ 10 }
-    ensures { result ≡ slot_is has_turn (slot_at units.now unit) }
-{
-    match &units[usize::from(unit_number(unit))] {
+    let is_earlier = |slot: &Option<Issued>| match slot {
+        Some(issued) => issued.number < number && issued.reservation.has_turn(),
         None => false,
-        Some(issued) => issued.reservation.has_turn(),
-    }
+    };
+    is_earlier(&units[Unit::Branch as usize])
+        || is_earlier(&units[Unit::Increment1 as usize])
+        || is_earlier(&units[Unit::Increment2 as usize])
 }
 
 /// Whether an instruction has a reference that hasn't come to its store event. Only Branch and the Increment units take
 /// such instructions.
+#[tactic(auto, unfolding(crate::specs::inner::Fields::slot_is))]
 pub(crate) fn any_reference(units: &[Option<Issued>]) -> bool
     requires { length units.now ≡ 10 }
     ensures { result ≡ (slot_is has_turn (slot_at units.now Branch) || in_increment (slot_is has_turn) units.now) }
 {
-    unit_has_reference(units, Unit::Branch)
-        || unit_has_reference(units, Unit::Increment1)
-        || unit_has_reference(units, Unit::Increment2)
-}
-
-/// Whether the unit's instruction is an SA6 or SA7 that hasn't come to its store event.
-#[tactic(auto, unfolding(crate::specs::inner::Fields::slot_is))]
-fn unit_has_store(units: &[Option<Issued>], unit: Unit) -> bool
-    requires { length units.now ≡ 10 }
-    ensures { result ≡ slot_is has_store_turn (slot_at units.now unit) }
-{
-    match &units[usize::from(unit_number(unit))] {
+    let refers = |slot: &Option<Issued>| match slot {
+        Some(issued) => issued.reservation.has_turn(),
         None => false,
-        Some(issued) => issued.reservation.has_store_turn(),
-    }
+    };
+    refers(&units[Unit::Branch as usize])
+        || refers(&units[Unit::Increment1 as usize])
+        || refers(&units[Unit::Increment2 as usize])
 }
 
 /// Whether an instruction is an SA6 or SA7 that hasn't come to its store event. Only the Increment units take them.
+#[tactic(auto, unfolding(crate::specs::inner::Fields::slot_is))]
 pub(crate) fn any_store(units: &[Option<Issued>]) -> bool
     requires { length units.now ≡ 10 }
     ensures { result ≡ in_increment (slot_is has_store_turn) units.now }
 {
-    unit_has_store(units, Unit::Increment1) || unit_has_store(units, Unit::Increment2)
+    let has_store = |slot: &Option<Issued>| match slot {
+        Some(issued) => issued.reservation.has_store_turn(),
+        None => false,
+    };
+    has_store(&units[Unit::Increment1 as usize]) || has_store(&units[Unit::Increment2 as usize])
 }
 
-/// Whether the slot of the unit is taken.
-pub(crate) fn is_taken(units: &[Option<Issued>], unit: Unit) -> bool
+/// The lower-numbered free unit of the instruction's kind, None where it takes no unit or none of its kind is free.
+#[tactic(auto, unfolding(crate::proofs::Opened::free_of_kind))]
+pub(crate) fn free_unit(units: &[Option<Issued>], instr: &Instr) -> Option<Unit>
     requires { length units.now ≡ 10 }
-    ensures { result ≡ is_taken units.now unit }
+    ensures { result ≡ free_for (is_taken units.now) (uses instr.now).unit }
 {
-    units[usize::from(unit_number(unit))].is_some()
-}
-
-/// The unit, if its slot is free.
-#[tactic(auto, unfolding(crate::specs::Conflicts::first_free))]
-fn if_free(units: &[Option<Issued>], unit: Unit) -> Option<Unit>
-    requires { length units.now ≡ 10 }
-    ensures { result ≡ first_free (is_taken units.now) (unit ∷ []) }
-{
-    if is_taken(units, unit) {
-        None
-    } else {
+    let unit = match unit_kind(instr)? {
+        UnitKind::Branch => Unit::Branch,
+        UnitKind::Boolean => Unit::Boolean,
+        UnitKind::Shift => Unit::Shift,
+        UnitKind::LongAdd => Unit::LongAdd,
+        UnitKind::Divide => Unit::Divide,
+        UnitKind::Increment if units[Unit::Increment1 as usize].is_some() => Unit::Increment2,
+        UnitKind::Increment => Unit::Increment1,
+    };
+    if units[unit as usize].is_none() {
         Some(unit)
-    }
-}
-
-/// The lower-numbered free unit of a kind.
-#[tactic(auto, unfolding(crate::specs::Conflicts::first_free, crate::specs::Units::units_of))]
-fn free_unit(units: &[Option<Issued>], kind: UnitKind) -> Option<Unit>
-    requires { length units.now ≡ 10 }
-    ensures { result ≡ first_free (is_taken units.now) (units_of kind) }
-{
-    match kind {
-        UnitKind::Branch => if_free(units, Unit::Branch),
-        UnitKind::Boolean => if_free(units, Unit::Boolean),
-        UnitKind::Shift => if_free(units, Unit::Shift),
-        UnitKind::LongAdd => if_free(units, Unit::LongAdd),
-        UnitKind::Divide => if_free(units, Unit::Divide),
-        UnitKind::Increment => if is_taken(units, Unit::Increment1) {
-            if_free(units, Unit::Increment2)
-        } else {
-            Some(Unit::Increment1)
-        },
+    } else {
+        None
     }
 }
 
@@ -198,20 +156,8 @@ pub(crate) fn first_unit(instr: &Instr) -> Unit
     }
 }
 
-/// The unit that an instruction takes, None where none of its kind is free.
-#[tactic(auto, unfolding(crate::specs::inner::Fields::free_for))]
-pub(crate) fn free_unit_for(units: &[Option<Issued>], instr: &Instr) -> Option<Unit>
-    requires { length units.now ≡ 10 }
-    ensures { result ≡ free_for (is_taken units.now) (uses instr.now).unit }
-{
-    match unit_kind(instr) {
-        Some(kind) => free_unit(units, kind),
-        None => None,
-    }
-}
-
 /// An instruction that leaves its unit: its load, if it is one, goes to its channel.
-#[tactic(auto, unfolding(crate::specs::inner::Fields::channels_with))]
+#[tactic(auto, unfolding(crate::proofs::Opened::channels_after))]
 pub(crate) fn put_left(channels: &mut [Option<Issued>], issued: &Issued)
     requires { length channels.old ≡ 8 }
     ensures value { channels.new ≡ channels_with channels.old issued.now
@@ -219,8 +165,9 @@ pub(crate) fn put_left(channels: &mut [Option<Issued>], issued: &Issued)
     ensures channel { IfSome (channel_of (shape_of issued.now.reservation.instr)) (λ n. n < 8) }
 {
     if let Some(n) = channel(&issued.reservation.instr) {
-        let returning = Progress::Left { returning: Some(n) };
-        channels[usize::from(n.get())] = Some(issued.in_progress(returning));
+        let mut load = *issued;
+        load.reservation.progress = Progress::Left { returning: Some(n) };
+        channels[usize::from(n.get())] = Some(load);
     }
 }
 
@@ -233,9 +180,9 @@ pub(crate) fn expect(writers: &mut Writers, instr: &Instr, unit: Unit)
     ensures channel { IfSome (channel_of (shape_of instr.now)) (λ n. n < 8) }
 {
     if let Some(n) = channel(instr) {
-        writers.set(Reg::X(n), Some(Writer::OfChannel(n)));
+        writers.set(Some(Reg::X(n)), Some(Writer::OfChannel(n)));
     }
-    writers.set_any(instr.sets(), &Some(Writer::OfUnit(unit)));
+    writers.set(instr.sets(), Some(Writer::OfUnit(unit)));
 }
 
 /// No instruction in a unit waits for the writer any longer, for it has written. The producers of a free unit are

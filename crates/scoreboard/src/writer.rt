@@ -1,7 +1,6 @@
 ghost use Rattle.std.specs.Prelude.{◌≡◌, map};
-ghost use Rattle.scoreboard.specs.Writers.{same_writer, is_expected, forget};
+ghost use Rattle.scoreboard.specs.Writers.{is_expected, forget};
 
-use crate::is_same_unit;
 use instructions::{Digit, Unit};
 
 /// Who is to write a register (Thornton's result designators; that a load channel is one is this project's choice).
@@ -13,40 +12,16 @@ pub enum Writer {
     OfChannel(Digit),
 }
 
-/// Whether two writers are one.
-#[tactic(auto, unfolding(crate::specs::Writers::same_writer))]
-fn is_same(writer: &Writer, other: &Writer) -> bool
-    ensures { result ≡ same_writer writer.now other.now }
-{
-    match *writer {
-        Writer::OfUnit(unit) => match *other {
-            Writer::OfUnit(other) => is_same_unit(unit, other),
-            Writer::OfChannel(_) => false,
-        },
-        Writer::OfChannel(channel) => match *other {
-            Writer::OfUnit(_) => false,
-            Writer::OfChannel(other) => channel.get() == other.get(),
-        },
-    }
-}
-
-/// Whether it is this writer that is expected.
-#[tactic(auto, unfolding(crate::specs::Writers::is_expected))]
-fn is_expected(expected: &Option<Writer>, writer: &Writer) -> bool
-    ensures { result ≡ is_expected writer.now expected.now }
-{
-    match expected {
-        None => false,
-        Some(other) => is_same(other, writer),
-    }
-}
-
 /// None of these expects the writer any longer, for it has written.
+#[tactic(auto, unfolding(crate::proofs::Opened::expecting))]
 pub(crate) fn forget_in(expected: &mut [Option<Writer>], writer: &Writer)
     ensures { expected.new ≡ map (forget writer.now) expected.old }
 {
+    let is_expected = |found: &Option<Writer>|
+        ensures { result ≡ is_expected writer.entry.now found.now }
+    { found.is_some_and(|other| other == *writer) };
     for index in 0..expected.len() {
-        if is_expected(&expected[index], writer) {
+        if is_expected(&expected[index]) {
             expected[index] = None;
         }
     }

@@ -1,6 +1,6 @@
 ghost use Rattle.std.specs.Prelude.{option_to_list};
 ghost use Rattle.std.specs.Prelude.{◌≡◌, ◌≤◌, None, length, slice_get, IfSome, replicate};
-ghost use Rattle.scoreboard.specs.Writers.{IsRegister, writer_at, set_writer, writer_if, set_each};
+ghost use Rattle.scoreboard.specs.Writers.{IsRegister, writer_at, writer_if, set_each};
 ghost use Rattle.instructions.specs.Each.{Each};
 ghost use Rattle.scoreboard.specs.inner.View.{AreProducers};
 
@@ -30,25 +30,15 @@ impl Writers {
         }
     }
 
-    /// Who is to write the register.
-    #[tactic(auto, unfolding(crate::specs::Writers::writer_at))]
-    pub(crate) fn get(&self, register: Reg) -> Option<Writer>
-        ensures value { result ≡ writer_at self.now register }
-        ensures register { IsRegister register }
-    {
-        match register {
-            Reg::X(n) => self.x[usize::from(n.get())],
-            Reg::A(n) => self.a[usize::from(n.get())],
-            Reg::B(n) => self.b[usize::from(n.get())],
-        }
-    }
-
-    /// Sets who is to write the register.
+    /// Sets who is to write the register, if there is one.
     #[tactic(auto, unfolding(crate::specs::Writers::set_writer))]
-    pub(crate) fn set(&mut self, register: Reg, writer: Option<Writer>)
-        ensures value { self.new ≡ set_writer self.old register writer }
-        ensures register { IsRegister register }
+    pub(crate) fn set(&mut self, register: Option<Reg>, writer: Option<Writer>)
+        ensures value { self.new ≡ set_each self.old (option_to_list register) writer }
+        ensures registers { Each IsRegister (option_to_list register) }
     {
+        let Some(register) = register else {
+            return;
+        };
         match register {
             Reg::X(n) => self.x[usize::from(n.get())] = writer,
             Reg::A(n) => self.a[usize::from(n.get())] = writer,
@@ -56,38 +46,24 @@ impl Writers {
         }
     }
 
-    /// Who is to write the register at the index, None where the slice has no more.
-    #[tactic(auto, unfolding(crate::specs::Writers::writer_if))]
-    fn at(&self, registers: &[Reg], index: usize) -> Option<Writer>
-        ensures value { result ≡ writer_if (writer_at self.now) (slice_get registers.now index) }
-        ensures register { IfSome (slice_get registers.now index) IsRegister }
-    {
-        match registers.get(index) {
-            Some(register) => self.get(*register),
-            None => None,
-        }
-    }
-
     /// Who is to write each of the registers, of which there are at most three.
+    #[tactic(auto, unfolding(crate::proofs::Opened::writer_of_one))]
     pub(crate) fn of(&self, registers: &[Reg]) -> [Option<Writer>; 3]
         requires { length registers.now ≤ 3 }
         ensures writers { AreProducers (writer_at self.now) registers.now result }
         ensures registers { Each IsRegister registers.now }
     {
-        [
-            self.at(registers, 0),
-            self.at(registers, 1),
-            self.at(registers, 2),
-        ]
-    }
-
-    /// Sets who is to write the register, if there is one.
-    pub(crate) fn set_any(&mut self, register: Option<Reg>, writer: &Option<Writer>)
-        ensures value { self.new ≡ set_each self.old (option_to_list register) writer.now }
-        ensures registers { Each IsRegister (option_to_list register) }
-    {
-        if let Some(register) = register {
-            self.set(register, *writer);
-        }
+        let at = |index: usize|
+            ensures value { result ≡ writer_if (writer_at self.entry.now) (slice_get registers.entry.now index) }
+            ensures register { IfSome (slice_get registers.entry.now index) IsRegister }
+        {
+            match registers.get(index) {
+                Some(Reg::X(n)) => self.x[usize::from(n.get())],
+                Some(Reg::A(n)) => self.a[usize::from(n.get())],
+                Some(Reg::B(n)) => self.b[usize::from(n.get())],
+                None => None,
+            }
+        };
+        [at(0), at(1), at(2)]
     }
 }

@@ -3,20 +3,16 @@ use Rattle.std.proofs.Common.{Bool, sym, ap, ◌∙◌, cond}
 use Rattle.std.specs.Prelude.{Result, Ok, Err}
 use Rattle.instructions.specs.declared.refusal.Refusal.{Refusal}
 use Rattle.instructions.specs.declared.refusal.Refusal.TheVariants.{Nothing}
-use Rattle.hopper.specs.Queue.{Queue, free_answer}
+use Rattle.hopper.specs.Queue.{free_answer}
 use Rattle.hopper.proofs.hopper.Hopper.bank_free.Goals as goal
 
 abbrev answered : Bool → Result (Unit {0}) Refusal
 answered b = cond b (Ok tt) (Err Nothing)
 
-pub returns-then-is_busy-clause-answer : goal.returns-then-is_busy-clause-answer
+pub returns-then-is_bank_busy-clause-answer : goal.returns-then-is_bank_busy-clause-answer
 unfolding free_answer
-returns-then-is_busy-clause-answer c =
-    ap answered (sym c.if-is_busy.true ∙ c.is_busy.ensures)
-    ∙ ap (λ (q : Queue). free_answer q.busy c.args.bank) c.self.view_is
+returns-then-is_bank_busy-clause-answer c = ap answered (sym c.if-is_bank_busy.true ∙ c.is_bank_busy.ensures)
 
-pub returns-else-is_busy-clause-answer : goal.returns-else-is_busy-clause-answer
+pub returns-else-is_bank_busy-clause-answer : goal.returns-else-is_bank_busy-clause-answer
 unfolding free_answer
-returns-else-is_busy-clause-answer c =
-    ap answered (sym c.if-is_busy.false ∙ c.is_busy.ensures)
-    ∙ ap (λ (q : Queue). free_answer q.busy c.args.bank) c.self.view_is
+returns-else-is_bank_busy-clause-answer c = ap answered (sym c.if-is_bank_busy.false ∙ c.is_bank_busy.ensures)

@@ -26,18 +26,18 @@ returns-in_default c =
 pub invariant_of-self : goal.invariant_of-self
 invariant_of-self c =
     subst (λ cs. IsRight (set c.self.inside.units c.index_of-index.result None) cs c.forget_in_taken.new.producers
-    c.set_any.new.self c.self.inside.last) (sym c.put_left.ensures.value)
+    c.set.new.self c.self.inside.last) (sym c.put_left.ensures.value)
     (subst (λ ws. IsRight (set c.self.inside.units c.index_of-index.result None)
     (channels_with c.self.inside.channels c.in-Some.issued (channel_of (shape_of c.in-Some.issued.reservation.instr)))
     c.forget_in_taken.new.producers ws c.self.inside.last) (sym
-    (c.set_any.ensures.value ∙ ap (λ rs. set_each c.self.inside.writers rs None)
-    (sym c.sets-written.ensures)))
+    (c.set.ensures.value ∙ ap (λ rs. set_each c.self.inside.writers rs None)
+    (sym c.sets.ensures)))
     (released_right c.self.inside.units c.self.inside.channels c.self.inside.producers c.self.inside.writers
     c.self.inside.last c.args.unit c.index_of-index.result c.in-Some.issued c.self.invariant
     c.index_of-index.ensures.value
     (slot_any c.self.inside.units c.index_of-index.result c.index-self-index.result
     (omega (arith, c.index_of-index.ensures.range, c.self.invariant.all_units)) ∙ c.in-Some.is)
-    (subst (Each IsRegister) (sym c.sets-written.ensures) c.set_any.ensures.registers)
+    (subst (Each IsRegister) (sym c.sets.ensures) c.set.ensures.registers)
     c.put_left.ensures.channel
     c.forget_in_taken.new.producers
     (subst (AreForgotten (OfUnit c.args.unit) (c.self.inside.units ++ c.self.inside.channels)
@@ -50,18 +50,18 @@ invariant_of-self c =
 pub invariant_of-self-else-issued-self : goal.invariant_of-self-else-issued-self
 invariant_of-self-else-issued-self c =
     subst (λ cs. IsRight (set c.self.inside.units c.index_of-index.result None) cs c.self.inside.producers
-    c.set_any.new.self c.self.inside.last) (sym c.put_left.ensures.value)
+    c.set.new.self c.self.inside.last) (sym c.put_left.ensures.value)
     (subst (λ ws. IsRight (set c.self.inside.units c.index_of-index.result None)
     (channels_with c.self.inside.channels c.in-Some.issued (channel_of (shape_of c.in-Some.issued.reservation.instr)))
     c.self.inside.producers ws c.self.inside.last) (sym
-    (c.set_any.ensures.value ∙ ap (λ rs. set_each c.self.inside.writers rs None)
-    (sym c.sets-written.ensures)))
+    (c.set.ensures.value ∙ ap (λ rs. set_each c.self.inside.writers rs None)
+    (sym c.sets.ensures)))
     (released_right c.self.inside.units c.self.inside.channels c.self.inside.producers c.self.inside.writers
     c.self.inside.last c.args.unit c.index_of-index.result c.in-Some.issued c.self.invariant
     c.index_of-index.ensures.value
     (slot_any c.self.inside.units c.index_of-index.result c.index-self-index.result
     (omega (arith, c.index_of-index.ensures.range, c.self.invariant.all_units)) ∙ c.in-Some.is)
-    (subst (Each IsRegister) (sym c.sets-written.ensures) c.set_any.ensures.registers)
+    (subst (Each IsRegister) (sym c.sets.ensures) c.set.ensures.registers)
     c.put_left.ensures.channel
     c.self.inside.producers
     (released_last c.self.inside.units c.self.inside.channels c.self.inside.producers c.self.inside.writers

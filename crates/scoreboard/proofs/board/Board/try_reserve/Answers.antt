@@ -1,11 +1,11 @@
 -- An issue: both refusals, the new reservation, and the invariant and the list after it.
-use Rattle.std.proofs.Common.{◌+◌, ap, sym, ◌∙◌, Some, None, arith}
+use Rattle.std.proofs.Common.{◌+◌, ap, refl, sym, ◌∙◌, Some, None, arith}
 use Rattle.std.specs.Prelude.{Ok, Err}
 use Rattle.instructions.specs.declared.refusal.Refusal.TheVariants.{UnitBusy}
 use Rattle.instructions.specs.Operands.{uses}
 use Rattle.scoreboard.specs.Conflicts.{unit_for}
 use Rattle.scoreboard.specs.Issued.{reservation_of}
-use Rattle.scoreboard.specs.Answers.{Standing, reserve_answer, reserved}
+use Rattle.scoreboard.specs.Answers.{Standing, reserve_answer, reserved, new_issued}
 use Rattle.scoreboard.specs.inner.View.{standing_of}
 use Rattle.scoreboard.proofs.changing.Reserving.{first_found, unit_found, slot_found, kind_found, new_right, new_view}
 use Rattle.scoreboard.proofs.changing.Reserving.{reserved_answer, taken_answer, busy_answer, refused_after}
@@ -16,8 +16,8 @@ returns-in_default-clause-answer c =
     ap (λ u. Err (UnitBusy u)) c.first_unit.ensures
     ∙ busy_answer (standing_of c.self.inside.units c.self.inside.channels c.self.inside.last) c.args.instr.now _
     (unit_found c.self.inside.units c.self.inside.channels c.self.inside.producers c.self.inside.writers
-    c.self.inside.last (uses c.args.instr.now).unit c.free_unit_for.result None c.self.invariant
-    c.free_unit_for.ensures c.in_default.is)
+    c.self.inside.last (uses c.args.instr.now).unit c.free_unit.result None c.self.invariant
+    c.free_unit.ensures c.in_default.is)
     ∙ ap (λ (s : Standing). reserve_answer s c.args.instr.now (unit_for reservation_of s.issued (uses
     c.args.instr.now).unit))
     c.self.view_is
@@ -30,8 +30,8 @@ returns-in-Some-first_produced-clause-answer c =
     taken_answer (standing_of c.self.inside.units c.self.inside.channels c.self.inside.last) c.args.instr.now _
     c.in-Some.unit c.first_produced.result c.in-Some-first_produced.register
     (unit_found c.self.inside.units c.self.inside.channels c.self.inside.producers c.self.inside.writers
-    c.self.inside.last (uses c.args.instr.now).unit c.free_unit_for.result (Some c.in-Some.unit) c.self.invariant
-    c.free_unit_for.ensures c.in-Some.is)
+    c.self.inside.last (uses c.args.instr.now).unit c.free_unit.result (Some c.in-Some.unit) c.self.invariant
+    c.free_unit.ensures c.in-Some.is)
     (first_found c.self.inside.units c.self.inside.channels c.self.inside.producers c.self.inside.writers
     c.self.inside.last c.args.instr.now c.as_slice.result.now c.as_slice-2.result.now c.of-taken.result
     c.first_produced.result c.self.invariant c.of-taken.ensures.writers c.of-taken.ensures.registers
@@ -49,13 +49,14 @@ pub overflow_add-number : goal.overflow_add-number
 overflow_add-number c = let e = ap (λ (s : Standing). s.last) c.self.view_is in omega (arith, e, c.requires.number)
 
 pub invariant_of-self : goal.invariant_of-self
+unfolding new_issued
 invariant_of-self c =
     new_right c.self.inside.units c.self.inside.channels c.self.inside.producers c.self.inside.writers
     c.expect.new.writers c.self.inside.last (c.self.inside.last + 1) c.in-Some.unit c.index_of-index.result
-    c.args.instr.now c.as_slice-3.result.now c.of.result c.new.result c.self.invariant (omega arith)
+    c.args.instr.now c.as_slice-3.result.now c.of.result (new_issued c.args.instr.now c.in-Some.unit (c.self.inside.last + 1)) c.self.invariant (omega arith)
     c.index_of-index.ensures.value
-    (slot_found c.self.inside.units (uses c.args.instr.now).unit c.free_unit_for.result c.in-Some.unit
-    c.index_of-index.result c.free_unit_for.ensures c.in-Some.is c.index_of-index.ensures.value)
+    (slot_found c.self.inside.units (uses c.args.instr.now).unit c.free_unit.result c.in-Some.unit
+    c.index_of-index.result c.free_unit.ensures c.in-Some.is c.index_of-index.ensures.value)
     (c.as_slice-3.ensures.value ∙ c.sources-sources.ensures) c.of.ensures.writers c.of.ensures.registers
     c.expect.ensures.registers c.expect.ensures.channel
     (sym (first_found c.self.inside.units c.self.inside.channels c.self.inside.producers c.self.inside.writers
@@ -64,17 +65,17 @@ invariant_of-self c =
     (c.as_slice.ensures.value ∙ c.results-results.ensures.shape)
     (c.as_slice-2.ensures.value ∙ c.results-results.ensures.shape)
     c.first_produced.ensures) ∙ c.in_default-first_produced.is)
-    (kind_found c.self.inside.units (uses c.args.instr.now).unit c.free_unit_for.result c.in-Some.unit
-    c.free_unit_for.ensures c.in-Some.is)
-    c.new.ensures c.expect.ensures.value
+    (kind_found c.self.inside.units (uses c.args.instr.now).unit c.free_unit.result c.in-Some.unit
+    c.free_unit.ensures c.in-Some.is)
+    refl c.expect.ensures.value
 
 pub returns-clause-answer : goal.returns-clause-answer
 returns-clause-answer c =
     reserved_answer (standing_of c.self.inside.units c.self.inside.channels c.self.inside.last) c.args.instr.now _
     c.in-Some.unit (c.self.inside.last + 1)
     (unit_found c.self.inside.units c.self.inside.channels c.self.inside.producers c.self.inside.writers
-    c.self.inside.last (uses c.args.instr.now).unit c.free_unit_for.result (Some c.in-Some.unit) c.self.invariant
-    c.free_unit_for.ensures c.in-Some.is)
+    c.self.inside.last (uses c.args.instr.now).unit c.free_unit.result (Some c.in-Some.unit) c.self.invariant
+    c.free_unit.ensures c.in-Some.is)
     (sym (first_found c.self.inside.units c.self.inside.channels c.self.inside.producers c.self.inside.writers
     c.self.inside.last c.args.instr.now c.as_slice.result.now c.as_slice-2.result.now c.of-taken.result
     c.first_produced.result c.self.invariant c.of-taken.ensures.writers c.of-taken.ensures.registers
@@ -87,10 +88,11 @@ returns-clause-answer c =
     c.self.view_is
 
 pub returns-clause-after : goal.returns-clause-after
+unfolding new_issued
 returns-clause-after c =
     new_view c.self.inside.units c.self.inside.channels c.self.inside.producers c.self.inside.writers
     c.self.inside.last (c.self.inside.last + 1) c.in-Some.unit c.index_of-index.result c.args.instr.now
-    c.new.result c.self.invariant (omega arith) c.index_of-index.ensures.value
-    (slot_found c.self.inside.units (uses c.args.instr.now).unit c.free_unit_for.result c.in-Some.unit
-    c.index_of-index.result c.free_unit_for.ensures c.in-Some.is c.index_of-index.ensures.value) c.new.ensures
+    (new_issued c.args.instr.now c.in-Some.unit (c.self.inside.last + 1)) c.self.invariant (omega arith) c.index_of-index.ensures.value
+    (slot_found c.self.inside.units (uses c.args.instr.now).unit c.free_unit.result c.in-Some.unit
+    c.index_of-index.result c.free_unit.ensures c.in-Some.is c.index_of-index.ensures.value) refl
     ∙ ap (λ (s : Standing). reserved s c.args.instr.now (Ok (c.in-Some.unit, c.self.inside.last + 1))) c.self.view_is
