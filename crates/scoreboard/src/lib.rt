@@ -4,9 +4,10 @@
 //! `Reservation` is one issued instruction by itself. `Board` keeps all of them in fixed fields, by
 //! unit, register and load channel, and judges the three orders of conflict (docs/scoreboard.md).
 //!
-//! Callers rely on `Board::try_reserve`, `may_read`, `may_store` and `may_return`: each refuses
-//! exactly where `specs/Conflicts` finds a conflict in the list of the issued instructions. Begin
-//! with `Board` in `board`; `fields` has what it asks of its fields.
+//! Callers rely on `Board::try_reserve`, `may_read`, `may_store` and `may_return`: each refuses exactly where
+//! `specs/Conflicts` finds a conflict in the list of the issued instructions. `fields` has what it asks of its fields.
+//! Its tests are in `crates/core_tests/src/board_tests.rt` and `crates/core_tests/src/reservation_tests.rt`. Begin with
+//! `Board` in `board`.
 #![tactic(auto)]
 
 mod board;
