@@ -8,12 +8,13 @@ ghost use Rattle.scoreboard.specs.Reservations.{is_branch, has_turn, has_store_t
 ghost use Rattle.scoreboard.specs.Units.{unit_number};
 ghost use Rattle.scoreboard.specs.Issued.{reservation_of};
 ghost use Rattle.scoreboard.specs.Conflicts.{unit_for};
+ghost use Rattle.scoreboard.specs.inner.Fields.{slot_is};
 ghost use Rattle.scoreboard.specs.Answers.{held_in, returning_by, read_answer, store_answer, return_answer};
 ghost use Rattle.scoreboard.specs.Answers.{turn_answer, reserve_answer, reserved, read, left, gone, with_issued};
 
 use crate::fields::{
-    any_reference, any_store, any_turn, any_writer, expect, first_produced, first_unit,
-    forget_in_taken, free_unit, is_to_be_read, put_left, result_to_be_read,
+    any_reference, any_turn, any_writer, expect, first_produced, first_unit, forget_in_taken,
+    free_unit, is_to_be_read, put_left,
 };
 use crate::{Issued, Progress, Reservation, Writer, Writers};
 use instructions::{Digit, Instr, Refusal, Reg, Unit, results, sources};
@@ -164,10 +165,11 @@ impl Board {
         let Some(issued) = slot else {
             return Ok(());
         };
-        let written = issued.reservation.instr.sets();
-        match result_to_be_read(&self.units, issued.number, written) {
-            Some(register) => Err(Refusal::ResultHeld(register)),
-            None => Ok(()),
+        match issued.reservation.instr.sets() {
+            Some(register) if is_to_be_read(&self.units, issued.number, &register) => {
+                Err(Refusal::ResultHeld(register))
+            }
+            _ => Ok(()),
         }
     }
 
@@ -230,10 +232,21 @@ impl Board {
 
     /// Whether an SA6 or SA7 was issued that hasn't come to its store event. A return jump isn't counted: it
     /// holds Branch.
+    #[tactic(auto, unfolding(crate::specs::inner::Fields::slot_is))]
     pub fn has_store_to_come(&self) -> bool
         ensures { result ≡ list_any (λ x. has_store_turn x.reservation) self.now.issued }
     {
-        any_store(&self.units)
+        // Only the Increment units take such instructions.
+        let has_store = |slot: &Option<Issued>|
+            ensures { result ≡ slot_is has_store_turn slot.now }
+        {
+            match slot {
+                Some(issued) => issued.reservation.has_store_turn(),
+                None => false,
+            }
+        };
+        has_store(&self.units[Unit::Increment1 as usize])
+            || has_store(&self.units[Unit::Increment2 as usize])
     }
 
     /// The instruction in the unit has read its operands. The caller asks first whether it may.

@@ -1,13 +1,12 @@
 //! Questions to the fields of a board, and how an issue and a store event change the fields. A slot is the field of one
 //! unit.
 
-ghost use Rattle.std.specs.Prelude.{option_to_list};
-ghost use Rattle.std.specs.Prelude.{IfSome, ◌≡◌, ◌≤◌, ◌<◌, ◌||◌, length, find, is_some};
+ghost use Rattle.std.specs.Prelude.{IfSome, ◌≡◌, ◌≤◌, ◌<◌, ◌||◌, length, is_some};
 ghost use Rattle.std.specs.List.{list_any};
 ghost use Rattle.instructions.specs.declared.instr.Unit.TheVariants.{Branch};
 ghost use Rattle.instructions.specs.Operands.{uses};
 ghost use Rattle.scoreboard.specs.Units.{first_unit};
-ghost use Rattle.scoreboard.specs.Reservations.{has_turn, has_store_turn};
+ghost use Rattle.scoreboard.specs.Reservations.{has_turn};
 ghost use Rattle.scoreboard.specs.inner.Fields.{slot_at, in_increment, is_taken, slot_is, slot_reads};
 ghost use Rattle.scoreboard.specs.inner.Fields.{slot_has_turn, free_for, channels_with, writers_with, forget_in_taken};
 ghost use Rattle.instructions.specs.Shape.{shape_of, sets_of};
@@ -58,20 +57,6 @@ pub(crate) fn is_to_be_read(slots: &[Option<Issued>], number: u64, register: &Re
     )
 }
 
-/// The register, if there is one and an instruction of a lower number has still to read it.
-pub(crate) fn result_to_be_read(
-    slots: &[Option<Issued>],
-    number: u64,
-    register: Option<Reg>,
-) -> Option<Reg>
-    ensures { result ≡ find (λ r. list_any (slot_reads number r) slots.now) (option_to_list register) }
-{
-    match register {
-        Some(register) if is_to_be_read(slots, number, &register) => Some(register),
-        _ => None,
-    }
-}
-
 /// Whether an instruction of a lower number has a reference that hasn't come to its store event. No unit but Branch
 /// and the Increment units takes such instructions.
 #[tactic(auto, unfolding(crate::specs::inner::Fields::slot_has_turn))]
@@ -103,19 +88,6 @@ pub(crate) fn any_reference(units: &[Option<Issued>]) -> bool
     refers(&units[Unit::Branch as usize])
         || refers(&units[Unit::Increment1 as usize])
         || refers(&units[Unit::Increment2 as usize])
-}
-
-/// Whether an instruction is an SA6 or SA7 that hasn't come to its store event. Only the Increment units take them.
-#[tactic(auto, unfolding(crate::specs::inner::Fields::slot_is))]
-pub(crate) fn any_store(units: &[Option<Issued>]) -> bool
-    requires { length units.now ≡ 10 }
-    ensures { result ≡ in_increment (slot_is has_store_turn) units.now }
-{
-    let has_store = |slot: &Option<Issued>| match slot {
-        Some(issued) => issued.reservation.has_store_turn(),
-        None => false,
-    };
-    has_store(&units[Unit::Increment1 as usize]) || has_store(&units[Unit::Increment2 as usize])
 }
 
 /// The lower-numbered free unit of the instruction's kind, None where it takes no unit or none of its kind is free.
