@@ -24,11 +24,11 @@ use std::time::Clock;
 type Notes = ArrayVec<Option<Note>, 7>;
 
 /// How many instructions are issued while the lock is held once: passes alone would hold it for ever.
-const MOST_ISSUES: u32 = 64;
+const ISSUES_OF_A_HOLD: u32 = 64;
 
 /// How a run goes on after a step.
 #[derive(Clone, Copy, Drop)]
-enum Progress {
+enum Next {
     /// Something was done.
     GoesOn,
     /// Nothing could be done yet.
@@ -110,7 +110,7 @@ fn exchange<K: Naming, R: Wait>(
     shared: &Shared<K>,
     seen: &mut Seen<K>,
     pending: &mut PendingRequests<'_>,
-) -> Result<Progress, Refusal>
+) -> Result<Next, Refusal>
     ensures onward { GoesOnFrom seen.old seen.new }
 {
     let following = package(pending.requests.next_due());
@@ -118,11 +118,11 @@ fn exchange<K: Naming, R: Wait>(
         Ok(Ok(())) => {
             pending.requests.exchanged();
             let _ = pending.requests.take_due();
-            Ok(Progress::GoesOn)
+            Ok(Next::GoesOn)
         }
         Ok(Err(refusal)) => Err(refusal),
-        Err(Refusal::NotDrained) => Ok(Progress::Waits),
-        Err(Refusal::MidWord) => Ok(Progress::Ends),
+        Err(Refusal::NotDrained) => Ok(Next::Waits),
+        Err(Refusal::MidWord) => Ok(Next::Ends),
         Err(refusal) => Err(refusal),
     }
 }
@@ -137,7 +137,7 @@ fn finish<K: Naming, R: Wait>(
     shared: &Shared<K>,
     seen: &mut Seen<K>,
     pending: &mut PendingRequests<'_>,
-) -> Result<Progress, Refusal>
+) -> Result<Next, Refusal>
     ensures onward { GoesOnFrom seen.old seen.new }
 {
     // This comes first: a thread that asks counts afterwards, so where none is left all were asked for.
@@ -147,11 +147,11 @@ fn finish<K: Naming, R: Wait>(
         progress => return progress,
     }
     if pending.requests.due().is_some() {
-        Ok(Progress::GoesOn)
+        Ok(Next::GoesOn)
     } else if !are_left && shared.drained(rt) {
-        Ok(Progress::Ends)
+        Ok(Next::Ends)
     } else {
-        Ok(Progress::Waits)
+        Ok(Next::Waits)
     }
 }
 
@@ -168,7 +168,7 @@ fn issue_on<K: Naming>(
 ) -> Result<Option<Refusal>, Refusal>
     ensures onward { GoesOnFrom seen.old seen.new }
 {
-    for _ in 0..MOST_ISSUES {
+    for _ in 0..ISSUES_OF_A_HOLD {
         ask_due(machine, seen, pending)?;
         match machine.issue(seen) {
             Ok(note) => {
@@ -220,14 +220,14 @@ fn step<K: Naming, R: Wait>(
     seen: &mut Seen<K>,
     pending: &mut PendingRequests<'_>,
     lanes: &mut WorkerLanes<'_>,
-) -> Result<Progress, Refusal>
+) -> Result<Next, Refusal>
     ensures onward { GoesOnFrom seen.old seen.new }
 {
     match issue_and_send(rt, shared, seen, pending, lanes)? {
-        None => Ok(Progress::GoesOn),
+        None => Ok(Next::GoesOn),
         Some(Refusal::ExchangeWaiting) => exchange(rt, shared, seen, pending),
         Some(refusal) if ends_run(&refusal) => finish(rt, shared, seen, pending),
-        Some(_) => Ok(Progress::Waits),
+        Some(_) => Ok(Next::Waits),
     }
 }
 
@@ -328,12 +328,12 @@ pub fn conduct<K: Naming, R: Threads + Wait + Clock>(
     for _ in rt.forever() {
         let count = signals.issuing.count();
         match step(rt, shared, seen, &mut pending, lanes)? {
-            Progress::GoesOn => {}
-            Progress::Waits => {
+            Next::GoesOn => {}
+            Next::Waits => {
                 wait.until_raised(rt, &signals.issuing, count);
                 pace.waited(rt);
             }
-            Progress::Ends => return Ok(()),
+            Next::Ends => return Ok(()),
         }
     }
     unreachable!()

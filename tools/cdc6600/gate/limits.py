@@ -299,7 +299,7 @@ BITS = nothing("it is a pattern of bits, and no limit")
 
 LIMITS = {
     # A run by threads.
-    ("unit_workers/src/issuing.rt", "MOST_ISSUES"): both(straight("straight"), asked_after("request-after-64")),
+    ("unit_workers/src/issuing.rt", "ISSUES_OF_A_HOLD"): both(straight("straight"), asked_after("request-after-64")),
     ("unit_workers/src/issuing.rt", "ArrayVec<Option<Note>, "): burst("seven-units"),
     ("unit_queue/src/ends.rt", "::ruled("): test("thread_tests/src/queue_tests.rt", "full_then_room_then_closed"),
     ("unit_serving/src/memory_worker.rt", "for place in .."): references("all-rows"),
