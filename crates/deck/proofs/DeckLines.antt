@@ -1,6 +1,6 @@
 -- What reading a line does to the reading of a deck.
 use Rattle.std.proofs.Common.{◌≡◌, ℕ, ◌+◌, ◌<◌, ◌≤◌, true, false, cond, ltb, List, [], ◌∷◌, length, Option, None}
-use Rattle.std.proofs.Common.{Some, Ok, refl}
+use Rattle.std.proofs.Common.{Some, Ok, Result, refl}
 use Rattle.std.proofs.Common.{sym, inl, inr, Err}
 use Rattle.std.proofs.Common.{ap, ◌∙◌, ◌++◌, drop, subst, arith}
 use Rattle.std.proofs.lemmas.Bool.{lt-ltb, le-ltb}
@@ -9,10 +9,10 @@ use Rattle.device_text.specs.Device.{Moves}
 use Rattle.device_text.specs.Line.{IsText, LineTaken, left_after, lines_of}
 use Rattle.device_text.specs.declared.line.LineRead.TheVariants.{Whole, Long, Nothing}
 use Rattle.device_text.proofs.Moving.{Moves-refl, Moves-weaker, Moves-trans}
-use Rattle.deck.specs.Deck.{Good, Bad, deck, goes_on, read_from, read_on}
-use Rattle.deck.specs.Deck.{applied_line}
-use Rattle.deck.specs.declared.deck.Step.TheVariants.{Ends}
-use Rattle.deck.specs.Reading.{HasNoLine, Refuses, GivesNoDeck}
+use Rattle.deck.specs.Deck.{Ends, Good, Bad, begun, deck, goes_on, read_from, read_on}
+use Rattle.deck.specs.Deck.{applied_first, applied_line}
+use Rattle.std.specs.Prelude.{MatchResult, IfOk, IfErr}
+use Rattle.deck.specs.Reading.{HasNoLine, Refuses, GivesNoDeck, is_cut, is_of_reading, is_read_failure}
 use Rattle.deck.specs.declared.deck.Draft.{Draft}
 use Rattle.deck.specs.declared.deck.Deck.{Deck}
 use Rattle.instructions.specs.declared.refusal.DeckFault.{DeckFault}
@@ -151,3 +151,36 @@ lines_over a b n d e told =
       refl,
       p ∙ all_read n d ys (lines_of ys) (omega arith) ∙ ap (λ m. Bad m faults.Lines ys) e,
     )) told
+
+-- a first line that isn't long
+first_applied : (text : List ℕ) → length text ≤ 200 → applied_line None text ≡ applied_first text
+first_applied text short = let fits : ltb 200 (length text) ≡ false = le-ltb _ _ short in rw fits refl
+
+pub first_fault : (a b : Option (List ℕ)) (text : List ℕ) (fault : DeckFault) → length text ≤ 200
+    → Moves a b (Taken text) → applied_first text ≡ Err fault
+    → Moves a b (λ xs ys. GivesNoDeck (refusals.Deck 1 fault) (deck xs) ys)
+first_fault a b text fault short m h =
+    line_fault a a b 1 None text fault (omega arith) short (read_nothing a) m (first_applied text short ∙ h)
+
+-- the first line begins a deck, unless memory runs out
+pub first_begun : (a b : Option (List ℕ)) (text : List ℕ) (n : ℕ) (r : Result Draft Refusal) → length text ≤ 200
+    → Moves a b (Taken text) → applied_first text ≡ goes_on (begun n)
+    → MatchResult r (λ draft. draft ≡ begun n) (λ refusal. refusal ≡ refusals.OutOfMemory)
+    → IfOk r (λ draft. Moves a b (ReadsOn 2 (Some draft)))
+first_begun a b text n (Ok draft) short m h made =
+    line_goes a a b 1 None text draft (omega arith) short (read_nothing a) m
+    (first_applied text short ∙ h ∙ ap goes_on (sym made))
+first_begun a b text n (Err e) short m h made = tt
+
+pub first_unmade : (a b : Option (List ℕ)) (text : List ℕ) (n : ℕ) (r : Result Draft Refusal)
+    → Moves a b (Taken text)
+    → MatchResult r (λ draft. draft ≡ begun n) (λ refusal. refusal ≡ refusals.OutOfMemory)
+    → IfErr r (λ e. Moves a b (λ xs ys. GivesNoDeck e (deck xs) ys))
+first_unmade a b text n (Ok draft) m made = tt
+first_unmade a b text n (Err e) m made = rw made (line_unmade a a b 1 None text (read_nothing a) m)
+
+pub made_of_reading : (n : ℕ) (r : Result Draft Refusal)
+    → MatchResult r (λ draft. draft ≡ begun n) (λ refusal. refusal ≡ refusals.OutOfMemory)
+    → (is_of_reading r ≡ true) × (is_read_failure r ≡ false)
+made_of_reading n (Ok draft) made = (refl, refl)
+made_of_reading n (Err e) made = rw made (refl, refl)

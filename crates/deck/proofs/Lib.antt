@@ -1,3 +1,4 @@
 pub mod Fields
 pub mod DeckLines
 pub mod Unread
+pub mod Sizes

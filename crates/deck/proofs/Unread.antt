@@ -4,14 +4,13 @@ use Rattle.std.proofs.Common.{◌++◌, length, drop, Option, None, Some, Ok, Er
 use Rattle.std.proofs.Common.{inl, inr, ap, ◌∙◌}
 use Rattle.std.proofs.lemmas.Bool.{ne_eqb}
 use Rattle.std.proofs.lemmas.List.Elements.{All-head, All-tail}
-use Rattle.deck.specs.Deck.{Reading, Bad, LineOutcome, deck, read_from, read_on}
+use Rattle.deck.specs.Deck.{Goes, Ends, Reading, Bad, LineOutcome, deck, read_from, read_on}
 use Rattle.deck.specs.Deck.{applied_line, applied_to, refuse_if}
 use Rattle.device_text.specs.Device.{Moves}
 use Rattle.device_text.specs.Line.{IsText, ReadsPart, left_after, lines_of, onto}
 use Rattle.deck.specs.Reading.{EndsWithin, Refuses, is_cut, is_read_failure}
 use Rattle.deck.specs.declared.deck.Deck.{Deck}
 use Rattle.deck.specs.declared.deck.Draft.{Draft}
-use Rattle.deck.specs.declared.deck.Step.TheVariants.{Goes, Ends}
 use Rattle.instructions.specs.declared.refusal.Refusal.{Refusal}
 use Rattle.instructions.specs.declared.refusal.DeckFault.TheVariants as faults
 use Rattle.deck.proofs.DeckLines.{ReadsOn, Taken}

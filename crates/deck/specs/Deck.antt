@@ -12,8 +12,6 @@ use Rattle.device_text.specs.Text.{fields_of, from_space, number_of}
 use Rattle.deck.specs.Code.{items_of, parcels_in, word_of}
 use Rattle.deck.specs.declared.deck.Deck.{Deck}
 use Rattle.deck.specs.declared.deck.Draft.{Draft}
-use Rattle.deck.specs.declared.deck.Step.{Step}
-use Rattle.deck.specs.declared.deck.Step.TheVariants.{Goes, Ends}
 use Rattle.deck.specs.declared.parsing.Line.{Line}
 use Rattle.deck.specs.declared.parsing.Line.TheVariants as says
 use Rattle.instructions.specs.declared.refusal.DeckFault.{DeckFault}
@@ -52,6 +50,11 @@ parsed_line text =
     if begins_with (codes "code") (fields_of text) then parsed_code (from_space text)
     else parsed_fields (fields_of text)
 
+-- a deck after a line: it goes on, or it is whole
+pub data Step : Type 0 where
+  Goes : Draft → Step
+  Ends : Deck → Step
+
 -- what a line does to a deck: it goes on, it is whole, or the line is at fault
 abbrev pub LineOutcome : Type 0
 LineOutcome = Result Step DeckFault
@@ -84,10 +87,14 @@ applied_core (says.Core w) =
     with_number (number_of 10 6 w) (λ n. refuse_if (is_no_size n) faults.Size (goes_on (begun n)))
 applied_core other = Err faults.Unknown
 
+-- the whole deck, whose first exchange package is at n
+abbrev pub whole : Draft → ℕ → Deck
+whole d n = record { image = d.image; start = n; asks = d.asks; free = d.free; shows = d.shows }
+
 -- what an `end` line does: the deck is whole, or the fault is `no start`
 abbrev pub ended : Draft → Option ℕ → LineOutcome
 ended d None = Err faults.NoStart
-ended d (Some n) = Ok (Ends (record { image = d.image; start = n; asks = d.asks; free = d.free; shows = d.shows }))
+ended d (Some n) = Ok (Ends (whole d n))
 
 -- how many words memory has
 abbrev pub size : Draft → ℕ

@@ -1,11 +1,12 @@
 -- What reading a deck answers.
 -- Source: ours.
 use Rattle.std.specs.Prelude.{◌≡◌, ℕ, ◌<◌, ◌≤◌, List, [], ◌∷◌, length, drop, Bool, true, false, Result, Ok, Err, ⊤, ◌⊎◌}
-use Rattle.deck.specs.Deck.{LineOutcome, Reading, Good, Bad}
+use Rattle.relocation.specs.Relocation.{is_memory_size}
+use Rattle.deck.specs.Deck.{LineOutcome, Reading, Good, Bad, Ends, begun, goes_on, whole}
 use Rattle.deck.specs.declared.deck.Deck.{Deck}
-use Rattle.deck.specs.declared.deck.Step.{Step}
-use Rattle.deck.specs.declared.deck.LineError.{LineError}
-use Rattle.deck.specs.declared.deck.LineError.TheVariants as line_errors
+use Rattle.deck.specs.declared.deck.Draft.{Draft}
+use Rattle.deck.specs.declared.deck.Flow.{Flow}
+use Rattle.deck.specs.declared.deck.Flow.TheVariants as flows
 use Rattle.instructions.specs.declared.refusal.DeckFault.{DeckFault}
 use Rattle.instructions.specs.declared.refusal.DeckFault.TheVariants as faults
 use Rattle.instructions.specs.declared.refusal.Refusal.{Refusal}
@@ -40,15 +41,16 @@ Refuses n refusal xs ys lines =
     ((fault : DeckFault) × (refusal ≡ refusals.Deck n fault) × HasNoLine fault xs ys lines)
     ⊎ (refusal ≡ refusals.Read)
 
--- a fault is the one that the line has; nothing is claimed where memory ran out
-abbrev pub AnswersErr : LineError → LineOutcome → Type 0
-AnswersErr (line_errors.Faulty fault) applied = applied ≡ Err fault
-AnswersErr line_errors.OutOfMemory applied = ⊤
+-- what a line did to a deck that was `before` it and is `after` it. At a fault the deck stays as it was
+abbrev pub Answers : Result Flow DeckFault → Draft → Draft → LineOutcome → Type 0
+Answers (Ok flows.Goes) before after outcome = outcome ≡ goes_on after
+Answers (Ok (flows.Ends start)) before after outcome = (outcome ≡ Ok (Ends (whole before start))) × (after ≡ before)
+Answers (Err fault) before after outcome = (outcome ≡ Err fault) × (after ≡ before)
 
--- the answer for a line is what the line does to a deck, unless memory ran out
-abbrev pub Answers : Result Step LineError → LineOutcome → Type 0
-Answers (Ok step) applied = applied ≡ Ok step
-Answers (Err e) applied = AnswersErr e applied
+-- the size of memory that the first line gives, or its fault
+abbrev pub Begins : Result ℕ DeckFault → LineOutcome → Type 0
+Begins (Ok n) outcome = (is_memory_size n ≡ true) × (outcome ≡ goes_on (begun n))
+Begins (Err fault) outcome = outcome ≡ Err fault
 
 -- the bytes after the deck, where it has an end, are at most so many
 abbrev pub EndsWithin : ℕ → Reading → Type 0

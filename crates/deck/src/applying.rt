@@ -1,279 +1,242 @@
-ghost use Rattle.std.specs.Prelude.{◌≡◌, ◌≤◌, Err, length, MatchOption};
-ghost use Rattle.deck.specs.Deck.{goes_on, applied, applied_core, applied_first, applied_line, with_request};
+ghost use Rattle.std.specs.Prelude.{◌≡◌, ◌≤◌, ◌<◌, ◌+◌, ℕ, Err, Some, length, true, false, MatchResult, OnOk};
+ghost use Rattle.instructions.specs.declared.refusal.Refusal.TheVariants.{OutOfMemory};
+ghost use Rattle.instructions.specs.declared.refusal.DeckFault.TheVariants.{Size};
+ghost use Rattle.device_text.specs.Text.{number_of};
+ghost use Rattle.relocation.specs.Relocation.{is_memory_size};
+ghost use Rattle.deck.specs.Deck.{LineOutcome, goes_on, applied, applied_core, applied_first, applied_line, begun, is_no_size};
+ghost use Rattle.deck.specs.Deck.{refuse_if, whole, with_number, with_request};
 ghost use Rattle.deck.specs.declared.deck.Draft.{Draft as SomeDraft};
 ghost use Rattle.deck.specs.declared.parsing.Line.TheVariants as says;
+ghost use Rattle.deck.specs.Reading.{Answers, Begins};
 ghost use Rattle.deck.specs.inner.ParsedLine.{line_with_bytes};
-ghost use Rattle.deck.specs.Reading.{Answers};
 
 use crate::Image;
 use crate::coding::{parcels_in, word_of};
-use crate::deck::{Ask, Deck, Draft, LineError, Show, Step};
-use crate::line_list::LineList;
+use crate::deck::{Ask, Deck, Draft, Flow, Show};
+use crate::line_list::{LINES_OF_A_KIND, LineList};
 use crate::parsing::{Line, parse_line};
-use device_text::{first_field, number};
-use instruction_table::DeckFault;
+use device_text::{first_part, number};
+use instruction_table::{DeckFault, Refusal};
 use relocation::{LARGEST, SMALLEST, package_fits};
 use std::alloc::Global;
 use word60::{Word18, Word60};
 
-/// How many `show` lines a deck has at most.
-const SHOWS: usize = 64;
-
-/// How many `ask` lines a deck has at most, with a number of instructions or free.
-const ASKS: usize = 64;
-
-/// How many instructions an `ask` line waits for at most.
-const MOST_ISSUES: u64 = 10_000_000;
+/// The most instructions that an `ask` line waits for.
+const MOST_INSTRUCTIONS: u64 = 10_000_000;
 
 /// How many parcels a word has.
 const PARCELS: usize = 4;
 
-/// A `core` line as the first line.
-fn core_line(alloc: Global, line: Line<&[u8]>) -> Result<Step, LineError>
-    ensures { Answers result (applied_core (line_with_bytes line.entry)) }
+/// The number of words that a `core` line gives memory.
+///
+/// # Errors
+/// `Number`, and `Size` if it isn't 32 to 131,072.
+fn memory_size(digits: &[u8]) -> Result<u32, DeckFault>
+    ensures { MatchResult result
+        (λ size. (number_of 10 6 digits.now ≡ Some size) × (is_no_size size ≡ false))
+        (λ fault. (next : ℕ → LineOutcome) → with_number (number_of 10 6 digits.now)
+        (λ n. refuse_if (is_no_size n) Size (next n)) ≡ Err fault) }
+{
+    let size = number(10, 6, digits).ok_or(DeckFault::Number)? as u32;
+    if size < SMALLEST || size > LARGEST {
+        return Err(DeckFault::Size);
+    }
+    Ok(size)
+}
+
+/// The number of words of memory that a `core` line gives as the first line.
+///
+/// # Errors
+/// `Unknown`, `Number` and `Size`.
+#[tactic(auto, using(crate::proofs::Sizes::begins_sized))]
+fn core_size(line: Line<&[u8]>) -> Result<u32, DeckFault>
+    ensures { Begins result (applied_core (line_with_bytes line.entry)) }
 {
     let Line::Core(size) = line else {
-        return Err(LineError::Faulty(DeckFault::Unknown));
+        return Err(DeckFault::Unknown);
     };
-    let Some(size) = number(10, 6, size) else {
-        return Err(LineError::Faulty(DeckFault::Number));
-    };
-    let size = size as u32;
-    if size < SMALLEST || size > LARGEST {
-        return Err(LineError::Faulty(DeckFault::Size));
-    }
-    let Ok(image) = Image::new(alloc, size) else {
-        return Err(LineError::OutOfMemory);
-    };
-    Ok(Step::Goes(Draft {
-        image,
-        next_address: 0,
-        start: None,
-        asks: LineList::new(alloc),
-        free: LineList::new(alloc),
-        shows: LineList::new(alloc),
-    }))
+    memory_size(size)
 }
 
-/// Another `core` line.
-fn core_again(draft: Draft, size: &[u8]) -> Result<Step, LineError>
-    ensures { Answers result (applied draft (says.Core size.now)) }
+/// The number of words of memory, from the text of the first line.
+///
+/// # Errors
+/// `First`, `Unknown`, `Number` and `Size`.
+pub fn first_size(text: &[u8]) -> Result<u32, DeckFault>
+    ensures { Begins result (applied_first text.now) }
 {
-    Err(LineError::Faulty(match number(10, 6, size) {
-        None => DeckFault::Number,
-        Some(size) if size < u64::from(SMALLEST) || size > u64::from(LARGEST) => DeckFault::Size,
-        Some(_) => DeckFault::Repeated,
-    }))
+    if first_part(text, b' ').0 != b"core".as_slice() {
+        return Err(DeckFault::First);
+    }
+    core_size(parse_line(text))
 }
 
-/// An `at` line.
-fn at_line(mut draft: Draft, address: &[u8]) -> Result<Step, LineError>
-    ensures { Answers result (applied draft (says.At address.now)) }
-{
-    let Some(address) = number(8, 6, address) else {
-        return Err(LineError::Faulty(DeckFault::Number));
-    };
-    let address = address as u32;
-    if address >= draft.image.size() {
-        return Err(LineError::Faulty(DeckFault::Range));
+impl Draft {
+    /// A deck with a memory of so many words, and nothing else yet.
+    ///
+    /// # Errors
+    /// `OutOfMemory`.
+    pub fn new(alloc: Global, words: u32) -> Result<Draft, Refusal>
+        requires { is_memory_size words ≡ true }
+        ensures { MatchResult result (λ draft. draft ≡ begun words) (λ refusal. refusal ≡ OutOfMemory) }
+    {
+        Ok(Draft {
+            image: Image::new(alloc, words)?,
+            next_address: 0,
+            start: None,
+            asks: LineList::new(alloc)?,
+            free: LineList::new(alloc)?,
+            shows: LineList::new(alloc)?,
+        })
     }
-    draft.next_address = address;
-    Ok(Step::Goes(draft))
-}
 
-/// A `word` line.
-fn word_line(mut draft: Draft, value: &[u8]) -> Result<Step, LineError>
-    ensures { Answers result (applied draft (says.Word value.now)) }
-{
-    let Some(word) = Word60::from_octal(value) else {
-        return Err(LineError::Faulty(DeckFault::Number));
-    };
-    if draft.next_address >= draft.image.size() {
-        return Err(LineError::Faulty(DeckFault::Range));
-    }
-    draft.image.put(draft.next_address, word);
-    draft.next_address += 1;
-    Ok(Step::Goes(draft))
-}
-
-/// A `code` line.
-fn code_line(mut draft: Draft, texts: &[u8]) -> Result<Step, LineError>
-    requires { length texts.now ≤ 200 }
-    ensures { Answers result (applied draft (says.Code texts.now)) }
-{
-    if draft.next_address >= draft.image.size() {
-        return Err(LineError::Faulty(DeckFault::Range));
-    }
-    let Some(parcels) = parcels_in(texts) else {
-        return Err(LineError::Faulty(DeckFault::Instruction));
-    };
-    if parcels.len() > PARCELS {
-        return Err(LineError::Faulty(DeckFault::Full));
-    }
-    draft
-        .image
-        .put(draft.next_address, word_of(parcels.as_slice()));
-    draft.next_address += 1;
-    Ok(Step::Goes(draft))
-}
-
-/// A `start` line.
-fn start_line(mut draft: Draft, address: &[u8]) -> Result<Step, LineError>
-    ensures { Answers result (applied draft (says.Start address.now)) }
-{
-    let Some(address) = number(8, 6, address) else {
-        return Err(LineError::Faulty(DeckFault::Number));
-    };
-    if draft.start.is_some() {
-        return Err(LineError::Faulty(DeckFault::Repeated));
-    }
-    let address = address as u32;
-    if !package_fits(address, draft.image.size()) {
-        return Err(LineError::Faulty(DeckFault::Package));
-    }
-    draft.start = Some(address);
-    Ok(Step::Goes(draft))
-}
-
-/// A `show` line.
-fn show_line(mut draft: Draft, first: &[u8], last: &[u8]) -> Result<Step, LineError>
-    ensures { Answers result (applied draft (says.Show first.now last.now)) }
-{
-    let Some(first) = number(8, 6, first) else {
-        return Err(LineError::Faulty(DeckFault::Number));
-    };
-    let Some(last) = number(8, 6, last) else {
-        return Err(LineError::Faulty(DeckFault::Number));
-    };
-    if draft.shows.len() >= SHOWS {
-        return Err(LineError::Faulty(DeckFault::Many));
-    }
-    if last as u32 >= draft.image.size() || last < first {
-        return Err(LineError::Faulty(DeckFault::Range));
-    }
-    let show = Show {
-        first: Word18::from_bits(first as u32),
-        last: Word18::from_bits(last as u32),
-    };
-    match draft.shows.push(show) {
-        Ok(()) => Ok(Step::Goes(draft)),
-        Err(_) => Err(LineError::OutOfMemory),
-    }
-}
-
-/// Why a deck can't have one more request, for the package at an absolute address.
-fn request_fault(draft: &Draft, at: u32) -> Option<DeckFault>
-    ensures { MatchOption result ((next : SomeDraft) → with_request draft.now at next ≡ goes_on next)
-        (λ fault. (next : SomeDraft) → with_request draft.now at next ≡ Err fault) }
-{
-    if draft.asks.len().saturating_add(draft.free.len()) >= ASKS {
-        return Some(DeckFault::Many);
-    }
-    if !package_fits(at, draft.image.size()) {
-        return Some(DeckFault::Package);
-    }
-    None
-}
-
-/// A line `ask N after K`.
-fn ask_line(mut draft: Draft, address: &[u8], count: &[u8]) -> Result<Step, LineError>
-    ensures { Answers result (applied draft (says.Ask address.now count.now)) }
-{
-    let Some(address) = number(8, 6, address) else {
-        return Err(LineError::Faulty(DeckFault::Number));
-    };
-    let Some(count) = number(10, 8, count) else {
-        return Err(LineError::Faulty(DeckFault::Number));
-    };
-    if count > MOST_ISSUES {
-        return Err(LineError::Faulty(DeckFault::Number));
-    }
-    let at = address as u32;
-    if let Some(fault) = request_fault(&draft, at) {
-        return Err(LineError::Faulty(fault));
-    }
-    let ask = Ask {
-        at,
-        after: count as u32,
-    };
-    match draft.asks.push(ask) {
-        Ok(()) => Ok(Step::Goes(draft)),
-        Err(_) => Err(LineError::OutOfMemory),
-    }
-}
-
-/// A line `ask N free`.
-fn free_line(mut draft: Draft, address: &[u8]) -> Result<Step, LineError>
-    ensures { Answers result (applied draft (says.AskFree address.now)) }
-{
-    let Some(address) = number(8, 6, address) else {
-        return Err(LineError::Faulty(DeckFault::Number));
-    };
-    let at = address as u32;
-    if let Some(fault) = request_fault(&draft, at) {
-        return Err(LineError::Faulty(fault));
-    }
-    match draft.free.push(at) {
-        Ok(()) => Ok(Step::Goes(draft)),
-        Err(_) => Err(LineError::OutOfMemory),
-    }
-}
-
-/// An `end` line.
-fn end_line(draft: Draft) -> Result<Step, LineError>
-    ensures { Answers result (applied draft says.End) }
-{
-    let Draft {
-        image,
-        next_address: _,
-        start,
-        asks,
-        free,
-        shows,
-    } = draft;
-    match start {
-        None => Err(LineError::Faulty(DeckFault::NoStart)),
-        Some(start) => Ok(Step::Ends(Deck {
-            image,
+    /// The whole deck, whose first exchange package is at this address.
+    pub fn whole(self, start: u32) -> Deck
+        ensures { result ≡ whole self start }
+    {
+        Deck {
+            image: self.image,
             start,
-            asks,
-            free,
-            shows,
-        })),
+            asks: self.asks,
+            free: self.free,
+            shows: self.shows,
+        }
     }
-}
 
-/// What the first line begins.
-fn first_line(alloc: Global, text: &[u8]) -> Result<Step, LineError>
-    ensures { Answers result (applied_first text.now) }
-{
-    let (word, _) = first_field(text);
-    if word != b"core".as_slice() {
-        return Err(LineError::Faulty(DeckFault::First));
+    /// An `at` line.
+    fn at_line(&mut self, address: &[u8]) -> Result<Flow, DeckFault>
+        ensures { Answers result self.old self.new (applied self.old (says.At address.now)) }
+    {
+        let address = number(8, 6, address).ok_or(DeckFault::Number)? as u32;
+        if address >= self.image.size() {
+            return Err(DeckFault::Range);
+        }
+        self.next_address = address;
+        Ok(Flow::Goes)
     }
-    core_line(alloc, parse_line(text))
-}
 
-/// What a line of at most 200 bytes does to the deck that the lines before it began; none came before the first.
-/// It is inlined, since a draft that is handed over by value is copied.
-#[inline(always)]
-pub fn apply_line(alloc: Global, before: Option<Draft>, text: &[u8]) -> Result<Step, LineError>
-    requires { length text.now ≤ 200 }
-    ensures { Answers result (applied_line before text.now) }
-{
-    let Some(draft) = before else {
-        return first_line(alloc, text);
-    };
-    match parse_line(text) {
-        Line::Core(size) => core_again(draft, size),
-        Line::At(address) => at_line(draft, address),
-        Line::Word(value) => word_line(draft, value),
-        Line::Code(texts) => code_line(draft, texts),
-        Line::Start(address) => start_line(draft, address),
-        Line::Show(first, last) => show_line(draft, first, last),
-        Line::Ask(address, count) => ask_line(draft, address, count),
-        Line::AskFree(address) => free_line(draft, address),
-        Line::End => end_line(draft),
-        Line::Unknown => Err(LineError::Faulty(DeckFault::Unknown)),
+    /// A `code` line.
+    fn code_line(&mut self, texts: &[u8]) -> Result<Flow, DeckFault>
+        requires { length texts.now ≤ 200 }
+        ensures { Answers result self.old self.new (applied self.old (says.Code texts.now)) }
+    {
+        if self.next_address >= self.image.size() {
+            return Err(DeckFault::Range);
+        }
+        let parcels = parcels_in(texts).ok_or(DeckFault::Instruction)?;
+        if parcels.len() > PARCELS {
+            return Err(DeckFault::Full);
+        }
+        let word = word_of(parcels.as_slice());
+        self.next_address = self.image.put(self.next_address, word)?;
+        Ok(Flow::Goes)
+    }
+
+    /// A `start` line.
+    fn start_line(&mut self, address: &[u8]) -> Result<Flow, DeckFault>
+        ensures { Answers result self.old self.new (applied self.old (says.Start address.now)) }
+    {
+        let address = number(8, 6, address).ok_or(DeckFault::Number)? as u32;
+        if self.start.is_some() {
+            return Err(DeckFault::Repeated);
+        }
+        if !package_fits(address, self.image.size()) {
+            return Err(DeckFault::Package);
+        }
+        self.start = Some(address);
+        Ok(Flow::Goes)
+    }
+
+    /// A `show` line.
+    fn show_line(&mut self, first: &[u8], last: &[u8]) -> Result<Flow, DeckFault>
+        ensures { Answers result self.old self.new (applied self.old (says.Show first.now last.now)) }
+    {
+        let first = number(8, 6, first).ok_or(DeckFault::Number)? as u32;
+        let last = number(8, 6, last).ok_or(DeckFault::Number)? as u32;
+        if self.shows.len() >= LINES_OF_A_KIND {
+            return Err(DeckFault::Many);
+        }
+        if last >= self.image.size() || last < first {
+            return Err(DeckFault::Range);
+        }
+        self.shows.push(Show {
+            first: Word18::from_bits(first),
+            last: Word18::from_bits(last),
+        });
+        Ok(Flow::Goes)
+    }
+
+    /// Whether one more request can be made, for the package at an absolute address.
+    ///
+    /// # Errors
+    /// `Many`, and `Package`.
+    fn check_request(&self, at: u32) -> Result<(), DeckFault>
+        ensures goes { MatchResult result (λ _. (next : SomeDraft) → with_request self.now at next ≡ goes_on next)
+            (λ fault. (next : SomeDraft) → with_request self.now at next ≡ Err fault) }
+        ensures room { OnOk result (length self.now.asks + length self.now.free < 64) }
+    {
+        if self.asks.len().saturating_add(self.free.len()) >= LINES_OF_A_KIND {
+            return Err(DeckFault::Many);
+        }
+        if !package_fits(at, self.image.size()) {
+            return Err(DeckFault::Package);
+        }
+        Ok(())
+    }
+
+    /// A line `ask N after K`.
+    fn ask_line(&mut self, address: &[u8], count: &[u8]) -> Result<Flow, DeckFault>
+        ensures { Answers result self.old self.new (applied self.old (says.Ask address.now count.now)) }
+    {
+        let at = number(8, 6, address).ok_or(DeckFault::Number)? as u32;
+        let count = number(10, 8, count).ok_or(DeckFault::Number)?;
+        if count > MOST_INSTRUCTIONS {
+            return Err(DeckFault::Number);
+        }
+        self.check_request(at)?;
+        self.asks.push(Ask {
+            at,
+            after: count as u32,
+        });
+        Ok(Flow::Goes)
+    }
+
+    /// A line `ask N free`.
+    fn free_line(&mut self, address: &[u8]) -> Result<Flow, DeckFault>
+        ensures { Answers result self.old self.new (applied self.old (says.AskFree address.now)) }
+    {
+        let at = number(8, 6, address).ok_or(DeckFault::Number)? as u32;
+        self.check_request(at)?;
+        self.free.push(at);
+        Ok(Flow::Goes)
+    }
+
+    /// Does what a line says that isn't the first.
+    ///
+    /// # Errors
+    /// The fault of the line. Then the draft is as it was.
+    pub fn apply(&mut self, text: &[u8]) -> Result<Flow, DeckFault>
+        requires { length text.now ≤ 200 }
+        ensures { Answers result self.old self.new (applied_line (Some self.old) text.now) }
+    {
+        match parse_line(text) {
+            Line::Core(size) => {
+                memory_size(size)?;
+                Err(DeckFault::Repeated)
+            }
+            Line::At(address) => self.at_line(address),
+            Line::Word(value) => {
+                let word = Word60::from_octal(value).ok_or(DeckFault::Number)?;
+                self.next_address = self.image.put(self.next_address, word)?;
+                Ok(Flow::Goes)
+            }
+            Line::Code(texts) => self.code_line(texts),
+            Line::Start(address) => self.start_line(address),
+            Line::Show(first, last) => self.show_line(first, last),
+            Line::Ask(address, count) => self.ask_line(address, count),
+            Line::AskFree(address) => self.free_line(address),
+            Line::End => Ok(Flow::Ends(self.start.ok_or(DeckFault::NoStart)?)),
+            Line::Unknown => Err(DeckFault::Unknown),
+        }
     }
 }

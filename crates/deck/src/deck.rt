@@ -1,6 +1,5 @@
 use crate::Image;
 use crate::line_list::LineList;
-use instruction_table::DeckFault;
 use word60::Word18;
 
 /// Addresses of words that are shown, the first and the last one too.
@@ -42,16 +41,11 @@ pub struct Draft {
     pub shows: LineList<Show>,
 }
 
-/// How a deck goes on after a line.
-#[derive(Drop)]
-pub enum Step {
-    Goes(Draft),
-    Ends(Deck),
-}
-
-/// Why a line isn't taken.
+/// What comes after a line that was taken.
 #[derive(Clone, Copy, Debug, Drop, PartialEq, Eq)]
-pub enum LineError {
-    Faulty(DeckFault),
-    OutOfMemory,
+pub enum Flow {
+    /// Another line.
+    Goes,
+    /// Nothing: the line was the `end` line. The first exchange package is at this address.
+    Ends(u32),
 }

@@ -1,10 +1,11 @@
-ghost use Rattle.std.specs.Prelude.{◌≡◌, ◌<◌, length, slice_index_or, false};
+ghost use Rattle.std.specs.Prelude.{◌≡◌, ◌<◌, ◌≤◌, ◌+◌, length, slice_index_or, false};
 ghost use Rattle.std.specs.Prelude.{true, MatchResult, if◌then◌else◌};
 ghost use Rattle.instructions.specs.declared.refusal.Refusal.TheVariants.{OutOfMemory, MemorySize};
+ghost use Rattle.instructions.specs.declared.refusal.DeckFault.TheVariants.{Range};
 ghost use Rattle.relocation.specs.Relocation.{IsMemorySize, is_memory_size};
 ghost use Rattle.deck.specs.Image.{placed_at, blank};
 
-use instruction_table::Refusal;
+use instruction_table::{DeckFault, Refusal};
 use relocation::Storage;
 use std::alloc::Global;
 use std::marker::Model;
@@ -18,14 +19,14 @@ pub struct Image {
 }
 
 impl Model for Image {
-    ghost use Rattle.std.specs.Prelude.{◌≡◌, length};
+    ghost use Rattle.std.specs.Prelude.{◌≡◌, ◌≤◌, length};
     ghost use Rattle.deck.specs.Image.{Placed};
 
     ghost Value = { Placed };
 
     ghost view = { λ i. record { memory = i.memory; placed = i.placed.items } };
 
-    ghost invariant = { λ i. length i.placed.items ≡ length i.memory };
+    ghost invariant = { λ i. (length i.placed.items ≡ length i.memory) × (length i.memory ≤ 131072) };
 }
 
 impl Image {
@@ -68,12 +69,21 @@ impl Image {
         self.placed.as_slice()[address as usize]
     }
 
-    /// Puts a word at an absolute address, which is below the size.
-    pub fn put(&mut self, address: u32, word: Word60)
-        requires { address < length self.old.memory }
-        ensures { self.new ≡ placed_at self.old address word }
+    /// Puts a word at an absolute address. Returns the address after it.
+    ///
+    /// # Errors
+    /// `Range` if the address isn't in memory. Then nothing changes.
+    pub fn put(&mut self, address: u32, word: Word60) -> Result<u32, DeckFault>
+        ensures placed { MatchResult result
+            (λ next. (address < length self.old.memory) × (next ≡ address + 1)
+            × (self.new ≡ placed_at self.old address word))
+            (λ fault. (length self.old.memory ≤ address) × (fault ≡ Range) × (self.new ≡ self.old)) }
     {
-        self.memory.store(address, word);
+        if address as usize >= self.placed.len() {
+            return Err(DeckFault::Range);
+        }
         self.placed[address as usize] = true;
+        self.memory.store(address, word);
+        Ok(address + 1)
     }
 }

@@ -1,29 +1,41 @@
-ghost use Rattle.std.specs.Prelude.{◌≡◌, ◌++◌, ◌∷◌, [], length, is_ok, if◌then◌else◌};
+ghost use Rattle.std.specs.Prelude.{◌≡◌, ◌<◌, ◌++◌, ◌∷◌, [], length, MatchResult};
+ghost use Rattle.instructions.specs.declared.refusal.Refusal.TheVariants.{OutOfMemory};
 
-use std::alloc::{AllocError, Global};
+use instruction_table::Refusal;
+use std::alloc::Global;
 use std::marker::Model;
 
-/// What the lines of one kind say, in the order of the lines.
+/// How many lines of one kind a list has room for: `show` lines, or `ask` lines.
+pub const LINES_OF_A_KIND: usize = 64;
+
+/// What the lines of one kind say, in the order of the lines. There is room for all of them from the beginning.
 #[derive(Drop)]
 pub struct LineList<T> {
     values: Vec<T>,
 }
 
 impl<T> Model for LineList<T> {
-    ghost use Rattle.std.specs.Prelude.{List};
+    ghost use Rattle.std.specs.Prelude.{List, ◌≤◌};
+    ghost use Rattle.std.specs.Vec.{vec_capacity};
 
     ghost Value = { List T };
 
     ghost view = { λ list. list.values.items };
+
+    ghost invariant = { λ list. 64 ≤ vec_capacity list.values };
 }
 
 impl<T: Drop> LineList<T> {
     /// Nothing yet.
-    pub(crate) fn new(alloc: Global) -> Self
-        ensures { result ≡ [] }
+    ///
+    /// # Errors
+    /// `OutOfMemory`.
+    pub(crate) fn new(alloc: Global) -> Result<Self, Refusal>
+        ensures { MatchResult result (λ list. list ≡ []) (λ refusal. refusal ≡ OutOfMemory) }
     {
-        LineList {
-            values: Vec::new(alloc),
+        match Vec::with_capacity(alloc, LINES_OF_A_KIND) {
+            Ok(values) => Ok(LineList { values }),
+            Err(_) => Err(Refusal::OutOfMemory),
         }
     }
 
@@ -35,14 +47,11 @@ impl<T: Drop> LineList<T> {
     }
 
     /// One more.
-    ///
-    /// # Errors
-    /// Memory ran out.
-    pub(crate) fn push(&mut self, value: T) -> Result<(), AllocError>
-        ensures { self.new ≡ (if is_ok result then self.old ++ value ∷ [] else self.old) }
+    pub(crate) fn push(&mut self, value: T)
+        requires { length self.old < 64 }
+        ensures { self.new ≡ self.old ++ value ∷ [] }
     {
-        self.values.push(value)?;
-        Ok(())
+        self.values.push_reserved(value);
     }
 
     /// All of them, the one of the first line first.

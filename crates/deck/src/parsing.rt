@@ -1,9 +1,9 @@
-ghost use Rattle.std.specs.Prelude.{◌≡◌, ◌==◌, ◌<◌, ◌∷◌, []};
+ghost use Rattle.std.specs.Prelude.{◌≡◌, ◌==◌, ◌<◌, ◌∷◌, [], position};
 ghost use Rattle.device_text.specs.Text.{fields_of, other_parts, from_space};
 ghost use Rattle.deck.specs.Deck.{parsed_fields, parsed_line, parsed_code};
 ghost use Rattle.deck.specs.inner.ParsedLine.{line_with_bytes};
 
-use device_text::{first_field, place_of};
+use device_text::first_part;
 
 /// A line by its fields, which are slices of the line; definitions have lists of bytes instead.
 #[derive(Clone, Copy)]
@@ -30,11 +30,18 @@ pub enum Line<Field> {
     Unknown,
 }
 
+/// Where the first blank is.
+fn blank_in(text: &[u8]) -> Option<usize>
+    ensures { result ≡ position (λ b. b == 32) text.now }
+{
+    text.iter().position(|byte| *byte == b' ')
+}
+
 /// What a line says that begins with the word `code`.
 fn code_line(text: &[u8]) -> Line<&[u8]>
     ensures { line_with_bytes result ≡ parsed_code (from_space text.now) }
 {
-    match place_of(text, b' ') {
+    match blank_in(text) {
         Some(at) if text.len() - at > 1 => Line::Code(&text[at..]),
         _ => Line::Unknown,
     }
@@ -45,7 +52,7 @@ fn code_line(text: &[u8]) -> Line<&[u8]>
 fn line_of_four<'a>(word: &[u8], first: &'a [u8], second: &[u8], rest: &'a [u8]) -> Line<&'a [u8]>
     ensures { line_with_bytes result ≡ parsed_fields (word.now ∷ first.now ∷ second.now ∷ fields_of rest.now) }
 {
-    let (third, rest) = first_field(rest);
+    let (third, rest) = first_part(rest, b' ');
     let Some(_) = rest else {
         return if word == b"ask".as_slice() && second == b"after".as_slice() {
             Line::Ask(first, third)
@@ -67,7 +74,7 @@ fn line_of_fields<'a>(word: &[u8], rest: Option<&'a [u8]>) -> Line<&'a [u8]>
             Line::Unknown
         };
     };
-    let (first, rest) = first_field(rest);
+    let (first, rest) = first_part(rest, b' ');
     let Some(rest) = rest else {
         return if word == b"core".as_slice() {
             Line::Core(first)
@@ -81,7 +88,7 @@ fn line_of_fields<'a>(word: &[u8], rest: Option<&'a [u8]>) -> Line<&'a [u8]>
             Line::Unknown
         };
     };
-    let (second, rest) = first_field(rest);
+    let (second, rest) = first_part(rest, b' ');
     let Some(rest) = rest else {
         return if word == b"show".as_slice() {
             Line::Show(first, second)
@@ -98,7 +105,7 @@ fn line_of_fields<'a>(word: &[u8], rest: Option<&'a [u8]>) -> Line<&'a [u8]>
 pub fn parse_line(text: &[u8]) -> Line<&[u8]>
     ensures { line_with_bytes result ≡ parsed_line text.now }
 {
-    let (word, rest) = first_field(text);
+    let (word, rest) = first_part(text, b' ');
     if word == b"code".as_slice() {
         code_line(text)
     } else {

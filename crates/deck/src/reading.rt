@@ -1,39 +1,22 @@
-ghost use Rattle.std.specs.Prelude.{◌≡◌, ◌||◌, ◌≤◌, ◌∷◌, length, false, true, OnOk, IfOk, IfErr};
+ghost use Rattle.std.specs.Prelude.{◌≡◌, ◌||◌, ◌≤◌, ◌∷◌, length, false, true, Some, OnOk, IfOk, IfErr};
 ghost use Rattle.device_text.specs.Device.{Moves};
-ghost use Rattle.instructions.specs.declared.refusal.Refusal.TheVariants as refusals;
-ghost use Rattle.deck.specs.Deck.{deck};
+ghost use Rattle.deck.specs.Deck.{deck, read_from};
 ghost use Rattle.device_text.specs.Line.{ReadsPart, lines_of};
-ghost use Rattle.deck.specs.Reading.{EndsWithin, Gives, GivesDeck, Refuses};
+ghost use Rattle.deck.specs.Reading.{EndsWithin, Gives, GivesDeck, GivesNoDeck, Refuses};
 ghost use Rattle.deck.specs.Reading.{is_cut, is_of_reading, is_read_failure};
 
-use crate::applying::apply_line;
-use crate::deck::{Deck, LineError, Step};
-use arrayvec::ArrayVec;
-use device_text::{CheckedReader, Input, LineRead, read_line};
+use crate::applying::first_size;
+use crate::deck::{Deck, Draft, Flow};
+use device_text::{CheckedReader, Input, LineBuffer, LineRead, read_line};
 use instruction_table::{DeckFault, Refusal};
 use std::alloc::Global;
 use std::io::Read;
 
-/// The refusal of line `number` for a fault. The input is told the line.
-fn refused<I: Input>(input: &mut I, line: &[u8], number: u32, fault: DeckFault) -> Refusal
-    ensures refusal { result ≡ refusals.Deck number fault }
-    ensures left { I.remaining input.new ≡ I.remaining input.old }
-    ensures failure { I.has_failed input.new ≡ I.has_failed input.old }
-    ensures same { I.lender input.new ≡ I.lender input.old }
-{
-    input.refuse(line);
-    Refusal::Deck {
-        line: number,
-        fault,
-    }
-}
+/// The most lines of a deck, with those of the schedule that may follow.
+pub const MOST_LINES: u32 = 10_000_000;
 
 /// Reads line `number`, of at most 200 bytes.
-fn next_line<I: Input>(
-    input: &mut I,
-    line: &mut ArrayVec<u8, 201>,
-    number: u32,
-) -> Result<(), Refusal>
+fn next_line<I: Input>(input: &mut I, line: &mut LineBuffer, number: u32) -> Result<(), Refusal>
     ensures text { OnOk result (length line.new.items ≤ 200) }
     ensures ok { OnOk result (Moves (I.remaining input.old) (I.remaining input.new)
         (λ xs ys. lines_of xs ≡ (line.new.items, ys) ∷ lines_of ys)) }
@@ -44,24 +27,57 @@ fn next_line<I: Input>(
     ensures failure { I.has_failed input.new ≡ (I.has_failed input.old || is_read_failure result) }
     ensures same { I.lender input.new ≡ I.lender input.old }
 {
-    match read_line(input, line) {
-        Ok(LineRead::Whole) => Ok(()),
-        Ok(LineRead::Long) => Err(refused(input, line.as_slice(), number, DeckFault::Long)),
-        Ok(LineRead::Nothing) => Err(Refusal::Deck {
+    match read_line(input, line)? {
+        LineRead::Whole => Ok(()),
+        LineRead::Long => Err(Refusal::Deck {
+            line: number,
+            fault: DeckFault::Long,
+        }),
+        LineRead::Nothing => Err(Refusal::Deck {
             line: number,
             fault: DeckFault::NoEnd,
         }),
-        Err(_) => Err(Refusal::Read),
     }
 }
 
-/// Reads a deck to the end of its `end` line, and nothing past it. Answers the number of that line too,
-/// since a schedule may follow.
+/// Reads the first line, and begins a deck with it.
+///
+/// # Errors
+/// As `read_deck_from`.
+fn first_draft<I: Input>(
+    alloc: Global,
+    input: &mut I,
+    line: &mut LineBuffer,
+) -> Result<Draft, Refusal>
+    ensures begun { IfOk result (λ draft. Moves (I.remaining input.old) (I.remaining input.new)
+        (λ xs ys. deck xs ≡ read_from 2 (Some draft) ys (lines_of ys))) }
+    ensures refused { IfErr result (λ refusal. Moves (I.remaining input.old) (I.remaining input.new)
+        (λ xs ys. GivesNoDeck refusal (deck xs) ys)) }
+    ensures refusals { is_of_reading result ≡ true }
+    ensures unread { is_cut result ≡ true
+        → Moves (I.remaining input.old) (I.remaining input.new) (λ xs ys. EndsWithin (length ys) (deck xs)) }
+    ensures failure { I.has_failed input.new ≡ (I.has_failed input.old || is_read_failure result) }
+    ensures same { I.lender input.new ≡ I.lender input.old }
+{
+    next_line(input, line, 1)?;
+    match first_size(line.as_slice()) {
+        Ok(size) => Draft::new(alloc, size),
+        Err(fault) => Err(Refusal::Deck { line: 1, fault }),
+    }
+}
+
+/// Reads a deck to the end of its `end` line, and nothing past it. Returns the number of that line too, since a
+/// schedule may follow. `line` has each line in turn. If the refusal is a line's fault it has that line, or the
+/// beginning of it.
 ///
 /// # Errors
 /// A line and its fault, want of memory, and a failed read. Nothing is read past a line at fault, and of a line that
 /// is too long only its first 201 bytes.
-pub fn read_deck_from<I: Input>(alloc: Global, input: &mut I) -> Result<(Deck, u32), Refusal>
+pub fn read_deck_from<I: Input>(
+    alloc: Global,
+    input: &mut I,
+    line: &mut LineBuffer,
+) -> Result<(Deck, u32), Refusal>
     ensures deck { Moves (I.remaining input.old) (I.remaining input.new) (λ xs ys. Gives result (deck xs) ys) }
     ensures refusals { is_of_reading result ≡ true }
     ensures number { IfOk result (λ found. found.1 ≤ 10000000) }
@@ -70,21 +86,22 @@ pub fn read_deck_from<I: Input>(alloc: Global, input: &mut I) -> Result<(Deck, u
     ensures failure { I.has_failed input.new ≡ (I.has_failed input.old || is_read_failure result) }
     ensures same { I.lender input.new ≡ I.lender input.old }
 {
-    let mut line = ArrayVec::new();
-    let mut before = None;
-    for number in 1..=10_000_000u32 {
-        next_line(input, &mut line, number)?;
-        match apply_line(alloc, before, line.as_slice()) {
-            Ok(Step::Goes(draft)) => before = Some(draft),
-            Ok(Step::Ends(deck)) => return Ok((deck, number)),
-            Err(LineError::Faulty(fault)) => {
-                return Err(refused(input, line.as_slice(), number, fault));
+    let mut draft = first_draft(alloc, input, line)?;
+    for number in 2..MOST_LINES + 1 {
+        next_line(input, line, number)?;
+        match draft.apply(line.as_slice()) {
+            Ok(Flow::Goes) => {}
+            Ok(Flow::Ends(start)) => return Ok((draft.whole(start), number)),
+            Err(fault) => {
+                return Err(Refusal::Deck {
+                    line: number,
+                    fault,
+                });
             }
-            Err(LineError::OutOfMemory) => return Err(Refusal::OutOfMemory),
         }
     }
     Err(Refusal::Deck {
-        line: 10_000_001,
+        line: MOST_LINES + 1,
         fault: DeckFault::Lines,
     })
 }
@@ -97,7 +114,7 @@ pub fn read_deck<R: Read>(alloc: Global, reader: &mut R) -> Result<Deck, Refusal
     ensures { Moves (R.remaining reader.old) (R.remaining reader.new) (λ xs ys. GivesDeck result (deck xs) ys) }
 {
     let mut input = CheckedReader::new(reader);
-    let result = read_deck_from(alloc, &mut input);
+    let result = read_deck_from(alloc, &mut input, &mut LineBuffer::new());
     // No effect at run time. The proof reads what the reader has left from this use.
     let _ = &*input.into_inner();
     match result {

@@ -4,7 +4,7 @@ ghost use Rattle.device_text.specs.Device.{Moves, NothingWaits};
 ghost use Rattle.deck_run.specs.Running.{PrintsRun, Runs, EndsReplay, EndsSequentialRun, is_read_fault, is_write_fault};
 
 use super::running::run;
-use job_deck::{Deck, Input, Output, dump_to, read_deck_from, replay_to};
+use job_deck::{Deck, Input, LineBuffer, Output, dump_to, read_deck_from, replay_to};
 use operator_terms::{Budget, ProgramFault, Status, end_status};
 use sequential_job::run_to;
 use std::alloc::Global;
@@ -49,6 +49,7 @@ pub fn run_deck<T: Threads + Wait + Clock + Sync, I: Input, O: Output>(
     alloc: Global,
     input: &mut I,
     output: &mut O,
+    line: &mut LineBuffer,
     budget: Budget,
 ) -> Result<Status, ProgramFault>
     ensures ran { Moves (I.remaining input.old) (I.remaining input.new)
@@ -59,10 +60,8 @@ pub fn run_deck<T: Threads + Wait + Clock + Sync, I: Input, O: Output>(
     ensures kept { NothingWaits (is_write_fault result) (O.waits output.old) (O.waits output.new) }
     ensures output { O.lender output.new ≡ O.lender output.old }
 {
-    match read_deck_from(alloc, input) {
-        Ok((deck, _)) => print_run(rt, alloc, output, &deck, budget),
-        Err(refused) => Err(ProgramFault::of(refused)),
-    }
+    let (deck, _) = read_deck_from(alloc, input, line)?;
+    print_run(rt, alloc, output, &deck, budget)
 }
 
 /// Reads a deck, runs it one instruction at a time, at most `budget` instructions, prints the machine's dump and hands
@@ -75,6 +74,7 @@ pub fn run_deck_sequentially<I: Input, O: Output>(
     alloc: Global,
     input: &mut I,
     output: &mut O,
+    line: &mut LineBuffer,
     budget: Budget,
 ) -> Result<Status, ProgramFault>
     ensures ran { Moves (I.remaining input.old) (I.remaining input.new)
@@ -85,7 +85,7 @@ pub fn run_deck_sequentially<I: Input, O: Output>(
     ensures kept { NothingWaits (is_write_fault result) (O.waits output.old) (O.waits output.new) }
     ensures output { O.lender output.new ≡ O.lender output.old }
 {
-    let state = run_to(alloc, input, output, budget.get())?;
+    let state = run_to(alloc, input, output, line, budget.get())?;
     Ok(end_status(&state))
 }
 
@@ -99,6 +99,7 @@ pub fn replay_log<I: Input, O: Output>(
     alloc: Global,
     input: &mut I,
     output: &mut O,
+    line: &mut LineBuffer,
     log: &str,
 ) -> Result<Status, ProgramFault>
     ensures replayed { Moves (I.remaining input.old) (I.remaining input.new)
@@ -109,9 +110,8 @@ pub fn replay_log<I: Input, O: Output>(
     ensures kept { NothingWaits (is_write_fault result) (O.waits output.old) (O.waits output.new) }
     ensures output { O.lender output.new ≡ O.lender output.old }
 {
-    match replay_to(alloc, input, output, log) {
-        Ok(Some(state)) => Ok(end_status(&state)),
-        Ok(None) => Err(ProgramFault::BadLog),
-        Err(refusal) => Err(ProgramFault::of(refusal)),
+    match replay_to(alloc, input, output, line, log)? {
+        Some(state) => Ok(end_status(&state)),
+        None => Err(ProgramFault::BadLog),
     }
 }

@@ -25,15 +25,6 @@ pub trait Input {
         ensures err { OnErr result (Keeps (remaining self.old) (remaining self.new)) }
         ensures failure { has_failed self.new ≡ failed_after (has_failed self.old) result }
         ensures same { lender self.new ≡ lender self.old };
-
-    /// Told a line that was read and is refused for a fault. Unless an input keeps such a line, this does nothing.
-    fn refuse(&mut self, line: &[u8])
-        ensures left { remaining self.new ≡ remaining self.old }
-        ensures failure { has_failed self.new ≡ has_failed self.old }
-        ensures same { lender self.new ≡ lender self.old }
-    {
-        let _ = line;
-    }
 }
 
 /// Any reader, with a check of each read for failure.

@@ -9,6 +9,7 @@
 
 mod buffered;
 mod digits;
+mod failures;
 mod fields;
 mod input;
 mod line;
@@ -18,9 +19,9 @@ mod spelling;
 
 pub use buffered::CheckedBufReader;
 pub use digits::number;
-pub use fields::{first_field, first_part, place_of};
+pub use fields::first_part;
 pub use input::{CheckedReader, Input, ReadFailed};
-pub use line::{LineRead, read_line};
+pub use line::{LineBuffer, LineRead, read_line};
 pub use output::{CheckedWriter, Output, WriteFailed};
 pub use piece::{Piece, put_pieces};
 pub use spelling::unit_named;

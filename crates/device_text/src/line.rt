@@ -5,6 +5,9 @@ ghost use Rattle.device_text.specs.Line.{IsText, LineTaken, LineText};
 use crate::input::{Input, ReadFailed};
 use arrayvec::ArrayVec;
 
+/// The longest line has 200 bytes. Of a longer one a byte more is read.
+pub type LineBuffer = ArrayVec<u8, 201>;
+
 /// What a reading of a line found.
 #[derive(Clone, Copy, Debug, PartialEq, Eq)]
 pub enum LineRead {
@@ -20,10 +23,7 @@ pub enum LineRead {
 ///
 /// # Errors
 /// Where a read fails; the line then has the bytes that were read before.
-pub fn read_line<I: Input>(
-    input: &mut I,
-    line: &mut ArrayVec<u8, 201>,
-) -> Result<LineRead, ReadFailed>
+pub fn read_line<I: Input>(input: &mut I, line: &mut LineBuffer) -> Result<LineRead, ReadFailed>
     ensures text { IfOk result (λ line_read. LineText line_read line.new.items) }
     ensures ok { IfOk result (λ line_read. Moves (I.remaining input.old) (I.remaining input.new)
         (LineTaken line_read line.new.items)) }

@@ -8,7 +8,7 @@ use crate::input_bytes::InputBytes;
 use crate::machine_handle::MachineHandle;
 use crate::outcome::{Outcome, hand_over};
 use instruction_table::Refusal;
-use job_deck::{Deck, booted, read_deck_from};
+use job_deck::{Deck, LineBuffer, booted, read_deck_from};
 use machine::Machine;
 use operator_terms::{Budget, Status};
 use std::alloc::Global;
@@ -28,7 +28,7 @@ fn boot(alloc: Global, input: &[u8], budget: Budget) -> Result<Booted, Refusal>
     ensures { Boots result budget (deck input.now) }
 {
     let mut bytes = InputBytes::new(input);
-    let (deck, _) = read_deck_from(alloc, &mut bytes)?;
+    let (deck, _) = read_deck_from(alloc, &mut bytes, &mut LineBuffer::new())?;
     let machine = booted(alloc, &deck, budget.get())?;
     Ok(Booted { machine, deck })
 }

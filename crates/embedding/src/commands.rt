@@ -6,7 +6,7 @@ ghost use Rattle.operator_terms.specs.declared.status.Status.TheVariants.{Usage}
 use crate::input_bytes::InputBytes;
 use crate::outcome::{Outcome, hand_over};
 use instruction_table::Refusal;
-use job_deck::{CheckedWriter, events_to, list_to, replay_to};
+use job_deck::{CheckedWriter, LineBuffer, events_to, list_to, replay_to};
 use operator_terms::{Budget, ProgramFault, Status, end_status};
 use sequential_job::run_to;
 use std::alloc::Global;
@@ -17,7 +17,7 @@ pub fn fault_in_memory(refusal: Refusal) -> ProgramFault
 {
     match refusal {
         Refusal::Write => ProgramFault::OutOfMemory,
-        other => ProgramFault::of(other),
+        other => ProgramFault::from(other),
     }
 }
 
@@ -35,7 +35,7 @@ pub fn list_bytes(alloc: Global, input: &[u8], output: &mut [u8], line: &mut [u8
     let mut bytes = InputBytes::new(input);
     let mut text = Vec::new(alloc);
     let mut writer = CheckedWriter::new(&mut text);
-    let result = list_to(alloc, &mut bytes, &mut writer);
+    let result = list_to(alloc, &mut bytes, &mut writer, &mut LineBuffer::new());
     // No effect at run time. The proof reads what the text holds from this use.
     let _ = &*writer.into_inner();
     let ended = match result {
@@ -58,7 +58,13 @@ fn run_within(
     let mut bytes = InputBytes::new(input);
     let mut text = Vec::new(alloc);
     let mut writer = CheckedWriter::new(&mut text);
-    let result = run_to(alloc, &mut bytes, &mut writer, budget.get());
+    let result = run_to(
+        alloc,
+        &mut bytes,
+        &mut writer,
+        &mut LineBuffer::new(),
+        budget.get(),
+    );
     let _ = &*writer.into_inner();
     let ended = match result {
         Ok(state) => Ok(end_status(&state)),
@@ -96,7 +102,7 @@ fn replay_text(
     let mut bytes = InputBytes::new(input);
     let mut text = Vec::new(alloc);
     let mut writer = CheckedWriter::new(&mut text);
-    let result = replay_to(alloc, &mut bytes, &mut writer, log);
+    let result = replay_to(alloc, &mut bytes, &mut writer, &mut LineBuffer::new(), log);
     let _ = &*writer.into_inner();
     let ended = match result {
         Ok(Some(state)) => Ok(end_status(&state)),
@@ -135,7 +141,13 @@ fn session(
     let mut bytes = InputBytes::new(input);
     let mut text = Vec::new(alloc);
     let mut writer = CheckedWriter::new(&mut text);
-    let result = events_to(alloc, &mut bytes, &mut writer, budget.get());
+    let result = events_to(
+        alloc,
+        &mut bytes,
+        &mut writer,
+        &mut LineBuffer::new(),
+        budget.get(),
+    );
     let _ = &*writer.into_inner();
     let ended = match result {
         Ok(()) => Ok(Status::Stopped),

@@ -26,10 +26,7 @@ fn put_drained<O: Output>(output: &mut O, machine: &Machine, deck: &Deck) -> Res
     ensures same { O.lender output.new ≡ O.lender output.old }
 {
     match machine.snapshot() {
-        Ok(snapshot) => match dump_to(output, snapshot.state(), snapshot.log(), deck) {
-            Ok(()) => Ok(()),
-            Err(_) => Err(Refusal::Write),
-        },
+        Ok(snapshot) => Ok(dump_to(output, snapshot.state(), snapshot.log(), deck)?),
         Err(_) => Err(Refusal::OutOfMemory),
     }
 }
@@ -66,10 +63,8 @@ fn put_end<O: Output>(output: &mut O, machine: &Machine, deck: &Deck) -> Result<
     if machine.drained() {
         return put_drained(output, machine, deck);
     }
-    match print_not_drained(output, machine) {
-        Ok(()) => Ok(()),
-        Err(_) => Err(Refusal::Write),
-    }
+    print_not_drained(output, machine)?;
+    Ok(())
 }
 
 /// Writes what the last line of a schedule says: `drain` drains the machine first.

@@ -21,7 +21,8 @@ mod session;
 pub use answering::put_answer;
 pub use deck::{Ask, Deck, Image, LineList, Show, read_deck, read_deck_from};
 pub use device_text::{
-    CheckedBufReader, CheckedReader, CheckedWriter, Input, Output, ReadFailed, WriteFailed,
+    CheckedBufReader, CheckedReader, CheckedWriter, Input, LineBuffer, Output, ReadFailed,
+    WriteFailed,
 };
 pub use dumping::{dump, dump_to};
 pub use listing::{list, list_to};

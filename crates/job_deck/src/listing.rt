@@ -9,7 +9,9 @@ ghost use Rattle.deck.specs.Reading.{is_read_failure};
 ghost use Rattle.job_deck.specs.Listing.{is_write_failure};
 
 use deck::{Image, read_deck_from};
-use device_text::{CheckedReader, CheckedWriter, Input, Output, Piece, WriteFailed, put_pieces};
+use device_text::{
+    CheckedReader, CheckedWriter, Input, LineBuffer, Output, Piece, WriteFailed, put_pieces,
+};
 use instruction_table::{Decoded, Refusal, decode};
 use std::alloc::Global;
 use std::io::{Read, Write};
@@ -124,6 +126,7 @@ pub fn list_to<I: Input, O: Output>(
     alloc: Global,
     input: &mut I,
     output: &mut O,
+    line: &mut LineBuffer,
 ) -> Result<(), Refusal>
     ensures listed { Moves (I.remaining input.old) (I.remaining input.new)
         (λ xs ys. Lists result (deck xs) ys (O.contents output.old) (O.contents output.new)) }
@@ -134,11 +137,9 @@ pub fn list_to<I: Input, O: Output>(
     ensures input { I.lender input.new ≡ I.lender input.old }
     ensures output { O.lender output.new ≡ O.lender output.old }
 {
-    let (deck, _) = read_deck_from(alloc, input)?;
-    match print_listing(output, &deck.image) {
-        Ok(()) => Ok(()),
-        Err(_) => Err(Refusal::Write),
-    }
+    let (deck, _) = read_deck_from(alloc, input, line)?;
+    print_listing(output, &deck.image)?;
+    Ok(())
 }
 
 /// The same from any reader to any writer.
@@ -151,7 +152,7 @@ pub fn list<R: Read, W: Write>(alloc: Global, reader: &mut R, writer: &mut W) ->
 {
     let mut input = CheckedReader::new(reader);
     let mut output = CheckedWriter::new(writer);
-    let result = list_to(alloc, &mut input, &mut output);
+    let result = list_to(alloc, &mut input, &mut output, &mut LineBuffer::new());
     // No effect at run time. The proof reads what reader and writer hold from these uses.
     let _ = &*input.into_inner();
     let _ = &*output.into_inner();

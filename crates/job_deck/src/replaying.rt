@@ -8,7 +8,7 @@ ghost use Rattle.job_deck.specs.Replaying.{replayed, Prints, Replays};
 use crate::dumping::dump_to;
 use crate::logs::read_log;
 use deck::{Deck, read_deck_from};
-use device_text::{CheckedReader, CheckedWriter, Input, Output};
+use device_text::{CheckedReader, CheckedWriter, Input, LineBuffer, Output};
 use instruction_table::Refusal;
 use sequential::State;
 use std::alloc::Global;
@@ -38,13 +38,9 @@ fn print_replay<O: Output>(
     };
     let memory = deck.image.memory().copy()?;
     let mut state = State::boot(memory);
-    if let Err(refusal) = sequential::replay(&mut state, &log) {
-        return Err(refusal);
-    }
-    match dump_to(output, &state, &log, deck) {
-        Ok(()) => Ok(Some(state)),
-        Err(_) => Err(Refusal::Write),
-    }
+    sequential::replay(&mut state, &log)?;
+    dump_to(output, &state, &log, deck)?;
+    Ok(Some(state))
 }
 
 /// Reads a deck, boots the machine that does one instruction at a time with its memory, goes through the
@@ -59,6 +55,7 @@ pub fn replay_to<I: Input, O: Output>(
     alloc: Global,
     input: &mut I,
     output: &mut O,
+    line: &mut LineBuffer,
     text: &str,
 ) -> Result<Option<State>, Refusal>
     ensures replayed { Moves (I.remaining input.old) (I.remaining input.new)
@@ -70,7 +67,7 @@ pub fn replay_to<I: Input, O: Output>(
     ensures input { I.lender input.new ≡ I.lender input.old }
     ensures output { O.lender output.new ≡ O.lender output.old }
 {
-    let (deck, _) = read_deck_from(alloc, input)?;
+    let (deck, _) = read_deck_from(alloc, input, line)?;
     print_replay(alloc, output, &deck, text)
 }
 
@@ -89,7 +86,7 @@ pub fn replay<R: Read, W: Write>(
 {
     let mut input = CheckedReader::new(reader);
     let mut output = CheckedWriter::new(writer);
-    let result = replay_to(alloc, &mut input, &mut output, text);
+    let result = replay_to(alloc, &mut input, &mut output, &mut LineBuffer::new(), text);
     // No effect at run time. The proof reads what reader and writer hold from these uses.
     let _ = &*input.into_inner();
     let _ = &*output.into_inner();

@@ -3,7 +3,7 @@ ghost use Rattle.device_text.specs.Text.{fields_of, number_of, other_parts};
 ghost use Rattle.job_deck.specs.Schedule.{schedule_line, line_of_fields, line_of_one_field, line_of_two_fields};
 ghost use Rattle.job_deck.specs.Schedule.{line_of_three_fields, line_with_number};
 
-use device_text::{first_field, number, unit_named};
+use device_text::{first_part, number, unit_named};
 use instruction_table::DeckFault;
 use machine::Event;
 use word60::Word60;
@@ -25,20 +25,14 @@ pub enum ScheduleLine {
 fn small_number(digits: &[u8]) -> Option<u8>
     ensures { result ≡ number_of 10 2 digits.now }
 {
-    match number(10, 2, digits) {
-        Some(number) => Some(number as u8),
-        None => None,
-    }
+    Some(number(10, 2, digits)? as u8)
 }
 
 /// An absolute address.
 fn address(digits: &[u8]) -> Option<u32>
     ensures { result ≡ number_of 8 6 digits.now }
 {
-    match number(8, 6, digits) {
-        Some(number) => Some(number as u32),
-        None => None,
-    }
+    Some(number(8, 6, digits)? as u32)
 }
 
 /// What a line of one field says.
@@ -120,7 +114,7 @@ fn line_of_three_fields(word: &[u8], field: &[u8], other: &[u8]) -> ScheduleLine
 fn line_of_more_fields(word: &[u8], field: &[u8], rest: &[u8]) -> ScheduleLine
     ensures { result ≡ line_of_fields (word.now ∷ field.now ∷ fields_of rest.now) }
 {
-    match first_field(rest) {
+    match first_part(rest, b' ') {
         (other, None) => line_of_three_fields(word, field, other),
         (_, Some(_)) => ScheduleLine::Faulty(DeckFault::Unknown),
     }
@@ -133,7 +127,7 @@ fn line_of_fields(word: &[u8], rest: Option<&[u8]>) -> ScheduleLine
     let Some(rest) = rest else {
         return line_of_one_field(word);
     };
-    match first_field(rest) {
+    match first_part(rest, b' ') {
         (field, None) => line_of_two_fields(word, field),
         (field, Some(more)) => line_of_more_fields(word, field, more),
     }
@@ -143,6 +137,6 @@ fn line_of_fields(word: &[u8], rest: Option<&[u8]>) -> ScheduleLine
 pub fn parse_schedule_line(text: &[u8]) -> ScheduleLine
     ensures { result ≡ schedule_line text.now }
 {
-    let (word, rest) = first_field(text);
+    let (word, rest) = first_part(text, b' ');
     line_of_fields(word, rest)
 }

@@ -13,8 +13,8 @@ use crate::answering::put_answer;
 use crate::ending::finish;
 use crate::schedule::ScheduleLine;
 use crate::schedule_reading::read_schedule_line;
-use deck::{Deck, read_deck_from};
-use device_text::{CheckedReader, CheckedWriter, Input, Output, WriteFailed};
+use deck::{Deck, MOST_LINES, read_deck_from};
+use device_text::{CheckedReader, CheckedWriter, Input, LineBuffer, Output, WriteFailed};
 use instruction_table::{DeckFault, Refusal};
 use machine::{Event, Machine};
 use std::alloc::Global;
@@ -37,6 +37,7 @@ fn make<O: Output>(output: &mut O, machine: &mut Machine, event: Event) -> Resul
 fn answer_lines<I: Input, O: Output>(
     input: &mut I,
     output: &mut O,
+    line: &mut LineBuffer,
     machine: &mut Machine,
     before: u32,
 ) -> Result<bool, Refusal>
@@ -50,25 +51,21 @@ fn answer_lines<I: Input, O: Output>(
     ensures input { I.lender input.new ≡ I.lender input.old }
     ensures output { O.lender output.new ≡ O.lender output.old }
 {
-    for number in before + 1..10_000_001u32 {
-        match read_schedule_line(input, output, before, number) {
-            Err(_) => return Err(Refusal::Read),
-            Ok(ScheduleLine::Ends) => return Ok(false),
-            Ok(ScheduleLine::Drains) => return Ok(true),
-            Ok(ScheduleLine::Faulty(fault)) => {
+    for number in before + 1..MOST_LINES + 1 {
+        match read_schedule_line(input, output, line, before, number)? {
+            ScheduleLine::Ends => return Ok(false),
+            ScheduleLine::Drains => return Ok(true),
+            ScheduleLine::Faulty(fault) => {
                 return Err(Refusal::Deck {
                     line: number,
                     fault,
                 });
             }
-            Ok(ScheduleLine::Makes(event)) => match make(output, machine, event) {
-                Ok(()) => {}
-                Err(_) => return Err(Refusal::Write),
-            },
+            ScheduleLine::Makes(event) => make(output, machine, event)?,
         }
     }
     Err(Refusal::Deck {
-        line: 10_000_001,
+        line: MOST_LINES + 1,
         fault: DeckFault::Lines,
     })
 }
@@ -81,6 +78,7 @@ fn answer_lines<I: Input, O: Output>(
 fn run_session<I: Input, O: Output>(
     input: &mut I,
     output: &mut O,
+    line: &mut LineBuffer,
     machine: &mut Machine,
     deck: &Deck,
     before: u32,
@@ -96,7 +94,7 @@ fn run_session<I: Input, O: Output>(
     ensures input { I.lender input.new ≡ I.lender input.old }
     ensures output { O.lender output.new ≡ O.lender output.old }
 {
-    let drains = answer_lines(input, output, machine, before)?;
+    let drains = answer_lines(input, output, line, machine, before)?;
     finish(output, machine, deck, drains)
 }
 
@@ -125,6 +123,7 @@ pub fn events_to<I: Input, O: Output>(
     alloc: Global,
     input: &mut I,
     output: &mut O,
+    line: &mut LineBuffer,
     budget: u64,
 ) -> Result<(), Refusal>
     requires { budget ≤ 10000000 }
@@ -137,9 +136,9 @@ pub fn events_to<I: Input, O: Output>(
     ensures input { I.lender input.new ≡ I.lender input.old }
     ensures output { O.lender output.new ≡ O.lender output.old }
 {
-    let (deck, lines) = read_deck_from(alloc, input)?;
+    let (deck, lines) = read_deck_from(alloc, input, line)?;
     let mut machine = booted(alloc, &deck, budget)?;
-    run_session(input, output, &mut machine, &deck, lines)
+    run_session(input, output, line, &mut machine, &deck, lines)
 }
 
 /// The same from any reader to any writer.
@@ -158,7 +157,13 @@ pub fn events<R: Read, W: Write>(
 {
     let mut input = CheckedReader::new(reader);
     let mut output = CheckedWriter::new(writer);
-    let result = events_to(alloc, &mut input, &mut output, budget);
+    let result = events_to(
+        alloc,
+        &mut input,
+        &mut output,
+        &mut LineBuffer::new(),
+        budget,
+    );
     // No effect at run time. The proof reads what reader and writer hold from these uses.
     let _ = &*input.into_inner();
     let _ = &*output.into_inner();

@@ -3,4 +3,3 @@
 pub mod Work
 pub mod Request
 pub mod Program
-pub mod inner

@@ -32,6 +32,11 @@ Tells (Err fault) old new = (line : List ℕ) × (length line ≤ 256) × Append
 Tells (Ok Usage) old new = ⊤
 Tells (Ok status) old new = Keeps old new
 
+-- the exit status is that of an end of which P holds, and which is told
+abbrev pub EndsWith : ℕ → (Result Status ProgramFault → Type 0) → Option (List ℕ) → Option (List ℕ) → Type 0
+EndsWith status P faults_old faults_new =
+    (end : Result Status ProgramFault) × P end × Tells end faults_old faults_new × (status ≡ exit_code end)
+
 -- what the program does before it ends so, and what it tells: it answers some request over these files, or its words are
 -- none or name a file that can't be opened, and then it reads nothing. Nothing here says which words are which request
 pub record Does (end : Result Status ProgramFault) (files : List ℕ → Option (List ℕ))

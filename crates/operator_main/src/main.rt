@@ -10,7 +10,6 @@
 //! each command with all that it prints.
 #![tactic(auto)]
 
-mod fault_at;
 mod files;
 mod log_text;
 mod program;
@@ -32,10 +31,10 @@ fn main(rt: HostRuntime) -> ExitCode {
     };
     let _ = words.next();
     let Ok(words) = words.collect::<Vec<String>>(rt.alloc()) else {
-        return ExitCode::from(program::report_fault(&mut stderr, ProgramFault::OutOfMemory));
+        return ExitCode::from(program::report_fault(&mut stderr, ProgramFault::OutOfMemory, b""));
     };
     let Ok(mut output) = BufWriter::new(rt.alloc(), rt.stdout()) else {
-        return ExitCode::from(program::report_fault(&mut stderr, ProgramFault::OutOfMemory));
+        return ExitCode::from(program::report_fault(&mut stderr, ProgramFault::OutOfMemory, b""));
     };
     // Somebody who types a deck isn't told how long that takes.
     let is_shown = progress::may_take_long(words.as_slice())

@@ -8,12 +8,10 @@ ghost use Rattle.operator_terms.specs.declared.fault.ProgramFault.TheVariants.{O
 ghost use Rattle.operator_terms.specs.declared.status.Status.{Status};
 ghost use Rattle.operator_terms.specs.declared.status.Status.TheVariants.{Usage};
 ghost use Rattle.deck_run.specs.Running.{is_write_fault};
-ghost use Rattle.operator_main.specs.Program.{EndsUnasked, ExitsAsItDoes, Tells, exit_code};
+ghost use Rattle.operator_main.specs.Program.{EndsUnasked, EndsWith, ExitsAsItDoes, Tells, exit_code};
 ghost use Rattle.operator_main.specs.Request.{Answers, ReplaysFrom, ReplaysOn, source_bytes};
 ghost use Rattle.operator_main.specs.Work.{CarriesOut, Performed};
-ghost use Rattle.operator_main.specs.inner.FaultAt.{without_position};
 
-use super::fault_at::FaultAt;
 use super::files::Opener;
 use super::log_text::{read_all, text_of};
 use super::work::Work;
@@ -22,9 +20,9 @@ use clap::Error;
 use clap::error::ErrorKind;
 use command_line::{Replay, Request, Source, read_arguments};
 use deck_run::{replay_log, run_deck, run_deck_sequentially};
-use job_deck::{CheckedBufReader, CheckedWriter, Input, Output, events_to, list_to};
+use job_deck::{CheckedBufReader, CheckedWriter, Input, LineBuffer, Output, events_to, list_to};
 use operator_terms::{ProgramFault, Status};
-use refused_line::LineKeeper;
+use refused_line::find;
 use std::alloc::Global;
 use std::io;
 use std::io::{BufReader, ErrorKind as IoErrorKind, Read, Write};
@@ -35,27 +33,28 @@ use std::time::Clock;
 /// More bytes than a fault line has. With the position of a fault in a refused line it has at most 229.
 const FAULT_LINE: usize = 256;
 
-/// Says on the fault stream why the program ends, in one write, so that the lines of programs that run side by
-/// side don't mix. Answers the exit status.
-pub fn report_fault<F: Write>(faults: &mut F, fault: ProgramFault) -> u8
+/// The fault line, with the position of the fault if a line was refused, which then is `line`.
+fn fault_line(fault: &ProgramFault, line: &[u8]) -> ArrayVec<u8, FAULT_LINE> {
+    let mut text = ArrayVec::new();
+    let _ = write!(text, "cdc6600: {fault}");
+    if let ProgramFault::Deck { fault, .. } = fault
+        && let Some(position) = find(*fault, line)
+    {
+        let _ = write!(text, ", {position}");
+    }
+    let _ = text.write_all(b"\n");
+    text
+}
+
+/// Writes the fault line to the fault stream, in one write, so that the lines of programs that run side by side don't
+/// mix. If a line was refused, it is `line`. Returns the exit status.
+pub fn report_fault<F: Write>(faults: &mut F, fault: ProgramFault, line: &[u8]) -> u8
     ensures status { result ≡ exit_code (Err fault) }
     ensures told { Tells (Err fault) (F.contents faults.old) (F.contents faults.new) }
 {
-    report_fault_at(faults, FaultAt::nowhere(fault))
-}
-
-/// The same with the position in the refused line, if there is one.
-fn report_fault_at<F: Write>(faults: &mut F, told: FaultAt) -> u8
-    ensures status { result ≡ exit_code (Err told.fault) }
-    ensures told { Tells (Err told.fault) (F.contents faults.old) (F.contents faults.new) }
-{
-    let FaultAt { fault, position } = told;
-    let mut line = ArrayVec::<u8, FAULT_LINE>::new();
-    let _ = write!(line, "cdc6600: {fault}");
-    let _ = line.write_all(position.as_slice());
-    let _ = line.write_all(b"\n");
+    let text = fault_line(&fault, line);
     let mut told = CheckedWriter::new(&mut *faults);
-    let _ = told.put(line.as_slice());
+    let _ = told.put(text.as_slice());
     // The proof reads what the fault stream holds from this use, which has no other effect.
     let _ = &*told.into_inner();
     fault.status().code()
@@ -67,7 +66,7 @@ pub fn report_bad_argument<F: Write>(faults: &mut F, error: io::Error) -> u8
     ensures refused { error_kind error ≢ IoErrorKind.OutOfMemory → result ≡ exit_code (Ok Usage) }
 {
     if error.kind() == IoErrorKind::OutOfMemory {
-        return report_fault(faults, ProgramFault::OutOfMemory);
+        return report_fault(faults, ProgramFault::OutOfMemory, b"");
     }
     let _ = faults.write_all(b"error: an argument is no text\n");
     Status::Usage.code()
@@ -85,12 +84,12 @@ fn put_text<W: Write>(output: &mut W, error: &Error) -> io::Result<()> {
 /// The answer to a command line that names no work: `clap`'s text, to the output where help was asked
 /// for.
 fn report_usage<W: Write, F: Write>(output: &mut W, faults: &mut F, error: Error) -> u8
-    ensures { (end : Result Status ProgramFault)
-        × EndsUnasked (kind_of error) end (W.contents output.old) (W.contents output.new)
-        × Tells end (F.contents faults.old) (F.contents faults.new) × (result ≡ exit_code end) }
+    ensures { EndsWith result
+        (λ end. EndsUnasked (kind_of error) end (W.contents output.old) (W.contents output.new))
+        (F.contents faults.old) (F.contents faults.new) }
 {
     if error.kind() == ErrorKind::OutOfMemory {
-        return report_fault(faults, ProgramFault::OutOfMemory);
+        return report_fault(faults, ProgramFault::OutOfMemory, b"");
     }
     if error.use_stderr() {
         let _ = write!(faults, "{error}");
@@ -98,7 +97,7 @@ fn report_usage<W: Write, F: Write>(output: &mut W, faults: &mut F, error: Error
     }
     match put_text(output, &error) {
         Ok(()) => Status::Stopped.code(),
-        Err(_) => report_fault(faults, ProgramFault::Write),
+        Err(_) => report_fault(faults, ProgramFault::Write, b""),
     }
 }
 
@@ -112,6 +111,7 @@ fn carry_out<T: Threads + Wait + Clock + Sync, I: Input, O: Output>(
     work: &Work<'_>,
     input: &mut I,
     output: &mut O,
+    line: &mut LineBuffer,
 ) -> Result<Status, ProgramFault>
     ensures carried_out { Moves (I.remaining input.old) (I.remaining input.new)
         (λ xs ys. CarriesOut work.now result xs ys (O.contents output.old) (O.contents output.new)) }
@@ -120,48 +120,48 @@ fn carry_out<T: Threads + Wait + Clock + Sync, I: Input, O: Output>(
     ensures same { O.lender output.new ≡ O.lender output.old }
 {
     match *work {
-        Work::Run(budget) => run_deck(rt, alloc, input, output, budget),
-        Work::RunSequentially(budget) => run_deck_sequentially(alloc, input, output, budget),
-        Work::Replay(log) => replay_log(alloc, input, output, log),
+        Work::Run(budget) => run_deck(rt, alloc, input, output, line, budget),
+        Work::RunSequentially(budget) => run_deck_sequentially(alloc, input, output, line, budget),
+        Work::Replay(log) => replay_log(alloc, input, output, line, log),
         Work::Events(budget) => {
-            events_to(alloc, input, output, budget.get())?;
+            events_to(alloc, input, output, line, budget.get())?;
             Ok(Status::Stopped)
         }
         Work::List => {
-            list_to(alloc, input, output)?;
+            list_to(alloc, input, output, line)?;
             Ok(Status::Stopped)
         }
     }
 }
 
-/// Does its work, with a buffer before its input, so that not each byte that is read costs a call of the system.
-fn perform<T: Threads + Wait + Clock + Sync, R: Read, W: Write>(
+/// Does its work, with a buffer before its input, so that not each byte that is read costs a call of the system. Reports
+/// the fault if there is one. Returns the exit status.
+fn perform<T: Threads + Wait + Clock + Sync, R: Read, W: Write, F: Write>(
     rt: &T,
     alloc: Global,
     work: &Work<'_>,
     input: &mut R,
     output: &mut W,
-) -> Result<Status, FaultAt>
-    ensures { Performed work.now (without_position result) (R.remaining input.old)
-        (W.contents output.old) (W.contents output.new) }
+    faults: &mut F,
+) -> u8
+    ensures { EndsWith result
+        (λ end. Performed work.now end (R.remaining input.old) (W.contents output.old) (W.contents output.new))
+        (F.contents faults.old) (F.contents faults.new) }
 {
     let Ok(mut reader) = BufReader::new(alloc, &mut *input) else {
-        return Err(FaultAt::nowhere(ProgramFault::OutOfMemory));
+        return report_fault(faults, ProgramFault::OutOfMemory, b"");
     };
-    let mut checked = CheckedBufReader::new(&mut reader);
-    let mut input = LineKeeper::new(&mut checked);
+    let mut input = CheckedBufReader::new(&mut reader);
     let mut output = CheckedWriter::new(&mut *output);
-    let result = carry_out(rt, alloc, work, &mut input, &mut output);
+    let mut line = LineBuffer::new();
+    let ended = carry_out(rt, alloc, work, &mut input, &mut output, &mut line);
     // The proof reads what the output holds from this use, which has no other effect.
     let _ = &*output.into_inner();
-    match result {
-        Ok(status) => Ok(status),
-        Err(fault) => Err(FaultAt::in_line(fault, input.line())),
+    match ended {
+        Ok(status) => status.code(),
+        Err(fault) => report_fault(faults, fault, line.as_slice()),
     }
 }
-
-/// How the program's work ends, unless a file can't be opened for it.
-type Ended<'a> = Result<Result<Status, FaultAt>, Unopened<'a>>;
 
 /// A file that can't be opened.
 struct Unopened<'a> {
@@ -187,7 +187,7 @@ fn open<'a, D: Opener>(files: &D, name: &'a str) -> Result<D::Opened, Unopened<'
 ///
 /// # Errors
 /// The deck's file can't be opened.
-fn replay_text<'a, T: Threads + Wait + Clock + Sync, D: Opener, R: Read, W: Write>(
+fn replay_text<'a, T: Threads + Wait + Clock + Sync, D: Opener, R: Read, W: Write, F: Write>(
     rt: &T,
     alloc: Global,
     files: &D,
@@ -195,19 +195,20 @@ fn replay_text<'a, T: Threads + Wait + Clock + Sync, D: Opener, R: Read, W: Writ
     deck: Source<'a>,
     input: &mut R,
     output: &mut W,
-) -> Ended<'a>
-    ensures replayed { IfOk result (λ end. ReplaysOn log.now (without_position end)
+    faults: &mut F,
+) -> Result<u8, Unopened<'a>>
+    ensures replayed { IfOk result (λ status. EndsWith status (λ end. ReplaysOn log.now end
         (source_bytes (D.contents files.now) deck.entry (R.remaining input.old))
-        (W.contents output.old) (W.contents output.new)) }
+        (W.contents output.old) (W.contents output.new)) (F.contents faults.old) (F.contents faults.new)) }
     ensures unopened { OnErr result (Keeps (R.remaining input.old) (R.remaining input.new)
         × Keeps (W.contents output.old) (W.contents output.new)) }
 {
     let work = Work::Replay(log);
     match deck {
-        Source::Input => Ok(perform(rt, alloc, &work, input, output)),
+        Source::Input => Ok(perform(rt, alloc, &work, input, output, faults)),
         Source::File(name) => {
             let mut file = open(files, name)?;
-            Ok(perform(rt, alloc, &work, &mut file, output))
+            Ok(perform(rt, alloc, &work, &mut file, output, faults))
         }
     }
 }
@@ -216,21 +217,25 @@ fn replay_text<'a, T: Threads + Wait + Clock + Sync, D: Opener, R: Read, W: Writ
 ///
 /// # Errors
 /// A file can't be opened.
-fn replay_from<'a, T: Threads + Wait + Clock + Sync, D: Opener, R: Read, W: Write>(
+fn replay_from<'a, T: Threads + Wait + Clock + Sync, D: Opener, R: Read, W: Write, F: Write>(
     rt: &T,
     alloc: Global,
     files: &D,
     replay: Replay<'a>,
     input: &mut R,
     output: &mut W,
-) -> Ended<'a>
-    ensures replayed { IfOk result (λ end. ReplaysFrom (D.contents files.now) replay.entry (without_position end)
-        (R.remaining input.old) (W.contents output.old) (W.contents output.new)) }
+    faults: &mut F,
+) -> Result<u8, Unopened<'a>>
+    ensures replayed { IfOk result (λ status. EndsWith status (λ end. ReplaysFrom (D.contents files.now) replay.entry
+        end (R.remaining input.old) (W.contents output.old) (W.contents output.new))
+        (F.contents faults.old) (F.contents faults.new)) }
     ensures unopened { OnErr result (Keeps (R.remaining input.old) (R.remaining input.new)
         × Keeps (W.contents output.old) (W.contents output.new)) }
 {
     match replay {
-        Replay::Word { log, deck } => replay_text(rt, alloc, files, log, deck, input, output),
+        Replay::Word { log, deck } => replay_text(
+            rt, alloc, files, log, deck, input, output, faults,
+        ),
         Replay::File { log, deck } => {
             let mut file = open(files, log)?;
             match read_all(alloc, &mut file) {
@@ -242,8 +247,9 @@ fn replay_from<'a, T: Threads + Wait + Clock + Sync, D: Opener, R: Read, W: Writ
                     deck,
                     input,
                     output,
+                    faults,
                 ),
-                Err(fault) => Ok(Err(FaultAt::nowhere(fault))),
+                Err(fault) => Ok(report_fault(faults, fault, b"")),
             }
         }
         Replay::Input { deck } => {
@@ -251,9 +257,9 @@ fn replay_from<'a, T: Threads + Wait + Clock + Sync, D: Opener, R: Read, W: Writ
             match read_all(alloc, input) {
                 Ok(bytes) => {
                     let work = Work::Replay(text_of(bytes.as_slice()));
-                    Ok(perform(rt, alloc, &work, &mut file, output))
+                    Ok(perform(rt, alloc, &work, &mut file, output, faults))
                 }
-                Err(fault) => Ok(Err(FaultAt::nowhere(fault))),
+                Err(fault) => Ok(report_fault(faults, fault, b"")),
             }
         }
     }
@@ -263,16 +269,18 @@ fn replay_from<'a, T: Threads + Wait + Clock + Sync, D: Opener, R: Read, W: Writ
 ///
 /// # Errors
 /// A file can't be opened.
-fn answer<'a, T: Threads + Wait + Clock + Sync, D: Opener, R: Read, W: Write>(
+fn answer<'a, T: Threads + Wait + Clock + Sync, D: Opener, R: Read, W: Write, F: Write>(
     rt: &T,
     alloc: Global,
     files: &D,
     request: &Request<'a>,
     input: &mut R,
     output: &mut W,
-) -> Ended<'a>
-    ensures answered { IfOk result (λ end. Answers (D.contents files.now) request.now (without_position end)
-        (R.remaining input.old) (W.contents output.old) (W.contents output.new)) }
+    faults: &mut F,
+) -> Result<u8, Unopened<'a>>
+    ensures answered { IfOk result (λ status. EndsWith status (λ end. Answers (D.contents files.now) request.now end
+        (R.remaining input.old) (W.contents output.old) (W.contents output.new))
+        (F.contents faults.old) (F.contents faults.new)) }
     ensures unopened { OnErr result (Keeps (R.remaining input.old) (R.remaining input.new)
         × Keeps (W.contents output.old) (W.contents output.new)) }
 {
@@ -280,12 +288,12 @@ fn answer<'a, T: Threads + Wait + Clock + Sync, D: Opener, R: Read, W: Write>(
         Request::Run(budget) => Work::Run(budget),
         Request::RunSequentially(budget) => Work::RunSequentially(budget),
         Request::Replay(replay) => {
-            return replay_from(rt, alloc, files, replay, input, output);
+            return replay_from(rt, alloc, files, replay, input, output, faults);
         }
         Request::Events(budget) => Work::Events(budget),
         Request::List => Work::List,
     };
-    Ok(perform(rt, alloc, &work, input, output))
+    Ok(perform(rt, alloc, &work, input, output, faults))
 }
 
 /// The whole program, over its arguments without the program's name, the files that they name, its input, output and
@@ -308,9 +316,8 @@ pub fn program<T: Threads + Wait + Clock + Sync, D: Opener, R: Read, W: Write, F
         Ok(request) => request,
         Err(error) => return report_usage(output, faults, error),
     };
-    match answer(rt, alloc, files, &request, input, output) {
-        Ok(Ok(status)) => status.code(),
-        Ok(Err(told)) => report_fault_at(faults, told),
+    match answer(rt, alloc, files, &request, input, output, faults) {
+        Ok(status) => status,
         Err(Unopened { name, error }) => {
             let _ = writeln!(faults, "error: {name} can't be read: {error}");
             Status::Usage.code()

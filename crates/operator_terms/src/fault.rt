@@ -27,22 +27,7 @@ pub enum ProgramFault {
 }
 
 impl ProgramFault {
-    ghost use Rattle.operator_terms.specs.Status.{fault_of, fault_status};
-
-    /// Why the program ends where this is refused.
-    pub fn of(refusal: Refusal) -> ProgramFault
-        ensures { result ≡ fault_of refusal }
-    {
-        match refusal {
-            Refusal::Deck { line, fault } => ProgramFault::Deck { line, fault },
-            Refusal::PackageRange => ProgramFault::PackageRange,
-            Refusal::PeripheralRange => ProgramFault::PeripheralRange,
-            Refusal::OutOfMemory => ProgramFault::OutOfMemory,
-            Refusal::Read => ProgramFault::Read,
-            Refusal::Write => ProgramFault::Write,
-            _ => ProgramFault::Stuck,
-        }
-    }
+    ghost use Rattle.operator_terms.specs.Status.{fault_status};
 
     /// How the program ends.
     pub fn status(&self) -> Status
@@ -67,6 +52,34 @@ impl From<Refusal> for ProgramFault {
     ghost from_gives = { λ refusal fault. fault ≡ fault_of refusal };
 
     fn from(refusal: Refusal) -> ProgramFault {
-        ProgramFault::of(refusal)
+        match refusal {
+            Refusal::Deck { line, fault } => ProgramFault::Deck { line, fault },
+            Refusal::PackageRange => ProgramFault::PackageRange,
+            Refusal::PeripheralRange => ProgramFault::PeripheralRange,
+            Refusal::OutOfMemory => ProgramFault::OutOfMemory,
+            Refusal::Read => ProgramFault::Read,
+            Refusal::Write => ProgramFault::Write,
+            Refusal::Halted(_)
+            | Refusal::Faulted
+            | Refusal::Budget
+            | Refusal::BranchPending
+            | Refusal::ExchangeWaiting
+            | Refusal::FetchWait
+            | Refusal::UnitBusy(_)
+            | Refusal::ResultReserved(_)
+            | Refusal::OperandAwaited(_)
+            | Refusal::ResultHeld(_)
+            | Refusal::HopperFull
+            | Refusal::OutOfTurn
+            | Refusal::BankBusy(_)
+            | Refusal::OlderAtAddress
+            | Refusal::Nothing
+            | Refusal::Stranger
+            | Refusal::ExchangeBusy
+            | Refusal::NotDrained
+            | Refusal::MemorySize
+            | Refusal::MidWord
+            | Refusal::PeripheralWait => ProgramFault::Stuck,
+        }
     }
 }

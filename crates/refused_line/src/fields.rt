@@ -3,7 +3,7 @@ ghost use Rattle.std.specs.Prelude.{◌≤◌, length, IfSome};
 ghost use Rattle.refused_line.specs.Position.{IsPart};
 
 use crate::position::{Cause, Position};
-use device_text::{first_field, place_of};
+use device_text::first_part;
 
 /// How many fields a line has.
 pub fn count(line: &[u8]) -> usize {
@@ -29,7 +29,7 @@ fn start(line: &[u8], number: usize) -> Option<usize>
 {
     let mut ending = line;
     for _ in 0..number {
-        ending = first_field(ending).1?;
+        ending = first_part(ending, b' ').1?;
     }
     Some(start_of(line, ending))
 }
@@ -40,7 +40,7 @@ fn text_from(line: &[u8], start: usize, separator: u8) -> &[u8]
     ensures { IsPart line.now start result.now }
 {
     let rest = &line[start..];
-    match place_of(rest, separator) {
+    match rest.iter().position(|byte| *byte == separator) {
         Some(end) => &rest[..end],
         None => rest,
     }

@@ -3,18 +3,15 @@
 //!
 //! Callers rely on `find`: the text that it answers is that of the line at the column that it answers. Which column
 //! that is for which fault is shown by the tests in `finding_tests` and by the rows of decks/pages/refusals.md.
-//! `LineKeeper` is an input that keeps the line that is refused. Begin with `find` in `finding`; `fields` and
-//! `texts` have what a line is taken apart by.
+//! Begin with `find` in `finding`; `fields` and `texts` have what a line is taken apart by.
 #![tactic(auto)]
 
 mod fields;
 mod finding;
-mod line_keeper;
 mod position;
 mod texts;
 
 pub use finding::find;
-pub use line_keeper::LineKeeper;
 pub use position::{Cause, Position};
 
 #[cfg(test)]

@@ -6,13 +6,12 @@ use Rattle.std.proofs.lemmas.Bool.{not-false}
 use Rattle.std.proofs.lemmas.List.{length-set}
 use Rattle.std.proofs.lemmas.List.Elements.{All-nil, All-push}
 use Rattle.deck.specs.Code.{items_of, parcels_in, word_of}
-use Rattle.deck.specs.Deck.{LineOutcome, Reading, Good, Bad, applied, applied_core, applied_line, applied_to}
+use Rattle.deck.specs.Deck.{Ends, Goes, LineOutcome, Reading, Good, Bad, applied, applied_core, applied_line, applied_to}
 use Rattle.deck.specs.Deck.{begun, coded, deck, ended, goes_on, has_all_asks, is_no_size, parsed_line, read_from}
 use Rattle.deck.specs.Deck.{read_on, refuse_if, size, with_number, with_request, with_word}
 use Rattle.deck.specs.declared.deck.Ask.{Ask}
 use Rattle.deck.specs.declared.deck.Deck.{Deck}
 use Rattle.deck.specs.declared.deck.Draft.{Draft}
-use Rattle.deck.specs.declared.deck.Step.TheVariants.{Goes, Ends}
 use Rattle.deck.specs.declared.parsing.Line.{Line}
 use Rattle.deck.specs.declared.parsing.Line.TheVariants as says
 use Rattle.device_text.specs.Line.{left_after, lines_of}

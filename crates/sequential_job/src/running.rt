@@ -9,7 +9,9 @@ ghost use Rattle.sequential_job.specs.Running.{asks_after};
 
 use exchange_requests::Ask;
 use instruction_table::Refusal;
-use job_deck::{CheckedReader, CheckedWriter, Deck, Input, Output, dump_to, read_deck_from};
+use job_deck::{
+    CheckedReader, CheckedWriter, Deck, Input, LineBuffer, Output, dump_to, read_deck_from,
+};
 use sequential::State;
 use sequential_run::Ended;
 use std::alloc::{AllocError, Global};
@@ -71,14 +73,9 @@ fn print_run<O: Output>(
     ensures kept { NothingWaits (is_write_failure result) (O.waits output.old) (O.waits output.new) }
     ensures same { O.lender output.new ≡ O.lender output.old }
 {
-    let ended = match run_deck(alloc, deck, budget) {
-        Ok(ended) => ended,
-        Err(refusal) => return Err(refusal),
-    };
-    match dump_to(output, &ended.state, &ended.log, deck) {
-        Ok(()) => Ok(ended.state),
-        Err(_) => Err(Refusal::Write),
-    }
+    let ended = run_deck(alloc, deck, budget)?;
+    dump_to(output, &ended.state, &ended.log, deck)?;
+    Ok(ended.state)
 }
 
 /// Reads a deck, runs it one instruction at a time, at most `budget` instructions, prints the machine's dump and hands
@@ -91,6 +88,7 @@ pub fn run_to<I: Input, O: Output>(
     alloc: Global,
     input: &mut I,
     output: &mut O,
+    line: &mut LineBuffer,
     budget: u64,
 ) -> Result<State, Refusal>
     ensures ran { Moves (I.remaining input.old) (I.remaining input.new)
@@ -102,7 +100,7 @@ pub fn run_to<I: Input, O: Output>(
     ensures input { I.lender input.new ≡ I.lender input.old }
     ensures output { O.lender output.new ≡ O.lender output.old }
 {
-    let (deck, _) = read_deck_from(alloc, input)?;
+    let (deck, _) = read_deck_from(alloc, input, line)?;
     print_run(alloc, output, &deck, budget)
 }
 
@@ -121,7 +119,13 @@ pub fn run<R: Read, W: Write>(
 {
     let mut input = CheckedReader::new(reader);
     let mut output = CheckedWriter::new(writer);
-    let result = run_to(alloc, &mut input, &mut output, budget);
+    let result = run_to(
+        alloc,
+        &mut input,
+        &mut output,
+        &mut LineBuffer::new(),
+        budget,
+    );
     // No effect at run time. The proof reads what reader and writer hold from these uses.
     let _ = &*input.into_inner();
     let _ = &*output.into_inner();

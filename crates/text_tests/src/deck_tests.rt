@@ -2,7 +2,7 @@
 
 use crate::fixtures::{FOUR_WORDS, joined};
 use deck::{Ask, Deck, read_deck, read_deck_from};
-use device_text::CheckedBufReader;
+use device_text::{CheckedBufReader, LineBuffer};
 use instruction_table::{DeckFault, Refusal};
 use std::process::Abort;
 use std::test::Fail;
@@ -229,7 +229,7 @@ fn reads_no_further_from_a_buffer(rt: HostRuntime) -> Result<(), Fail> {
     let text = joined(rt.alloc(), [FOUR_WORDS, "rest\n"].as_slice())?;
     let mut input = text.as_slice();
     let mut buffer = CheckedBufReader::new(&mut input);
-    let read = read_deck_from(rt.alloc(), &mut buffer);
+    let read = read_deck_from(rt.alloc(), &mut buffer, &mut LineBuffer::new());
     let is_read = matches!(read, Ok((Deck { start: 32, .. }, 9)));
     assert!(rt; is_read && input == b"rest\n".as_slice());
     Ok(())

@@ -5,7 +5,7 @@ ghost use Rattle.std.specs.Prelude.{Some};
 use arrayvec::ArrayVec;
 use device_text::{
     CheckedBufReader, CheckedReader, CheckedWriter, Input, LineRead, Output, Piece, ReadFailed,
-    WriteFailed, first_field, number, put_pieces, read_line, unit_named,
+    WriteFailed, first_part, number, put_pieces, read_line, unit_named,
 };
 use instruction_table::Unit;
 use std::alloc::{AllocError, Global};
@@ -74,7 +74,7 @@ const FIELDS: [(&str, &str, Option<&str>); 5] = [
 
 /// Whether a text has this first field, and this stands after the space.
 fn has_fields(text: &str, first: &str, rest: Option<&str>) -> bool {
-    let (field, more) = first_field(text.as_bytes());
+    let (field, more) = first_part(text.as_bytes(), b' ');
     field == first.as_bytes() && more == rest.map(|rest| rest.as_bytes())
 }
 

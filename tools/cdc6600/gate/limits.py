@@ -337,24 +337,21 @@ LIMITS = {
     ("relocation/src/storage.rt", "LARGEST"): repeated("MOST_WORDS", refused("size", 131073)),
     ("relocation/src/storage.rt", "BANKS"): repeated("BANKS", shown("all-banks")),
     # Decks, schedules and what is printed.
-    ("deck/src/applying.rt", "SHOWS"): repeated("MOST_SHOWS", check("mutations", "self.shows < MOST_SHOWS")),
-    ("deck/src/applying.rt", "ASKS"): repeated("MOST_ASKS", requests("most-requests")),
-    ("deck/src/applying.rt", "MOST_ISSUES"): repeated(
+    ("deck/src/line_list.rt", "LINES_OF_A_KIND"): both(
+        repeated("MOST_SHOWS", check("mutations", "self.shows < MOST_SHOWS")),
+        repeated("MOST_ASKS", requests("most-requests")),
+    ),
+    ("deck/src/applying.rt", "MOST_INSTRUCTIONS"): repeated(
         "MOST_INSTRUCTIONS", test("text_tests/src/deck_tests.rt", "after {more}")
     ),
     ("deck/src/applying.rt", "PARCELS"): too_full(),
-    ("deck/src/reading.rt", "ArrayVec<u8, "): LONG_LINES,
-    ("deck/src/reading.rt", "for number in ..="): repeated("MOST_LINES", TOO_MANY_LINES),
-    ("deck/src/reading.rt", "line: "): repeated("MOST_LINES", TOO_MANY_LINES, more=1),
+    ("deck/src/reading.rt", "MOST_LINES"): repeated("MOST_LINES", TOO_MANY_LINES),
     ("deck/src/coding.rt", "ArrayVec<u16, "): check("mutations", "{less}, {value}, 256"),
     ("device_text/src/line.rt", "ArrayVec<u8, "): LONG_LINES,
     ("device_text/src/line.rt", "for _ in .."): LONG_LINES,
-    ("job_deck/src/session.rt", "for number in .."): repeated("MOST_LINES", TOO_MANY_LINES, more=1),
-    ("job_deck/src/session.rt", "line: "): repeated("MOST_LINES", TOO_MANY_LINES, more=1),
     ("job_deck/src/logs.rt", "instructions: "): repeated(
         "MOST_INSTRUCTIONS", test("text_tests/src/printing_tests.rt", "I{more}")
     ),
-    ("job_deck/src/schedule_reading.rt", "ArrayVec<u8, "): LONG_LINES,
     ("job_deck/src/logs.rt", "exchanges: "): LARGEST_LOG,
     ("job_deck/src/logs.rt", "accesses: "): LARGEST_LOG,
     ("job_deck/src/dumping.rt", "for number in .."): nothing("there are eight X registers"),
@@ -367,8 +364,6 @@ LIMITS = {
     ("operator_main/src/progress.rt", "MOST"): nothing("a run or a replay takes less than a day"),
     ("operator_main/src/progress.rt", "SHOWN"): nothing("the line has at most five digits, and 12 bytes beside them"),
     ("operator_main/src/program.rt", "FAULT_LINE"): nothing("the longest fault line has 229 bytes"),
-    ("operator_main/src/fault_at.rt", "POSITION"): nothing("the longest text of a position has 189 bytes"),
-    ("refused_line/src/line_keeper.rt", "KEPT"): LONG_LINES,
     ("refused_line/src/position.rt", "SHOWN"): named("decks/pages/refusals.md", "'12345670123456701234567012345670'.."),
     ("refused_line/src/texts.rt", "BEFORE"): nothing("no text begins before the word and its blank end"),
     ("refused_line/src/texts.rt", "PARCELS"): too_full(),

@@ -18,7 +18,7 @@ PAGE = "docs/safety.md"
 HEAD = "| Call | May refuse | A refusal leaves | Returns | Requires |"
 NONE = "-"
 # What is refused and has no name in the sources that are read here.
-OTHER_REFUSALS = {"None", "false", "ReadFailed", "WriteFailed"}
+OTHER_REFUSALS = {"None", "false", "ReadFailed", "WriteFailed", "DeckFault"}
 
 # ---- the refusals that contracts name ----
 

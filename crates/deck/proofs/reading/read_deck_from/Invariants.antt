@@ -1,4 +1,4 @@
-use Rattle.std.proofs.Common.{◌≡◌}
+use Rattle.std.proofs.Common.{◌≡◌, Some}
 use Rattle.device_text.specs.Device.{Moves}
 use Rattle.device_text.specs.Line.{lines_of}
 use Rattle.deck.specs.Deck.{deck, read_from}
@@ -9,7 +9,7 @@ abbrev pub invariant-loop-number : goal.invariant-loop-number
 invariant-loop-number g l =
     record {
       told : Moves (g.I.Input.remaining l.fn.input) (g.I.Input.remaining l.input)
-          (λ xs ys. deck xs ≡ read_from l.number l.before ys (lines_of ys));
+          (λ xs ys. deck xs ≡ read_from l.number (Some l.draft) ys (lines_of ys));
       same : g.I.Input.lender l.input ≡ g.I.Input.lender l.fn.input;
       failures : g.I.Input.has_failed l.input ≡ g.I.Input.has_failed l.fn.input;
     }

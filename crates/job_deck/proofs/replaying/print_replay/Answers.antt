@@ -1,17 +1,20 @@
 use Rattle.std.proofs.Common.{◌||◌, ap, sym, ◌∙◌}
+use Rattle.std.proofs.lemmas.Result.{err_from_is_err_and}
 use Rattle.instructions.proofs.Lists.{or_false}
 use Rattle.job_deck.proofs.printing.Refused.{refused_printed, refused_unwritten}
 use Rattle.job_deck.proofs.replaying.print_replay.Goals as goal
 
-pub returns-in-Err-clause-printed : goal.returns-in-Err-clause-printed
-returns-in-Err-clause-printed g c =
-    refused_printed c.in-Err.refusal c.args.deck.now c.args.text.now c.in_ok-memory.memory c.boot-state.result
+pub returns-in_err-replay-clause-printed : goal.returns-in_err-replay-clause-printed
+returns-in_err-replay-clause-printed g c =
+    let p = err_from_is_err_and c.from_residual-in_err-replay.result c.from_residual-in_err-replay.ensures.1 in
+    rw (p.1, p.2) (refused_printed _ c.args.deck.now c.args.text.now c.in_ok-memory.memory c.boot-state.result
     c.replay.new.state c.in-Some.log.steps (g.O.Output.contents c.args.output.now)
     (rw c.in-Some.is at c.in_ok-log.ensures) (c.in_ok-memory.ensures ∙ c.memory.ensures) c.boot-state.ensures
-    c.in-Err.ensures.answer c.in-Err.ensures.refused
+    c.in_err-replay.ensures.answer c.in_err-replay.ensures.refused)
 
-pub returns-in-Err-clause-failure : goal.returns-in-Err-clause-failure
-returns-in-Err-clause-failure g c =
-    sym (ap (λ b. g.O.Output.has_failed c.args.output.now || b)
-    (refused_unwritten c.in-Err.refusal c.boot-state.result c.replay.new.state c.in-Some.log.steps
-    c.in-Err.ensures.refused) ∙ or_false _)
+pub returns-in_err-replay-clause-failure : goal.returns-in_err-replay-clause-failure
+returns-in_err-replay-clause-failure g c =
+    let p = err_from_is_err_and c.from_residual-in_err-replay.result c.from_residual-in_err-replay.ensures.1 in
+    rw (p.1, p.2) (sym (ap (λ b. g.O.Output.has_failed c.args.output.now || b)
+    (refused_unwritten _ c.boot-state.result c.replay.new.state c.in-Some.log.steps
+    c.in_err-replay.ensures.refused) ∙ or_false _))

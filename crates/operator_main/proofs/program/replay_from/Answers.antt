@@ -1,4 +1,4 @@
-use Rattle.std.proofs.Common.{◌≡◌, ◌⊎◌, Some, rules, inl, inr}
+use Rattle.std.proofs.Common.{◌≡◌, ◌⊎◌, Some, Err, refl, rules, inl, inr}
 use Rattle.std.specs.Prelude.{IfSome}
 use Rattle.operator_terms.specs.declared.fault.ProgramFault.TheVariants as faults
 use Rattle.operator_main.specs.Request.{IsTextOf}
@@ -13,12 +13,17 @@ returns-in-Ok-clause-replayed g c =
     search rules in
     let text : IsTextOf c.in-Ok.bytes.items c.text_of.result.now = search rules in
     rw c.in-File.is (followed c.replay_text-in-Ok.result c.replay_text-in-Ok.ensures.replayed
-    (λ end p. inl (c.text_of.result.now, log_of_file _ _ _ _ opened read text, p)))
+    (λ status p. (p.0, inl (c.text_of.result.now, log_of_file _ _ _ _ opened read text, p.1), p.2, p.3)))
 
 pub returns-in-File-clause-replayed : goal.returns-in-File-clause-replayed
 returns-in-File-clause-replayed g c =
     let why : (c.in-Err.fault ≡ faults.Read) ⊎ (c.in-Err.fault ≡ faults.OutOfMemory) = search rules in
-    rw c.in-File.is (inr (lacks c.in-Err.fault c.nowhere.result.fault _ c.nowhere.ensures why))
+    rw c.in-File.is (
+      Err c.in-Err.fault,
+      inr (lacks c.in-Err.fault c.in-Err.fault _ refl why),
+      c.report_fault.ensures.told,
+      c.report_fault.ensures.status,
+    )
 
 pub returns-in-Ok-read_all-clause-replayed : goal.returns-in-Ok-read_all-clause-replayed
 returns-in-Ok-read_all-clause-replayed g c =
@@ -27,15 +32,25 @@ returns-in-Ok-read_all-clause-replayed g c =
     let read : IfSome (g.R.Read.remaining c.args.input.now) (λ left. c.in-Ok-read_all.bytes.items ≡ left) =
     search rules in
     let text : IsTextOf c.in-Ok-read_all.bytes.items c.text_of-in-Ok-read_all.result.now = search rules in
-    rw c.in-Input.is (inl (
-      c.text_of-in-Ok-read_all.result.now,
-      log_read _ _ _ read text,
-      (c.perform.ensures.rest, moves_known _ _ _ _ opened c.perform.ensures.carried_out),
-    ))
+    let end = c.perform.ensures in
+    rw c.in-Input.is (
+      end.0,
+      inl (
+        c.text_of-in-Ok-read_all.result.now,
+        log_read _ _ _ read text,
+        (end.1.rest, moves_known _ _ _ _ opened end.1.carried_out),
+      ),
+      end.2,
+      end.3,
+    )
 
 pub returns-clause-replayed : goal.returns-clause-replayed
 returns-clause-replayed g c =
     let why : (c.in-Err-read_all.fault ≡ faults.Read) ⊎ (c.in-Err-read_all.fault ≡ faults.OutOfMemory) =
     search rules in
-    rw c.in-Input.is
-    (inr (lacks c.in-Err-read_all.fault c.nowhere-in-Err-read_all.result.fault _ c.nowhere-in-Err-read_all.ensures why))
+    rw c.in-Input.is (
+      Err c.in-Err-read_all.fault,
+      inr (lacks c.in-Err-read_all.fault c.in-Err-read_all.fault _ refl why),
+      c.report_fault-in-Err-read_all.ensures.told,
+      c.report_fault-in-Err-read_all.ensures.status,
+    )

@@ -1,0 +1,31 @@
+use Rattle.std.proofs.Common.{None, arith}
+use Rattle.std.proofs.lemmas.Result.{err_from_is_err_and}
+use Rattle.deck.proofs.DeckLines.{read_nothing, line_refused, first_fault, first_begun, first_unmade, made_of_reading}
+use Rattle.deck.proofs.Unread.{line_cut, line_taken}
+use Rattle.deck.proofs.reading.first_draft.Goals as goal
+
+pub returns-in_err-next_line-clause-refused : goal.returns-in_err-next_line-clause-refused
+returns-in_err-next_line-clause-refused g c =
+    let p = err_from_is_err_and c.from_residual.result c.from_residual.ensures.1 in
+    rw (p.1, p.2) (line_refused _ _ (g.I.Input.remaining c.next_line.new.input) 1 None _ (omega arith)
+    (read_nothing (g.I.Input.remaining c.args.input.now)) c.in_err-next_line.ensures.err)
+
+pub returns-in_err-next_line-clause-unread : goal.returns-in_err-next_line-clause-unread
+returns-in_err-next_line-clause-unread g c =
+    let p = err_from_is_err_and c.from_residual.result c.from_residual.ensures.1 in
+    rw (p.1, p.2) (line_cut (g.I.Input.remaining c.args.input.now) (g.I.Input.remaining c.args.input.now)
+    (g.I.Input.remaining c.next_line.new.input) 1 None _
+    (read_nothing (g.I.Input.remaining c.args.input.now)) c.in_err-next_line.ensures.err
+    c.in_err-next_line.ensures.part)
+
+pub returns-in-Ok-clause-unread : goal.returns-in-Ok-clause-unread
+returns-in-Ok-clause-unread g c =
+    λ cut. line_taken (g.I.Input.remaining c.args.input.now) (g.I.Input.remaining c.args.input.now)
+    (g.I.Input.remaining c.next_line.new.input) 1 None c.next_line.new.line.items
+    (read_nothing (g.I.Input.remaining c.args.input.now)) c.in_ok-next_line.ensures.ok
+
+pub returns-in-Err-clause-refused : goal.returns-in-Err-clause-refused
+returns-in-Err-clause-refused g c =
+    let applied = rw (c.as_slice.ensures.value, c.in-Err.is) at c.first_size.ensures in
+    first_fault (g.I.Input.remaining c.args.input.now) (g.I.Input.remaining c.next_line.new.input)
+    c.next_line.new.line.items c.in-Err.fault c.in_ok-next_line.ensures.text c.in_ok-next_line.ensures.ok applied

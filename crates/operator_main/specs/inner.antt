@@ -1,3 +1,0 @@
--- What ties the code to the definitions.
--- Source: ours.
-pub mod FaultAt
