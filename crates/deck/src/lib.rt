@@ -2,9 +2,9 @@
 //! later, and which words are shown. A deck is lines of bytes; docs/formats.md has them and their
 //! faults.
 //!
-//! Callers rely on `read_deck`: it answers exactly the deck that the bytes are, or the first line
-//! at fault, and reads nothing past the deck's end or that fault. Begin with `Deck` in `deck` and
-//! `read_deck` in `reading`; `applying` has what each line does.
+//! Callers rely on `read_deck`: it answers exactly the deck that the bytes are, or the first line at fault, and reads
+//! nothing past the deck's end or that fault. `applying` has what each line does. Its tests are in
+//! `crates/text_tests/src/deck_tests.rt`. Begin with `Deck` in `deck` and `read_deck` in `reading`.
 #![tactic(auto)]
 
 mod applying;

@@ -4,8 +4,9 @@
 //!
 //! Callers rely on `run_deck` and `run_deck_sequentially`: the dump that they print is that of a state to which the
 //! dump's own log leads from boot with the deck's memory, one instruction at a time, with no more instructions than the
-//! budget; if a write failed it is a beginning of one. The second prints the only dump that deck and budget give. Begin
-//! with `run_deck` in `commands`; `running` boots the machine and gives it to the threads.
+//! budget; if a write failed it is a beginning of one. The second prints the only dump that deck and budget give.
+//! `running` boots the machine and gives it to the threads. Its tests are in
+//! `crates/operator_main/src/command_tests.rt`. Begin with `run_deck` in `commands`.
 #![tactic(auto)]
 
 mod commands;

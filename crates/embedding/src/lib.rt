@@ -3,9 +3,9 @@
 //! library; include/cdc6600.h declares its functions, and docs/embedding.md says how they are called.
 //!
 //! Callers rely on what the contracts here say, as those of `job_deck` and `sequential_job` say it of any reader and
-//! writer: the text of which a call hands over as much as there is room for is the one that the
-//! command prints. No contract holds a caller in C to anything. Begin with `cdc6600_list`; the
-//! functions of `commands` do the work.
+//! writer: the text of which a call hands over as much as there is room for is the one that the command prints. No
+//! contract holds a caller in C to anything. The functions of `commands` do the work. Its tests are `tools/check
+//! embedding`, and those of the commands, in `crates/text_tests/src/session_tests.rt`. Begin with `cdc6600_list`.
 #![tactic(auto)]
 
 ghost use Rattle.std.specs.Prelude.{◌≡◌, None, false, length, not};

@@ -3,9 +3,10 @@
 //! answered. All texts are lines of bytes; docs/formats.md has them. Decks and devices are those of
 //! the crates below, which this crate hands on.
 //!
-//! Callers rely on `events`: it answers each line as `program_order` allows, before it reads the
-//! next, and the events of the lines with the printed answers lead from boot to the machine that it
-//! dumps. Begin with `events` in `session`; `dump` in `dumping` prints a machine.
+//! Callers rely on `events`: it answers each line as `program_order` allows, before it reads the next, and the events
+//! of the lines with the printed answers lead from boot to the machine that it dumps. `dump` in `dumping` prints a
+//! machine. Its tests are in `crates/text_tests/src/session_tests.rt` and `crates/text_tests/src/printing_tests.rt`.
+//! Begin with `events` in `session`.
 #![tactic(auto)]
 
 mod answering;

@@ -1,13 +1,13 @@
 //! The program `cdc6600`: it runs a deck and prints the machine's dump, replays a log on one,
 //! answers the events of a schedule, or lists a deck's words.
 //!
-//! `main` hands the words of the command line to `program::program` and exits with the status that it returns. Begin
-//! there. Its contract says what it does with its input, its output and its fault stream, and that the exit status is
+//! `main` hands the words of the command line to `program::program` and exits with the status that it returns. The
+//! contract of `program` says what it does with its input, its output and its fault stream, and that the exit status is
 //! that of what it did; which words ask for what is no part of it. `main` puts a buffer before its output, so that not
 //! each piece that is printed costs a call of the system. `progress` shows at a terminal that a long run goes on.
 //!
-//! The tests beside it call `program`; their first table is `CASES` in `command_tests`, a call of
-//! each command with all that it prints.
+//! Its tests call `program`; their first table is `CASES` in `command_tests`, a call of each command with all that it
+//! prints. Begin with `program::program`.
 #![tactic(auto)]
 
 mod files;

@@ -2,9 +2,9 @@
 //! faults that it tells, and its exit statuses. All of this is this project's choice;
 //! docs/formats.md has the texts and the numbers.
 //!
-//! Callers rely on `end_status`: it answers exactly the status that `specs/Status` gives to a
-//! machine's fault and halt, where a fault wins over a halt. Begin with `Status` in `status`;
-//! `fault` has why the program may end without its output.
+//! Callers rely on `end_status`: it answers exactly the status that `specs/Status` gives to a machine's fault and halt,
+//! where a fault wins over a halt. `fault` has why the program may end without its output. Its tests are in
+//! `crates/text_tests/src/operator_terms_tests.rt`. Begin with `Status` in `status`.
 #![tactic(auto)]
 
 mod budget;

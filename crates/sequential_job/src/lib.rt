@@ -3,7 +3,8 @@
 //! docs/formats.md has the texts.
 //!
 //! Callers rely on `run_to`: the dump that it prints is that of the log and the state with which the sequential run of
-//! the deck ends, and both follow from deck and budget alone. Begin with `run_to` in `running`.
+//! the deck ends, and both follow from deck and budget alone. Its tests are in
+//! `crates/text_tests/src/sequential_run_tests.rt`. Begin with `run_to` in `running`.
 #![tactic(auto)]
 
 mod running;

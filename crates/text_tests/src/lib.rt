@@ -2,10 +2,10 @@
 //! `operator_terms`, and of `sequential_run` and `fulfilled_requests`, by what they hand out. The crate hands out
 //! nothing itself.
 //!
-//! The first table is `CODES` in `deck_tests`: the texts of a `code` line, with the word that they
-//! make. `session_tests` answers schedules, `printing_tests` has dumps, listings and logs,
-//! `led_tests` a caller that knows a session's machine by contract alone, `sequential_run_tests` runs one
-//! instruction at a time, and `fulfilled_requests_tests` holds logs to requests. `fixtures` has devices that fail.
+//! `session_tests` answers schedules, `printing_tests` has dumps, listings and logs, `led_tests` a caller that knows a
+//! session's machine by contract alone, `sequential_run_tests` runs one instruction at a time, and
+//! `fulfilled_requests_tests` compares logs with requests. `fixtures` has devices that fail. Begin with `CODES` in
+//! `deck_tests`: the texts of a `code` line, with the word that they make.
 #![tactic(auto)]
 
 #[cfg(test)]

@@ -42,26 +42,16 @@ OTHERS = {"cdc6600", "specs"}
 
 PATH = re.compile(r"(?<![\w/.-])(?:crates|decks|docs|tools|bench|\.ci)/[\w./*-]*")
 PLACEHOLDER = re.compile(r"\bNAME\b|^crates/crate/")
-# What the sources of tools may name falsely: this file has paths of the past, too.
-OF_TOOLS, OWN = ("tools/", "docs/", "bench/", ".ci/"), "tools/cdc6600/gate/names.py"
+# What the sources of tools may not name falsely.
+OF_TOOLS = ("tools/", "docs/", "bench/", ".ci/")
 # A name with parts that stands for any.
 ANY_NAME = "Type::function"
 KINDS = (".rt", ".antt", ".edit", ".h", ".c", ".rs", ".py")
 LINK = re.compile(r"\]\(([^)\s]+)\)")
 ELSEWHERE = re.compile(r"[a-z]+:|#")
-# Comments of crates that name a file by the path that it had before it was moved. A crate's comments are part of what
-# is proved, so they change together with other changes of the crate. A row that is no longer needed is a fault.
-MOVED = {
-    ("crates/command_line/src/lib.rt", "tools/checks/pages"),
-}
 
 # How the names of files of tests end.
 OF_TESTS = re.compile(r"_(?:tests|schedules)$")
-# The crates whose first comments don't follow the rule on beginnings yet. A crate that follows it is a fault here.
-NOT_YET = frozenset((
-    "device_text deck job_deck sequential_job operator_terms text_tests command_line deck_run "
-    "embedding operator_main"
-).split())
 
 TABLE, CRATES = Table(ROOT), {crate.name: crate for crate in crates()}
 SAFETY = "docs/safety.md"
@@ -127,13 +117,8 @@ def fault_of_beginning(crate):
 
 
 def faults_of_beginnings():
-    """The crates whose first comments break the rule on beginnings, without those that don't follow it yet."""
-    for crate in CRATES.values():
-        fault = fault_of_beginning(crate)
-        if fault and crate.name not in NOT_YET:
-            yield fault
-        if not fault and crate.name in NOT_YET:
-            yield f"{crate.name}: its first comment follows the rule, so it doesn't belong in NOT_YET"
+    """The crates whose first comments break the rule on beginnings."""
+    return [fault for fault in map(fault_of_beginning, CRATES.values()) if fault]
 
 
 # ---- the parts of names ----
@@ -191,17 +176,9 @@ def faults_of_paths(name, lines):
     for number, line in enumerate(lines, 1):
         for found in PATH.findall(line):
             path = found.removesuffix("**").rstrip(".")
-            is_made = name == OWN or name.startswith("tools/") and not path.startswith(OF_TOOLS)
-            if not is_there(path) and not is_made and (name, path) not in MOVED:
+            is_made = name.startswith("tools/") and not path.startswith(OF_TOOLS)
+            if not is_there(path) and not is_made:
                 yield f"{name}:{number}: there is no {path}"
-
-
-def faults_of_moved():
-    """The rows of MOVED that no comment needs."""
-    for name, path in sorted(MOVED):
-        file = ROOT / name
-        if not file.is_file() or path not in file.read_text(encoding="utf-8"):
-            yield f"{name}: it doesn't name {path}, so its row of MOVED isn't needed"
 
 
 def faults_of_links(page, lines):
@@ -213,7 +190,7 @@ def faults_of_links(page, lines):
 
 
 def main():
-    faults, pages = [*faults_of_names(), *faults_of_beginnings(), *faults_of_moved()], tracked("*.md")
+    faults, pages = [*faults_of_names(), *faults_of_beginnings()], tracked("*.md")
     for name in [path for path in tracked("crates", "tools", "bench") if path.endswith(KINDS)] + pages:
         lines = (ROOT / name).read_text(encoding="utf-8").split("\n")
         faults += faults_of_paths(name, lines)
