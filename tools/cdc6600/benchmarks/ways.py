@@ -6,7 +6,8 @@
 - lane: IX3 X1+X2 under `run`, from the turn of the loop that issues it until its reservation is on the unit's lane;
 - stored: the same until its result is stored;
 - reference: SA6 A0+5 under `run`, from its store event until the word is in memory;
-- fault: a fault of a deck, from the function that finds it until it is written, with the callers that hand it on.
+- fault: a fault of a deck, from the function that finds it until it is written, with the callers that hand it on, in
+  the crates that know of faults.
 
 A function is one that the sources spell out: closures, derived implementations and what drops a value don't count. Nor
 do these, which carry nothing of the instruction: the conversions between numbers (`get`, `from_bits`, ..), the wake-ups
@@ -52,8 +53,10 @@ LEFT_OUT = re.compile(
 READ, LOOP, STEP, ISSUE, RELEASE, PUSH, WORKER, STORED, STORE, WRITTEN, FAULT = (
     "line::read_line", "reading::read_deck_from", "issuing::step", "MachineGuard::issue", "MachineGuard::release",
     "Lane::push", "unit_worker::worker", "OpenGate::stored", "Machine::store", "storage::Storage::store",
-    "applying::word_line",
+    "Draft::apply",
 )
+# The crates that know of faults.
+OF_FAULTS = ("instructions", "deck", "deck_run", "operator_terms", "operator_main")
 BY_HAND = (
     re.compile(r"Err\((\w+)\) => (?:return )?Err\((?:\w+\()?\1\)?\)"),
     re.compile(r"Err\((\w+)\) => \{\s*return Err\(\1\);\s*\}"),
@@ -128,12 +131,14 @@ def reference(run):
 
 
 def fault():
-    """The way of a fault: the function that finds it, its callers, and what is entered afterwards."""
+    """The way of a fault: the function that finds it, its callers, and what is entered afterwards. What finds the
+    column of the fault and what writes bytes isn't on this way."""
     run = entries("run", DECK.format(code="NO").replace("word 0\n", "word 8\n"))
-    at = next(index for index, (kind, _) in enumerate(run) if kind == "callers")
+    at = max(index for index, (kind, _) in enumerate(run) if kind == "callers")
     waiting = [name for name in run[at][1].split() if name.split("::")[0] in crates()]
     waiting = waiting[:next(i for i, name in enumerate(waiting) if name.endswith("program::program")) + 1]
-    return spelled([run[at - 1][1], *waiting, *(name for _, name in run[at + 1:])])
+    names = spelled([run[at - 1][1], *waiting, *(name for _, name in run[at + 1:])])
+    return [name for name in names if name.split("::")[0] in OF_FAULTS]
 
 
 def sources():
