@@ -7,13 +7,14 @@ promises: where it has another form, nothing is taken over, and the run builds t
 """
 
 import json
+import os
 import subprocess
 import sys
 
 from cdc6600.crates.kit import checker
 
 RECKONING = """
-import json, os, sys
+import json, os
 import rtlib
 print(json.dumps({crate.name: crate.stamp() for crate in rtlib.crates_below(os.getcwd())}))
 """
@@ -21,8 +22,11 @@ print(json.dumps({crate.name: crate.stamp() for crate in rtlib.crates_below(os.g
 
 def stamps(root):
     """The stamp of each crate as it stands, or none at all where the kit can't be asked so."""
-    words = [sys.executable, "-B", "-c", RECKONING, str(checker().parent)]
-    ran = subprocess.run(words, cwd=root, stdin=subprocess.DEVNULL, capture_output=True, text=True, check=False)
+    words = [sys.executable, "-B", "-c", RECKONING]
+    environment = {**os.environ, "PYTHONPATH": str(checker().parent)}
+    ran = subprocess.run(
+        words, cwd=root, env=environment, stdin=subprocess.DEVNULL, capture_output=True, text=True, check=False
+    )
     try:
         found = json.loads(ran.stdout) if not ran.returncode else {}
     except ValueError:
