@@ -2,12 +2,12 @@
 
 use crate::fixtures::{Computed, Register, Stand, digit, index, instruction, number_of, word};
 use Stand::{OutOfRange, Refused, Running, Stopped, Straddling};
-use instructions::{Halt, ParcelNumber, Refusal};
+use instructions::{Halt, Instr, ParcelNumber, Refusal};
 use registers::RegisterFile;
 use relocation::{Access, Area, Storage};
 use sequential::{
-    Entry, Fetched, Log, ProgramPosition, ProgramReference, State, faults, jump, number, operands,
-    reference, replay, step,
+    Entry, Fetched, Log, ProgramPosition, ProgramReference, State, Work, faults, operands, replay,
+    step,
 };
 use std::alloc::Global;
 use std::test::Fail;
@@ -404,7 +404,8 @@ const NUMBERS: [(Computed, u64); 4] = [
 #[test]
 fn writes_numbers(rt: HostRuntime) {
     for (computed, wanted) in NUMBERS.as_slice() {
-        assert_eq!(rt; number(&computed.unit_value()), word(*wanted));
+        let work = Work::of(&Instr::Pass, &computed.unit_value());
+        assert_eq!(rt; work.number, word(*wanted));
     }
 }
 
@@ -419,8 +420,8 @@ const JUMPS: [(&str, Computed, Option<u32>); 3] = [
 #[test]
 fn jumps(rt: HostRuntime) {
     for (text, computed, wanted) in JUMPS.as_slice() {
-        let to = jump(&instruction(text), &computed.unit_value());
-        assert_eq!(rt; number_of(to), *wanted, "{text}");
+        let work = Work::of(&instruction(text), &computed.unit_value());
+        assert_eq!(rt; number_of(work.jump), *wanted, "{text}");
     }
 }
 
@@ -464,8 +465,8 @@ const REFERENCES: [(&str, Computed, Reach); 4] = [
 #[test]
 fn makes_references(rt: HostRuntime) {
     for (text, computed, wanted) in REFERENCES.as_slice() {
-        let made = reference(&instruction(text), &computed.unit_value());
-        assert_eq!(rt; made, program_reference(*wanted), "{text}");
+        let work = Work::of(&instruction(text), &computed.unit_value());
+        assert_eq!(rt; work.reference, program_reference(*wanted), "{text}");
     }
 }
 

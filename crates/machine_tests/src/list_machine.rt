@@ -9,7 +9,7 @@ use instruction_table::{Instr, Refusal, Reg, Unit, UnitKind, results, sources, u
 use machine::{Answer, Done, Event, MOST_ISSUES, Machine, Note, Snapshot};
 use relocation::{Access, PACKAGE_WORDS, Storage, relocate};
 use scoreboard::{Progress, Reservation, is_same_unit};
-use sequential::{Fetched, State, faults, jump, number, operands, reference};
+use sequential::{Fetched, State, Work, faults, operands};
 use std::alloc::Global;
 use unit_ops::{UnitValue, value};
 use word60::Word60;
@@ -437,7 +437,7 @@ impl ListMachine {
     /// What is left of an instruction after its store event.
     fn rest_of(&self, instr: &Instr, value: &UnitValue) -> Option<Phase> {
         let place = place_for(self.pending.as_slice()).unwrap_or(0);
-        let Some(reference) = reference(instr, value) else {
+        let Some(reference) = Work::of(instr, value).reference else {
             return None;
         };
         let access = reference.access;
@@ -481,14 +481,9 @@ impl ListMachine {
 
     /// What a unit does at its store event to the registers, P and the fault flag.
     fn carry_out(&mut self, instr: &Instr, value: &UnitValue) {
-        if let Some(register) = instr.sets() {
-            self.state.registers.set(register, number(value));
-        }
-        self.state.position = self.state.position.after_jump(jump(instr, value));
-        let size = self.state.memory.size();
-        if faults(&self.state.area, size, &reference(instr, value)) {
-            self.state.fault = true;
-        }
+        let work = Work::of(instr, value);
+        let faults = faults(&self.state.area, self.state.memory.size(), &work.reference);
+        self.state.write_and_jump(&work, faults);
     }
 
     fn store(&mut self, unit: Unit) -> Answer {

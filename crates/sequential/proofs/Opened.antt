@@ -3,7 +3,7 @@ use Rattle.instructions.specs.Shape.{memory_of}
 use Rattle.sequential.specs.Log.{entries_of, issued, run_after, steps_of}
 use Rattle.sequential.specs.State.{absolute, access_at, bounds_of, halt_by, move_to, store_word, write}
 use Rattle.sequential.specs.Step.{do_fetched, fetch, fetched_from, step, step_unless, word_at, word_seen}
-use Rattle.sequential.specs.Work.{refer_at, reference_for}
+use Rattle.sequential.specs.Work.{address_in, jump_for, number_in, refer_at, reference_for, word_in}
 
 -- the word that the next instruction is taken from
 unfoldable pub word_to_take : Unit {0}
@@ -30,7 +30,7 @@ unfoldable pub no_entries : Unit {0}
 unfolding steps_of entries_of issued run_after
 no_entries = tt
 
--- what the reference of an instruction does
-unfoldable pub reference_made : Unit {0}
-unfolding reference_for memory_of
-reference_made = tt
+-- what an instruction does with its value, and the reference that it makes
+unfoldable pub work_of_a_value : Unit {0}
+unfolding number_in address_in word_in jump_for reference_for memory_of
+work_of_a_value = tt

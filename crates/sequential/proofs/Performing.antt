@@ -4,22 +4,17 @@ use Rattle.std.specs.Prelude.{option_to_list}
 use Rattle.instructions.specs.declared.instr.Instr.{Instr}
 use Rattle.instructions.specs.declared.instr.Reg.{Reg}
 use Rattle.instructions.specs.Shape.{Shape, shape_of, sets_of}
-use Rattle.registers.specs.declared.file.RegisterFile.{RegisterFile}
 use Rattle.unit_ops.specs.declared.Operands.{Operands}
 use Rattle.unit_ops.specs.declared.UnitValue.{UnitValue}
 use Rattle.unit_ops.specs.Values.{value_of}
-use Rattle.sequential.specs.declared.position.ProgramPosition.{ProgramPosition}
 use Rattle.sequential.specs.declared.state.State.{State}
 use Rattle.sequential.specs.declared.work.ProgramReference.{ProgramReference}
+use Rattle.sequential.specs.declared.work.Work.{Work as DoneWork}
 use Rattle.sequential.specs.Position.{after_jump}
 use Rattle.sequential.specs.State.{Bounds, write_all, write, jump_to, or_fault}
 use Rattle.sequential.specs.Step.{do_instruction}
 use Rattle.sequential.specs.Work.{operands, number_in, each_set_to, jump_for, reference_for, work_of, fault_of}
-use Rattle.sequential.specs.Work.{put_any, write_and_jump, refer, do_work}
-
--- a state with other registers, position and fault flag
-abbrev pub with_these : State → RegisterFile → ProgramPosition → Bool → State
-with_these s g p f = record s { registers = g; position = p; fault = f }
+use Rattle.sequential.specs.Work.{put_any, write_and_jump, written, refer, do_work}
 
 one_written : (s : State) (w : Option Reg) (n : ℕ)
     → write_all s (each_set_to n (option_to_list w)) ≡ record s { registers = put_any s.registers w n }
@@ -27,39 +22,56 @@ unfolding write_all write each_set_to
 one_written s None n = refl
 one_written s (Some r) n = refl
 
-work_done : (b : Bounds) (s : State) (shape : Shape) (v : UnitValue) (w : Option Reg) → sets_of shape
-    ≡ option_to_list w →
-    refer b (with_these s (put_any s.registers w (number_in v)) (after_jump s.position (jump_for shape v))
-    (s.fault || fault_of b (reference_for shape v))) (reference_for shape v) ≡ do_work b s (work_of shape v)
-unfolding do_work write_and_jump work_of jump_to or_fault
-work_done b s shape v w h =
-    ap (λ t. refer b (or_fault (jump_to t (jump_for shape v)) (fault_of b (reference_for shape v)))
-    (reference_for shape v))
-    (sym (one_written s w (number_in v)) ∙ ap (λ rs. write_all s (each_set_to (number_in v) rs)) (sym h))
+-- it is the work of an instruction of that shape with that value
+pub record IsWorkOf (shape : Shape) (v : UnitValue) (work : DoneWork) : Type 0 where
+  pub register : sets_of shape ≡ option_to_list work.register
+  pub number : work.number ≡ number_in v
+  pub jump : work.jump ≡ jump_for shape v
+  pub reference : work.reference ≡ reference_for shape v
+
+-- what is written by the work of a value, with its jump and its fault
+pub written_by : (b : Bounds) (s : State) (shape : Shape) (v : UnitValue) (work : DoneWork) (f : Bool)
+    → IsWorkOf shape v work → f ≡ fault_of b (reference_for shape v)
+    → written s work f ≡ write_and_jump b s (work_of shape v)
+unfolding write_and_jump work_of jump_to or_fault
+written_by b s shape v work f is ef =
+    ap (λ x. record s {
+      registers = put_any s.registers work.register work.number;
+      position = after_jump s.position work.jump;
+      fault = s.fault || x;
+    }) ef
+    ∙ ap (λ x. record s {
+      registers = put_any s.registers work.register work.number;
+      position = after_jump s.position x;
+      fault = s.fault || fault_of b (reference_for shape v);
+    }) is.jump
+    ∙ ap (λ x. record s {
+      registers = put_any s.registers work.register x;
+      position = after_jump s.position (jump_for shape v);
+      fault = s.fault || fault_of b (reference_for shape v);
+    }) is.number
+    ∙ ap (λ (t : State). or_fault (jump_to t (jump_for shape v)) (fault_of b (reference_for shape v)))
+    (sym (one_written s work.register (number_in v))
+    ∙ ap (λ rs. write_all s (each_set_to (number_in v) rs)) (sym is.register))
+
+work_done : (b : Bounds) (s : State) (shape : Shape) (v : UnitValue) (work : DoneWork) (f : Bool)
+    → IsWorkOf shape v work → f ≡ fault_of b work.reference
+    → refer b (written s work f) work.reference ≡ do_work b s (work_of shape v)
+unfolding do_work work_of
+work_done b s shape v work f is ef =
+    ap (λ x. refer b (written s work f) x) is.reference
+    ∙ ap (λ x. refer b x (reference_for shape v)) (written_by b s shape v work f is (ef ∙ ap (fault_of b) is.reference))
 
 pub instruction_done : (b : Bounds) (s t : State) (instr : Instr) (at : ℕ) (o : Operands) (v : UnitValue)
-    (r : Option ProgramReference) (f : Bool) (w : Option Reg) (n : ℕ) (g : RegisterFile) (j : Option ℕ)
-    (p : ProgramPosition)
+    (work : DoneWork) (f : Bool)
     → o ≡ operands instr at s.registers
     → v ≡ value_of instr o
-    → r ≡ reference_for (shape_of instr) v
-    → f ≡ (s.fault || fault_of b r)
-    → sets_of (shape_of instr) ≡ option_to_list w
-    → n ≡ number_in v
-    → g ≡ put_any s.registers w n
-    → j ≡ jump_for (shape_of instr) v
-    → p ≡ after_jump s.position j
-    → t ≡ refer b (with_these s g p f) r
+    → IsWorkOf (shape_of instr) v work
+    → f ≡ fault_of b work.reference
+    → t ≡ refer b (written s work f) work.reference
     → t ≡ do_instruction b s instr at
 unfolding do_instruction
-instruction_done b s t instr at o v r f w n g j p eo ev er ef ew en eg ej ep et =
+instruction_done b s t instr at o v work f eo ev is ef et =
     et
-    ∙ ap (λ x. refer b (with_these s g p x) r) ef
-    ∙ ap (λ x. refer b (with_these s x p (s.fault || fault_of b r)) r) (eg ∙ ap (put_any s.registers w) en)
-    ∙ ap (λ x. refer b (with_these s (put_any s.registers w (number_in v)) x (s.fault || fault_of b r)) r)
-    (ep ∙ ap (after_jump s.position) ej)
-    ∙ ap (λ x. refer b (with_these s (put_any s.registers w (number_in v))
-    (after_jump s.position (jump_for (shape_of instr) v))
-    (s.fault || fault_of b x)) x) er
-    ∙ work_done b s (shape_of instr) v w ew
+    ∙ work_done b s (shape_of instr) v work f is ef
     ∙ ap (λ x. do_work b s (work_of (shape_of instr) x)) (ev ∙ ap (value_of instr) eo)

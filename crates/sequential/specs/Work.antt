@@ -1,6 +1,6 @@
 -- What an instruction does with its value: the registers that it writes, its jump and its reference.
 -- Source: 60100000, the descriptions of the instructions, exit mode; what is out of range is ours.
-use Rattle.std.specs.Prelude.{ℕ, ◌+◌, ◌*◌, ◌^◌, Bool, false, ◌&&◌, is_none, if◌then◌else◌, List, [], ◌∷◌, Option, Some}
+use Rattle.std.specs.Prelude.{ℕ, ◌+◌, ◌*◌, ◌^◌, Bool, false, ◌&&◌, ◌||◌, is_none, if◌then◌else◌, List, [], ◌∷◌, Option, Some}
 use Rattle.std.specs.Prelude.{None}
 use Rattle.instructions.specs.declared.instr.Instr.{Instr}
 use Rattle.instructions.specs.declared.instr.Reg.{Reg}
@@ -17,6 +17,8 @@ use Rattle.unit_ops.specs.declared.UnitValue.{UnitValue}
 use Rattle.unit_ops.specs.declared.UnitValue.TheVariants.{Word, Index, Load, Store, Jump, Link}
 use Rattle.sequential.specs.declared.state.State.{State}
 use Rattle.sequential.specs.declared.work.ProgramReference.{ProgramReference}
+use Rattle.sequential.specs.declared.work.Work.{Work as DoneWork}
+use Rattle.sequential.specs.Position.{after_jump}
 use Rattle.sequential.specs.State.{Bounds, absolute, stops_at_fault, write, write_all, jump_to, or_fault, access_at}
 
 -- what an operand register holds; an absent operand is +0
@@ -107,6 +109,14 @@ fault_of b (Some r) = stops_at_fault b && is_none (absolute b r.address)
 abbrev pub put_any : RegisterFile → Option Reg → ℕ → RegisterFile
 put_any g None v = g
 put_any g (Some r) v = put g r v
+
+-- the state after an instruction has written its result and jumped, with the fault flag where its reference sets it
+abbrev pub written : State → DoneWork → Bool → State
+written s work faults = record s {
+  registers = put_any s.registers work.register work.number;
+  position = after_jump s.position work.jump;
+  fault = s.fault || faults;
+}
 
 -- the state after everything except the reference itself: registers, jump and fault flag
 unfoldable pub write_and_jump : Bounds → State → Work → State

@@ -4,14 +4,12 @@ ghost use Rattle.unit_ops.specs.Values.{value_of};
 ghost use Rattle.sequential.specs.State.{bounds_of};
 ghost use Rattle.instruction_table.specs.Decoding.{digits_at, reading_at};
 ghost use Rattle.sequential.specs.Step.{do_fetched, do_instruction, fetched_by, step};
-ghost use Rattle.sequential.specs.Work.{put_any, refer_at, refer};
+ghost use Rattle.sequential.specs.Work.{refer_at, refer, written};
 
 use crate::fetching::fetched_by;
-use crate::work::fault_after;
-use crate::{Fetched, ProgramPosition, ProgramReference, State, jump, number, operands, reference};
-use instruction_table::{Halt, Instr, Reg, Target, decode_as, first_digits};
-use registers::RegisterFile;
-use relocation::{Access, Area};
+use crate::{Fetched, ProgramPosition, ProgramReference, State, Work, faults, operands};
+use instruction_table::{Halt, Instr, Reg, decode_as, first_digits};
+use relocation::Access;
 use unit_ops::{Operands, UnitValue, value};
 use word60::{Word18, Word60};
 
@@ -23,16 +21,6 @@ fn computed(instr: &Instr, operands: &Operands) -> UnitValue
     match *instr {
         Instr::Stop | Instr::Pass => UnitValue::Index(Word18::default()),
         _ => value(instr, operands),
-    }
-}
-
-/// Writes a number into a register, if there is one.
-#[inline(always)]
-fn write_any(registers: &mut RegisterFile, register: Option<Reg>, number: Word60)
-    ensures { registers.new ≡ put_any registers.old register number }
-{
-    if let Some(register) = register {
-        registers.set(register, number);
     }
 }
 
@@ -76,18 +64,30 @@ impl State {
         }
     }
 
+    /// Writes the result of an instruction and jumps. `faults` says whether its reference sets the fault flag, which
+    /// stays once it is set. The reference itself is still to be made.
+    #[tactic(auto, unfolding(crate::specs::Work::put_any))]
+    #[inline(always)]
+    pub fn write_and_jump(&mut self, work: &Work, faults: bool)
+        ensures { self.new ≡ written self.old work.now faults }
+    {
+        if let Some(register) = work.register {
+            self.registers.set(register, work.number);
+        }
+        self.position = self.position.after_jump(work.jump);
+        self.fault = self.fault || faults;
+    }
+
     /// All that an instruction of the word at the address `at` does, its reference too.
     #[inline(always)]
     fn perform(&mut self, instr: &Instr, at: Word18)
         ensures { self.new ≡ do_instruction (bounds_of self.old) self.old instr.now at }
     {
         let value = computed(instr, &operands(instr, at, &self.registers));
-        let reference = reference(instr, &value);
-        let fault = fault_after(self.fault, &self.area, self.memory.size(), &reference);
-        write_any(&mut self.registers, instr.sets(), number(&value));
-        self.position = self.position.after_jump(jump(instr, &value));
-        self.fault = fault;
-        self.refer(&reference);
+        let work = Work::of(instr, &value);
+        let faults = faults(&self.area, self.memory.size(), &work.reference);
+        self.write_and_jump(&work, faults);
+        self.refer(&work.reference);
     }
 
     /// Does what was fetched.

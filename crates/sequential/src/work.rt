@@ -1,7 +1,7 @@
-ghost use Rattle.std.specs.Prelude.{◌≡◌, ◌<◌, ◌||◌, ℕ, IfSome};
+ghost use Rattle.std.specs.Prelude.{◌≡◌, ◌<◌, ℕ, IfSome, option_to_list};
 ghost use Rattle.sequential.specs.State.{absolute, stops_at_fault};
-ghost use Rattle.instructions.specs.Shape.{shape_of};
-ghost use Rattle.sequential.specs.Work.{operand_at, operands, number_in, address_in, link_word, word_in, jump_for};
+ghost use Rattle.instructions.specs.Shape.{shape_of, sets_of};
+ghost use Rattle.sequential.specs.Work.{operand_at, operands, number_in, link_word, jump_for};
 ghost use Rattle.sequential.specs.Work.{reference_for, fault_of};
 
 use instruction_table::{Instr, MemoryUse, Reg, operand_registers};
@@ -46,38 +46,6 @@ pub fn operands(instr: &Instr, position: Word18, registers: &RegisterFile) -> Op
     }
 }
 
-/// The number that a value writes into registers; for a reference it is the address.
-#[tactic(auto, unfolding(crate::specs::Work::number_in))]
-#[inline(always)]
-pub fn number(value: &UnitValue) -> Word60
-    ensures { result ≡ number_in value.now }
-{
-    match *value {
-        UnitValue::Word(word) => word,
-        UnitValue::Index(index) => index.widen(),
-        UnitValue::Load(address) => address.widen(),
-        UnitValue::Store(address, _) => address.widen(),
-        UnitValue::Jump(_) => Word60::default(),
-        UnitValue::Link { .. } => Word60::default(),
-    }
-}
-
-/// The address that a value refers to.
-#[tactic(auto, unfolding(crate::specs::Work::address_in))]
-#[inline(always)]
-fn address(value: &UnitValue) -> Word18
-    ensures { result ≡ address_in value.now }
-{
-    match *value {
-        UnitValue::Load(address) => address,
-        UnitValue::Store(address, _) => address,
-        UnitValue::Link { at, .. } => at,
-        UnitValue::Word(_) => Word18::default(),
-        UnitValue::Index(_) => Word18::default(),
-        UnitValue::Jump(_) => Word18::default(),
-    }
-}
-
 /// The link word of RJ: 0400, the return address and thirty zeros.
 #[tactic(auto, unfolding(crate::specs::Work::link_word))]
 #[inline(always)]
@@ -87,50 +55,60 @@ fn link_word(back: Word18) -> Word60
     Word60::from_bits(0o0400 * 0x1_0000_0000_0000 + u64::from(back.get()) * 0x4000_0000)
 }
 
-/// The word that a value stores.
-#[tactic(auto, unfolding(crate::specs::Work::word_in))]
-#[inline(always)]
-fn word(value: &UnitValue) -> Word60
-    ensures { result ≡ word_in value.now }
-{
-    match *value {
-        UnitValue::Store(_, word) => word,
-        UnitValue::Link { back, .. } => link_word(back),
-        UnitValue::Word(_) => Word60::default(),
-        UnitValue::Index(_) => Word60::default(),
-        UnitValue::Load(_) => Word60::default(),
-        UnitValue::Jump(_) => Word60::default(),
-    }
+/// What an instruction does with its value.
+#[derive(Clone, Copy, Debug, Drop, PartialEq, Eq)]
+pub struct Work {
+    /// The register that it writes, if it writes one.
+    pub register: Option<Reg>,
+    /// The number that it writes there; of a reference this is the address.
+    pub number: Word60,
+    /// The address that it jumps to, if it jumps.
+    pub jump: Option<Word18>,
+    /// The reference that it makes, if it makes one.
+    pub reference: Option<ProgramReference>,
 }
 
-/// The address that an instruction jumps to, if it does; RJ goes on after its link word.
-#[tactic(auto, unfolding(crate::specs::Work::jump_for))]
-#[inline(always)]
-pub fn jump(instr: &Instr, value: &UnitValue) -> Option<Word18>
-    ensures { result ≡ jump_for (shape_of instr.now) value.now }
-{
-    if instr.is_branch() {
-        value.destination()
-    } else {
-        None
+impl Work {
+    /// The work of an instruction with this value. SA1 to SA5 load, SA6 and SA7 store, RJ stores its link word and goes
+    /// on after it (Control Data 60100000), and all others make no reference.
+    #[tactic(auto, unfolding(crate::proofs::Opened::work_of_a_value))]
+    #[inline(always)]
+    pub fn of(instr: &Instr, value: &UnitValue) -> Work
+        ensures register { sets_of (shape_of instr.now) ≡ option_to_list result.register }
+        ensures number { result.number ≡ number_in value.now }
+        ensures jump { result.jump ≡ jump_for (shape_of instr.now) value.now }
+        ensures reference { result.reference ≡ reference_for (shape_of instr.now) value.now }
+    {
+        let (number, address, word) = match *value {
+            UnitValue::Word(word) => (word, Word18::default(), Word60::default()),
+            UnitValue::Index(index) => (index.widen(), Word18::default(), Word60::default()),
+            UnitValue::Load(address) => (address.widen(), address, Word60::default()),
+            UnitValue::Store(address, word) => (address.widen(), address, word),
+            UnitValue::Jump(_) => (Word60::default(), Word18::default(), Word60::default()),
+            UnitValue::Link { at, back } => (Word60::default(), at, link_word(back)),
+        };
+        let memory = instr.memory();
+        let reference = match memory {
+            None => None,
+            Some(memory) => Some(ProgramReference {
+                address,
+                access: match memory {
+                    MemoryUse::Loads(n) => Access::Load(n),
+                    MemoryUse::Stores(_) | MemoryUse::Links => Access::Store(word),
+                },
+            }),
+        };
+        Work {
+            register: instr.sets(),
+            number,
+            jump: if instr.is_branch() {
+                value.destination()
+            } else {
+                None
+            },
+            reference,
+        }
     }
-}
-
-/// The reference that an instruction makes: SA1 to SA5 load, SA6 and SA7 store, RJ stores its link word
-/// (Control Data 60100000), and all others make none.
-#[tactic(auto, unfolding(crate::proofs::Opened::reference_made))]
-#[inline(always)]
-pub fn reference(instr: &Instr, value: &UnitValue) -> Option<ProgramReference>
-    ensures { result ≡ reference_for (shape_of instr.now) value.now }
-{
-    let access = match instr.memory()? {
-        MemoryUse::Loads(n) => Access::Load(n),
-        MemoryUse::Stores(_) | MemoryUse::Links => Access::Store(word(value)),
-    };
-    Some(ProgramReference {
-        address: address(value),
-        access,
-    })
 }
 
 impl ProgramReference {
@@ -164,17 +142,4 @@ pub fn faults(area: &Area, size: u32, reference: &Option<ProgramReference>) -> b
         None => false,
         Some(reference) => stops_at_fault(area) && reference.absolute(area, size).is_none(),
     }
-}
-
-/// The fault flag after a reference; it stays once it is set.
-#[inline(always)]
-pub(crate) fn fault_after(
-    fault: bool,
-    area: &Area,
-    size: u32,
-    reference: &Option<ProgramReference>,
-) -> bool
-    ensures { result ≡ (fault || fault_of (record { area = area.now; size = size }) reference.now) }
-{
-    fault || faults(area, size, reference)
 }
