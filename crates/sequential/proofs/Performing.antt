@@ -14,20 +14,13 @@ use Rattle.sequential.specs.Position.{after_jump}
 use Rattle.sequential.specs.State.{Bounds, write_all, write, jump_to, or_fault}
 use Rattle.sequential.specs.Step.{do_instruction}
 use Rattle.sequential.specs.Work.{operands, number_in, each_set_to, jump_for, reference_for, work_of, fault_of}
-use Rattle.sequential.specs.Work.{put_any, write_and_jump, written, refer, do_work}
+use Rattle.sequential.specs.Work.{IsWorkOf, put_any, write_and_jump, written, refer, do_work}
 
 one_written : (s : State) (w : Option Reg) (n : ℕ)
     → write_all s (each_set_to n (option_to_list w)) ≡ record s { registers = put_any s.registers w n }
 unfolding write_all write each_set_to
 one_written s None n = refl
 one_written s (Some r) n = refl
-
--- it is the work of an instruction of that shape with that value
-pub record IsWorkOf (shape : Shape) (v : UnitValue) (work : DoneWork) : Type 0 where
-  pub register : sets_of shape ≡ option_to_list work.register
-  pub number : work.number ≡ number_in v
-  pub jump : work.jump ≡ jump_for shape v
-  pub reference : work.reference ≡ reference_for shape v
 
 -- what is written by the work of a value, with its jump and its fault
 pub written_by : (b : Bounds) (s : State) (shape : Shape) (v : UnitValue) (work : DoneWork) (f : Bool)

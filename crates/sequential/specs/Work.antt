@@ -1,7 +1,7 @@
 -- What an instruction does with its value: the registers that it writes, its jump and its reference.
 -- Source: 60100000, the descriptions of the instructions, exit mode; what is out of range is ours.
-use Rattle.std.specs.Prelude.{ℕ, ◌+◌, ◌*◌, ◌^◌, Bool, false, ◌&&◌, ◌||◌, is_none, if◌then◌else◌, List, [], ◌∷◌, Option, Some}
-use Rattle.std.specs.Prelude.{None}
+use Rattle.std.specs.Prelude.{◌≡◌, ℕ, ◌+◌, ◌*◌, ◌^◌, Bool, false, ◌&&◌, ◌||◌, is_none, if◌then◌else◌, List, [], ◌∷◌, Option, Some}
+use Rattle.std.specs.Prelude.{None, option_to_list}
 use Rattle.instructions.specs.declared.instr.Instr.{Instr}
 use Rattle.instructions.specs.declared.instr.Reg.{Reg}
 use Rattle.instructions.specs.declared.instr.Reg.TheVariants.{X}
@@ -99,6 +99,14 @@ work_of shape v = record {
   jump = jump_for shape v;
   reference = reference_for shape v;
 }
+
+-- it is what an instruction of that shape does with that value: the one register that it writes, if it writes one, with
+-- its number, the jump and the reference
+pub record IsWorkOf (shape : Shape) (v : UnitValue) (work : DoneWork) : Type 0 where
+  pub register : sets_of shape ≡ option_to_list work.register
+  pub number : work.number ≡ number_in v
+  pub jump : work.jump ≡ jump_for shape v
+  pub reference : work.reference ≡ reference_for shape v
 
 -- a reference out of range sets the fault flag, if the exit mode says so
 unfoldable pub fault_of : Bounds → Option ProgramReference → Bool

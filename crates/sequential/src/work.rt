@@ -1,8 +1,8 @@
-ghost use Rattle.std.specs.Prelude.{◌≡◌, ◌<◌, ℕ, IfSome, option_to_list};
+ghost use Rattle.std.specs.Prelude.{◌≡◌, ◌<◌, ℕ, IfSome};
 ghost use Rattle.sequential.specs.State.{absolute, stops_at_fault};
-ghost use Rattle.instructions.specs.Shape.{shape_of, sets_of};
-ghost use Rattle.sequential.specs.Work.{operand_at, operands, number_in, link_word, jump_for};
-ghost use Rattle.sequential.specs.Work.{reference_for, fault_of};
+ghost use Rattle.instructions.specs.Shape.{shape_of};
+ghost use Rattle.sequential.specs.Work.{IsWorkOf, operand_at, operands, link_word};
+ghost use Rattle.sequential.specs.Work.{fault_of};
 
 use instruction_table::{Instr, MemoryUse, Reg, operand_registers};
 use registers::RegisterFile;
@@ -74,10 +74,7 @@ impl Work {
     #[tactic(auto, unfolding(crate::proofs::Opened::work_of_a_value))]
     #[inline(always)]
     pub fn of(instr: &Instr, value: &UnitValue) -> Work
-        ensures register { sets_of (shape_of instr.now) ≡ option_to_list result.register }
-        ensures number { result.number ≡ number_in value.now }
-        ensures jump { result.jump ≡ jump_for (shape_of instr.now) value.now }
-        ensures reference { result.reference ≡ reference_for (shape_of instr.now) value.now }
+        ensures { IsWorkOf (shape_of instr.now) value.now result }
     {
         let (number, address, word) = match *value {
             UnitValue::Word(word) => (word, Word18::default(), Word60::default()),

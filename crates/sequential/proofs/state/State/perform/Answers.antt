@@ -9,12 +9,7 @@ unfolding bounds_of
 returns c =
     instruction_done (bounds_of c.args.self.now) c.args.self.now _ c.args.instr.now c.args.at c.operands.result
     c.computed-value.result c.of-work.result c.faults-faults.result c.operands.ensures c.computed-value.ensures
-    (record {
-      register = c.of-work.ensures.register;
-      number = c.of-work.ensures.number;
-      jump = c.of-work.ensures.jump;
-      reference = c.of-work.ensures.reference;
-    })
+    c.of-work.ensures
     (c.faults-faults.ensures ∙ ap (λ n. fault_of (record { area = c.args.self.now.area; size = n })
     c.of-work.result.reference) c.size.ensures.value)
     (c.refer.ensures ∙ ap (λ s. refer (bounds_of s) s c.of-work.result.reference) c.write_and_jump.ensures)
