@@ -1,5 +1,5 @@
 ghost use Rattle.std.specs.Prelude.{◌≡◌, ◌<◌, ◌+◌, ◌^◌, suc, [], ◌∷◌, true, false, not, is_none, slice_index_or};
-ghost use Rattle.std.specs.Prelude.{slice_set, replicate, length, IfOk, IfSome, MatchResult, unwrap_or, Some, None};
+ghost use Rattle.std.specs.Prelude.{slice_set, replicate, length, IfOk, IfSome, MatchOption, MatchResult, unwrap_or, Some, None};
 ghost use Rattle.std.specs.List.{list_any};
 ghost use Rattle.instructions.specs.Each.{Pairs};
 ghost use Rattle.instructions.specs.Shape.{shape_of};
@@ -24,7 +24,7 @@ ghost use Rattle.in_flight.specs.inner.OwnSlots.{HasOwnSlots};
 ghost use Rattle.in_flight.specs.Apart.{IsApart};
 
 use crate::slots::Slots;
-use crate::{Arrival, Located, Outstanding, Pending, Phase, Relocated, Stage};
+use crate::{Arrival, Located, Outstanding, Pending, Phase, Relocated, Stage, enters_hopper};
 use hopper::{Hopper, Reference};
 use instruction_table::{Instr, Refusal, Unit, unit_kind};
 use registers::RegisterFile;
@@ -254,35 +254,40 @@ impl InFlight {
     ///
     /// # Errors
     /// `ResultHeld`, `HopperFull`, `OutOfTurn`.
-    pub fn may_store(&self, unit: Unit, enters: bool) -> Result<(), Refusal>
+    pub fn may_store(&self, unit: Unit, rest: &Option<Relocated>) -> Result<(), Refusal>
         ensures { (f : Found Pending SomeStage) → seek (stage_at unit) self.now.pending ≡ Some f
-            → refusal_of (store_conflicts self.now.pending f.earlier f.item.instr enters) ≡ refusal_in result }
+            → refusal_of (store_conflicts self.now.pending f.earlier f.item.instr (enters (outstanding_of 0 rest.now)))
+            ≡ refusal_in result }
     {
         if let Err(refusal) = self.board.may_store(unit) {
             return Err(refusal);
         }
-        if enters && self.hopper.is_full() {
+        if enters_hopper(rest) && self.hopper.is_full() {
             return Err(Refusal::HopperFull);
         }
         self.board.in_turn(unit)
     }
 
     /// The unit's instruction leaves it; what is left of it enters the hopper or waits in its channel.
-    pub fn leave(&mut self, unit: Unit, rest: &Option<Relocated>)
+    pub fn leave(&mut self, unit: Unit, rest: &Option<Relocated>) -> Option<Outstanding>
         requires apart { Pairs IsApart self.old.pending }
         requires rest { IfSome (located (seek (stage_at unit) self.old.pending))
             (λ s. IsRestOf (shape_of s.pending.instr) rest.now) }
         requires room { enters (outstanding_of 0 rest.now) ≡ true → is_none (place_for self.old.pending) ≡ false }
-        ensures { self.new ≡ with_pending self.old
+        ensures left { MatchOption (located (seek (stage_at unit) self.old.pending))
+            (result ≡ None)
+            (λ s. result ≡ outstanding_of (unwrap_or (place_for self.old.pending) 0) rest.now) }
+        ensures after { self.new ≡ with_pending self.old
             (replaced (seek (stage_at unit) self.old.pending) self.old.pending
             (λ m. kept m (outstanding_of (unwrap_or (place_for self.old.pending) 0) rest.now))) }
     {
         if self.slots.find_stage(unit).is_none() {
-            return;
+            return None;
         }
         let later = waiting_rest(&mut self.hopper, rest);
         self.slots.leave(unit, &later);
         self.board.release(unit);
+        later
     }
 
     /// The bank of the reference in a place of the hopper takes it and is busy: a load has its word in its channel,

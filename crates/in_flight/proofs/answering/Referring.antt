@@ -1,7 +1,7 @@
 -- References that enter the hopper and are taken by their banks, beside the list of pending instructions.
 use Rattle.std.proofs.Common.{◌≡◌, ◌≢◌, ◌<◌, ◌≤◌, ◌+◌, ℕ, Bool, true, false, cond, List, [], ◌∷◌, ◌++◌, Option, Some}
 use Rattle.std.proofs.Common.{None, refl, sym, ap, ◌∙◌, subst, eqb, ltb, get_or, set, length, arith, append-nil}
-use Rattle.std.specs.Prelude.{◌&&◌, ◌||◌, is_none, is_some, Result, Ok, Err, IfSome, unwrap_or}
+use Rattle.std.specs.Prelude.{◌&&◌, ◌||◌, is_none, is_some, Result, Ok, Err, IfSome, MatchOption, unwrap_or}
 use Rattle.std.specs.List.{list_any}
 use Rattle.std.proofs.lemmas.Bool.{or_parts, eqb-true, eqb-false, eq-eqb, lt-ltb}
 use Rattle.std.proofs.lemmas.Option.{same_Some}
@@ -608,6 +608,20 @@ leave_tied u ms ns queue after b c f rest l tied apart h is el en eq ec =
 abbrev pub left_from : FunctionalUnit → Option Relocated → List Pending → List Pending
 left_from u rest ms =
     replaced (seek (stage_at u) ms) ms (λ m. kept m (outstanding_of (unwrap_or (place_for ms) 0) rest))
+
+-- what the store answers is left of the instruction, if one holds the unit
+pub left_is : (u : FunctionalUnit) (ms : List Pending) (queue : Queue) (b : Standing) (rest : Option Relocated)
+    (l : Option Outstanding) (now : Flight) → flight_of ms queue b ≡ now → IsTied ms queue b
+    → l ≡ outstanding_of (unwrap_or (free_in queue.entered) 0) rest
+    → (f : Found Pending Stage) → seek (stage_at u) ms ≡ Some f
+    → MatchOption (located (seek (stage_at u) now.pending)) (l ≡ None)
+    (λ s. l ≡ outstanding_of (unwrap_or (place_for now.pending) 0) rest)
+unfolding located
+left_is u ms queue b rest l now ev tied el f h =
+    subst (λ (x : Flight). MatchOption (located (seek (stage_at u) x.pending)) (l ≡ None)
+    (λ s. l ≡ outstanding_of (unwrap_or (place_for x.pending) 0) rest)) ev
+    (subst (λ o. MatchOption (located o) (l ≡ None)
+    (λ s. l ≡ outstanding_of (unwrap_or (place_for ms) 0) rest)) (sym h) (later_is ms queue rest l tied.entered el))
 
 pub leave_flight : (u : FunctionalUnit) (ms ns : List Pending) (queue after : Queue) (b c : Standing)
     (rest : Option Relocated) (l : Option Outstanding) (now : Flight) → flight_of ms queue b ≡ now → IsTied ms queue b

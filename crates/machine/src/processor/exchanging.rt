@@ -11,6 +11,10 @@ use crate::judging::{judge_ask, judge_exchange};
 use crate::{Answer, Done, Machine};
 use relocation::PACKAGE_WORDS;
 
+/// The entries for which a request makes room in the log: those of an instruction, the exchange and an instruction, so
+/// that issues and exchanges take no memory.
+const REQUEST_ROOM: u32 = 3;
+
 impl Machine {
     /// An exchange is asked for: the event `Ask`. The log gets room for three entries, so that issues and exchanges
     /// take no memory.
@@ -25,12 +29,8 @@ impl Machine {
         ensures why { IfErr result (λ refusal. IsWhy (completed self.old) refusal) }
     {
         let size = self.state.memory.size();
-        if let Err(refusal) = judge_ask(self.asked, &self.request, size, at) {
-            return Err(refusal);
-        }
-        if let Err(refusal) = self.log.reserve(3) {
-            return Err(refusal);
-        }
+        judge_ask(self.asked, &self.request, size, at)?;
+        self.log.reserve(REQUEST_ROOM)?;
         self.request = Some(at);
         self.asked += 1;
         Ok(Done::Made)
@@ -47,11 +47,7 @@ impl Machine {
         ensures reached { GoesOn self.old (Exchange ∷ []) (result ∷ []) self.new }
         ensures why { IfErr result (λ refusal. IsWhy (completed self.old) refusal) }
     {
-        let judged = judge_exchange(&self.request, &self.in_flight, &self.state);
-        let at = match judged {
-            Ok(at) => at,
-            Err(refusal) => return Err(refusal),
-        };
+        let at = judge_exchange(&self.request, &self.in_flight, &self.state)?;
         self.saved
             .save_before_write(&self.state.memory, at, PACKAGE_WORDS);
         exchange(&mut self.state, at);

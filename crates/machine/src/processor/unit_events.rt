@@ -3,15 +3,13 @@ ghost use Rattle.program_order.specs.declared.event.Event.TheVariants.{Read, Fin
 ghost use Rattle.program_order.specs.Run.{answer_of, settled};
 ghost use Rattle.instructions.specs.Operands.{uses};
 ghost use Rattle.in_flight.specs.Tests.{refusal_in};
-ghost use Rattle.machine.specs.Tokens.{Seating, IsValueIn, slot, waits_in, reading_in};
+ghost use Rattle.machine.specs.Tokens.{Seating, IsValueIn, slot, waits_in, reading_in, rest_after};
 ghost use Rattle.program_order.specs.Events.{allowed, after};
 
-use crate::changing::write_register;
 use crate::judging::{judge_finish, judge_store};
 use crate::{Answer, Done, Machine};
-use in_flight::{Pending, fault_after};
+use in_flight::{Outstanding, Pending, fault_after};
 use instruction_table::{Refusal, Unit};
-use sequential::{jump, number};
 use unit_ops::{Operands, UnitValue, value};
 
 impl Machine {
@@ -27,11 +25,7 @@ impl Machine {
             → reading_in seat (slot self.new unit)
             ≡ Some (record { seat = seat; number = read.0.number; instr = read.0.instr; operands = read.1 })) }
     {
-        let (pending, operands) = match self.in_flight.read(unit, &self.state.registers) {
-            Ok(read) => read,
-            Err(refusal) => return Err(refusal),
-        };
-        Ok((pending, operands))
+        self.in_flight.read(unit, &self.state.registers)
     }
 
     /// A unit reads its operands.
@@ -39,10 +33,8 @@ impl Machine {
         ensures answer { result ≡ answer_of self.old (Read unit) }
         ensures after { self.new ≡ settled self.old (Read unit) result }
     {
-        match self.read_operands(unit) {
-            Ok(_) => Ok(Done::Made),
-            Err(refusal) => Err(refusal),
-        }
+        let _ = self.read_operands(unit)?;
+        Ok(Done::Made)
     }
 
     /// A unit has its value.
@@ -50,13 +42,9 @@ impl Machine {
         ensures answer { result ≡ answer_of self.old (Finish unit) }
         ensures after { self.new ≡ settled self.old (Finish unit) result }
     {
-        match judge_finish(&self.in_flight, unit) {
-            Err(refusal) => Err(refusal),
-            Ok((pending, operands)) => {
-                self.put_value(unit, value(&pending.instr, &operands));
-                Ok(Done::Made)
-            }
-        }
+        let (pending, operands) = judge_finish(&self.in_flight, unit)?;
+        self.put_value(unit, value(&pending.instr, &operands));
+        Ok(Done::Made)
     }
 
     /// A unit has the value of what it has read.
@@ -68,22 +56,18 @@ impl Machine {
         self.in_flight.finish(unit, value);
     }
 
-    /// A unit stores its result, jumps or makes its reference, and is released.
-    pub(crate) fn store_unit(&mut self, unit: Unit) -> Answer
-        ensures answer { result ≡ answer_of self.old (Store unit) }
-        ensures after { self.new ≡ settled self.old (Store unit) result }
+    /// A unit stores its result, jumps or makes its reference, and is released. Returns what is left of the instruction:
+    /// its reference, in a place of the hopper or in its load channel.
+    pub(crate) fn store_unit(&mut self, unit: Unit) -> Result<Option<Outstanding>, Refusal>
+        ensures answer { allowed self.old (Store unit) ≡ refusal_in result }
+        ensures after { MatchResult result (λ rest. self.new ≡ after self.old (Store unit))
+            (λ refusal. self.new ≡ self.old) }
+        ensures rest { IfOk result (λ rest. rest ≡ rest_after self.old (slot self.old unit)) }
     {
         let area = self.state.area;
-        let size = self.state.memory.size();
-        let event = match judge_store(&self.in_flight, &area, size, unit) {
-            Ok(event) => event,
-            Err(refusal) => return Err(refusal),
-        };
-        let instr = event.pending.instr;
-        write_register(&mut self.state, instr.sets(), number(&event.value));
-        self.state.position = self.state.position.after_jump(jump(&instr, &event.value));
-        self.state.fault = fault_after(self.state.fault, &area, &event.reference);
-        self.in_flight.leave(unit, &event.reference);
-        Ok(Done::Made)
+        let event = judge_store(&self.in_flight, &area, self.state.memory.size(), unit)?;
+        let faults = fault_after(false, &area, &event.reference);
+        self.state.write_and_jump(&event.work, faults);
+        Ok(self.in_flight.leave(unit, &event.reference))
     }
 }
