@@ -1,7 +1,7 @@
 -- What the made and the refused events leave, over a plain machine.
 use Rattle.std.proofs.Common.{◌≡◌, ◌≤◌, ◌+◌, ℕ, Bool, true, false, List, [], ◌∷◌, ◌++◌, Option, Some, None, length}
 use Rattle.std.proofs.Common.{refl, sym, ap, ◌∙◌, subst, suc, add-one, arith, leb}
-use Rattle.std.specs.Prelude.{Result, Ok, Err, ◌||◌, ◌^◌, ◌-◌, min, unwrap_or, set, IfSome, replicate}
+use Rattle.std.specs.Prelude.{Result, Ok, Err, ◌||◌, ◌^◌, ◌-◌, min, unwrap_or, set, IfSome, MatchOption, replicate}
 use Rattle.std.proofs.lemmas.Bool.{leb-true, leb-false, le-leb, lt-leb}
 use Rattle.instructions.specs.declared.instr.Instr.{Instr}
 use Rattle.instructions.specs.declared.instr.Reg.{Reg}
@@ -9,7 +9,7 @@ use Rattle.instructions.specs.declared.instr.Reg.TheVariants.{X}
 use Rattle.instructions.specs.declared.instr.Unit.{Unit as FunctionalUnit}
 use Rattle.instructions.specs.declared.refusal.Halt.{Halt}
 use Rattle.instructions.specs.declared.refusal.Refusal.{Refusal}
-use Rattle.instructions.specs.Shape.{Shape, shape_of, sets_of}
+use Rattle.instructions.specs.Shape.{shape_of}
 use Rattle.registers.specs.declared.file.RegisterFile.{RegisterFile}
 use Rattle.registers.specs.Registers.{put}
 use Rattle.relocation.specs.declared.area.Access.{Access}
@@ -23,11 +23,10 @@ use Rattle.sequential.specs.declared.fetching.Fetched.TheVariants.{Halting, Pass
 use Rattle.sequential.specs.declared.position.ProgramPosition.{ProgramPosition}
 use Rattle.sequential.specs.declared.state.State.{State}
 use Rattle.sequential.specs.declared.work.ProgramReference.{ProgramReference}
-use Rattle.sequential.specs.Position.{after_jump}
-use Rattle.sequential.specs.State.{Bounds, bounds_of, write, write_all, jump_to, or_fault, store_word, access_at}
-use Rattle.sequential.specs.State.{move_to, halt_by}
-use Rattle.sequential.specs.Work.{operands, each_set_to, fault_of, jump_for, reference_for, number_in, work_of}
-use Rattle.sequential.specs.Work.{write_and_jump}
+use Rattle.sequential.specs.declared.work.Work.{Work as DoneWork}
+use Rattle.sequential.specs.State.{Bounds, bounds_of, write, store_word, access_at, move_to, halt_by}
+use Rattle.sequential.specs.Work.{IsWorkOf, operands, fault_of, reference_for, work_of, write_and_jump, written}
+use Rattle.sequential.proofs.Performing.{written_by}
 use Rattle.sequential.specs.Step.{fetch}
 use Rattle.sequential.specs.Swap.{swap}
 use Rattle.sequential.specs.Replay.{LogStep, Issued, Exchanged, ReadAt, Wrote, boot, replay}
@@ -54,6 +53,7 @@ use Rattle.program_order.specs.Run.{note_by, done_by, answer_by, answer_of, sett
 use Rattle.in_flight.specs.Lookup.{located, stage_at, entry_at, arrival_at, place_for, in_phase, kept, is_pending}
 use Rattle.instructions.specs.Finding.{replaced, Found, seek, put_back}
 use Rattle.machine.specs.inner.View.{owed, IsKept, processor_of}
+use Rattle.machine.specs.Tokens.{rest_after, rest_at}
 use Rattle.program_order.specs.Processor.{Processor, boot_processor, completed, replayed}
 use Rattle.in_flight.specs.Flight.{relocated, faults_at}
 use Rattle.program_order.specs.Units.{finish_tests, store_tests, rest_of, stage_after_read, stage_after_finish}
@@ -319,37 +319,25 @@ accept_made w p r s g a h es e = ap (with_flight (record w { state = s })) e
         by_access w f r.address r.access ∙ ap (λ (y : Reference). after_accept w f y.address y.access) (sym i)
 
 pub store_made : (w : Processor) (u : FunctionalUnit) (m : Pending) (v : UnitValue) (s : State)
-    (position : ProgramPosition)
-    (fault : Bool) (left : Option Outstanding) (g : Flight)
+    (left : Option Outstanding) (g : Flight)
     → located (seek (stage_at u) w.pending) ≡ Some (record { pending = m; answer = Finished v })
-    → s ≡ write_all w.state (each_set_to (number_in v) (sets_of (shape_of m.instr)))
-    → position ≡ after_jump s.position (jump_for (shape_of m.instr) v)
-    → fault ≡ (s.fault || fault_of (bounds_of w.state) (reference_for (shape_of m.instr) v))
+    → s ≡ write_and_jump (bounds_of w.state) w.state (work_of (shape_of m.instr) v)
     → left ≡ rest_of (bounds_of w.state) (unwrap_or (place_for w.pending) 0) (reference_for (shape_of m.instr) v)
     → g ≡ with_pending (flight w) (replaced (seek (stage_at u) w.pending) w.pending (λ x. kept x left))
-    → with_flight (record w { state = record s { position = position; fault = fault } }) g ≡ after w (StoreResult u)
-unfolding after replaced after_found after_store after_work work_of write_and_jump or_fault jump_to
-store_made w u m v s position fault left g h es ep ef el e =
-    let b : Bounds = bounds_of w.state in
-    let shape : Shape = shape_of m.instr in
-    ap (with_flight (record w { state = record s { position = position; fault = fault } })) e
+    → with_flight (record w { state = s }) g ≡ after w (StoreResult u)
+unfolding after replaced after_found after_store after_work work_of
+store_made w u m v s left g h es el e =
+    ap (with_flight (record w { state = s })) e
     ∙ ap (λ l. record w {
-      state = record s { position = position; fault = fault };
+      state = s;
       pending = replaced (seek (stage_at u) w.pending) w.pending (λ x. kept x l);
     }) el
     ∙ ap (λ t. record w {
       state = t;
       pending = replaced (seek (stage_at u) w.pending) w.pending
-          (λ x. kept x (rest_of b (unwrap_or (place_for w.pending) 0) (reference_for shape v)));
-    }) (
-    ap (λ x. record s { position = x; fault = fault }) ep
-    ∙ ap (λ x. record s { position = after_jump s.position (jump_for shape v); fault = x }) ef
-    ∙ ap (λ (t : State). record t {
-      position = after_jump t.position (jump_for shape v);
-      fault = t.fault
-          || fault_of b (reference_for shape v);
+          (λ x. kept x (rest_of (bounds_of w.state) (unwrap_or (place_for w.pending) 0)
+          (reference_for (shape_of m.instr) v)));
     }) es
-    )
     ∙ found (seek (stage_at u) w.pending) h
   where
     found : (q : Option (Found Pending Stage)) → located q ≡ Some (record { pending = m; answer = Finished v })
@@ -545,32 +533,51 @@ unfolding relocated faults_at fault_of
 relocated_fault b None = refl
 relocated_fault b (Some r) = refl
 
-pub store_parts : (w : Processor) (u : FunctionalUnit) (size : ℕ) (m : Pending) (v : UnitValue) (written rs : List Reg)
-    (number : ℕ) (jump : Option ℕ) (s : State) (position : ProgramPosition) (fault : Bool) (rest : Option Relocated)
-    (g : Flight)
+pub store_parts : (w : Processor) (u : FunctionalUnit) (size : ℕ) (m : Pending) (v : UnitValue) (work : DoneWork)
+    (s : State) (faults : Bool) (rest : Option Relocated) (g : Flight)
     → located (seek (stage_at u) w.pending) ≡ Some (record { pending = m; answer = Finished v })
     → size ≡ length w.state.memory
+    → IsWorkOf (shape_of m.instr) v work
     → rest ≡ relocated (record { area = w.state.area; size = size }) (reference_for (shape_of m.instr) v)
-    → written ≡ sets_of (shape_of m.instr) → rs ≡ written → number ≡ number_in v
-    → s ≡ write_all w.state (each_set_to number rs)
-    → jump ≡ jump_for (shape_of m.instr) v → position ≡ after_jump s.position jump
-    → fault ≡ (s.fault || faults_at (record { area = w.state.area; size = size }) rest)
+    → faults ≡ faults_at (record { area = w.state.area; size = size }) rest
+    → s ≡ written w.state work faults
     → g ≡ with_pending (flight w)
     (replaced (seek (stage_at u) w.pending) w.pending
     (λ x. kept x (outstanding_of (unwrap_or (place_for w.pending) 0) rest)))
-    → with_flight (record w { state = record s { position = position; fault = fault } }) g ≡ after w (StoreResult u)
-store_parts w u size m v written rs number jump s position fault rest g p ez el ew er en es ej ep ef em =
+    → with_flight (record w { state = s }) g ≡ after w (StoreResult u)
+store_parts w u size m v work s faults rest g p ez is el ef es em =
     let b : Bounds = record { area = w.state.area; size = size } in
     let q : Option ProgramReference = reference_for (shape_of m.instr) v in
     let free : ℕ = unwrap_or (place_for w.pending) 0 in
-    store_made w u m v s position fault (outstanding_of free rest) g p
-    (es ∙ ap (λ l. write_all w.state (each_set_to number l)) (er ∙ ew)
-    ∙ ap (λ n. write_all w.state (each_set_to n (sets_of (shape_of m.instr)))) en)
-    (ep ∙ ap (after_jump s.position) ej)
-    (ef ∙ ap (λ x. s.fault || faults_at b x) el ∙ ap (λ x. s.fault || x) (relocated_fault b q)
-    ∙ ap (λ x. s.fault || fault_of x q) (bounds_at w size ez))
+    store_made w u m v s (outstanding_of free rest) g p
+    (es ∙ written_by (bounds_of w.state) w.state (shape_of m.instr) v work faults is
+    (ef ∙ ap (faults_at b) el ∙ relocated_fault b q ∙ ap (λ x. fault_of x q) (bounds_at w size ez)))
     (ap (outstanding_of free) el ∙ ap (λ x. rest_of x free q) (bounds_at w size ez))
     em
+
+-- what is left after the store event, from what the store answers
+pub rest_left : (w : Processor) (u : FunctionalUnit) (size : ℕ) (m : Pending) (v : UnitValue) (rest : Option Relocated)
+    (left : Option Outstanding)
+    → located (seek (stage_at u) w.pending) ≡ Some (record { pending = m; answer = Finished v })
+    → size ≡ length w.state.memory
+    → rest ≡ relocated (record { area = w.state.area; size = size }) (reference_for (shape_of m.instr) v)
+    → MatchOption (located (seek (stage_at u) w.pending)) (left ≡ None)
+    (λ x. left ≡ outstanding_of (unwrap_or (place_for w.pending) 0) rest)
+    → left ≡ rest_after w (seek (stage_at u) w.pending)
+unfolding rest_after rest_at located
+rest_left w u size m v rest left h ez el k = found (seek (stage_at u) w.pending) h k
+  where
+    found : (q : Option (Found Pending Stage)) → located q ≡ Some (record { pending = m; answer = Finished v })
+        → MatchOption (located q) (left ≡ None) (λ x. left ≡ outstanding_of (unwrap_or (place_for w.pending) 0) rest)
+        → left ≡ rest_after w q
+    found None i j = absurd (no_sought (record { pending = m; answer = Finished v }) i)
+    found (Some f) i j =
+        j ∙ ap (outstanding_of (unwrap_or (place_for w.pending) 0)) el
+        ∙ ap (λ b. rest_of b (unwrap_or (place_for w.pending) 0) (reference_for (shape_of m.instr) v))
+        (bounds_at w size ez)
+        ∙ ap (λ (x : Pending). rest_at w x.instr (Finished v))
+        (sym (sought_pending f (record { pending = m; answer = Finished v }) i))
+        ∙ ap (rest_at w f.item.instr) (sym (sought_what f (record { pending = m; answer = Finished v }) i))
 
 -- ---- boot ----
 

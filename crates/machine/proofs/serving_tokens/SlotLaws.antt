@@ -38,6 +38,11 @@ use Rattle.instructions.proofs.Finding.{seek_around, seek_splits}
 use Rattle.machine.proofs.making.Making.{finish_made, flight, with_flight}
 use Rattle.program_order.proofs.keeping.Naming.{answered_err}
 
+-- the note of a token
+pub noted : (n : Note) (t u : ServedReservation) → n ≡ record { unit = t.seat.unit; number = t.number } → t ≡ u
+    → n ≡ record { unit = u.seat.unit; number = u.number }
+noted n t u e k = e ∙ ap (λ (x : ServedReservation). record { unit = x.seat.unit; number = x.number }) k
+
 -- nobody before the one that is found answers
 seek_before : {K : Type 0} (f : Pending → Option K) (ms : List Pending) (x : Found Pending K) → seek f ms ≡ Some x
     → Each (λ e. f e ≡ None) x.earlier
@@ -186,33 +191,6 @@ answered_ok : (d given : Done) (o : Option Refusal) → Ok given ≡ answer_by d
 unfolding answer_by
 answered_ok d given None e = refl
 answered_ok d given (Some x) e = cc
-
--- the token's own slot is asked, and it has a value
-store_asks : (w : Processor) (t : ServedReservation) (n : Note) (pending : List Pending) (b : Bool) (o : Option Refusal)
-    → n ≡ record { unit = t.seat.unit; number = t.number } → pending ≡ w.pending
-    → b ≡ finished_in n.number (seek (stage_at n.unit) pending) → b ≡ true → allowed w (StoreResult n.unit) ≡ o
-    → refusal_to (finished_in t.number (slot w t.seat.unit)) (allowed w (StoreResult t.seat.unit)) ≡ o
-store_asks w t n pending b o en em eb et h =
-    ap (λ (x : Note). refusal_to (finished_in x.number (slot w x.unit)) (allowed w (StoreResult x.unit))) (sym en)
-    ∙ ap (λ l. refusal_to (finished_in n.number (seek (stage_at n.unit) l)) (allowed w (StoreResult n.unit))) (sym em)
-    ∙ ap (λ x. refusal_to x (allowed w (StoreResult n.unit))) (sym eb ∙ et)
-    ∙ h
-
-pub store_refused : (w : Processor) (t : ServedReservation) (n : Note) (pending : List Pending) (b : Bool) (k : Refusal)
-    → n ≡ record { unit = t.seat.unit; number = t.number } → pending ≡ w.pending
-    → b ≡ finished_in n.number (seek (stage_at n.unit) pending) → b ≡ true → Err k ≡ answer_of w (StoreResult n.unit)
-    → refusal_to (finished_in t.number (slot w t.seat.unit)) (allowed w (StoreResult t.seat.unit)) ≡ Some k
-unfolding answer_of
-store_refused w t n pending b k en em eb et h = store_asks w t n pending b (Some k) en em eb et (answered_err _ _ k h)
-
-pub store_allowed : (w : Processor) (t : ServedReservation) (n : Note) (pending : List Pending) (b : Bool)
-    (given : Done)
-    → n ≡ record { unit = t.seat.unit; number = t.number } → pending ≡ w.pending
-    → b ≡ finished_in n.number (seek (stage_at n.unit) pending) → b ≡ true → Ok given ≡ answer_of w (StoreResult n.unit)
-    → refusal_to (finished_in t.number (slot w t.seat.unit)) (allowed w (StoreResult t.seat.unit)) ≡ None
-unfolding answer_of
-store_allowed w t n pending b given en em eb et h =
-    store_asks w t n pending b None en em eb et (answered_ok _ given _ h)
 
 -- ---- what a token was computed from ----
 

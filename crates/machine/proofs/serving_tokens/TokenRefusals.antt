@@ -73,9 +73,8 @@ read_named_to w note pending b k em eb et h =
 
 pub store_named_to : (w : Processor) (note : Note) (pending : List Pending) (b : Bool) (k : Refusal)
     → pending ≡ w.pending → b ≡ finished_in note.number (seek (stage_at note.unit) pending) → b ≡ true
-    → Err k ≡ answer_of w (Store note.unit) → (is_stranger k || is_store_refusal k) ≡ true
-unfolding answer_of
+    → allowed w (Store note.unit) ≡ Some k → (is_stranger k || is_store_refusal k) ≡ true
 store_named_to w note pending b k em eb et h =
     or_second (is_stranger k) (is_store_refusal k)
     (finished_named w note.unit note.number k
-    (ap (λ l. finished_in note.number (seek (stage_at note.unit) l)) (sym em) ∙ sym eb ∙ et) (answered_err _ _ k h))
+    (ap (λ l. finished_in note.number (seek (stage_at note.unit) l)) (sym em) ∙ sym eb ∙ et) h)

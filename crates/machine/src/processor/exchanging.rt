@@ -29,8 +29,12 @@ impl Machine {
         ensures why { IfErr result (λ refusal. IsWhy (completed self.old) refusal) }
     {
         let size = self.state.memory.size();
-        judge_ask(self.asked, &self.request, size, at)?;
-        self.log.reserve(REQUEST_ROOM)?;
+        if let Err(refusal) = judge_ask(self.asked, &self.request, size, at) {
+            return Err(refusal);
+        }
+        if let Err(refusal) = self.log.reserve(REQUEST_ROOM) {
+            return Err(refusal);
+        }
         self.request = Some(at);
         self.asked += 1;
         Ok(Done::Made)
@@ -47,7 +51,11 @@ impl Machine {
         ensures reached { GoesOn self.old (Exchange ∷ []) (result ∷ []) self.new }
         ensures why { IfErr result (λ refusal. IsWhy (completed self.old) refusal) }
     {
-        let at = judge_exchange(&self.request, &self.in_flight, &self.state)?;
+        let judged = judge_exchange(&self.request, &self.in_flight, &self.state);
+        let at = match judged {
+            Ok(at) => at,
+            Err(refusal) => return Err(refusal),
+        };
         self.saved
             .save_before_write(&self.state.memory, at, PACKAGE_WORDS);
         exchange(&mut self.state, at);

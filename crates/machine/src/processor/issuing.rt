@@ -33,13 +33,17 @@ impl Machine {
         // What a refusal tells about the state to which the log led.
         ensures why { IfErr result (λ refusal. IsWhy (completed self.old) refusal) }
     {
-        let fetched = judge_issue(
+        let judged = judge_issue(
             &self.state,
             &self.in_flight,
             &self.request,
             self.budget,
             self.log.issues(),
-        )?;
+        );
+        let fetched = match judged {
+            Ok(fetched) => fetched,
+            Err(refusal) => return Err(refusal),
+        };
         let note = match fetched {
             Fetched::Halting(halt, position) => {
                 self.state.position = position;
@@ -51,7 +55,11 @@ impl Machine {
                 None
             }
             Fetched::Taking(instr, position) => {
-                let (unit, number) = self.in_flight.reserve(&instr, self.state.position.p)?;
+                let reserved = self.in_flight.reserve(&instr, self.state.position.p);
+                let (unit, number) = match reserved {
+                    Ok(reserved) => reserved,
+                    Err(refusal) => return Err(refusal),
+                };
                 self.state.position = position;
                 Some(Note { unit, number })
             }

@@ -25,7 +25,11 @@ impl Machine {
             → reading_in seat (slot self.new unit)
             ≡ Some (record { seat = seat; number = read.0.number; instr = read.0.instr; operands = read.1 })) }
     {
-        self.in_flight.read(unit, &self.state.registers)
+        let (pending, operands) = match self.in_flight.read(unit, &self.state.registers) {
+            Ok(read) => read,
+            Err(refusal) => return Err(refusal),
+        };
+        Ok((pending, operands))
     }
 
     /// A unit reads its operands.
@@ -33,8 +37,10 @@ impl Machine {
         ensures answer { result ≡ answer_of self.old (Read unit) }
         ensures after { self.new ≡ settled self.old (Read unit) result }
     {
-        let _ = self.read_operands(unit)?;
-        Ok(Done::Made)
+        match self.read_operands(unit) {
+            Ok(_) => Ok(Done::Made),
+            Err(refusal) => Err(refusal),
+        }
     }
 
     /// A unit has its value.
@@ -42,9 +48,13 @@ impl Machine {
         ensures answer { result ≡ answer_of self.old (Finish unit) }
         ensures after { self.new ≡ settled self.old (Finish unit) result }
     {
-        let (pending, operands) = judge_finish(&self.in_flight, unit)?;
-        self.put_value(unit, value(&pending.instr, &operands));
-        Ok(Done::Made)
+        match judge_finish(&self.in_flight, unit) {
+            Err(refusal) => Err(refusal),
+            Ok((pending, operands)) => {
+                self.put_value(unit, value(&pending.instr, &operands));
+                Ok(Done::Made)
+            }
+        }
     }
 
     /// A unit has the value of what it has read.
@@ -58,16 +68,31 @@ impl Machine {
 
     /// A unit stores its result, jumps or makes its reference, and is released. Returns what is left of the instruction:
     /// its reference, in a place of the hopper or in its load channel.
-    pub(crate) fn store_unit(&mut self, unit: Unit) -> Result<Option<Outstanding>, Refusal>
+    pub(crate) fn store_result(&mut self, unit: Unit) -> Result<Option<Outstanding>, Refusal>
         ensures answer { allowed self.old (Store unit) ≡ refusal_in result }
         ensures after { MatchResult result (λ rest. self.new ≡ after self.old (Store unit))
             (λ refusal. self.new ≡ self.old) }
         ensures rest { IfOk result (λ rest. rest ≡ rest_after self.old (slot self.old unit)) }
     {
         let area = self.state.area;
-        let event = judge_store(&self.in_flight, &area, self.state.memory.size(), unit)?;
+        let size = self.state.memory.size();
+        let event = match judge_store(&self.in_flight, &area, size, unit) {
+            Ok(event) => event,
+            Err(refusal) => return Err(refusal),
+        };
         let faults = fault_after(false, &area, &event.reference);
         self.state.write_and_jump(&event.work, faults);
         Ok(self.in_flight.leave(unit, &event.reference))
+    }
+
+    /// A unit stores its result, jumps or makes its reference, and is released.
+    pub(crate) fn store_unit(&mut self, unit: Unit) -> Answer
+        ensures answer { result ≡ answer_of self.old (Store unit) }
+        ensures after { self.new ≡ settled self.old (Store unit) result }
+    {
+        match self.store_result(unit) {
+            Ok(_) => Ok(Done::Made),
+            Err(refusal) => Err(refusal),
+        }
     }
 }

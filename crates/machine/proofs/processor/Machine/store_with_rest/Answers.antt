@@ -1,0 +1,30 @@
+use Rattle.std.proofs.Common.{[], ◌∷◌, refl, subst}
+use Rattle.std.specs.Prelude.{Ok}
+use Rattle.program_order.specs.declared.event.Done.TheVariants.{Made}
+use Rattle.program_order.specs.Reached.{GoesOn}
+use Rattle.program_order.proofs.draining.OnPending.{is_work}
+use Rattle.program_order.specs.declared.event.Event.TheVariants.{Store as StoreResult}
+use Rattle.program_order.specs.declared.event.Note.{Note}
+use Rattle.program_order.specs.Refusals.{is_stranger}
+use Rattle.machine.proofs.serving_tokens.TokenRefusals.{store_named_to}
+use Rattle.machine.proofs.serving_tokens.SlotLaws.{noted}
+use Rattle.program_order.proofs.reaching.Reached.{work_goes_on}
+use Rattle.machine.proofs.processor.Machine.store_with_rest.Goals as goal
+
+pub returns-then-not-is_finished-clause-named : goal.returns-then-not-is_finished-clause-named
+unfolding is_stranger
+returns-then-not-is_finished-clause-named c = refl
+
+pub returns-in-Err-clause-named : goal.returns-in-Err-clause-named
+returns-in-Err-clause-named c =
+    store_named_to c.args.self.now c.note-note.result c.in_flight.result.now.pending c.is_finished.result
+    c.in-Err.refusal c.in_flight.ensures.pending c.is_finished.ensures c.if-not-is_finished.false
+    c.in-Err.ensures.answer
+
+pub returns-in-Ok-clause-reached : goal.returns-in-Ok-clause-reached
+unfolding is_work
+returns-in-Ok-clause-reached c =
+    subst (λ (n : Note). GoesOn c.args.self.now (StoreResult n.unit ∷ []) (Ok Made ∷ []) c.store_result.new.self)
+    (noted c.note-note.result c.token.inside.claim c.args.token c.note-note.ensures c.token.view_is)
+    (work_goes_on c.args.self.now c.store_result.new.self (StoreResult c.note-note.result.unit) refl
+    c.in-Ok.ensures.answer c.in-Ok.ensures.after)
