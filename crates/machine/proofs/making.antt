@@ -2,5 +2,6 @@
 pub mod Steps
 pub mod Saving
 pub mod Making
+pub mod Admitting
 pub mod Leaving
 pub mod Told

@@ -72,17 +72,24 @@ pub steps_of-more : (es : List Entry) (i : ℕ) (d : Entry) → i < length es �
     (take i es) ++ steps_of (get_or es i d ∷ [])
 steps_of-more es i d l = ap (λ n. steps_of (take n es)) (add-one i) ∙ taken_steps es i d l
 
-pub steps_of-exchange : (e : Entry) (n : ℕ) → e ≡ Exchange n → steps_of (e ∷ []) ≡ Exchanged n ∷ []
-unfolding steps_of
-steps_of-exchange e n h = ap (λ x. steps_of (x ∷ [])) h
+-- the step of an entry that has one
+abbrev pub step_of : Entry → LogStep
+step_of (Count n) = Issued
+step_of (Exchange n) = Exchanged n
+step_of (PpRead a) = ReadAt a
+step_of (PpWrite a w) = Wrote a w
 
-pub steps_of-read : (e : Entry) (a : ℕ) → e ≡ PpRead a → steps_of (e ∷ []) ≡ ReadAt a ∷ []
+pub steps_of-exchange : (e : Entry) (n : ℕ) → e ≡ Exchange n → steps_of (e ∷ []) ≡ step_of e ∷ []
 unfolding steps_of
-steps_of-read e a h = ap (λ x. steps_of (x ∷ [])) h
+steps_of-exchange e n h = ap (λ x. steps_of (x ∷ [])) h ∙ ap (λ x. step_of x ∷ []) (sym h)
 
-pub steps_of-write : (e : Entry) (a w : ℕ) → e ≡ PpWrite a w → steps_of (e ∷ []) ≡ Wrote a w ∷ []
+pub steps_of-read : (e : Entry) (a : ℕ) → e ≡ PpRead a → steps_of (e ∷ []) ≡ step_of e ∷ []
 unfolding steps_of
-steps_of-write e a w h = ap (λ x. steps_of (x ∷ [])) h
+steps_of-read e a h = ap (λ x. steps_of (x ∷ [])) h ∙ ap (λ x. step_of x ∷ []) (sym h)
+
+pub steps_of-write : (e : Entry) (a w : ℕ) → e ≡ PpWrite a w → steps_of (e ∷ []) ≡ step_of e ∷ []
+unfolding steps_of
+steps_of-write e a w h = ap (λ x. steps_of (x ∷ [])) h ∙ ap (λ x. step_of x ∷ []) (sym h)
 
 pub steps_of-count : (e : Entry) (n : ℕ) → e ≡ Count n → steps_of (e ∷ []) ≡ replicate n Issued
 unfolding steps_of

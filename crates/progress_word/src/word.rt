@@ -13,7 +13,6 @@ use crate::rule::{
 use machine::Machine;
 use sequential::Entry;
 use std::marker::{Brand, PhantomData};
-use word60::Word60;
 
 /// The progress word that K names.
 #[derive(Drop)]
@@ -46,16 +45,6 @@ impl<K: Naming> Word<K> {
         // It stands here for what is picked at the call.
         let _ = machine;
         self.table.shared.load::<Begins<J>>(pass, 0);
-    }
-
-    /// The step that adds.
-    fn add<J: Chosen>(&self, pass: &mut Pass)
-        requires pass { (pass.old.table_id ≡ K.table) × (pass.old.me.1 ≡ []) × (pass.old.me.0.keeps ≡ true)
-            × (pass.old.me.0.knows ≡ true) }
-        ensures pass { (pass.new.table_id ≡ K.table) × (pass.new.me.1 ≡ []) }
-        ensures added { Added J.step pass.old.me.0 pass.new.me.0 }
-    {
-        self.table.shared.fetch_add::<Adds<J>>(pass, 0, 1);
     }
 
     /// The step that looks.
@@ -100,9 +89,9 @@ impl<K: Naming> Word<K> {
 
     // ---- what the machine and its callers do ----
 
-    /// A step that a caller made is added to what the machine's pass knows. The caller knows it all then, and the step
-    /// is the caller's.
-    fn record_step<J: Chosen>(&self, pass: &mut Pass, me: &mut Pass)
+    /// Adds a step that a caller made to what the machine's pass knows. The caller then knows it all, and the step is the
+    /// caller's. The step is picked at the call, of what `from` has.
+    pub fn record<J: Chosen, T>(&self, pass: &mut Pass, me: &mut Pass, from: &T)
         requires pass { IsKeeper K.table pass.old.me.0.seen pass.old }
         requires me { IsCaller K.table me.old.me.0.seen me.old.me.0.mine me.old }
         ensures pass { IsKeeper K.table
@@ -112,64 +101,10 @@ impl<K: Naming> Word<K> {
             (me.old.me.0.mine ++ length pass.old.me.0.seen.log ∷ []) me.new }
         ensures begins { Continues pass.old.me.0.seen me.old.me.0.seen }
     {
+        let _ = from;
         self.take_in(pass, me);
-        self.add::<J>(pass);
+        self.table.shared.fetch_add::<Adds<J>>(pass, 0, 1);
         *me = self.hand_back(pass);
-    }
-
-    /// The same for an exchange at that address.
-    fn record_exchange<J: Chosen>(&self, pass: &mut Pass, me: &mut Pass, at: u32)
-        requires pass { IsKeeper K.table pass.old.me.0.seen pass.old }
-        requires me { IsCaller K.table me.old.me.0.seen me.old.me.0.mine me.old }
-        ensures pass { IsKeeper K.table
-            (history pass.old.me.0.seen.booted (pass.old.me.0.seen.log ++ J.step ∷ [])) pass.new }
-        ensures me { IsCaller K.table me.new.me.0.seen me.new.me.0.mine me.new }
-    {
-        // It stands here for the step that is picked at the call.
-        let _ = at;
-        self.record_step::<J>(pass, me);
-    }
-
-    /// The same for a peripheral processor that reads the word at that address.
-    fn record_read<J: Chosen>(&self, pass: &mut Pass, me: &mut Pass, at: u32)
-        requires pass { IsKeeper K.table pass.old.me.0.seen pass.old }
-        requires me { IsCaller K.table me.old.me.0.seen me.old.me.0.mine me.old }
-        ensures pass { IsKeeper K.table
-            (history pass.old.me.0.seen.booted (pass.old.me.0.seen.log ++ J.step ∷ [])) pass.new }
-        ensures me { IsCaller K.table me.new.me.0.seen me.new.me.0.mine me.new }
-    {
-        // It stands here for the step that is picked at the call.
-        let _ = at;
-        self.record_step::<J>(pass, me);
-    }
-
-    /// The same for a peripheral processor that writes that word to that address.
-    fn record_write<J: Chosen>(&self, pass: &mut Pass, me: &mut Pass, at: u32, word: Word60)
-        requires pass { IsKeeper K.table pass.old.me.0.seen pass.old }
-        requires me { IsCaller K.table me.old.me.0.seen me.old.me.0.mine me.old }
-        ensures pass { IsKeeper K.table
-            (history pass.old.me.0.seen.booted (pass.old.me.0.seen.log ++ J.step ∷ [])) pass.new }
-        ensures me { IsCaller K.table me.new.me.0.seen me.new.me.0.mine me.new }
-    {
-        // They stand here for the step that is picked at the call.
-        let _ = (at, word);
-        self.record_step::<J>(pass, me);
-    }
-
-    /// The same for the last step of a machine.
-    pub fn record<J: Chosen>(&self, pass: &mut Pass, me: &mut Pass, machine: &Machine)
-        requires pass { IsKeeper K.table pass.old.me.0.seen pass.old }
-        requires me { IsCaller K.table me.old.me.0.seen me.old.me.0.mine me.old }
-        ensures pass { IsKeeper K.table
-            (history pass.old.me.0.seen.booted (pass.old.me.0.seen.log ++ J.step ∷ [])) pass.new }
-        ensures me { IsCaller K.table
-            (history pass.old.me.0.seen.booted (pass.old.me.0.seen.log ++ J.step ∷ []))
-            (me.old.me.0.mine ++ length pass.old.me.0.seen.log ∷ []) me.new }
-        ensures begins { Continues pass.old.me.0.seen me.old.me.0.seen }
-    {
-        // It stands here for the step that is picked at the call.
-        let _ = machine;
-        self.record_step::<J>(pass, me);
     }
 
     /// The caller knows all that the machine's pass knows.
@@ -211,7 +146,7 @@ impl<K: Naming> Word<K> {
         ensures me { IsCaller K.table me.new.me.0.seen me.new.me.0.mine me.new }
     {
         for _ in 0..count {
-            self.record_step::<Brand>(pass, me);
+            self.record::<Brand, ()>(pass, me, &());
         }
     }
 
@@ -223,11 +158,11 @@ impl<K: Naming> Word<K> {
             (history pass.old.me.0.seen.booted (pass.old.me.0.seen.log ++ steps_of (entry.now ∷ []))) pass.new }
         ensures me { IsCaller K.table me.new.me.0.seen me.new.me.0.mine me.new }
     {
-        match *entry {
-            Entry::Exchange(at) => self.record_exchange::<Brand>(pass, me, at),
-            Entry::Issued(count) => self.record_issues(pass, me, count),
-            Entry::PpRead(at) => self.record_read::<Brand>(pass, me, at),
-            Entry::PpWrite(at, word) => self.record_write::<Brand>(pass, me, at, word),
+        match entry {
+            Entry::Issued(count) => self.record_issues(pass, me, *count),
+            Entry::Exchange(_) => self.record::<Brand, Entry>(pass, me, entry),
+            Entry::PpRead(_) => self.record::<Brand, Entry>(pass, me, entry),
+            Entry::PpWrite(_, _) => self.record::<Brand, Entry>(pass, me, entry),
         }
     }
 

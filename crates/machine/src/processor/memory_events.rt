@@ -1,5 +1,7 @@
-ghost use Rattle.std.specs.Prelude.{◌≡◌};
+ghost use Rattle.std.specs.Prelude.{◌≡◌, true, [], ◌∷◌, IfErr};
 ghost use Rattle.program_order.specs.declared.event.Event.TheVariants.{Accept, Return, BankFree};
+ghost use Rattle.program_order.specs.Reached.{GoesOn};
+ghost use Rattle.program_order.specs.Refusals.{may_refuse};
 ghost use Rattle.program_order.specs.Run.{answer_of, settled};
 
 use crate::changing::perform;
@@ -7,10 +9,15 @@ use crate::{Answer, Done, Machine};
 use instruction_table::Reg;
 
 impl Machine {
-    /// Memory takes the reference in a place of the hopper, and its bank is busy.
-    pub(crate) fn accept(&mut self, place: u8) -> Answer
+    /// Memory takes the reference in a place of the hopper, 0 to 3, and its bank is busy: the event `Accept`.
+    ///
+    /// # Errors
+    /// `Nothing`, `BankBusy`, `OlderAtAddress`: the first that applies. The machine is then as it was.
+    pub fn accept(&mut self, place: u8) -> Answer
         ensures answer { result ≡ answer_of self.old (Accept place) }
         ensures after { self.new ≡ settled self.old (Accept place) result }
+        ensures named { IfErr result (λ refusal. may_refuse (Accept place) refusal ≡ true) }
+        ensures reached { GoesOn self.old (Accept place ∷ []) (result ∷ []) self.new }
     {
         let reference = match self.in_flight.accept(place, &self.state.memory) {
             Ok(reference) => reference,
@@ -20,10 +27,15 @@ impl Machine {
         Ok(Done::Made)
     }
 
-    /// The load in a channel writes its register.
-    pub(crate) fn return_load(&mut self, channel: u8) -> Answer
+    /// The load in a channel, 1 to 5, writes its register: the event `Return`.
+    ///
+    /// # Errors
+    /// `Nothing`, `ResultHeld`: the first that applies. The machine is then as it was.
+    pub fn return_load(&mut self, channel: u8) -> Answer
         ensures answer { result ≡ answer_of self.old (Return channel) }
         ensures after { self.new ≡ settled self.old (Return channel) result }
+        ensures named { IfErr result (λ refusal. may_refuse (Return channel) refusal ≡ true) }
+        ensures reached { GoesOn self.old (Return channel ∷ []) (result ∷ []) self.new }
     {
         let arrival = match self.in_flight.return_load(channel) {
             Ok(arrival) => arrival,
@@ -35,10 +47,15 @@ impl Machine {
         Ok(Done::Made)
     }
 
-    /// A bank is free again.
-    pub(crate) fn bank_free(&mut self, bank: u8) -> Answer
+    /// A bank, 0 to 31, is free again: the event `BankFree`.
+    ///
+    /// # Errors
+    /// `Nothing` where the bank isn't busy. The machine is then as it was.
+    pub fn bank_free(&mut self, bank: u8) -> Answer
         ensures answer { result ≡ answer_of self.old (BankFree bank) }
         ensures after { self.new ≡ settled self.old (BankFree bank) result }
+        ensures named { IfErr result (λ refusal. may_refuse (BankFree bank) refusal ≡ true) }
+        ensures reached { GoesOn self.old (BankFree bank ∷ []) (result ∷ []) self.new }
     {
         if let Err(refusal) = self.in_flight.bank_free(bank) {
             return Err(refusal);

@@ -1,29 +1,77 @@
-ghost use Rattle.std.specs.Prelude.{◌≡◌};
+ghost use Rattle.std.specs.Prelude.{◌≡◌, ◌≤◌, ◌<◌, ◌⊎◌, true, None, Some, [], ◌∷◌, IfErr, Ok, OnOk, MatchResult};
+ghost use Rattle.std.specs.Prelude.{slice_index_or};
+ghost use Rattle.instructions.specs.declared.refusal.Refusal.TheVariants.{OutOfMemory};
+ghost use Rattle.in_flight.specs.Tests.{refusal_of};
+ghost use Rattle.program_order.specs.declared.event.Done.{Done as SomeDone};
+ghost use Rattle.program_order.specs.declared.event.Done.TheVariants.{Word};
 ghost use Rattle.program_order.specs.declared.event.Event.TheVariants.{PpRead, PpWrite};
+ghost use Rattle.program_order.specs.Peripheral.{access_tests};
+ghost use Rattle.program_order.specs.Processor.{completed};
+ghost use Rattle.program_order.specs.Reached.{GoesOn};
+ghost use Rattle.program_order.specs.Refusals.{may_refuse};
 ghost use Rattle.program_order.specs.Run.{IsAnswer, settled};
 
 use crate::changing::perform;
 use crate::judging::judge_access;
 use crate::{Answer, Done, Machine};
 use hopper::Reference;
+use in_flight::InFlight;
+use instruction_table::Refusal;
 use relocation::Access;
+use sequential::Log;
 use word60::Word60;
 
 /// The entries for which an access makes room in the log: its own, and those of an instruction, an exchange and an
 /// instruction, so that issues and exchanges take no memory.
 const ACCESS_ROOM: u32 = 4;
 
+/// Judges a peripheral access, and makes room in the log for it and what may follow.
+///
+/// # Errors
+/// `Budget`, `PeripheralWait`, `PeripheralRange`, `OutOfMemory`: the first that applies.
+fn admit_access(
+    accessed: u32,
+    in_flight: &InFlight,
+    size: u32,
+    log: &mut Log,
+    at: u32,
+) -> Result<(), Refusal>
+    ensures answer { MatchResult result
+        (λ _. refusal_of (access_tests accessed in_flight.now.pending size at) ≡ None)
+        (λ refusal. (refusal_of (access_tests accessed in_flight.now.pending size at) ≡ Some refusal)
+        ⊎ ((refusal_of (access_tests accessed in_flight.now.pending size at) ≡ None) × (refusal ≡ OutOfMemory))) }
+    ensures bound { OnOk result (accessed < 1000000) }
+    ensures within { OnOk result (at < size) }
+    ensures room { OnOk result (4 ≤ log.new.room) }
+    ensures steps { log.new.steps ≡ log.old.steps }
+    ensures kept { log.old.room ≤ log.new.room }
+{
+    if let Err(refusal) = judge_access(accessed, in_flight, size, at) {
+        return Err(refusal);
+    }
+    log.reserve(ACCESS_ROOM)
+}
+
 impl Machine {
-    /// A peripheral processor reads the word at an absolute address. Room is made in the log for what may follow.
-    pub(crate) fn pp_read(&mut self, at: u32) -> Answer
+    /// A peripheral processor reads the word at an absolute address: the event `PpRead`. Room is made in the log for
+    /// what may follow.
+    ///
+    /// # Errors
+    /// `Budget`, `PeripheralWait`, `PeripheralRange`, `OutOfMemory`: the first that applies. The machine is then as it
+    /// was.
+    pub fn pp_read(&mut self, at: u32) -> Answer
         ensures answer { IsAnswer self.old (PpRead at) result }
         ensures after { self.new ≡ settled self.old (PpRead at) result }
+        ensures named { IfErr result (λ refusal. may_refuse (PpRead at) refusal ≡ true) }
+        ensures reached { GoesOn self.old (PpRead at ∷ []) (result ∷ []) self.new }
+
+        // The word is that of the state to which the log leads.
+        ensures word { (done : SomeDone) → result ≡ Ok done
+            → done ≡ Word (slice_index_or (completed self.new).memory at 0) }
     {
         let size = self.state.memory.size();
-        if let Err(refusal) = judge_access(self.accessed, &self.in_flight, size, at) {
-            return Err(refusal);
-        }
-        if let Err(refusal) = self.log.reserve(ACCESS_ROOM) {
+        let admitted = admit_access(self.accessed, &self.in_flight, size, &mut self.log, at);
+        if let Err(refusal) = admitted {
             return Err(refusal);
         }
         let word = self.state.memory.load(at);
@@ -32,17 +80,21 @@ impl Machine {
         Ok(Done::Word(word))
     }
 
-    /// A peripheral processor writes a word to an absolute address, whose page is saved before. Room is made in the log
-    /// for what may follow.
-    pub(crate) fn pp_write(&mut self, at: u32, word: Word60) -> Answer
+    /// A peripheral processor writes a word to an absolute address, whose page is saved before: the event `PpWrite`.
+    /// Room is made in the log for what may follow.
+    ///
+    /// # Errors
+    /// `Budget`, `PeripheralWait`, `PeripheralRange`, `OutOfMemory`: the first that applies. The machine is then as it
+    /// was.
+    pub fn pp_write(&mut self, at: u32, word: Word60) -> Answer
         ensures answer { IsAnswer self.old (PpWrite at word) result }
         ensures after { self.new ≡ settled self.old (PpWrite at word) result }
+        ensures named { IfErr result (λ refusal. may_refuse (PpWrite at word) refusal ≡ true) }
+        ensures reached { GoesOn self.old (PpWrite at word ∷ []) (result ∷ []) self.new }
     {
         let size = self.state.memory.size();
-        if let Err(refusal) = judge_access(self.accessed, &self.in_flight, size, at) {
-            return Err(refusal);
-        }
-        if let Err(refusal) = self.log.reserve(ACCESS_ROOM) {
+        let admitted = admit_access(self.accessed, &self.in_flight, size, &mut self.log, at);
+        if let Err(refusal) = admitted {
             return Err(refusal);
         }
         let reference = Reference {

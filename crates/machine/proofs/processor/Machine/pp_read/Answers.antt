@@ -1,37 +1,42 @@
-use Rattle.std.proofs.Common.{◌≡◌, ◌+◌, ◌∷◌, ◌++◌, [], ap, refl, inl, inr, ◌∙◌, sym, None, List}
+use Rattle.std.proofs.Common.{◌≡◌, ◌+◌, ◌∷◌, ◌++◌, [], ap, refl, inl, ◌∙◌, None, List}
 use Rattle.std.proofs.Common.{arith}
-use Rattle.std.specs.Prelude.{Err}
+use Rattle.std.specs.Prelude.{Ok, Err}
 use Rattle.sequential.specs.Log.{ends_issuing, issued}
 use Rattle.sequential.specs.Replay.{LogStep, ReadAt}
 use Rattle.program_order.specs.declared.event.Done.TheVariants.{Word}
 use Rattle.program_order.specs.declared.event.Event.TheVariants.{PpRead}
-use Rattle.in_flight.specs.Tests.{refusal_in}
 use Rattle.program_order.specs.Run.{done_by, makes_room, settled}
 use Rattle.program_order.specs.Peripheral.{word_read}
 use Rattle.program_order.specs.Events.{allowed, after, tests_of}
 use Rattle.machine.specs.contracts.processor.Machine.{the_view}
-use Rattle.machine.proofs.making.Making.{still_kept, err_answer, err_after, ok_answer, ok_after, access_judged}
+use Rattle.machine.proofs.making.Making.{still_kept, ok_answer, ok_after}
 use Rattle.machine.proofs.making.Making.{read_word_made, owed_at_most, numbered_other}
+use Rattle.machine.proofs.making.Admitting.{admitted, not_admitted}
+use Rattle.program_order.proofs.keeping.Naming.{answer_named}
+use Rattle.program_order.proofs.reaching.Reached.{event_goes_on}
+use Rattle.program_order.proofs.keeping.Telling.{word_told}
 use Rattle.machine.proofs.processor.Machine.pp_read.Goals.{After-self-1}
 use Rattle.machine.proofs.processor.Machine.pp_read.Goals as goal
 
 pub returns-in-Err-clause-answer : goal.returns-in-Err-clause-answer
-unfolding allowed tests_of
+unfolding allowed tests_of makes_room
 returns-in-Err-clause-answer c =
-    inl (err_answer (the_view c.self.inside) c.args.self.now (PpRead c.args.at) c.in-Err.refusal c.self.view_is
-    (access_judged (the_view c.self.inside) c.args.at c.size-size.result c.judge_access.result _
-    c.size-size.ensures.value c.judge_access.ensures.answer (ap refusal_in c.in-Err.is)))
+    not_admitted (the_view c.self.inside) c.args.self.now (PpRead c.args.at) c.args.at c.size-size.result c.in-Err.refusal
+    c.self.view_is refl refl c.size-size.ensures.value c.in-Err.ensures.answer
 
 pub returns-in-Err-clause-after : goal.returns-in-Err-clause-after
-returns-in-Err-clause-after c = err_after c.args.self.now _ (PpRead c.args.at) c.in-Err.refusal refl
+unfolding settled
+returns-in-Err-clause-after c =
+    ap (λ (l : List LogStep). record (the_view c.self.inside) { log = l }) c.admit_access-admitted.ensures.steps
+    ∙ c.self.view_is
 
 made_allowed : (c : After-self-1) → allowed (the_view c.self.inside) (PpRead c.args.at) ≡ None
 unfolding allowed tests_of
-made_allowed c = access_judged (the_view c.self.inside) c.args.at c.size-size.result c.judge_access.result _
-    c.size-size.ensures.value c.judge_access.ensures.answer (ap refusal_in c.in_default.is)
+made_allowed c =
+    admitted (the_view c.self.inside) c.args.at c.size-size.result c.size-size.ensures.value c.in_default.ensures.answer
 
 logged_after : (c : After-self-1) → c.read_at.new.self.steps ≡ c.self.inside.log.steps ++ ReadAt c.args.at ∷ []
-logged_after c = c.read_at.ensures.steps ∙ ap (λ (l : List LogStep). l ++ ReadAt c.args.at ∷ []) c.reserve.ensures.steps
+logged_after c = c.read_at.ensures.steps ∙ ap (λ (l : List LogStep). l ++ ReadAt c.args.at ∷ []) c.admit_access-admitted.ensures.steps
 
 new_processor : (c : After-self-1)
     → record (the_view c.self.inside) {
@@ -43,7 +48,7 @@ new_processor c = read_word_made (the_view c.self.inside) c.args.at c.read_at.ne
 pub invariant_of-self-2 : goal.invariant_of-self-2
 unfolding issued
 invariant_of-self-2 c =
-    let made = c.in_default-reserve.ensures.room in
+    let made = c.in_default.ensures.room in
     let spent = c.read_at.ensures.room in
     still_kept (the_view c.self.inside) _ (PpRead c.args.at) c.self.inside.log c.read_at.new.self (made_allowed c)
     (new_processor c) c.self.invariant
@@ -64,17 +69,22 @@ returns-clause-after c =
     ok_after (the_view c.self.inside) c.args.self.now _ (PpRead c.args.at) (Word c.load-word.result) c.self.view_is
     (new_processor c)
 
-pub returns-in-Err-reserve-clause-answer : goal.returns-in-Err-reserve-clause-answer
-unfolding makes_room allowed tests_of
-returns-in-Err-reserve-clause-answer c = inr (record {
-  want = ap Err c.in-Err-reserve.ensures.room;
-  growing = refl;
-  otherwise_allowed = ap (λ x. allowed x (PpRead c.args.at)) (sym c.self.view_is)
-      ∙ access_judged (the_view c.self.inside) c.args.at c.size-size.result c.judge_access.result _
-      c.size-size.ensures.value c.judge_access.ensures.answer (ap refusal_in c.in_default.is);
-})
+-- ---- what the answer tells ----
 
-pub returns-in-Err-reserve-clause-after : goal.returns-in-Err-reserve-clause-after
-unfolding settled
-returns-in-Err-reserve-clause-after c =
-    ap (λ (l : List LogStep). record (the_view c.self.inside) { log = l }) c.reserve.ensures.steps ∙ c.self.view_is
+pub returns-in-Err-clause-named : goal.returns-in-Err-clause-named
+returns-in-Err-clause-named c =
+    answer_named c.args.self.now (PpRead c.args.at) (Err c.in-Err.refusal) (returns-in-Err-clause-answer c)
+
+pub returns-in-Err-clause-reached : goal.returns-in-Err-clause-reached
+returns-in-Err-clause-reached c =
+    event_goes_on c.args.self.now _ (PpRead c.args.at) (Err c.in-Err.refusal) (returns-in-Err-clause-answer c)
+    (returns-in-Err-clause-after c)
+
+pub returns-clause-reached : goal.returns-clause-reached
+returns-clause-reached c =
+    event_goes_on c.args.self.now _ (PpRead c.args.at) (Ok (Word c.load-word.result)) (returns-clause-answer c) (returns-clause-after c)
+
+pub returns-clause-word : goal.returns-clause-word
+returns-clause-word c = λ done o.
+    word_told c.args.self.now _ c.args.at (Ok (Word c.load-word.result)) done (returns-clause-answer c)
+    (returns-clause-after c) o

@@ -3,8 +3,8 @@ use Rattle.sequential.specs.Replay.{Issued}
 use Rattle.progress_word.specs.inner.Rules.{history, keeper, caller}
 use Rattle.progress_word.proofs.word.Word.record_issues.Given as goal
 
-abbrev pub ghosts-record_step : goal.ghosts-record_step
-ghosts-record_step g a = record { step = Issued }
+abbrev pub ghosts-record : goal.ghosts-record
+ghosts-record g a = record { step = Issued }
 
 abbrev pub invariant-loop : goal.invariant-loop
 invariant-loop g l = record {
