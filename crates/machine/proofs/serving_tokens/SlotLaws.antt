@@ -206,54 +206,33 @@ is_same c number instr operands false en eo h k = λ e. search (rules, k (ap (λ
 
 -- ---- what the instruction that was located says of its slot ----
 
-pub waits_then : (n : ℕ) (o : Option (Found Pending Stage)) (r : Option (Located Stage)) (s : Located Stage) (b : Bool)
-    → r ≡ located o → r ≡ Some s → b ≡ is_waiting s.answer → b ≡ true → eqb s.pending.number n ≡ waits_in n o
+pub waits_at : (n : ℕ) (o : Option (Found Pending Stage)) (s : Located Stage) → located o ≡ Some s
+    → (is_waiting s.answer && eqb s.pending.number n) ≡ waits_in n o
 unfolding waits_in
-waits_then n None r s b e i w t = absurd (no_sought s (sym e ∙ i))
-waits_then n (Some f) r s b e i w t =
-    ap (λ x. x && eqb s.pending.number n) (sym t ∙ w ∙ ap is_waiting (sym (sought_what f s (sym e ∙ i))))
-    ∙ ap (λ (m : Pending). is_waiting f.answer && eqb m.number n) (sym (sought_pending f s (sym e ∙ i)))
+waits_at n None s h = absurd (no_sought s h)
+waits_at n (Some f) s h =
+    ap (λ t. is_waiting t && eqb s.pending.number n) (sym (sought_what f s h))
+    ∙ ap (λ (m : Pending). is_waiting f.answer && eqb m.number n) (sym (sought_pending f s h))
 
-pub waits_else : (n : ℕ) (o : Option (Found Pending Stage)) (r : Option (Located Stage)) (s : Located Stage) (b : Bool)
-    → r ≡ located o → r ≡ Some s → b ≡ is_waiting s.answer → b ≡ false → b ≡ waits_in n o
-unfolding waits_in
-waits_else n None r s b e i w t = absurd (no_sought s (sym e ∙ i))
-waits_else n (Some f) r s b e i w t =
-    t ∙ ap (λ x. x && eqb f.item.number n) (sym t ∙ w ∙ ap is_waiting (sym (sought_what f s (sym e ∙ i))))
-
-pub waits_none : (n : ℕ) (o : Option (Found Pending Stage)) (r : Option (Located Stage)) → r ≡ located o → r ≡ None
+pub waits_nowhere : (n : ℕ) (o : Option (Found Pending Stage)) → ((s : Located Stage) → located o ≡ Some s → ⊥)
     → false ≡ waits_in n o
 unfolding waits_in located
-waits_none n None r e i = refl
-waits_none n (Some f) r e i = absurd (some_none _ (sym e ∙ i))
-  where
-    some_none : (s : Located Stage) → Some s ≡ None → ⊥
-    some_none s k = cc
+waits_nowhere n None h = refl
+waits_nowhere n (Some f) h = absurd (h (record { pending = f.item; answer = f.answer }) refl)
 
-pub finished_then : (n : ℕ) (o : Option (Found Pending Stage)) (r : Option (Located Stage)) (s : Located Stage)
-    (b : Bool) → r ≡ located o → r ≡ Some s → b ≡ is_finished s.answer → b ≡ true
-    → eqb s.pending.number n ≡ finished_in n o
+pub finished_at : (n : ℕ) (o : Option (Found Pending Stage)) (s : Located Stage) → located o ≡ Some s
+    → (is_finished s.answer && eqb s.pending.number n) ≡ finished_in n o
 unfolding finished_in
-finished_then n None r s b e i w t = absurd (no_sought s (sym e ∙ i))
-finished_then n (Some f) r s b e i w t =
-    ap (λ x. x && eqb s.pending.number n) (sym t ∙ w ∙ ap is_finished (sym (sought_what f s (sym e ∙ i))))
-    ∙ ap (λ (m : Pending). is_finished f.answer && eqb m.number n) (sym (sought_pending f s (sym e ∙ i)))
+finished_at n None s h = absurd (no_sought s h)
+finished_at n (Some f) s h =
+    ap (λ t. is_finished t && eqb s.pending.number n) (sym (sought_what f s h))
+    ∙ ap (λ (m : Pending). is_finished f.answer && eqb m.number n) (sym (sought_pending f s h))
 
-pub finished_else : (n : ℕ) (o : Option (Found Pending Stage)) (r : Option (Located Stage)) (s : Located Stage)
-    (b : Bool) → r ≡ located o → r ≡ Some s → b ≡ is_finished s.answer → b ≡ false → b ≡ finished_in n o
-unfolding finished_in
-finished_else n None r s b e i w t = absurd (no_sought s (sym e ∙ i))
-finished_else n (Some f) r s b e i w t =
-    t ∙ ap (λ x. x && eqb f.item.number n) (sym t ∙ w ∙ ap is_finished (sym (sought_what f s (sym e ∙ i))))
-
-pub finished_none : (n : ℕ) (o : Option (Found Pending Stage)) (r : Option (Located Stage)) → r ≡ located o → r ≡ None
+pub finished_nowhere : (n : ℕ) (o : Option (Found Pending Stage)) → ((s : Located Stage) → located o ≡ Some s → ⊥)
     → false ≡ finished_in n o
 unfolding finished_in located
-finished_none n None r e i = refl
-finished_none n (Some f) r e i = absurd (some_none _ (sym e ∙ i))
-  where
-    some_none : (s : Located Stage) → Some s ≡ None → ⊥
-    some_none s k = cc
+finished_nowhere n None h = refl
+finished_nowhere n (Some f) h = absurd (h (record { pending = f.item; answer = f.answer }) refl)
 
 reads_as : (seat : Seating) (o : Option (Found Pending Stage)) (s : Located Stage) → located o ≡ Some s
     → reading_in seat o ≡ reading_at seat s.pending.number s.pending.instr s.answer

@@ -1,18 +1,32 @@
+use Rattle.std.proofs.Common.{Some, ap, sym, ◌∙◌}
 use Rattle.instructions.specs.Finding.{seek}
 use Rattle.in_flight.specs.Lookup.{stage_at}
-use Rattle.machine.proofs.serving_tokens.SlotLaws.{finished_then, finished_else, finished_none}
+use Rattle.in_flight.specs.Pending.{is_finished}
+use Rattle.in_flight.specs.declared.pending.Stage.TheVariants.{Waiting, Read, Finished}
+use Rattle.machine.proofs.serving_tokens.SlotLaws.{finished_at, finished_nowhere}
 use Rattle.machine.proofs.serving.is_finished.Goals as goal
 
-pub returns-then-is_finished : goal.returns-then-is_finished
-returns-then-is_finished c = finished_then c.args.note.number
-    (seek (stage_at c.args.note.unit) c.args.in_flight.now.pending) c.find.result c.in-Some.found c.is_finished.result
-    c.find.ensures c.in-Some.is c.is_finished.ensures c.if-is_finished.true
+pub returns-in_default : goal.returns-in_default
+returns-in_default c = finished_nowhere c.args.note.number (seek (stage_at c.args.note.unit) c.args.in_flight.now.pending)
+    (λ s h. c.in_default.not-Some s (c.find.ensures ∙ h))
 
-pub returns-else-is_finished : goal.returns-else-is_finished
-returns-else-is_finished c = finished_else c.args.note.number
-    (seek (stage_at c.args.note.unit) c.args.in_flight.now.pending) c.find.result c.in-Some.found c.is_finished.result
-    c.find.ensures c.in-Some.is c.is_finished.ensures c.if-is_finished.false
+pub returns-in-Waiting : goal.returns-in-Waiting
+unfolding is_finished
+returns-in-Waiting c = finished_at c.args.note.number (seek (stage_at c.args.note.unit) c.args.in_flight.now.pending)
+    (record { pending = c.in-Some.field-0.pending; answer = Waiting; })
+    (sym c.find.ensures ∙ c.in-Some.is
+    ∙ ap (λ t. Some (record { pending = c.in-Some.field-0.pending; answer = t })) c.in-Waiting.is)
 
-pub returns-in-None : goal.returns-in-None
-returns-in-None c = finished_none c.args.note.number (seek (stage_at c.args.note.unit) c.args.in_flight.now.pending)
-    c.find.result c.find.ensures c.in-None.is
+pub returns-in-Read : goal.returns-in-Read
+unfolding is_finished
+returns-in-Read c = finished_at c.args.note.number (seek (stage_at c.args.note.unit) c.args.in_flight.now.pending)
+    (record { pending = c.in-Some.field-0.pending; answer = Read c.in-Read.field-0; })
+    (sym c.find.ensures ∙ c.in-Some.is
+    ∙ ap (λ t. Some (record { pending = c.in-Some.field-0.pending; answer = t })) c.in-Read.is)
+
+pub returns-in-Finished : goal.returns-in-Finished
+unfolding is_finished
+returns-in-Finished c = finished_at c.args.note.number (seek (stage_at c.args.note.unit) c.args.in_flight.now.pending)
+    (record { pending = c.in-Some.field-0.pending; answer = Finished c.in-Finished.field-0; })
+    (sym c.find.ensures ∙ c.in-Some.is
+    ∙ ap (λ t. Some (record { pending = c.in-Some.field-0.pending; answer = t })) c.in-Finished.is)

@@ -1,18 +1,32 @@
+use Rattle.std.proofs.Common.{Some, ap, sym, ◌∙◌}
 use Rattle.instructions.specs.Finding.{seek}
 use Rattle.in_flight.specs.Lookup.{stage_at}
-use Rattle.machine.proofs.serving_tokens.SlotLaws.{waits_then, waits_else, waits_none}
+use Rattle.in_flight.specs.Pending.{is_waiting}
+use Rattle.in_flight.specs.declared.pending.Stage.TheVariants.{Waiting, Read, Finished}
+use Rattle.machine.proofs.serving_tokens.SlotLaws.{waits_at, waits_nowhere}
 use Rattle.machine.proofs.serving.waits.Goals as goal
 
-pub returns-then-is_waiting : goal.returns-then-is_waiting
-returns-then-is_waiting c = waits_then c.args.note.number
-    (seek (stage_at c.args.note.unit) c.args.in_flight.now.pending) c.find.result c.in-Some.found c.is_waiting.result
-    c.find.ensures c.in-Some.is c.is_waiting.ensures c.if-is_waiting.true
+pub returns-in_default : goal.returns-in_default
+returns-in_default c = waits_nowhere c.args.note.number (seek (stage_at c.args.note.unit) c.args.in_flight.now.pending)
+    (λ s h. c.in_default.not-Some s (c.find.ensures ∙ h))
 
-pub returns-else-is_waiting : goal.returns-else-is_waiting
-returns-else-is_waiting c = waits_else c.args.note.number
-    (seek (stage_at c.args.note.unit) c.args.in_flight.now.pending) c.find.result c.in-Some.found c.is_waiting.result
-    c.find.ensures c.in-Some.is c.is_waiting.ensures c.if-is_waiting.false
+pub returns-in-Waiting : goal.returns-in-Waiting
+unfolding is_waiting
+returns-in-Waiting c = waits_at c.args.note.number (seek (stage_at c.args.note.unit) c.args.in_flight.now.pending)
+    (record { pending = c.in-Some.field-0.pending; answer = Waiting; })
+    (sym c.find.ensures ∙ c.in-Some.is
+    ∙ ap (λ t. Some (record { pending = c.in-Some.field-0.pending; answer = t })) c.in-Waiting.is)
 
-pub returns-in-None : goal.returns-in-None
-returns-in-None c = waits_none c.args.note.number (seek (stage_at c.args.note.unit) c.args.in_flight.now.pending)
-    c.find.result c.find.ensures c.in-None.is
+pub returns-in-Read : goal.returns-in-Read
+unfolding is_waiting
+returns-in-Read c = waits_at c.args.note.number (seek (stage_at c.args.note.unit) c.args.in_flight.now.pending)
+    (record { pending = c.in-Some.field-0.pending; answer = Read c.in-Read.field-0; })
+    (sym c.find.ensures ∙ c.in-Some.is
+    ∙ ap (λ t. Some (record { pending = c.in-Some.field-0.pending; answer = t })) c.in-Read.is)
+
+pub returns-in-Finished : goal.returns-in-Finished
+unfolding is_waiting
+returns-in-Finished c = waits_at c.args.note.number (seek (stage_at c.args.note.unit) c.args.in_flight.now.pending)
+    (record { pending = c.in-Some.field-0.pending; answer = Finished c.in-Finished.field-0; })
+    (sym c.find.ensures ∙ c.in-Some.is
+    ∙ ap (λ t. Some (record { pending = c.in-Some.field-0.pending; answer = t })) c.in-Finished.is)

@@ -1,4 +1,4 @@
-use Rattle.std.proofs.Common.{[], ◌∷◌, refl, subst}
+use Rattle.std.proofs.Common.{[], ◌∷◌, ap, refl, subst}
 use Rattle.std.specs.Prelude.{Ok}
 use Rattle.program_order.specs.declared.event.Done.TheVariants.{Made}
 use Rattle.program_order.specs.Reached.{GoesOn}
@@ -6,6 +6,7 @@ use Rattle.program_order.proofs.draining.OnPending.{is_work}
 use Rattle.program_order.specs.declared.event.Event.TheVariants.{Store as StoreResult}
 use Rattle.program_order.specs.declared.event.Note.{Note}
 use Rattle.program_order.specs.Refusals.{is_stranger}
+use Rattle.program_order.specs.Processor.{Processor}
 use Rattle.machine.proofs.serving_tokens.TokenRefusals.{store_named_to}
 use Rattle.machine.proofs.serving_tokens.SlotLaws.{noted}
 use Rattle.program_order.proofs.reaching.Reached.{work_goes_on}
@@ -17,8 +18,8 @@ returns-then-not-is_finished-clause-named c = refl
 
 pub returns-in-Err-clause-named : goal.returns-in-Err-clause-named
 returns-in-Err-clause-named c =
-    store_named_to c.args.self.now c.note-note.result c.in_flight.result.now.pending c.is_finished.result
-    c.in-Err.refusal c.in_flight.ensures.pending c.is_finished.ensures c.if-not-is_finished.false
+    store_named_to c.args.self.now c.note-note.result c.self.inside.in_flight.pending c.is_finished.result
+    c.in-Err.refusal (ap (λ (w : Processor). w.pending) c.self.view_is) c.is_finished.ensures c.if-not-is_finished.false
     c.in-Err.ensures.answer
 
 pub returns-in-Ok-clause-reached : goal.returns-in-Ok-clause-reached
