@@ -7,7 +7,7 @@ ghost use Rattle.program_order.specs.Run.{IsAnswer, answer_of, settled};
 ghost use Rattle.program_order.specs.Telling.{IsWhy};
 
 use crate::changing::exchange;
-use crate::judging::{judge_ask, judge_exchange};
+use judging::{judge_ask, judge_exchange};
 use crate::{Answer, Done, Machine};
 use relocation::PACKAGE_WORDS;
 

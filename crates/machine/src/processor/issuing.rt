@@ -10,7 +10,7 @@ ghost use Rattle.program_order.specs.Refusals.{may_refuse};
 ghost use Rattle.program_order.specs.Run.{answer_of, settled};
 ghost use Rattle.program_order.specs.Telling.{IsNoted, IsWhy};
 
-use crate::judging::judge_issue;
+use judging::judge_issue;
 use crate::{Answer, Done, Machine, Note};
 use sequential::Fetched;
 

@@ -12,7 +12,7 @@ ghost use Rattle.program_order.specs.Refusals.{may_refuse};
 ghost use Rattle.program_order.specs.Run.{IsAnswer, settled};
 
 use crate::changing::perform;
-use crate::judging::judge_access;
+use judging::judge_access;
 use crate::{Answer, Done, Machine};
 use hopper::Reference;
 use in_flight::InFlight;

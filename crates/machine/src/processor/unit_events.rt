@@ -6,7 +6,7 @@ ghost use Rattle.in_flight.specs.Tests.{refusal_in};
 ghost use Rattle.machine.specs.Tokens.{Seating, IsValueIn, slot, waits_in, reading_in, rest_after};
 ghost use Rattle.program_order.specs.Events.{allowed, after};
 
-use crate::judging::{judge_finish, judge_store};
+use judging::{judge_finish, judge_store};
 use crate::{Answer, Done, Machine};
 use in_flight::{Outstanding, Pending, fault_after};
 use instruction_table::{Refusal, Unit};
