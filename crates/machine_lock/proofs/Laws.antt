@@ -3,12 +3,12 @@ use Rattle.std.proofs.Common.{◌≡◌, ℕ, length, Bool, true, false, List, [
 use Rattle.std.proofs.Common.{sym, ap}
 use Rattle.std.proofs.Common.{◌∙◌, subst, get_or, inl, inr}
 use Rattle.std.proofs.lemmas.List.{append-nil}
-use Rattle.std.specs.Prelude.{Result, Ok, Err, IfErr, IfOk, MatchResult}
+use Rattle.std.specs.Prelude.{Result, Ok, Err, IfErr, MatchResult}
 use Rattle.instructions.specs.declared.refusal.Refusal.{Refusal}
 use Rattle.instructions.specs.declared.refusal.Refusal.TheVariants.{Budget}
 use Rattle.sequential.specs.Log.{issued}
 use Rattle.program_order.specs.Invariant.{IsWithinBudget}
-use Rattle.sequential.specs.Replay.{LogStep, Issued, Exchanged, boot, replay}
+use Rattle.sequential.specs.Replay.{LogStep, Issued, Exchanged, ReadAt, Wrote, boot, replay}
 use Rattle.sequential.specs.UnitIssues.{taken}
 use Rattle.program_order.specs.declared.event.Done.{Done}
 use Rattle.program_order.specs.declared.event.Done.TheVariants.{Issued as DoneIssue, Word, Made as DoneMade}
@@ -31,9 +31,8 @@ use Rattle.atomic_table.specs.Table.{Me}
 use Rattle.progress_word.specs.CallerKnowledge.{Known, known, StartsWith, IsMade, Learnt, note_in, word_in, IsNoteOf}
 use Rattle.progress_word.specs.CallerKnowledge.{IsWhyOf}
 use Rattle.progress_word.specs.CallerKnowledge.{Booted, booted_by, booted_with, HasReplay, IsWordOf}
-use Rattle.machine_lock.specs.Held.{IsAskedNext}
-use Rattle.machine_lock.specs.inner.LockInvariant.{IsAsked, next_after, only_refusal}
-use Rattle.machine_lock.specs.inner.LockInvariant.{IsCurrent, IsLogged, access_step, is_access, is_of_memory, last_step}
+use Rattle.machine_lock.specs.Held.{IsCurrent, Kept, with_processor}
+use Rattle.machine_lock.specs.inner.LockInvariant.{IsLogged, last_step}
 use Rattle.progress_word.specs.inner.Rules.{History, Knowing, history, past, keeper, caller, Continues}
 
 -- ---- what an event leaves ----
@@ -92,19 +91,6 @@ quiet w v e q h =
     ∙ ap (λ m. history m (after w e).log) (booted_as w (after w e) b)
     ∙ ap (history (booted_by w)) (b.log ∙ ap (λ l. w.log ++ l) (quiet_steps w.request e q) ∙ append-nil w.log)
 
-pub of_memory : (e : Event) → is_of_memory e ≡ true → is_quiet e ≡ true
-of_memory Issue h = absurd (cc)
-of_memory (Read u) h = refl
-of_memory (Finish u) h = refl
-of_memory (Store u) h = refl
-of_memory (Accept p) h = refl
-of_memory (Return c) h = refl
-of_memory (BankFree b) h = refl
-of_memory (Ask n) h = refl
-of_memory Exchange h = absurd (cc)
-of_memory (PpRead a) h = absurd (cc)
-of_memory (PpWrite a v) h = absurd (cc)
-
 -- ... whatever it is answered
 pub quiet_settled : (w v : Processor) (e : Event) (a : Result Done Refusal) → is_quiet e ≡ true → v ≡ settled w e a
     → past v ≡ past w
@@ -141,6 +127,20 @@ pub logged_one_more : (h : History) (v : Processor) (a : Result Done Refusal) (d
     → past v ≡ history h.booted (h.log ++ last_step v.log ∷ [])
 logged_one_more h v a d o l = subst (λ (x : Result Done Refusal). IsLogged x h v) o l
 
+pub logged_no_more : (h : History) (v : Processor) (a : Result Done Refusal) (k : Refusal) → a ≡ Err k → IsLogged a h v
+    → past v ≡ h
+logged_no_more h v a k o l = subst (λ (x : Result Done Refusal). IsLogged x h v) o l
+
+pub seen_refused : (old new : Known) (x : LogStep) (a : Result Done Refusal) (k : Refusal) → a ≡ Err k → Learnt old new
+    → MatchResult a (λ d. IsMade x old new) (λ r. Learnt old new)
+seen_refused old new x a k o l =
+    subst (λ (y : Result Done Refusal). MatchResult y (λ d. IsMade x old new) (λ r. Learnt old new)) (sym o) l
+
+-- the machine's pass knows the machine's log, where that is what it knew
+pub kept_by : (h : History) (v : Processor) (p : Me ℕ Knowing) → p ≡ (keeper h, []) → past v ≡ h
+    → p ≡ (keeper (past v), [])
+kept_by h v p e i = e ∙ ap (λ x. (keeper x, [])) (sym i)
+
 -- what a caller that has seen the whole log knows of the machine
 at_present : (v : Processor) (k : Known) → IsCurrent v k → history k.booted k.log ≡ past v
 at_present v k c i = history (c.0 i) (c.1 i)
@@ -174,58 +174,23 @@ plain_told w e a d p i o =
     let k : IsAnswer w e (Ok d) = subst (IsAnswer w e) o i in
     subst (λ x. IsAnswer w e (Ok x)) (ok_done w e d k (made_allowed w e d k) ∙ plain_made w e p) k
 
-memory_plain : (e : Event) → is_of_memory e ≡ true → is_plain e ≡ true
-memory_plain Issue h = absurd (cc)
-memory_plain (Read u) h = refl
-memory_plain (Finish u) h = refl
-memory_plain (Store u) h = refl
-memory_plain (Accept p) h = refl
-memory_plain (Return c) h = refl
-memory_plain (BankFree b) h = refl
-memory_plain (Ask n) h = refl
-memory_plain Exchange h = refl
-memory_plain (PpRead a) h = absurd (cc)
-memory_plain (PpWrite a v) h = refl
+pub made_told : (w v : Processor) (e : Event) (a : Result Done Refusal) (d : Done) → is_plain e ≡ true → IsAnswer v e a
+    → a ≡ Ok d → v ≡ w → IsAnswer w e (Ok DoneMade)
+made_told w v e a d p i o s = subst (λ x. IsAnswer x e (Ok DoneMade)) s (plain_told v e a d p i o)
 
-pub memory_told : (w v : Processor) (e : Event) (a : Result Done Refusal) (d : Done) → IsAnswer v e a → a ≡ Ok d
-    → is_of_memory e ≡ true → v ≡ w → IsAnswer w e (Ok DoneMade)
-memory_told w v e a d i o m s =
-    subst (λ x. IsAnswer x e (Ok DoneMade)) s (plain_told v e a d (memory_plain e m) i o)
+-- ... and a refusal by itself
+pub refused_told : (w v : Processor) (e : Event) (a : Result Done Refusal) (k : Refusal) → IsAnswer v e a → a ≡ Err k
+    → v ≡ w → IsAnswer w e (Err k)
+refused_told w v e a k i o s = subst (λ x. IsAnswer x e (Err k)) s (subst (IsAnswer v e) o i)
 
-pub ask_told : (w v : Processor) (n : ℕ) (a : Result Done Refusal) (d : Done) → IsAnswer v (Ask n) a → a ≡ Ok d
-    → v ≡ w → IsAnswer w (Ask n) (Ok DoneMade)
-ask_told w v n a d i o s = subst (λ x. IsAnswer x (Ask n) (Ok DoneMade)) s (plain_told v (Ask n) a d refl i o)
-
-pub exchange_told : (w v : Processor) (a : Result Done Refusal) (d : Done) → IsAnswer v Exchange a → a ≡ Ok d
-    → v ≡ w → IsAnswer w Exchange (Ok DoneMade)
-exchange_told w v a d i o s = subst (λ x. IsAnswer x Exchange (Ok DoneMade)) s (plain_told v Exchange a d refl i o)
-
-pub write_told : (w v : Processor) (at word : ℕ) (a : Result Done Refusal) (d : Done) → IsAnswer v (PpWrite at word) a
-    → a ≡ Ok d → v ≡ w → IsAnswer w (PpWrite at word) (Ok DoneMade)
-write_told w v at word a d i o s =
-    subst (λ x. IsAnswer x (PpWrite at word) (Ok DoneMade)) s (plain_told v (PpWrite at word) a d refl i o)
-
--- the request that follows an exchange
-pub next_told : (w v : Processor) (next : Option ℕ) (x : Option (Result Done Refusal)) → IsAsked w next x v
-    → IsAskedNext w next (Ok (only_refusal x)) v
+-- the machine under the lock after an event that was made
+pub after_made : (k w : Kept) (m : Processor) (e : Event) (a : Result Done Refusal) (d x : Done) → k ≡ w
+    → m ≡ settled k.processor e a → a ≡ Ok d
+    → with_processor k m ≡ with_processor w (settled w.processor e (Ok x))
 unfolding settled
-next_told w v None None h = (refl, h)
-next_told w v None (Some a) h = absurd h
-next_told w v (Some n) None h = absurd h
-next_told w v (Some n) (Some (Ok d)) h = (plain_told w (Ask n) (Ok d) d refl h.0 refl, h.1)
-next_told w v (Some n) (Some (Err k)) h = h
-
-pub next_after_exchange : (w v u : Processor) (a : Result Done Refusal) (d : Done) (next : Option ℕ)
-    (x : Option (Result Done Refusal)) (r : Result (Unit {0}) Refusal)
-    → IsAsked (settled v Exchange a) (next_after a next) x u → a ≡ Ok d → v ≡ w → r ≡ only_refusal x
-    → IsAskedNext (settled w Exchange (Ok DoneMade)) next (Ok r) u
-unfolding settled
-next_after_exchange w v u a d next x r h o s t =
-    let k : IsAsked (after v Exchange) next x u =
-    subst (λ (y : Result Done Refusal). IsAsked (settled v Exchange y) (next_after y next) x u) o h in
-    subst (λ (y : Result (Unit {0}) Refusal). IsAskedNext (after w Exchange) next (Ok y) u) (sym t)
-    (subst (λ (y : Processor). IsAskedNext (after y Exchange) next (Ok (only_refusal x)) u) s
-    (next_told (after v Exchange) u next x k))
+after_made k w m e a d x s h o =
+    ap (with_processor k) (h ∙ ap (settled k.processor e) o)
+    ∙ ap (λ (y : Kept). with_processor y (after y.processor e)) s
 
 -- an access that reads is told by its word
 pub read_told : (w v : Processor) (at : ℕ) (a : Result Done Refusal) (d : Done) (x : ℕ) → IsAnswer v (PpRead at) a
@@ -324,6 +289,31 @@ issue_seen w v (Err k) old new r i s n y b c m = (
       (issue_budget w k i (subst IsWithinBudget (refused_same w v Issue (Err k) k s refl) b)),
 )
 
+-- ... where it was made, with the reservation that is answered
+pub issue_made : (w v : Processor) (a : Result Done Refusal) (d : Done) (answered : Option Note) (old new : Known)
+    → replayed w ≡ Some (completed w) → IsAnswer w Issue a → v ≡ settled w Issue a
+    → ((n : Option Note) → a ≡ Ok (DoneIssue n) → IsNoted (completed w) (taken (boot v.boot_memory) v.log) n)
+    → IfErr a (λ k. IsWhy (completed w) k) → IsWithinBudget v → IsCurrent v new
+    → MatchResult a (λ x. IsMade (last_step v.log) old new) (λ k. Learnt old new) → a ≡ Ok d → answered ≡ note_in d
+    → IsMade Issued old new × IsNoteOf new answered
+issue_made w v a d answered old new r i s n y b c m o h =
+    let x = subst (λ (z : Result Done Refusal). MatchResult z
+    (λ q. IsMade Issued old new × IsNoteOf new (note_in q)) (λ k. Learnt old new × IsWhyOf new k)) o
+    (issue_seen w v a old new r i s n y b c m) in
+    (x.0, subst (λ (z : Option Note). IsNoteOf new z) (sym h) x.1)
+
+-- ... and where it was refused
+pub issue_why : (w v : Processor) (a : Result Done Refusal) (k : Refusal) (old new : Known)
+    → replayed w ≡ Some (completed w) → IsAnswer w Issue a → v ≡ settled w Issue a
+    → ((n : Option Note) → a ≡ Ok (DoneIssue n) → IsNoted (completed w) (taken (boot v.boot_memory) v.log) n)
+    → IfErr a (λ k. IsWhy (completed w) k) → IsWithinBudget v → IsCurrent v new
+    → MatchResult a (λ x. IsMade (last_step v.log) old new) (λ r. Learnt old new) → a ≡ Err k
+    → Learnt old new × IsWhyOf new k
+issue_why w v a k old new r i s n y b c m o =
+    subst (λ (z : Result Done Refusal). MatchResult z
+    (λ q. IsMade Issued old new × IsNoteOf new (note_in q)) (λ x. Learnt old new × IsWhyOf new x)) o
+    (issue_seen w v a old new r i s n y b c m)
+
 -- ---- an exchange ----
 
 exchanged_past : (w v : Processor) (a : Result Done Refusal) (d : Done) (n : ℕ) → w.request ≡ Some n
@@ -371,7 +361,40 @@ exchange_seen w v asked (Err k) old new q r i s y b c m = (
   why_of w new k r (at_present v new c ∙ refused_past w v Exchange (Err k) k s refl) y (exchange_budget w k b),
 )
 
+-- ... where it was made
+pub exchange_made : (w v : Processor) (asked : Option ℕ) (a : Result Done Refusal) (d : Done) (old new : Known)
+    → asked ≡ w.request → replayed w ≡ Some (completed w) → IsAnswer w Exchange a → v ≡ settled w Exchange a
+    → IfErr a (λ k. IsWhy (completed w) k) → IfErr a (λ k. may_refuse Exchange k ≡ true) → IsCurrent v new
+    → MatchResult a (λ x. IsMade (last_step v.log) old new) (λ k. Learnt old new) → a ≡ Ok d
+    → (n : ℕ) × (asked ≡ Some n) × IsMade (Exchanged n) old new
+exchange_made w v asked a d old new q r i s y b c m o =
+    subst (λ (z : Result Done Refusal). MatchResult z
+    (λ x. (n : ℕ) × (asked ≡ Some n) × IsMade (Exchanged n) old new) (λ k. Learnt old new × IsWhyOf new k)) o
+    (exchange_seen w v asked a old new q r i s y b c m)
+
+-- ... and where it was refused
+pub exchange_why : (w v : Processor) (asked : Option ℕ) (a : Result Done Refusal) (k : Refusal) (old new : Known)
+    → asked ≡ w.request → replayed w ≡ Some (completed w) → IsAnswer w Exchange a → v ≡ settled w Exchange a
+    → IfErr a (λ k. IsWhy (completed w) k) → IfErr a (λ k. may_refuse Exchange k ≡ true) → IsCurrent v new
+    → MatchResult a (λ x. IsMade (last_step v.log) old new) (λ r. Learnt old new) → a ≡ Err k
+    → Learnt old new × IsWhyOf new k
+exchange_why w v asked a k old new q r i s y b c m o =
+    subst (λ (z : Result Done Refusal). MatchResult z
+    (λ x. (n : ℕ) × (asked ≡ Some n) × IsMade (Exchanged n) old new) (λ x. Learnt old new × IsWhyOf new x)) o
+    (exchange_seen w v asked a old new q r i s y b c m)
+
 -- ---- a peripheral access ----
+
+abbrev pub is_access : Event → Bool
+is_access (PpRead a) = true
+is_access (PpWrite a v) = true
+is_access _ = false
+
+-- the step that it adds to the log
+abbrev pub access_step : Event → LogStep
+access_step (PpRead a) = ReadAt a
+access_step (PpWrite a v) = Wrote a v
+access_step _ = Issued
 
 access_steps : (r : Option ℕ) (e : Event) → is_access e ≡ true → made_steps r e ≡ access_step e ∷ []
 unfolding made_steps
@@ -412,18 +435,25 @@ pub access_seen : (w v : Processor) (e : Event) (a : Result Done Refusal) (old n
 access_seen w v e (Ok d) old new q s m = subst (λ x. IsMade x old new) (last_access w v e d q s).last m
 access_seen w v e (Err k) old new q s m = m
 
+-- ... where it was made
+pub access_made : (w v : Processor) (e : Event) (a : Result Done Refusal) (d : Done) (old new : Known)
+    → is_access e ≡ true → v ≡ settled w e a
+    → MatchResult a (λ x. IsMade (last_step v.log) old new) (λ k. Learnt old new) → a ≡ Ok d
+    → IsMade (access_step e) old new
+access_made w v e a d old new q s m o =
+    subst (λ (z : Result Done Refusal). MatchResult z (λ x. IsMade (access_step e) old new) (λ k. Learnt old new)) o
+    (access_seen w v e a old new q s m)
+
 -- the word that was read is that of the replay
-pub word_of : (v : Processor) (k : Known) (e : Event) (r : Result Done Refusal)
+pub word_of : (v : Processor) (k : Known) (a : ℕ) (r : Result Done Refusal) (d : Done)
     → replayed v ≡ Some (completed v) → IsCurrent v k
-    → ((a : ℕ) → e ≡ PpRead a → (done : Done) → r ≡ Ok done → done ≡ Word (get_or (completed v).memory a 0))
-    → IfOk r (λ d. (a : ℕ) → e ≡ PpRead a → IsWordOf k a (word_in d))
+    → ((done : Done) → r ≡ Ok done → done ≡ Word (get_or (completed v).memory a 0)) → r ≡ Ok d → IsWordOf k a (word_in d)
 unfolding replayed
-word_of v k e (Ok d) h c told = λ a is. (
+word_of v k a r d h c told o = (
   completed v,
   ap (λ (x : History). replay (boot x.booted.memory) x.log) (at_present v k c) ∙ h,
-  ap word_in (told a is d refl),
+  ap word_in (told d o),
 )
-word_of v k e (Err x) h c told = tt
 
 -- ---- what the caller's pass has then ----
 

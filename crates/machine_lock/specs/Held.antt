@@ -1,4 +1,4 @@
--- The machine under the lock, and what the guard's calls answer. Source: ours.
+-- The machine under the lock, and what the calls of its holder answer. Source: ours.
 use Rattle.std.specs.Prelude.{◌≡◌, ℕ, Bool, Option, Some, None, Result, Ok, Err}
 use Rattle.instructions.specs.declared.refusal.Refusal.{Refusal}
 use Rattle.program_order.specs.declared.event.Done.{Done}
@@ -6,6 +6,7 @@ use Rattle.program_order.specs.declared.event.Done.TheVariants.{Made}
 use Rattle.program_order.specs.declared.event.Event.TheVariants.{Ask}
 use Rattle.program_order.specs.Processor.{Processor}
 use Rattle.program_order.specs.Run.{IsAnswer, settled}
+use Rattle.progress_word.specs.CallerKnowledge.{Known, booted_by}
 
 -- the machine under the lock, and whether its users were told to end
 pub record Kept : Type 0 where
@@ -15,6 +16,10 @@ pub record Kept : Type 0 where
 -- the machine is this one, and its users were told what they were told before
 abbrev pub with_processor : Kept → Processor → Kept
 with_processor k w = record k { processor = w }
+
+-- the caller has seen all of the machine's log
+abbrev pub IsCurrent : Processor → Known → Type 0
+IsCurrent w k = (k.booted ≡ booted_by w) × (k.log ≡ w.log)
 
 -- an event's answer, from that of a call that answers a part of it
 abbrev pub told : {T : Type 0} → (T → Done) → Result T Refusal → Result Done Refusal

@@ -1,45 +1,61 @@
-ghost use Rattle.std.specs.Prelude.{◌≡◌, ◌≢◌, ◌≤◌, ◌||◌, ◌⊎◌, ℕ, true, false, Some, None, not, IfErr, IfOk, IfSome};
+//! The machine with its lock held.
+ghost use Rattle.std.specs.Prelude.{◌≡◌, ◌≢◌, ◌≤◌, ◌||◌, ◌⊎◌, ℕ, true, false, None, Some, not, IfErr, IfOk};
 ghost use Rattle.std.specs.Prelude.{MatchResult};
 ghost use Rattle.instructions.specs.declared.refusal.Refusal.TheVariants.{NotDrained, OutOfMemory, Stranger};
 ghost use Rattle.sequential.specs.Log.{issued};
-ghost use Rattle.sequential.specs.Replay.{Issued, Exchanged, boot, replay};
-ghost use Rattle.program_order.specs.declared.event.Event.TheVariants.{Issue, Ask, Exchange, Read, Finish, Store};
-ghost use Rattle.program_order.specs.declared.event.Event.TheVariants.{PpRead};
-ghost use Rattle.program_order.specs.Headline.{IsFaultedRun};
-ghost use Rattle.program_order.specs.Refusals.{may_refuse, is_stranger, is_read_refusal, is_store_refusal};
-ghost use Rattle.program_order.specs.Refusals.{is_ask_refusal};
-ghost use Rattle.program_order.specs.Run.{IsAnswer, settled};
-ghost use Rattle.program_order.specs.Invariant.{IsReplay, IsWithinBudget};
-ghost use Rattle.program_order.specs.Drain.{next_of};
+ghost use Rattle.sequential.specs.Replay.{Issued, Exchanged, ReadAt, Wrote, boot, replay};
 ghost use Rattle.in_flight.specs.Lookup.{is_pending};
+ghost use Rattle.program_order.specs.declared.event.Done.TheVariants.{Issued as DoneIssue, Word as DoneWord};
+ghost use Rattle.program_order.specs.declared.event.Event.TheVariants.{Issue, Read, Finish, Store, Accept, Return};
+ghost use Rattle.program_order.specs.declared.event.Event.TheVariants.{BankFree, Ask, Exchange, PpRead, PpWrite};
+ghost use Rattle.program_order.specs.Drain.{next_of};
+ghost use Rattle.program_order.specs.Events.{after, allowed};
+ghost use Rattle.program_order.specs.Headline.{IsFaultedRun};
+ghost use Rattle.program_order.specs.Refusals.{is_nothing, is_stranger, is_issue_refusal, is_read_refusal};
+ghost use Rattle.program_order.specs.Refusals.{is_store_refusal, is_accept_refusal, is_return_refusal, is_ask_refusal};
+ghost use Rattle.program_order.specs.Refusals.{is_access_refusal, is_exchange_refusal, may_refuse};
+ghost use Rattle.program_order.specs.Run.{IsAnswer, settled};
 ghost use Rattle.machine.specs.Tokens.{can_claim, finished_in, one_more, read_of, reading_in, refusal_to, refused};
 ghost use Rattle.machine.specs.Tokens.{slot, waits_in};
-ghost use Rattle.program_order.specs.Events.{after, allowed};
-ghost use Rattle.progress_word.specs.CallerKnowledge.{IsMade, Learnt, HasReplay, IsNoteOf, IsWhyOf, IsWordOf, note_in};
-ghost use Rattle.progress_word.specs.CallerKnowledge.{word_in};
-ghost use Rattle.machine_lock.specs.inner.LockInvariant.{IsAsked, IsCurrent, access_step, is_access, is_of_memory};
-ghost use Rattle.machine_lock.specs.Held.{with_processor};
-ghost use Rattle.machine_lock.specs.inner.LockInvariant.{IsLogged, last_step, next_after};
+ghost use Rattle.progress_word.specs.CallerKnowledge.{IsMade, Learnt, HasReplay, IsNoteOf, IsWhyOf, IsWordOf};
+ghost use Rattle.progress_word.specs.CallerKnowledge.{note_in, word_in};
+ghost use Rattle.machine_lock.specs.Held.{IsAskedNext, IsCurrent, made_or_refused, told, with_processor};
+ghost use Rattle.program_order.specs.Invariant.{IsReplay, IsWithinBudget};
+ghost use Rattle.machine_lock.specs.inner.LockInvariant.{IsLogged, last_step};
 ghost use Rattle.progress_word.specs.inner.Rules.{IsKeeper, past};
 
 use instruction_table::Refusal;
-use machine::{Answer, Computed, Event, Finished, Loaded, Machine, Note, Reserved, Seat, Snapshot};
+use machine::{
+    Answer, Computed, Done, Event, Finished, Loaded, Machine, Note, Reserved, Seat, Snapshot,
+};
 use progress_word::{Naming, Pass, Seen, Word};
-use std::marker::{Brand, Model, PhantomData};
+use signals::Told;
+use std::alloc::Global;
+use std::marker::{Brand, Model};
+use std::sync::{Arc, MutexGuard};
+use word60::Word60;
 
-/// What the lock keeps: a machine with the pass that knows its log, and whether its users were told to end. Whenever
-/// the lock is got, the effects made so far, with those still to come, are the replay of the machine's log on the
-/// memory with which it was booted: each method leaves it so, by `Machine::keeps_replay`. And the pass's list is the
-/// log: what is logged is recorded, for its caller, before the lock is let go.
+/// The machine that the lock keeps, with the pass that knows its log, and whether its users were told to end. The holder
+/// of the lock makes several events with none of another thread between them. Each call makes the event of the call of
+/// `Shared` with its name. Beside what that call promises, its contract states in full the answer and the machine after
+/// it. `Shared::release` releases the lock and then wakes the threads that wait for the events that were made.
+///
+/// Whenever the lock is acquired, the effects made so far, with those still to come, are the replay of the machine's log
+/// on the memory with which it was booted: each method leaves it so, by `Machine::keeps_replay`. And the pass's list is
+/// the log: what is logged is recorded, for its caller, before the lock is released.
 #[derive(Drop)]
-pub(crate) struct Locked<K: Naming> {
+pub struct LockedMachine<K: Naming> {
     machine: Machine,
-    is_ended: bool,
     pass: Pass,
-    of: PhantomData<K>,
+    word: Arc<Word<K>, Global>,
+    pub(crate) told: Told,
+    is_ended: bool,
 }
 
-impl<K: Naming> Model for Locked<K> {
+/// The lock while it is held, with the machine that it keeps.
+pub type MachineGuard<'a, K> = MutexGuard<'a, LockedMachine<K>>;
+
+impl<K: Naming> Model for LockedMachine<K> {
     ghost use Rattle.machine_lock.specs.Held.{Kept};
     ghost use Rattle.machine_lock.specs.inner.LockInvariant.{IsLocked};
 
@@ -82,176 +98,197 @@ fn record_or_compare<K: Naming>(
     ensures seen { MatchResult answer.now (λ done. IsMade (last_step machine.now.log) seen.old seen.new)
         (λ refusal. Learnt seen.old seen.new) }
 {
+    machine.keeps_replay();
     match answer {
-        Ok(_) => {
-            machine.keeps_replay();
-            word.record::<Brand>(pass, &mut seen.pass, machine);
-        }
-        Err(_) => compare(word, pass, seen, machine),
+        Ok(_) => word.record::<Brand, Machine>(pass, &mut seen.pass, machine),
+        Err(_) => word.compare(pass, &mut seen.pass),
     }
 }
 
-impl<K: Naming> Locked<K> {
-    /// A machine whose users weren't told to end, with the pass that knows its log.
-    pub(crate) fn new(machine: Machine, pass: Pass) -> Locked<K>
+/// The reservation in the answer of an issue, if there is one.
+fn note_in(done: &Done) -> Option<Note>
+    ensures { result ≡ note_in done.now }
+{
+    match done {
+        Done::Issued(note) => *note,
+        Done::Word(_) => None,
+        Done::Made => None,
+    }
+}
+
+/// The word in the answer of a peripheral read, +0 in any other answer.
+fn word_in(done: &Done) -> Word60
+    ensures { result ≡ word_in done.now }
+{
+    match done {
+        Done::Word(word) => *word,
+        Done::Issued(_) => Word60::default(),
+        Done::Made => Word60::default(),
+    }
+}
+
+impl<K: Naming> LockedMachine<K> {
+    /// A machine whose users weren't told to end, with the pass that knows its log and the word that counts it.
+    pub(crate) fn new(machine: Machine, pass: Pass, word: Arc<Word<K>, Global>) -> LockedMachine<K>
         requires { IsKeeper K.table (past machine) pass }
         ensures { result ≡ record { processor = machine; is_ended = false } }
     {
         machine.keeps_replay();
-        Locked {
+        LockedMachine {
             machine,
-            is_ended: false,
             pass,
-            of: PhantomData,
+            word,
+            told: Told::default(),
+            is_ended: false,
         }
     }
 
-    /// The event `Issue`. Its caller has then made the last step of the log, or else has seen the log.
+    /// The release is to wake the storage worker: a reference was made.
+    pub fn leave_to_memory(&mut self)
+        ensures { self.new ≡ self.old }
+    {
+        self.told.referred = true;
+    }
+
+    /// Issues the next instruction, as `Shared::issue`.
     ///
     /// # Errors
     /// What an issue may refuse.
-    pub(crate) fn issue(&mut self, word: &Word<K>, seen: &mut Seen<K>) -> Answer
-        ensures answer { IsAnswer self.old.processor Issue result }
-        ensures after { self.new ≡ with_processor self.old (settled self.old.processor Issue result) }
-        ensures named { IfErr result (λ refusal. may_refuse Issue refusal ≡ true) }
+    #[tactic(auto, unfolding(program_order::specs::Refusals::may_refuse, program_order::specs::Run::settled))]
+    pub fn issue(&mut self, seen: &mut Seen<K>) -> Result<Option<Note>, Refusal>
+        ensures answer { IsAnswer self.old.processor Issue (told DoneIssue result) }
+        ensures after { self.new ≡ with_processor self.old (settled self.old.processor Issue (told DoneIssue result)) }
+        ensures seen { MatchResult result (λ note. IsMade Issued seen.old seen.new × IsNoteOf seen.new note)
+            (λ refusal. Learnt seen.old seen.new × IsWhyOf seen.new refusal) }
         ensures current { IsCurrent self.new.processor seen.new }
         ensures replayed { HasReplay seen.new }
-        ensures seen { MatchResult result
-            (λ done. IsMade Issued seen.old seen.new × IsNoteOf seen.new (note_in done))
-            (λ refusal. Learnt seen.old seen.new × IsWhyOf seen.new refusal) }
+        ensures named { IfErr result (λ refusal. is_issue_refusal refusal ≡ true) }
     {
         let answer = self.machine.issue();
-        record_or_compare(word, &mut self.pass, seen, &self.machine, &answer);
-        answer
+        record_or_compare(&self.word, &mut self.pass, seen, &self.machine, &answer);
+        Ok(note_in(&answer?))
     }
 
-    /// The event `Ask`. Its caller has then seen the log.
+    /// Asks for an exchange with the package at an absolute address, as `Shared::ask`.
     ///
     /// # Errors
     /// What a request may refuse.
-    pub(crate) fn ask(&mut self, word: &Word<K>, seen: &mut Seen<K>, at: u32) -> Answer
-        ensures answer { IsAnswer self.old.processor (Ask at) result }
-        ensures after { self.new ≡ with_processor self.old (settled self.old.processor (Ask at) result) }
-        ensures named { IfErr result (λ refusal. may_refuse (Ask at) refusal ≡ true) }
+    #[tactic(auto, unfolding(program_order::specs::Refusals::may_refuse, program_order::specs::Run::settled))]
+    pub fn ask(&mut self, seen: &mut Seen<K>, at: u32) -> Result<(), Refusal>
+        ensures answer { IsAnswer self.old.processor (Ask at) (made_or_refused result) }
+        ensures after { self.new
+            ≡ with_processor self.old (settled self.old.processor (Ask at) (made_or_refused result)) }
+        ensures seen { Learnt seen.old seen.new }
         ensures current { IsCurrent self.new.processor seen.new }
         ensures replayed { HasReplay seen.new }
-        ensures seen { Learnt seen.old seen.new }
+        ensures named { IfErr result (λ refusal. is_ask_refusal refusal ≡ true) }
     {
         let answer = self.machine.ask(at);
-        compare(word, &mut self.pass, seen, &self.machine);
-        answer
+        compare(&self.word, &mut self.pass, seen, &self.machine);
+        answer?;
+        self.told.asked = true;
+        Ok(())
     }
 
-    /// The event `Exchange`. Its caller has then made the last step of the log, or else has seen the log.
+    /// Makes the exchange that was asked for, as `Shared::exchange`.
     ///
     /// # Errors
     /// What an exchange may refuse.
-    pub(crate) fn exchange(&mut self, word: &Word<K>, seen: &mut Seen<K>) -> Answer
-        ensures answer { IsAnswer self.old.processor Exchange result }
-        ensures after { self.new ≡ with_processor self.old (settled self.old.processor Exchange result) }
-        ensures named { IfErr result (λ refusal. may_refuse Exchange refusal ≡ true) }
+    #[tactic(auto, unfolding(program_order::specs::Refusals::may_refuse, program_order::specs::Run::settled))]
+    pub fn exchange(&mut self, seen: &mut Seen<K>) -> Result<(), Refusal>
+        ensures answer { IsAnswer self.old.processor Exchange (made_or_refused result) }
+        ensures after { self.new
+            ≡ with_processor self.old (settled self.old.processor Exchange (made_or_refused result)) }
+        ensures seen { MatchResult result
+            (λ _. (n : ℕ) × (self.old.processor.request ≡ Some n) × IsMade (Exchanged n) seen.old seen.new)
+            (λ refusal. Learnt seen.old seen.new × IsWhyOf seen.new refusal) }
         ensures current { IsCurrent self.new.processor seen.new }
         ensures replayed { HasReplay seen.new }
-        ensures seen { MatchResult result
-            (λ done. (n : ℕ) × (self.old.processor.request ≡ Some n) × IsMade (Exchanged n) seen.old seen.new)
-            (λ refusal. Learnt seen.old seen.new × IsWhyOf seen.new refusal) }
+        ensures named { IfErr result (λ refusal. is_exchange_refusal refusal ≡ true) }
     {
         let answer = self.machine.exchange();
-        record_or_compare(word, &mut self.pass, seen, &self.machine, &answer);
-        answer
+        record_or_compare(&self.word, &mut self.pass, seen, &self.machine, &answer);
+        answer?;
+        self.told.exchanged = true;
+        Ok(())
     }
 
-    /// The event `Ask` for this package, if there is one, where all of the log was seen: there is nothing to learn.
+    /// Makes the exchange that was asked for and, once it was made, asks for the one with the package at the absolute
+    /// address `next`, if there is one, as `Shared::exchange_and_ask`.
     ///
     /// # Errors
-    /// What a request may refuse.
-    #[tactic(auto, unfolding(program_order::specs::Refusals::may_refuse))]
-    fn ask_next(&mut self, word: &Word<K>, seen: &mut Seen<K>, next: Option<u32>) -> Option<Answer>
-        requires { IsCurrent self.old.processor seen.old }
-        ensures asked { IsAsked self.old.processor next result self.new.processor }
-        ensures after { self.new ≡ with_processor self.old self.new.processor }
-        ensures named { IfSome result (λ asked. IfErr asked (λ refusal. is_ask_refusal refusal ≡ true)) }
-        ensures current { IsCurrent self.new.processor seen.new }
-        ensures seen { seen.new ≡ seen.old }
-    {
-        let at = next?;
-        Some(self.ask(word, seen, at))
-    }
-
-    /// The event `Exchange` and, once it was made, the event `Ask` for the next package, if there is one. It answers
-    /// what each of them was answered. Its caller has then made the last step of the log, the exchange, or else has
-    /// seen the log.
-    ///
-    /// # Errors
-    /// What an exchange may refuse, and what a request may.
-    pub(crate) fn exchange_and_ask(
+    /// What an exchange may refuse; within `Ok` what a request may refuse.
+    #[tactic(auto, unfolding(program_order::specs::Refusals::may_refuse, program_order::specs::Run::settled))]
+    pub fn exchange_and_ask(
         &mut self,
-        word: &Word<K>,
         seen: &mut Seen<K>,
         next: Option<u32>,
-    ) -> (Answer, Option<Answer>)
-        ensures exchange { IsAnswer self.old.processor Exchange result.0 }
-        ensures asked { IsAsked (settled self.old.processor Exchange result.0) (next_after result.0 next) result.1
+    ) -> Result<Result<(), Refusal>, Refusal>
+        ensures answer { IsAnswer self.old.processor Exchange (made_or_refused result) }
+        ensures asked { IsAskedNext (settled self.old.processor Exchange (made_or_refused result)) next result
             self.new.processor }
         ensures after { self.new ≡ with_processor self.old self.new.processor }
-        ensures named { IfErr result.0 (λ refusal. may_refuse Exchange refusal ≡ true) }
-        ensures next_named { IfSome result.1 (λ asked. IfErr asked (λ refusal. is_ask_refusal refusal ≡ true)) }
+        ensures seen { MatchResult result
+            (λ _. (n : ℕ) × (self.old.processor.request ≡ Some n) × IsMade (Exchanged n) seen.old seen.new)
+            (λ refusal. Learnt seen.old seen.new × IsWhyOf seen.new refusal) }
         ensures current { IsCurrent self.new.processor seen.new }
         ensures replayed { HasReplay seen.new }
-        ensures seen { MatchResult result.0
-            (λ done. (n : ℕ) × (self.old.processor.request ≡ Some n) × IsMade (Exchanged n) seen.old seen.new)
-            (λ refusal. Learnt seen.old seen.new × IsWhyOf seen.new refusal) }
+        ensures named { MatchResult result (λ asked. IfErr asked (λ refusal. is_ask_refusal refusal ≡ true))
+            (λ refusal. is_exchange_refusal refusal ≡ true) }
     {
-        match self.exchange(word, seen) {
-            Ok(done) => {
-                let asked = self.ask_next(word, seen, next);
-                (Ok(done), asked)
-            }
-            Err(refusal) => (Err(refusal), None),
+        self.exchange(seen)?;
+        match next {
+            Some(at) => Ok(self.ask(seen, at)),
+            None => Ok(Ok(())),
         }
     }
 
-    /// A peripheral access. Its caller has then made the last step of the log, or else has seen the log; a word that
-    /// was read is that of the log's replay.
+    /// A peripheral processor reads the word at an absolute address, as `Shared::pp_read`.
     ///
     /// # Errors
     /// What a peripheral access may refuse.
-    pub(crate) fn access(&mut self, word: &Word<K>, seen: &mut Seen<K>, event: Event) -> Answer
-        requires { is_access event ≡ true }
-        ensures answer { IsAnswer self.old.processor event result }
-        ensures after { self.new ≡ with_processor self.old (settled self.old.processor event result) }
-        ensures named { IfErr result (λ refusal. may_refuse event refusal ≡ true) }
+    #[tactic(auto, unfolding(program_order::specs::Refusals::may_refuse, program_order::specs::Run::settled))]
+    pub fn pp_read(&mut self, seen: &mut Seen<K>, at: u32) -> Result<Word60, Refusal>
+        ensures answer { IsAnswer self.old.processor (PpRead at) (told DoneWord result) }
+        ensures after { self.new
+            ≡ with_processor self.old (settled self.old.processor (PpRead at) (told DoneWord result)) }
+        ensures seen { MatchResult result (λ word. IsMade (ReadAt at) seen.old seen.new × IsWordOf seen.new at word)
+            (λ refusal. Learnt seen.old seen.new) }
         ensures current { IsCurrent self.new.processor seen.new }
         ensures replayed { HasReplay seen.new }
-        ensures seen { MatchResult result (λ done. IsMade (access_step event) seen.old seen.new)
-            (λ refusal. Learnt seen.old seen.new) }
-        ensures word { IfOk result (λ done. (a : ℕ) → event ≡ PpRead a → IsWordOf seen.new a (word_in done)) }
+        ensures named { IfErr result (λ refusal. is_access_refusal refusal ≡ true) }
     {
-        let accessed = self.machine.apply(event);
-        record_or_compare(word, &mut self.pass, seen, &self.machine, &accessed);
-        accessed
+        let answer = self.machine.pp_read(at);
+        record_or_compare(&self.word, &mut self.pass, seen, &self.machine, &answer);
+        Ok(word_in(&answer?))
     }
 
-    /// Makes an event of memory, or refuses it: it logs nothing.
+    /// A peripheral processor writes a word to an absolute address, as `Shared::pp_write`.
     ///
     /// # Errors
-    /// What the event may refuse.
-    pub(crate) fn apply(&mut self, event: Event) -> Answer
-        requires { is_of_memory event ≡ true }
-        ensures answer { IsAnswer self.old.processor event result }
-        ensures after { self.new ≡ with_processor self.old (settled self.old.processor event result) }
-        ensures named { IfErr result (λ refusal. may_refuse event refusal ≡ true) }
+    /// What a peripheral access may refuse.
+    #[tactic(auto, unfolding(program_order::specs::Refusals::may_refuse, program_order::specs::Run::settled))]
+    pub fn pp_write(&mut self, seen: &mut Seen<K>, at: u32, word: Word60) -> Result<(), Refusal>
+        ensures answer { IsAnswer self.old.processor (PpWrite at word) (made_or_refused result) }
+        ensures after { self.new
+            ≡ with_processor self.old (settled self.old.processor (PpWrite at word) (made_or_refused result)) }
+        ensures seen { MatchResult result (λ _. IsMade (Wrote at word) seen.old seen.new)
+            (λ refusal. Learnt seen.old seen.new) }
+        ensures current { IsCurrent self.new.processor seen.new }
+        ensures replayed { HasReplay seen.new }
+        ensures named { IfErr result (λ refusal. is_access_refusal refusal ≡ true) }
     {
-        let answer = self.machine.apply(event);
-        self.machine.keeps_replay();
-        answer
+        let answer = self.machine.pp_write(at, word);
+        record_or_compare(&self.word, &mut self.pass, seen, &self.machine, &answer);
+        answer?;
+        Ok(())
     }
 
-    /// Takes on a reservation with the seat of its unit.
+    /// Takes on a reservation with the seat of its unit, as `Shared::claim`.
     ///
     /// # Errors
     /// `Stranger` with the seat.
-    pub(crate) fn claim(&mut self, seat: Seat, note: Note) -> Result<Reserved, (Refusal, Seat)>
+    pub fn claim(&mut self, seat: Seat, note: Note) -> Result<Reserved, (Refusal, Seat)>
         ensures answer { refusal_to (can_claim self.old.processor seat note) None ≡ refused result }
         ensures after { self.new ≡ self.old }
         ensures claimed { IfOk result (λ token. token ≡ record { seat = seat; number = note.number }) }
@@ -262,11 +299,11 @@ impl<K: Naming> Locked<K> {
         claimed
     }
 
-    /// The event `Read` for the token's reservation.
+    /// The unit reads its operands, as `Shared::read`.
     ///
     /// # Errors
     /// `OperandAwaited` or `Stranger`, with the token.
-    pub(crate) fn read(&mut self, token: Reserved) -> Result<Loaded, (Refusal, Reserved)>
+    pub fn read(&mut self, token: Reserved) -> Result<Loaded, (Refusal, Reserved)>
         ensures answer { refusal_to (waits_in token.number (slot self.old.processor token.seat.unit))
             (allowed self.old.processor (Read token.seat.unit)) ≡ refused result }
         ensures after { MatchResult result
@@ -278,16 +315,17 @@ impl<K: Naming> Locked<K> {
         ensures given_back { IfErr result
             (λ back. (back.1 ≡ token) × ((is_stranger back.0 || is_read_refusal back.0) ≡ true)) }
     {
-        let read = self.machine.read(token);
+        let loaded = self.machine.read(token);
         self.machine.keeps_replay();
-        read
+        self.told.read = self.told.read || loaded.is_ok();
+        loaded
     }
 
-    /// The event `Finish` for the token's reservation.
+    /// The unit gets the token's value, as `Shared::finish`.
     ///
     /// # Errors
     /// `Stranger` with the token.
-    pub(crate) fn finish(&mut self, token: Computed) -> Result<Finished, (Refusal, Computed)>
+    pub fn finish(&mut self, token: Computed) -> Result<Finished, (Refusal, Computed)>
         ensures answer { MatchResult result
             (λ finished. (reading_in token.seat (slot self.old.processor token.seat.unit) ≡ Some (read_of token))
             × (allowed self.old.processor (Finish token.seat.unit) ≡ None))
@@ -303,11 +341,11 @@ impl<K: Naming> Locked<K> {
         finished
     }
 
-    /// The event `Store` for the token's reservation.
+    /// The unit stores its result, as `Shared::store`.
     ///
     /// # Errors
     /// `ResultHeld`, `HopperFull`, `OutOfTurn` or `Stranger`, with the token.
-    pub(crate) fn store(&mut self, token: Finished) -> Result<Seat, (Refusal, Finished)>
+    pub fn store(&mut self, token: Finished) -> Result<Seat, (Refusal, Finished)>
         ensures answer { refusal_to (finished_in token.number (slot self.old.processor token.seat.unit))
             (allowed self.old.processor (Store token.seat.unit)) ≡ refused result }
         ensures after { MatchResult result
@@ -319,23 +357,79 @@ impl<K: Naming> Locked<K> {
     {
         let stored = self.machine.store(token);
         self.machine.keeps_replay();
+        self.told.changed = self.told.changed || stored.is_ok();
         stored
     }
 
-    /// The state, the log, the boot memory and the budget of the machine, if it is drained. Its caller has then seen
-    /// the log.
+    /// Memory takes the reference in a place of the hopper, 0 to 3, as `Shared::accept`.
+    ///
+    /// # Errors
+    /// `BankBusy` or `OlderAtAddress`, or `Nothing` where the place is empty.
+    #[tactic(auto, unfolding(program_order::specs::Refusals::may_refuse))]
+    pub fn accept(&mut self, place: u8) -> Result<(), Refusal>
+        ensures answer { IsAnswer self.old.processor (Accept place) (made_or_refused result) }
+        ensures after { self.new
+            ≡ with_processor self.old (settled self.old.processor (Accept place) (made_or_refused result)) }
+        ensures named { IfErr result (λ refusal. (is_nothing refusal || is_accept_refusal refusal) ≡ true) }
+    {
+        let accepted = self.machine.accept(place);
+        self.machine.keeps_replay();
+        accepted?;
+        self.told.changed = true;
+        Ok(())
+    }
+
+    /// The load in a channel, 1 to 5, writes its register, as `Shared::return_load`.
+    ///
+    /// # Errors
+    /// `ResultHeld`, or `Nothing` where the channel is empty.
+    #[tactic(auto, unfolding(program_order::specs::Refusals::may_refuse))]
+    pub fn return_load(&mut self, channel: u8) -> Result<(), Refusal>
+        ensures answer { IsAnswer self.old.processor (Return channel) (made_or_refused result) }
+        ensures after { self.new
+            ≡ with_processor self.old (settled self.old.processor (Return channel) (made_or_refused result)) }
+        ensures named { IfErr result (λ refusal. (is_nothing refusal || is_return_refusal refusal) ≡ true) }
+    {
+        let returned = self.machine.return_load(channel);
+        self.machine.keeps_replay();
+        returned?;
+        self.told.changed = true;
+        Ok(())
+    }
+
+    /// A bank, 0 to 31, is no longer busy, as `Shared::bank_free`.
+    ///
+    /// # Errors
+    /// `Nothing` where the bank isn't busy.
+    #[tactic(auto, unfolding(program_order::specs::Refusals::may_refuse))]
+    pub fn bank_free(&mut self, bank: u8) -> Result<(), Refusal>
+        ensures answer { IsAnswer self.old.processor (BankFree bank) (made_or_refused result) }
+        ensures after { self.new
+            ≡ with_processor self.old (settled self.old.processor (BankFree bank) (made_or_refused result)) }
+        ensures named { IfErr result (λ refusal. is_nothing refusal ≡ true) }
+    {
+        let freed = self.machine.bank_free(bank);
+        self.machine.keeps_replay();
+        freed?;
+        Ok(())
+    }
+
+    /// The next event that works on the oldest pending instruction, as `Machine::next_work`.
+    pub fn next_work(&self) -> Option<Event>
+        ensures next { result ≡ next_of self.now.processor.pending self.now.processor.busy }
+    {
+        self.machine.next_work()
+    }
+
+    /// The state, the log, the boot memory and the budget of the machine, if it is drained, as `Shared::snapshot`.
     ///
     /// # Errors
     /// `NotDrained` or `OutOfMemory`.
-    pub(crate) fn snapshot(
-        &mut self,
-        word: &Word<K>,
-        seen: &mut Seen<K>,
-    ) -> Result<Snapshot, Refusal>
+    pub fn snapshot(&mut self, seen: &mut Seen<K>) -> Result<Snapshot, Refusal>
         ensures after { self.new ≡ self.old }
+        ensures seen { Learnt seen.old seen.new }
         ensures current { IsCurrent self.new.processor seen.new }
         ensures replayed { HasReplay seen.new }
-        ensures seen { Learnt seen.old seen.new }
         ensures fresh { IfOk result
             (λ snapshot. (snapshot.boot_memory ≡ seen.new.booted.memory) × (snapshot.budget ≡ seen.new.booted.budget)
             × (snapshot.log ≡ seen.new.log)) }
@@ -346,19 +440,12 @@ impl<K: Naming> Locked<K> {
             → IsFaultedRun snapshot.log snapshot.boot_memory snapshot.state) }
         ensures named { IfErr result (λ refusal. (refusal ≡ NotDrained) ⊎ (refusal ≡ OutOfMemory)) }
     {
-        compare(word, &mut self.pass, seen, &self.machine);
+        compare(&self.word, &mut self.pass, seen, &self.machine);
         self.machine.snapshot()
     }
 
-    /// The next event that works on the oldest pending instruction.
-    pub(crate) fn next_work(&self) -> Option<Event>
-        ensures next { result ≡ next_of self.now.processor.pending self.now.processor.busy }
-    {
-        self.machine.next_work()
-    }
-
     /// Whether no issued instruction has an effect still to come.
-    pub(crate) fn drained(&self) -> bool
+    pub fn drained(&self) -> bool
         ensures { result ≡ not (is_pending self.now.processor.pending) }
     {
         self.machine.drained()

@@ -12,17 +12,17 @@ ghost use Rattle.progress_word.specs.CallerKnowledge.{booted_by, known, IsMade, 
 ghost use Rattle.progress_word.specs.CallerKnowledge.{IsWordOf};
 ghost use Rattle.progress_word.specs.CallerKnowledge.{AreApart, NumbersApart};
 
-use crate::guard::MachineGuard;
-use crate::locked::Locked;
+use crate::locked_machine::{LockedMachine, MachineGuard};
 use instruction_table::Refusal;
 use machine::{Computed, Finished, Loaded, Machine, Note, Reserved, Seat, Snapshot};
 use per_unit::PerUnit;
 use progress_word::{Naming, Pass, Progress, Seen, Word};
-use signals::{Signals, Told};
+use signals::Signals;
 use std::alloc::Global;
 use std::hint::spin_loop;
 use std::marker::Model;
-use std::sync::{Arc, Mutex, MutexGuard, Wait};
+use std::mem;
+use std::sync::{Arc, Mutex, Wait};
 use word60::Word60;
 
 /// How often a thread asks for the lock before it may sleep until it gets it: for longer than most holds.
@@ -72,13 +72,13 @@ fn leave_all(seats: [Seat; 7]) {
 /// A machine that several threads drive, beside its progress word: each call makes one event while it holds the lock.
 ///
 /// No contract here says what the machine was when the lock was got: others may have changed it. What an
-/// event answers and leaves is stated in full on the guard's method of that name; a call here acquires the lock, calls
-/// that method and releases the lock. A call's contract keeps what its caller holds: a token, a snapshot, and what the
-/// caller has seen of the log.
+/// event answers and leaves is stated in full on `LockedMachine`'s method of that name; a call here acquires the lock,
+/// calls that method and releases the lock. A call's contract keeps what its caller holds: a token, a snapshot, and
+/// what the caller has seen of the log.
 #[derive(Drop)]
 pub struct Shared<K: Naming> {
     word: Arc<Word<K>, Global>,
-    locked: Mutex<Locked<K>>,
+    locked: Mutex<LockedMachine<K>>,
     signals: Signals,
 }
 
@@ -132,15 +132,15 @@ impl<K: Naming> Shared<K> {
             Ok(word) => word,
             Err(_) => return Err(Refusal::OutOfMemory),
         };
-        let Ok(again) = Arc::try_clone(&word) else {
+        let (Ok(of_machine), Ok(of_seen)) = (Arc::try_clone(&word), Arc::try_clone(&word)) else {
             return Err(Refusal::OutOfMemory);
         };
         word.start(&mut pass, &machine);
         let seen = Seen {
             pass: word.again(&mut pass),
-            word: again,
+            word: of_seen,
         };
-        let locked = Mutex::new(Locked::new(machine, pass));
+        let locked = Mutex::new(LockedMachine::new(machine, pass, of_machine));
         let shared = Shared {
             word,
             locked,
@@ -149,25 +149,25 @@ impl<K: Naming> Shared<K> {
         Ok((shared, seen))
     }
 
-    /// What the lock keeps, with the lock held. Most holds are short, so the thread asks often before it sleeps.
-    fn acquire<R: Wait>(&self, rt: &R) -> MutexGuard<'_, Locked<K>> {
+    /// The machine with its lock held, to make several events with nothing between them. Most holds are short, so the
+    /// thread asks often before it sleeps.
+    pub fn lock<R: Wait>(&self, rt: &R) -> MachineGuard<'_, K> {
         for _ in 0..LOCK_TRIES {
-            if let Some(locked) = self.locked.try_lock() {
-                return locked;
+            if let Some(machine) = self.locked.try_lock() {
+                return machine;
             }
             spin_loop();
         }
         self.locked.lock(rt)
     }
 
-    /// The machine with its lock held, to make several events with nothing between them.
-    pub fn lock<R: Wait>(&self, rt: &R) -> MachineGuard<'_, K> {
-        MachineGuard {
-            locked: self.acquire(rt),
-            word: &self.word,
-            signals: &self.signals,
-            told: Told::default(),
-        }
+    /// Releases the lock, and then wakes the threads that wait for the events that were made. A thread that is woken
+    /// earlier would only wait for the lock.
+    pub fn release(&self, machine: MachineGuard<'_, K>) {
+        let mut held = machine;
+        let told = mem::take(&mut held.told);
+        drop(held);
+        self.signals.tell(&told);
     }
 
     /// Issues the next instruction: the event `Issue`. It answers the reservation of an instruction that
@@ -184,7 +184,7 @@ impl<K: Naming> Shared<K> {
     {
         let mut machine = self.lock(rt);
         let issued = machine.issue(seen);
-        machine.release();
+        self.release(machine);
         issued
     }
 
@@ -199,7 +199,7 @@ impl<K: Naming> Shared<K> {
     {
         let mut machine = self.lock(rt);
         let asked = machine.ask(seen, at);
-        machine.release();
+        self.release(machine);
         asked
     }
 
@@ -216,7 +216,7 @@ impl<K: Naming> Shared<K> {
     {
         let mut machine = self.lock(rt);
         let made = machine.exchange(seen);
-        machine.release();
+        self.release(machine);
         made
     }
 
@@ -242,7 +242,7 @@ impl<K: Naming> Shared<K> {
     {
         let mut machine = self.lock(rt);
         let made = machine.exchange_and_ask(seen, next);
-        machine.release();
+        self.release(machine);
         made
     }
 
@@ -260,7 +260,7 @@ impl<K: Naming> Shared<K> {
     {
         let mut machine = self.lock(rt);
         let word = machine.pp_read(seen, at);
-        machine.release();
+        self.release(machine);
         word
     }
 
@@ -283,7 +283,7 @@ impl<K: Naming> Shared<K> {
     {
         let mut machine = self.lock(rt);
         let written = machine.pp_write(seen, at, word);
-        machine.release();
+        self.release(machine);
         written
     }
 
@@ -302,7 +302,7 @@ impl<K: Naming> Shared<K> {
     {
         let mut machine = self.lock(rt);
         let claimed = machine.claim(seat, note);
-        machine.release();
+        self.release(machine);
         claimed
     }
 
@@ -317,7 +317,7 @@ impl<K: Naming> Shared<K> {
     {
         let mut machine = self.lock(rt);
         let loaded = machine.read(token);
-        machine.release();
+        self.release(machine);
         loaded
     }
 
@@ -331,7 +331,7 @@ impl<K: Naming> Shared<K> {
     {
         let mut machine = self.lock(rt);
         let finished = machine.finish(token);
-        machine.release();
+        self.release(machine);
         finished
     }
 
@@ -347,7 +347,7 @@ impl<K: Naming> Shared<K> {
         let mut machine = self.lock(rt);
         let stored = machine.store(token);
         machine.leave_to_memory();
-        machine.release();
+        self.release(machine);
         stored
     }
 
@@ -360,7 +360,7 @@ impl<K: Naming> Shared<K> {
     {
         let mut machine = self.lock(rt);
         let accepted = machine.accept(place);
-        machine.release();
+        self.release(machine);
         accepted
     }
 
@@ -373,7 +373,7 @@ impl<K: Naming> Shared<K> {
     {
         let mut machine = self.lock(rt);
         let returned = machine.return_load(channel);
-        machine.release();
+        self.release(machine);
         returned
     }
 
@@ -386,7 +386,7 @@ impl<K: Naming> Shared<K> {
     {
         let mut machine = self.lock(rt);
         let freed = machine.bank_free(bank);
-        machine.release();
+        self.release(machine);
         freed
     }
 
@@ -412,7 +412,7 @@ impl<K: Naming> Shared<K> {
     {
         let mut machine = self.lock(rt);
         let snapshot = machine.snapshot(seen);
-        machine.release();
+        self.release(machine);
         snapshot
     }
 

@@ -4,7 +4,7 @@ ghost use Rattle.sequential.specs.Log.{steps_of};
 ghost use Rattle.sequential.specs.Replay.{Issued};
 ghost use Rattle.progress_word.specs.CallerKnowledge.{AreApart};
 ghost use Rattle.progress_word.specs.inner.Rules.{history, past, fresh, Continues, with_told, kept_back};
-ghost use Rattle.progress_word.specs.inner.Rules.{handed_back, Added, Looked, IsKeeper, IsCaller};
+ghost use Rattle.progress_word.specs.inner.Rules.{handed_back, Looked, IsKeeper, IsCaller};
 
 use crate::rule::{
     Adds, Begins, Begun, Chosen, HandsBack, HandsOver, Looks, Naming, Pass, Progress, Shares,
@@ -89,8 +89,8 @@ impl<K: Naming> Word<K> {
 
     // ---- what the machine and its callers do ----
 
-    /// Adds a step that a caller made to what the machine's pass knows. The caller then knows it all, and the step is the
-    /// caller's. The step is picked at the call, of what `from` has.
+    /// Adds a step that a caller made to what the machine's pass knows. The caller then knows it all, and the step is
+    /// the caller's. The step is picked at the call, from `from`.
     pub fn record<J: Chosen, T>(&self, pass: &mut Pass, me: &mut Pass, from: &T)
         requires pass { IsKeeper K.table pass.old.me.0.seen pass.old }
         requires me { IsCaller K.table me.old.me.0.seen me.old.me.0.mine me.old }

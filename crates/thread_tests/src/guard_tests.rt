@@ -6,7 +6,7 @@ use crate::fixtures::{booted_over, note, word, x};
 use crate::lock_tests::{Issued, issued, of_increments, serve, start};
 use instruction_table::{Refusal, Unit};
 use machine::{Loaded, Machine, Seat};
-use machine_lock::{Ground, MachineGuard, Naming, Seen, Shared};
+use machine_lock::{Ground, LockedMachine, Naming, Seen, Shared};
 use std::alloc::Global;
 use std::marker::Brand;
 use std::sync::Wait;
@@ -26,7 +26,7 @@ type Ended = ([Result<(), Refusal>; 3], bool);
 
 /// From the issues to the read of a load, while the lock is held once; the seat where a step is refused.
 fn begin<K: Naming>(
-    machine: &mut MachineGuard<'_, K>,
+    machine: &mut LockedMachine<K>,
     seen: &mut Seen<K>,
     seat: Seat,
 ) -> (Begun, Result<Loaded, Seat>) {
@@ -43,7 +43,7 @@ fn begin<K: Naming>(
 }
 
 /// From the finish of a load to its return, while the lock is held once. It answers how often the seat stored.
-fn end<K: Naming>(machine: &mut MachineGuard<'_, K>, loaded: Result<Loaded, Seat>) -> (u64, Ended) {
+fn end<K: Naming>(machine: &mut LockedMachine<K>, loaded: Result<Loaded, Seat>) -> (u64, Ended) {
     let seat = match loaded {
         Ok(loaded) => match machine.finish(loaded.compute()) {
             Ok(finished) => match machine.store(finished) {
@@ -89,10 +89,10 @@ fn made<K: Naming, R: Wait>(
     let started = start(rt, &shared, &mut seen);
     let mut machine = shared.lock(rt);
     let (begun, loaded) = begin(&mut machine, &mut seen, first);
-    machine.release();
+    shared.release(machine);
     let mut machine = shared.lock(rt);
     let ended = end(&mut machine, loaded);
-    machine.release();
+    shared.release(machine);
     let (second, _) = serve(rt, &shared, second, note(Unit::Increment2, 2));
     second.leave();
     started?;

@@ -740,7 +740,7 @@ fn issue_meanwhile<K: Naming, R: Wait>(
         return None;
     }
     let issued = machine.issue(seen);
-    machine.release();
+    shared.release(machine);
     Some(issued)
 }
 

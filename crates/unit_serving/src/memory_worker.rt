@@ -2,7 +2,7 @@
 //! references, frees banks and returns loads.
 
 use instruction_table::Refusal;
-use machine_lock::{MachineGuard, Naming, Shared};
+use machine_lock::{LockedMachine, Naming, Shared};
 use std::sync::Wait;
 
 /// The outcome of a sweep through the places of the hopper and the load channels.
@@ -41,7 +41,7 @@ impl Swept {
 ///
 /// # Errors
 /// `Nothing` if the place is empty, and `OlderAtAddress`.
-fn accept<K: Naming>(machine: &mut MachineGuard<'_, K>, place: u8) -> Result<(), Refusal> {
+fn accept<K: Naming>(machine: &mut LockedMachine<K>, place: u8) -> Result<(), Refusal> {
     match machine.accept(place) {
         Err(Refusal::BankBusy(bank)) => {
             let _ = machine.bank_free(bank);
@@ -52,21 +52,21 @@ fn accept<K: Naming>(machine: &mut MachineGuard<'_, K>, place: u8) -> Result<(),
 }
 
 /// Accepts the references that may be accepted.
-fn accept_all<K: Naming>(machine: &mut MachineGuard<'_, K>, swept: &mut Swept) {
+fn accept_all<K: Naming>(machine: &mut LockedMachine<K>, swept: &mut Swept) {
     for place in 0..4u8 {
         swept.note(accept(machine, place));
     }
 }
 
 /// Returns the loads that may be returned, of channels 1 to 5.
-fn return_all<K: Naming>(machine: &mut MachineGuard<'_, K>, swept: &mut Swept) {
+fn return_all<K: Naming>(machine: &mut LockedMachine<K>, swept: &mut Swept) {
     for channel in 1..6u8 {
         swept.note(machine.return_load(channel));
     }
 }
 
 /// Takes references as far through memory as may be.
-pub(crate) fn sweep<K: Naming>(machine: &mut MachineGuard<'_, K>) -> Swept {
+pub(crate) fn sweep<K: Naming>(machine: &mut LockedMachine<K>) -> Swept {
     let mut swept = Swept::new();
     accept_all(machine, &mut swept);
     return_all(machine, &mut swept);
@@ -78,7 +78,7 @@ fn sweep_once<K: Naming, R: Wait>(rt: &R, shared: &Shared<K>) -> Swept {
     let mut machine = shared.lock(rt);
     let swept = sweep(&mut machine);
     shared.signals().memory.await_read(swept.has_held);
-    machine.release();
+    shared.release(machine);
     swept
 }
 

@@ -6,7 +6,7 @@ use crate::gate::Gate;
 use crate::memory_worker::sweep;
 use instruction_table::{Refusal, Unit};
 use machine::{Computed, Event, Loaded, Note, Seat};
-use machine_lock::{MachineGuard, Naming, Shared};
+use machine_lock::{LockedMachine, Naming, Shared};
 use signals::Waiting;
 use std::sync::Wait;
 
@@ -35,7 +35,7 @@ fn load<K: Naming, R: Wait>(
         let count = signal.count();
         match machine.read(token) {
             Ok(loaded) => {
-                machine.release();
+                shared.release(machine);
                 signal.await_nothing();
                 return Ok(loaded);
             }
@@ -43,7 +43,7 @@ fn load<K: Naming, R: Wait>(
             Err((_, back)) => token = back,
         }
         signal.await_change(true);
-        machine.release();
+        shared.release(machine);
         wait.until_raised(rt, signal, count);
         machine = shared.lock(rt);
     }
@@ -53,7 +53,7 @@ fn load<K: Naming, R: Wait>(
 /// Takes the reference that a unit has just made through memory, if no earlier instruction was pending at its store.
 /// References enter the hopper in program order, so this one is then alone in the hopper and the load channels, and the
 /// sweep takes no other. Otherwise the storage worker is woken.
-fn refer<K: Naming>(machine: &mut MachineGuard<'_, K>, was_oldest: bool) {
+fn refer<K: Naming>(machine: &mut LockedMachine<K>, was_oldest: bool) {
     if was_oldest {
         let _ = sweep(machine);
     } else {
@@ -62,7 +62,7 @@ fn refer<K: Naming>(machine: &mut MachineGuard<'_, K>, was_oldest: bool) {
 }
 
 /// Whether the oldest pending instruction is in this unit, and may be stored.
-fn is_oldest<K: Naming>(machine: &MachineGuard<'_, K>, unit: Unit) -> bool {
+fn is_oldest<K: Naming>(machine: &LockedMachine<K>, unit: Unit) -> bool {
     match machine.next_work() {
         Some(Event::Store(oldest)) => oldest == unit,
         _ => false,
@@ -101,7 +101,7 @@ fn store<K: Naming, R: Wait>(
                 if has_reference {
                     refer(&mut machine, was_oldest);
                 }
-                machine.release();
+                shared.release(machine);
                 signal.await_nothing();
                 return Ok(seat);
             }
@@ -110,7 +110,7 @@ fn store<K: Naming, R: Wait>(
         }
         signal.await_change(true);
         signal.await_read(true);
-        machine.release();
+        shared.release(machine);
         wait.until_raised(rt, signal, count);
         machine = shared.lock(rt);
     }

@@ -12,7 +12,7 @@ use arrayvec::ArrayVec;
 use exchange_requests::{Ask, Requests};
 use instruction_table::Refusal;
 use machine::{Machine, Note};
-use machine_lock::{MachineGuard, Naming, Seen, Shared};
+use machine_lock::{LockedMachine, Naming, Seen, Shared};
 use signals::Pace;
 use std::sync::Wait;
 use std::thread;
@@ -73,7 +73,7 @@ impl<'a> PendingRequests<'a> {
 /// # Errors
 /// What else was refused.
 fn ask_due<K: Naming>(
-    machine: &mut MachineGuard<'_, K>,
+    machine: &mut LockedMachine<K>,
     seen: &mut Seen<K>,
     pending: &mut PendingRequests<'_>,
 ) -> Result<(), Refusal>
@@ -161,7 +161,7 @@ fn finish<K: Naming, R: Wait>(
 /// # Errors
 /// What was refused to a request.
 fn issue_on<K: Naming>(
-    machine: &mut MachineGuard<'_, K>,
+    machine: &mut LockedMachine<K>,
     seen: &mut Seen<K>,
     pending: &mut PendingRequests<'_>,
     notes: &mut Notes,
@@ -205,7 +205,7 @@ fn issue_and_send<K: Naming, R: Wait>(
     let refused = issue_on(&mut machine, seen, pending, &mut notes);
     let is_refused = matches!(&refused, Ok(Some(_)));
     shared.signals().issuing.await_change(is_refused);
-    machine.release();
+    shared.release(machine);
     lanes.send_all(rt, shared.signals(), notes.as_slice());
     refused
 }

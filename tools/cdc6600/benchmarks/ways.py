@@ -51,7 +51,7 @@ LEFT_OUT = re.compile(
 )
 # The functions at which a way begins and ends.
 READ, LOOP, STEP, ISSUE, RELEASE, PUSH, WORKER, STORED, STORE, WRITTEN, FAULT = (
-    "line::read_line", "reading::read_deck_from", "issuing::step", "MachineGuard::issue", "MachineGuard::release",
+    "line::read_line", "reading::read_deck_from", "issuing::step", "LockedMachine::issue", "Shared::release",
     "Lane::push", "unit_worker::worker", "OpenGate::stored", "Machine::store", "storage::Storage::store",
     "Draft::apply",
 )

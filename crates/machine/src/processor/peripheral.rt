@@ -57,8 +57,7 @@ impl Machine {
     /// what may follow.
     ///
     /// # Errors
-    /// `Budget`, `PeripheralWait`, `PeripheralRange`, `OutOfMemory`: the first that applies. The machine is then as it
-    /// was.
+    /// `Budget`, `PeripheralWait`, `PeripheralRange`, `OutOfMemory`: the first that applies, the machine as it was.
     pub fn pp_read(&mut self, at: u32) -> Answer
         ensures answer { IsAnswer self.old (PpRead at) result }
         ensures after { self.new ≡ settled self.old (PpRead at) result }
@@ -84,8 +83,7 @@ impl Machine {
     /// Room is made in the log for what may follow.
     ///
     /// # Errors
-    /// `Budget`, `PeripheralWait`, `PeripheralRange`, `OutOfMemory`: the first that applies. The machine is then as it
-    /// was.
+    /// `Budget`, `PeripheralWait`, `PeripheralRange`, `OutOfMemory`: the first that applies, the machine as it was.
     pub fn pp_write(&mut self, at: u32, word: Word60) -> Answer
         ensures answer { IsAnswer self.old (PpWrite at word) result }
         ensures after { self.new ≡ settled self.old (PpWrite at word) result }

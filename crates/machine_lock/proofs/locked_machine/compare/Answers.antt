@@ -1,9 +1,9 @@
 use Rattle.std.proofs.Common.{◌∙◌, ap}
 use Rattle.progress_word.specs.inner.Rules.{History}
 use Rattle.machine_lock.proofs.Laws.{Compared, compared, replay_by}
-use Rattle.machine_lock.proofs.locked.compare.Given as given
-use Rattle.machine_lock.proofs.locked.compare.Goals as goal
-use Rattle.machine_lock.proofs.locked.compare.Goals.{After-compare}
+use Rattle.machine_lock.proofs.locked_machine.compare.Given as given
+use Rattle.machine_lock.proofs.locked_machine.compare.Goals as goal
+use Rattle.machine_lock.proofs.locked_machine.compare.Goals.{After-compare}
 
 learnt : (g : given.Over) (c : After-compare g) → Compared c.args.machine.now c.args.seen.now c.compare.new.me.me
 learnt g c =

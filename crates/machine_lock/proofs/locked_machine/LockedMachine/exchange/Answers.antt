@@ -1,7 +1,9 @@
-use Rattle.std.proofs.Common.{inl, ap, sym}
+use Rattle.std.proofs.Common.{inl, ap, refl, sym}
+use Rattle.program_order.specs.declared.event.Event.TheVariants.{Exchange}
+use Rattle.std.proofs.lemmas.Result.{err_from_is_err_and}
 use Rattle.machine_lock.specs.Held.{Kept}
-use Rattle.machine_lock.proofs.Laws.{exchange_logged, exchange_seen}
-use Rattle.machine_lock.proofs.locked.Locked.exchange.Goals as goal
+use Rattle.machine_lock.proofs.Laws.{exchange_logged, exchange_made, exchange_why, made_told}
+use Rattle.machine_lock.proofs.locked_machine.LockedMachine.exchange.Goals as goal
 
 pub record_or_compare-requires-clause-logged : goal.record_or_compare-requires-clause-logged
 record_or_compare-requires-clause-logged g c =
@@ -10,9 +12,25 @@ record_or_compare-requires-clause-logged g c =
 
 pub returns-clause-seen : goal.returns-clause-seen
 returns-clause-seen g c =
-    exchange_seen c.self.inside.machine c.exchange-answer.new.self c.args.self.now.processor.request
-    c.exchange-answer.result c.args.seen.now c.record_or_compare.new.seen
+    exchange_made c.self.inside.machine c.exchange-answer.new.self c.args.self.now.processor.request
+    c.exchange-answer.result c.in_ok-answer.field-0 c.args.seen.now c.record_or_compare.new.seen
     (ap (λ (k : Kept). k.processor.request) (sym c.self.view_is)) c.self.invariant.replay
     (inl c.exchange-answer.ensures.answer) c.exchange-answer.ensures.after
     c.exchange-answer.ensures.why c.exchange-answer.ensures.named c.record_or_compare.ensures.current
-    c.record_or_compare.ensures.seen
+    c.record_or_compare.ensures.seen c.in_ok-answer.was
+
+pub returns-clause-answer : goal.returns-clause-answer
+returns-clause-answer g c =
+    made_told c.args.self.now.processor c.self.inside.machine Exchange c.exchange-answer.result
+    c.in_ok-answer.field-0 refl (inl c.exchange-answer.ensures.answer) c.in_ok-answer.was
+    (ap (λ (k : Kept). k.processor) c.self.view_is)
+
+pub returns-in_err-answer-clause-seen : goal.returns-in_err-answer-clause-seen
+returns-in_err-answer-clause-seen g c =
+    let p = err_from_is_err_and c.from_residual.result c.from_residual.ensures.1 in
+    rw (p.1, p.2) (exchange_why c.self.inside.machine c.exchange-answer.new.self c.args.self.now.processor.request
+    c.exchange-answer.result c.in_err-answer.field-0.0 c.args.seen.now c.record_or_compare.new.seen
+    (ap (λ (k : Kept). k.processor.request) (sym c.self.view_is)) c.self.invariant.replay
+    (inl c.exchange-answer.ensures.answer) c.exchange-answer.ensures.after c.exchange-answer.ensures.why
+    c.exchange-answer.ensures.named c.record_or_compare.ensures.current c.record_or_compare.ensures.seen
+    c.in_err-answer.was)

@@ -1,15 +1,15 @@
 use Rattle.std.proofs.Common.{refl}
 use Rattle.program_order.specs.declared.event.Event.TheVariants.{Read}
 use Rattle.machine_lock.proofs.Laws.{token_kept}
-use Rattle.machine_lock.proofs.locked.Locked.read.Goals as goal
+use Rattle.machine_lock.proofs.locked_machine.LockedMachine.read.Goals as goal
 
 pub invariant_of-self : goal.invariant_of-self
 invariant_of-self g c = record {
   replay = c.keeps_replay.ensures.replay;
   seen = (
     c.self.invariant.seen.0,
-    token_kept c.self.inside.machine c.read-read.new.self (Read c.args.token.seat.unit) c.self.inside.pass.me
-        c.read-read.result
-        refl c.self.invariant.seen.1 c.read-read.ensures.after,
+    token_kept c.self.inside.machine c.read-loaded.new.self (Read c.args.token.seat.unit) c.self.inside.pass.me
+        c.read-loaded.result
+        refl c.self.invariant.seen.1 c.read-loaded.ensures.after,
   );
 }

@@ -1,7 +1,7 @@
 use Rattle.std.proofs.Common.{refl}
 use Rattle.program_order.specs.declared.event.Event.TheVariants.{Store}
 use Rattle.machine_lock.proofs.Laws.{token_kept}
-use Rattle.machine_lock.proofs.locked.Locked.store.Goals as goal
+use Rattle.machine_lock.proofs.locked_machine.LockedMachine.store.Goals as goal
 
 pub invariant_of-self : goal.invariant_of-self
 invariant_of-self g c = record {

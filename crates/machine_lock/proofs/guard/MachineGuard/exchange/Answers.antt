@@ -1,9 +1,0 @@
-use Rattle.std.proofs.Common.{ap, ◌∙◌}
-use Rattle.machine_lock.specs.Held.{Kept}
-use Rattle.machine_lock.proofs.Laws.{exchange_told}
-use Rattle.machine_lock.proofs.guard.MachineGuard.exchange.Goals as goal
-
-pub returns-in-Ok-clause-answer : goal.returns-in-Ok-clause-answer
-returns-in-Ok-clause-answer g c =
-    exchange_told c.args.self.now.processor _ c.exchange.result c.in-Ok.field-0 c.exchange.ensures.answer c.in-Ok.is
-    (ap (λ (k : Kept). k.processor) (c.deref_mut.ensures.value ∙ c.self.view_is))
