@@ -198,7 +198,7 @@ fn follows_instructions(rt: HostRuntime) {
     }
 }
 
-const NUMBERS: [(Unit, u8); 10] = [
+const NUMBERS: [(Unit, usize); 10] = [
     (Branch, 0),
     (Unit::Boolean, 1),
     (Unit::Shift, 2),

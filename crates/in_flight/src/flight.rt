@@ -24,9 +24,9 @@ ghost use Rattle.in_flight.specs.inner.OwnSlots.{HasOwnSlots};
 ghost use Rattle.in_flight.specs.Apart.{IsApart};
 
 use crate::slots::Slots;
-use crate::{Arrival, Located, Outstanding, Pending, Phase, Relocated, Stage, enters_hopper};
+use crate::{Arrival, Located, Outstanding, Pending, Phase, Relocated, Stage};
 use hopper::{Hopper, Reference};
-use instruction_table::{Instr, Refusal, Unit, unit_kind};
+use instruction_table::{Instr, Refusal, Unit};
 use registers::RegisterFile;
 use relocation::{Access, Storage};
 use scoreboard::Board;
@@ -55,43 +55,6 @@ impl Model for InFlight {
     ghost invariant = { λ f. IsTied f.slots f.hopper f.board };
 }
 
-/// What is left of an instruction, where it waits: a reference in range enters the lowest-numbered free place of the
-/// hopper, and out of range a load has +0 in its channel.
-#[tactic(auto, unfolding(crate::proofs::Opened::entering_hopper))]
-fn waiting_rest(hopper: &mut Hopper, rest: &Option<Relocated>) -> Option<Outstanding>
-    requires { enters (outstanding_of 0 rest.now) ≡ true → is_none (free_in hopper.old.entered) ≡ false }
-    ensures answer { result ≡ outstanding_of (unwrap_or (free_in hopper.old.entered) 0) rest.now }
-    ensures after { hopper.new ≡ queue_with hopper.old result }
-{
-    match rest {
-        None => None,
-        Some(
-            Relocated {
-                address: Some(address),
-                access,
-            },
-        ) => match hopper.enter(Reference {
-            address: *address,
-            access: *access,
-        }) {
-            Ok(place) => Some(Outstanding::Entered(place, *address, *access)),
-            Err(_) => None,
-        },
-        Some(
-            Relocated {
-                address: None,
-                access: Access::Load(n),
-            },
-        ) => Some(Outstanding::Accepted(*n, Word60::default())),
-        Some(
-            Relocated {
-                address: None,
-                access: Access::Store(_),
-            },
-        ) => None,
-    }
-}
-
 /// The instruction as it waited, and what it reads.
 fn reading(pending: &Pending, registers: &RegisterFile) -> (Pending, Operands)
     ensures pending { result.0 ≡ pending.now }
@@ -99,17 +62,6 @@ fn reading(pending: &Pending, registers: &RegisterFile) -> (Pending, Operands)
 {
     let read = operands(&pending.instr, pending.at, registers);
     (*pending, read)
-}
-
-/// What is left of a reference that its bank took.
-fn left_by(memory: &Storage, reference: &Reference) -> Option<Outstanding>
-    requires { reference.now.address < length memory.now }
-    ensures { result ≡ left_by memory.now reference.now.address reference.now.access }
-{
-    match &reference.access {
-        Access::Load(n) => Some(Outstanding::Accepted(*n, memory.load(reference.address))),
-        Access::Store(_) => None,
-    }
 }
 
 impl InFlight {
@@ -187,9 +139,6 @@ impl InFlight {
         ensures after { MatchResult result (λ reserved. self.new ≡ reserved_in self.old instr.now at)
             (λ refusal. self.new ≡ self.old) }
     {
-        if unit_kind(instr).is_none() {
-            return Err(Refusal::UnitBusy(Unit::Branch));
-        }
         let (unit, number) = match self.board.try_reserve(instr) {
             Ok(reserved) => reserved,
             Err(refusal) => return Err(refusal),
@@ -250,7 +199,7 @@ impl InFlight {
         self.slots.set_stage(unit, Stage::Finished(value));
     }
 
-    /// Third order, the hopper's room where a reference would enter, and the turn of references.
+    /// Third order, the hopper's room for the reference that would enter, and the turn of references.
     ///
     /// # Errors
     /// `ResultHeld`, `HopperFull`, `OutOfTurn`.
@@ -262,13 +211,17 @@ impl InFlight {
         if let Err(refusal) = self.board.may_store(unit) {
             return Err(refusal);
         }
-        if enters_hopper(rest) && self.hopper.is_full() {
-            return Err(Refusal::HopperFull);
+        match rest {
+            Some(reference) if reference.address.is_some() && self.hopper.is_full() => {
+                Err(Refusal::HopperFull)
+            }
+            _ => self.board.in_turn(unit),
         }
-        self.board.in_turn(unit)
     }
 
-    /// The unit's instruction leaves it; what is left of it enters the hopper or waits in its channel.
+    /// The unit's instruction leaves it. What is left of it waits: a reference in range in the lowest-numbered free
+    /// place of the hopper, and out of range a load with +0 in its channel. It answers what is left, None if no
+    /// instruction holds the unit.
     pub fn leave(&mut self, unit: Unit, rest: &Option<Relocated>) -> Option<Outstanding>
         requires apart { Pairs IsApart self.old.pending }
         requires rest { IfSome (located (seek (stage_at unit) self.old.pending))
@@ -284,10 +237,25 @@ impl InFlight {
         if self.slots.find_stage(unit).is_none() {
             return None;
         }
-        let later = waiting_rest(&mut self.hopper, rest);
-        self.slots.leave(unit, &later);
+        let left = match rest {
+            None => None,
+            Some(reference) => match reference.address {
+                Some(address) => match self.hopper.enter(Reference {
+                    address,
+                    access: reference.access,
+                }) {
+                    Ok(place) => Some(Outstanding::Entered(place, address, reference.access)),
+                    Err(_) => None,
+                },
+                None => match &reference.access {
+                    Access::Load(n) => Some(Outstanding::Accepted(*n, Word60::default())),
+                    Access::Store(_) => None,
+                },
+            },
+        };
+        self.slots.leave(unit, &left);
         self.board.release(unit);
-        later
+        left
     }
 
     /// The bank of the reference in a place of the hopper takes it and is busy: a load has its word in its channel,
@@ -314,7 +282,10 @@ impl InFlight {
             Ok(reference) => reference,
             Err(refusal) => return Err(refusal),
         };
-        let left = left_by(memory, &reference);
+        let left = match &reference.access {
+            Access::Load(n) => Some(Outstanding::Accepted(*n, memory.load(reference.address))),
+            Access::Store(_) => None,
+        };
         self.slots.accept(place, &left);
         Ok(reference)
     }

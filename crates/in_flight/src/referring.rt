@@ -1,6 +1,5 @@
 ghost use Rattle.std.specs.Prelude.{◌≡◌, ◌||◌, ℕ};
-ghost use Rattle.in_flight.specs.Flight.{faults_at, outstanding_of, relocated};
-ghost use Rattle.in_flight.specs.Lookup.{enters};
+ghost use Rattle.in_flight.specs.Flight.{faults_at, relocated};
 
 use relocation::{Access, Area};
 use sequential::{ProgramReference, stops_at_fault};
@@ -27,17 +26,6 @@ impl Relocated {
                 access: reference.access,
             }),
         }
-    }
-}
-
-/// Whether a reference enters the hopper: it is in range.
-#[tactic(auto, unfolding(crate::proofs::Opened::entering_reference))]
-pub fn enters_hopper(reference: &Option<Relocated>) -> bool
-    ensures { (place : ℕ) → result ≡ enters (outstanding_of place reference.now) }
-{
-    match reference {
-        None => false,
-        Some(reference) => reference.address.is_some(),
     }
 }
 

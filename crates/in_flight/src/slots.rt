@@ -1,6 +1,5 @@
 ghost use Rattle.std.specs.Prelude.{◌≡◌, ◌<◌, ◌∷◌, ◌++◌, [], length, Some, None, is_none, slice_index_or, IfSome};
 ghost use Rattle.std.specs.List.{list_all};
-ghost use Rattle.scoreboard.specs.Units.{unit_number};
 ghost use Rattle.instructions.specs.Each.{Each};
 ghost use Rattle.in_flight.specs.declared.pending.Phase.TheVariants.{Before, After};
 ghost use Rattle.in_flight.specs.declared.pending.Stage.TheVariants.{Waiting};
@@ -9,8 +8,8 @@ ghost use Rattle.in_flight.specs.Lookup.{stage_at, entry_at, arrival_at, in_phas
 ghost use Rattle.in_flight.specs.inner.Slots.{HasRoom, places_with, channels_with, has_none, lower_of, lowest_of};
 
 use crate::{Arrival, Outstanding, Pending, Phase, Stage};
-use hopper::Reference;
 use instruction_table::Unit;
+use scoreboard::unit_number;
 use std::marker::Model;
 
 /// A pending instruction that was located, with its answer to what was asked.
@@ -42,26 +41,8 @@ impl Model for Slots {
     ghost invariant = { λ p. IsRight p.units p.places p.channels };
 }
 
-/// The number of the unit, as an index.
-fn index_of(unit: Unit) -> usize
-    ensures value { result ≡ unit_number unit }
-    ensures range { result < 10 }
-{
-    unit as usize
-}
-
-impl Pending {
-    /// The instruction in another phase.
-    #[tactic(auto, unfolding(crate::specs::Lookup::in_phase))]
-    fn in_phase(&self, phase: Phase) -> Pending
-        ensures { result ≡ in_phase self.now phase }
-    {
-        Pending { phase, ..*self }
-    }
-}
-
 /// What is left of an instruction goes to its place or its channel.
-#[tactic(auto, unfolding(crate::specs::inner::Slots::places_with, crate::specs::inner::Slots::channels_with))]
+#[tactic(auto, unfolding(crate::proofs::Opened::rest_in_slot))]
 fn put_rest(
     places: &mut [Option<Pending>],
     channels: &mut [Option<Pending>],
@@ -77,12 +58,16 @@ fn put_rest(
     match *later {
         None => {}
         Some(Outstanding::Entered(place, address, access)) => {
-            let rest = pending.in_phase(Phase::After(Outstanding::Entered(place, address, access)));
-            places[usize::from(place)] = Some(rest);
+            places[usize::from(place)] = Some(Pending {
+                phase: Phase::After(Outstanding::Entered(place, address, access)),
+                ..*pending
+            });
         }
         Some(Outstanding::Accepted(n, word)) => {
-            let rest = pending.in_phase(Phase::After(Outstanding::Accepted(n, word)));
-            channels[usize::from(n.get())] = Some(rest);
+            channels[usize::from(n.get())] = Some(Pending {
+                phase: Phase::After(Outstanding::Accepted(n, word)),
+                ..*pending
+            });
         }
     }
 }
@@ -172,7 +157,7 @@ impl Slots {
     pub fn find_stage(&self, unit: Unit) -> Option<Located<Stage>>
         ensures { result ≡ located (seek (stage_at unit) self.now) }
     {
-        let index = index_of(unit);
+        let index = unit_number(unit);
         let slot = self.units[index];
         let Some(pending) = slot else {
             return None;
@@ -189,7 +174,7 @@ impl Slots {
     pub fn set_stage(&mut self, unit: Unit, stage: Stage)
         ensures { self.new ≡ replaced (seek (stage_at unit) self.old) self.old (λ m. in_phase m (Before stage) ∷ []) }
     {
-        let index = index_of(unit);
+        let index = unit_number(unit);
         if let Some(pending) = &mut self.units[index] {
             pending.phase = Phase::Before(stage);
         }
@@ -200,7 +185,7 @@ impl Slots {
         requires { HasRoom later.now self.old }
         ensures { self.new ≡ replaced (seek (stage_at unit) self.old) self.old (λ m. kept m later.now) }
     {
-        let index = index_of(unit);
+        let index = unit_number(unit);
         let slot = self.units[index];
         let Some(pending) = slot else {
             return;
@@ -259,7 +244,7 @@ impl Slots {
         requires last { Each (λ m. m.number < pending.number) self.old }
         ensures { self.new ≡ self.old ++ pending ∷ [] }
     {
-        let index = index_of(pending.unit);
+        let index = unit_number(pending.unit);
         self.units[index] = Some(pending);
     }
 }

@@ -8,10 +8,18 @@ use hopper::Reference;
 use in_flight::{Arrival, InFlight, Pending, Phase, Relocated, Stage};
 use instruction_table::{Addends, Digit, Instr, Pair, Refusal, Reg, Unit, read_text};
 use registers::RegisterFile;
-use relocation::Storage;
+use relocation::{Access, Storage};
 use std::marker::Model;
 use unit_ops::{Operands, UnitValue};
 use word60::{Word18, Word60};
+
+/// A reference that would enter the hopper.
+fn in_range() -> Option<Relocated> {
+    Some(Relocated {
+        address: Some(0),
+        access: Access::Store(Word60::default()),
+    })
+}
 
 /// A call. Instructions are given as texts.
 #[derive(Clone, Copy, Drop)]
@@ -238,7 +246,7 @@ impl Counted {
             Call::Reserve(text) => self.reserve_text(text),
             Call::Read(unit) => self.read(unit),
             Call::Finish(unit) => finish(&mut self.flight, unit),
-            Call::MayStore(unit) => judged(self.flight.may_store(unit, true)),
+            Call::MayStore(unit) => judged(self.flight.may_store(unit, &in_range())),
             Call::BankFree(bank) => judged(self.flight.bank_free(bank)),
             Call::IsEmpty => Answer::Truth(self.flight.is_empty()),
             Call::IsBranchHeld => Answer::Truth(self.flight.is_branch_held()),

@@ -1,11 +1,10 @@
 //! The board: reservations, conflicts between them, and their way through the fields.
 
-ghost use Rattle.std.specs.Prelude.{◌≡◌, ◌<◌, ◌+◌, ◌^◌, [], IsSome};
+ghost use Rattle.std.specs.Prelude.{◌≡◌, ◌<◌, ◌+◌, ◌^◌, []};
 ghost use Rattle.std.specs.List.{list_any};
 ghost use Rattle.instructions.specs.Finding.{seek, replaced};
 ghost use Rattle.instructions.specs.Operands.{uses};
 ghost use Rattle.scoreboard.specs.Reservations.{is_branch, has_turn, has_store_turn};
-ghost use Rattle.scoreboard.specs.Units.{unit_number};
 ghost use Rattle.scoreboard.specs.Issued.{reservation_of};
 ghost use Rattle.scoreboard.specs.Conflicts.{unit_for};
 ghost use Rattle.scoreboard.specs.inner.Fields.{slot_is};
@@ -16,7 +15,7 @@ use crate::fields::{
     any_reference, any_turn, any_writer, expect, first_produced, first_unit, forget_in_taken,
     free_unit, is_to_be_read, put_left,
 };
-use crate::{Issued, Progress, Reservation, Writer, Writers};
+use crate::{Issued, Progress, Reservation, Writer, Writers, unit_number};
 use instructions::{Digit, Instr, Refusal, Reg, Unit, results, sources};
 use std::marker::Model;
 
@@ -53,14 +52,6 @@ impl Model for Board {
     ghost invariant = { λ b. IsRight b.units b.channels b.producers b.writers b.last };
 }
 
-/// The number of the unit, as an index.
-fn index_of(unit: Unit) -> usize
-    ensures value { result ≡ unit_number unit }
-    ensures range { result < 10 }
-{
-    unit as usize
-}
-
 /// The number of the channel, as a digit.
 fn digit(channel: u8) -> Digit
     requires { channel < 8 }
@@ -94,8 +85,7 @@ impl Board {
     /// `UnitBusy` where no unit of the kind is free, with the lower-numbered one; else `ResultReserved` with the
     /// first of its result registers, A before X, that somebody is to write.
     pub fn try_reserve(&mut self, instr: &Instr) -> Result<(Unit, u64), Refusal>
-        requires unit { IsSome (uses instr.now).unit }
-        requires number { self.old.last + 1 < 2 ^ 64 }
+        requires { self.old.last + 1 < 2 ^ 64 }
         ensures answer { result ≡ reserve_answer self.old instr.now
             (unit_for reservation_of self.old.issued (uses instr.now).unit) }
         ensures after { self.new ≡ reserved self.old instr.now result }
@@ -108,7 +98,7 @@ impl Board {
         if let Some(register) = first_produced(results.as_slice(), &taken) {
             return Err(Refusal::ResultReserved(register));
         }
-        let index = index_of(unit);
+        let index = unit_number(unit);
         let sources = sources(instr);
         let number = self.last + 1;
         self.producers[index] = self.writers.of(sources.as_slice());
@@ -134,7 +124,7 @@ impl Board {
     pub fn may_read(&self, unit: Unit) -> Result<(), Refusal>
         ensures { result ≡ read_answer (seek (held_in unit) self.now.issued) }
     {
-        let index = index_of(unit);
+        let index = unit_number(unit);
         let slot = self.units[index];
         let Some(issued) = slot else {
             return Ok(());
@@ -160,7 +150,7 @@ impl Board {
     pub fn may_store(&self, unit: Unit) -> Result<(), Refusal>
         ensures { result ≡ store_answer (seek (held_in unit) self.now.issued) }
     {
-        let index = index_of(unit);
+        let index = unit_number(unit);
         let slot = self.units[index];
         let Some(issued) = slot else {
             return Ok(());
@@ -202,7 +192,7 @@ impl Board {
     pub fn in_turn(&self, unit: Unit) -> Result<(), Refusal>
         ensures { result ≡ turn_answer (seek (held_in unit) self.now.issued) }
     {
-        let index = index_of(unit);
+        let index = unit_number(unit);
         let slot = self.units[index];
         let Some(issued) = slot else {
             return Ok(());
@@ -254,7 +244,7 @@ impl Board {
         ensures { self.new ≡ with_issued self.old
             (replaced (seek (held_in unit) self.old.issued) self.old.issued read) }
     {
-        let index = index_of(unit);
+        let index = unit_number(unit);
         if let Some(issued) = &mut self.units[index] {
             issued.reservation.progress = Progress::Reserved { has_read: true };
         }
@@ -266,7 +256,7 @@ impl Board {
         ensures { self.new ≡ with_issued self.old
             (replaced (seek (held_in unit) self.old.issued) self.old.issued left) }
     {
-        let index = index_of(unit);
+        let index = unit_number(unit);
         let slot = self.units[index];
         let Some(issued) = slot else {
             return;

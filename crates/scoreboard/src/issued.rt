@@ -3,7 +3,7 @@ ghost use Rattle.instructions.specs.Shape.{shape_of};
 ghost use Rattle.scoreboard.specs.Issued.{channel_of};
 
 use crate::Reservation;
-use instructions::{Digit, Instr, Target};
+use instructions::{Digit, Instr, MemoryUse};
 
 /// An issued instruction with the number of its reservation.
 #[derive(Clone, Copy, Debug, Drop, PartialEq, Eq)]
@@ -20,16 +20,9 @@ pub(crate) fn channel(instr: &Instr) -> Option<Digit>
     ensures { result ≡ channel_of (shape_of instr.now) }
 {
     match *instr {
-        Instr::Increment {
-            target: Target::A,
-            i,
-            ..
-        } => if i.get() == 0 {
-            None
-        } else if i.get() <= 5 {
-            Some(i)
-        } else {
-            None
+        Instr::Increment { target, i, .. } => match target.memory(i) {
+            Some(MemoryUse::Loads(_)) => Some(i),
+            _ => None,
         },
         _ => None,
     }

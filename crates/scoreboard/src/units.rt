@@ -4,11 +4,11 @@ ghost use Rattle.scoreboard.specs.Units.{unit_number, same_unit};
 use instructions::Unit;
 
 /// The number of a unit, from 0 for Branch to 9 for Increment2 (this project's choice).
-pub fn unit_number(unit: Unit) -> u8
+pub fn unit_number(unit: Unit) -> usize
     ensures value { result ≡ unit_number unit }
     ensures range { result < 10 }
 {
-    unit as u8
+    unit as usize
 }
 
 /// Whether two units are one.

@@ -87,10 +87,6 @@ unfolding located refusal_of tests_found nothing
 nothing_there None g h = refl
 nothing_there (Some f) g h = cc
 
-pub none_from : {K : Type 0} (o : Option K) (b : Bool) → is_some o ≡ not b → b ≡ true → o ≡ None
-none_from None b e h = refl
-none_from (Some x) b e h = let q : true ≡ false = e ∙ ap not h in cc
-
 pub some_from : {K : Type 0} (o : Option (Found Pending K)) (s : Option (Located K)) (b : Bool) → s ≡ located o
     → is_some s ≡ not b → b ≡ false → (f : Found Pending K) × (o ≡ Some f)
 unfolding located
@@ -539,17 +535,6 @@ changed_flight g ms ns queue b c xs f ef en ec =
     ∙ ap (λ (y : Flight). with_pending y (g y.pending)) ef
 
 -- ---- a reservation ----
-
-pub no_unit_there : (ms : List Pending) (i : Instr) (place : SomePosition) (o : Option UnitKind) → o ≡ (uses i).unit
-    → o ≡ None → refusal_of (reservation_tests ms (Taking i place)) ≡ Some (UnitBusy Branch)
-unfolding reservation_tests refusal_of conflict.unit_for first_unit
-no_unit_there ms i place (Some kind) e h = cc
-no_unit_there ms i place None e h =
-    ap (λ u. refusal_of (record { fails = is_none (unit_for ms u); refusal = UnitBusy (first_unit u) }
-    ∷ record {
-      fails = list_any (awaited ms) (results (shape_of i));
-      refusal = ResultReserved (conflict.first_such (awaited ms) (results (shape_of i)));
-    } ∷ [])) (sym e)
 
 same_unit_for : (ms : List Pending) (kind : Option UnitKind)
     → conflict.unit_for reservation_of_issued (on_board ms) kind ≡ unit_for ms kind

@@ -9,7 +9,7 @@ use Rattle.instructions.specs.declared.instr.Reg.{Reg}
 use Rattle.instructions.specs.declared.instr.Reg.TheVariants.{X, A}
 use Rattle.instructions.specs.declared.instr.Unit.{Unit as FunctionalUnit}
 use Rattle.instructions.specs.declared.refusal.Refusal.{Refusal}
-use Rattle.instructions.specs.declared.refusal.Refusal.TheVariants.{BankBusy, OlderAtAddress}
+use Rattle.instructions.specs.declared.refusal.Refusal.TheVariants.{BankBusy, OlderAtAddress, HopperFull}
 use Rattle.instructions.specs.Each.{Each, Pairs}
 use Rattle.instructions.specs.Finding.{Found as FoundIn, seek as seek_in, put_back as put_back_of, replaced, Found}
 use Rattle.instructions.specs.Finding.{seek, found_here, found_further, put_back}
@@ -23,7 +23,7 @@ use Rattle.relocation.specs.declared.area.Access.{Access}
 use Rattle.relocation.specs.declared.area.Access.TheVariants.{Load, Store}
 use Rattle.hopper.specs.Hopper.{bank_of, keep_order}
 use Rattle.hopper.specs.Queue.{Queue, reference_at, holds_back as keeps_back, accept_answer, accepted}
-use Rattle.hopper.specs.Queue.{place_for as free_in}
+use Rattle.hopper.specs.Queue.{place_for as free_in, enter_answer}
 use Rattle.hopper.specs.declared.entered.Entered.{Entered}
 use Rattle.hopper.specs.declared.reference.Reference.{Reference}
 use Rattle.scoreboard.specs.Reservations as board
@@ -32,6 +32,7 @@ use Rattle.scoreboard.specs.Issued.{channel_of}
 use Rattle.scoreboard.specs.Answers.{Standing, held_in, left, with_issued}
 use Rattle.scoreboard.specs.Units.{unit_number}
 use Rattle.scoreboard.proofs.in_slots.InSlots.{unit_below}
+use Rattle.in_flight.specs.declared.flight.InFlight.TheInside.{Inside}
 use Rattle.in_flight.specs.declared.referring.Relocated.{Relocated}
 use Rattle.in_flight.specs.declared.pending.Outstanding.{Outstanding}
 use Rattle.in_flight.specs.declared.pending.Outstanding.TheVariants.{Entered as HasEntered, Accepted}
@@ -513,6 +514,111 @@ pub room_in_queue : (ms : List Pending) (queue : Queue) (rest : Option Relocated
 unfolding place_for
 room_in_queue ms queue rest e room k = ap (λ es. is_none (free_in es)) e ∙ room k
 
+-- it enters the hopper where it is in range
+pub enters_in_range : (r : Relocated) → enters (outstanding_of 0 (Some r)) ≡ is_some r.address
+unfolding enters outstanding_of entering
+enters_in_range r = by_parts r.address r.access
+  where
+    by_parts : (o : Option ℕ) (x : Access) → enters (entering 0 o x) ≡ is_some o
+    by_parts (Some a) x = refl
+    by_parts None (Load n) = refl
+    by_parts None (Store w) = refl
+
+-- where there is no reference none enters
+pub none_enters : enters (outstanding_of 0 None) ≡ false
+unfolding enters outstanding_of
+none_enters = refl
+
+-- what is left of an instruction, by its reference, has come to wait in the hopper; the others are as they were
+pub record HasCome (i j : Inside) (rest : Option Relocated) (l : Option Outstanding) : Type 0 where
+  pub left : l ≡ outstanding_of (unwrap_or (free_in i.hopper.entered) 0) rest
+  pub slots : j.slots ≡ i.slots
+  pub board : j.board ≡ i.board
+  pub queue : j.hopper ≡ queue_with i.hopper l
+
+entered_place : (o : Option ℕ) (r : Result ℕ Refusal) (p : ℕ) → r ≡ enter_answer o → r ≡ Ok p → o ≡ Some p
+unfolding enter_answer
+entered_place None r p e h = let k : Err HopperFull ≡ Ok p = sym e ∙ h in cc
+entered_place (Some q) r p e h = let k : Ok q ≡ Ok p = sym e ∙ h in cc
+
+pub has_entered : (i j : Inside) (rest : Option Relocated) (q : Relocated) (a p : ℕ) (r : Result ℕ Refusal)
+    (queue : Queue) (l : Option Outstanding) → rest ≡ Some q → q.address ≡ Some a
+    → r ≡ enter_answer (free_in i.hopper.entered) → r ≡ Ok p
+    → queue ≡ record i.hopper {
+      entered = i.hopper.entered ++ record { place = p; reference = record { address = a; access = q.access } } ∷ [];
+    } → l ≡ Some (HasEntered p a q.access) → j ≡ record { slots = i.slots; board = i.board; hopper = queue }
+    → HasCome i j rest l
+unfolding outstanding_of entering queue_with waiting_in
+has_entered i j rest q a p r queue l er ei ea eo eq el ej = record {
+  left = el ∙ sym (ap (outstanding_of (unwrap_or (free_in i.hopper.entered) 0)) er
+      ∙ ap (λ o. entering (unwrap_or (free_in i.hopper.entered) 0) o q.access) ei
+      ∙ ap (λ o. Some (HasEntered (unwrap_or o 0) a q.access)) (entered_place (free_in i.hopper.entered) r p ea eo));
+  slots = ap (λ (k : Inside). k.slots) ej;
+  board = ap (λ (k : Inside). k.board) ej;
+  queue = ap (λ (k : Inside). k.hopper) ej ∙ eq ∙ sym (ap (queue_with i.hopper) el);
+}
+
+-- a hopper with room doesn't refuse
+pub not_refused : (es : List Entered) (rest : Option Relocated) (q : Relocated) (a : ℕ) (r : Result ℕ Refusal)
+    (refusal : Refusal) → rest ≡ Some q → q.address ≡ Some a → r ≡ enter_answer (free_in es) → r ≡ Err refusal → (enters (outstanding_of 0 rest) ≡ true → is_none (free_in es) ≡ false) → ⊥
+unfolding enter_answer
+not_refused es rest q a r refusal er ei ea eo room =
+    by_place (free_in es) ea (room (ap (λ z. enters (outstanding_of 0 z)) er ∙ enters_in_range q ∙ ap is_some ei))
+  where
+    by_place : (o : Option ℕ) → r ≡ enter_answer o → is_none o ≡ false → ⊥
+    by_place None e k = cc
+    by_place (Some p) e k = let h : Ok p ≡ Err refusal = sym e ∙ eo in cc
+
+pub load_has_come : (i j : Inside) (rest : Option Relocated) (q : Relocated) (n word : ℕ) (l : Option Outstanding)
+    → rest ≡ Some q → q.address ≡ None → q.access ≡ Load n → word ≡ 0 → l ≡ Some (Accepted n word) → j ≡ i
+    → HasCome i j rest l
+unfolding outstanding_of entering queue_with waiting_in
+load_has_come i j rest q n word l er ei ex ew el ej = record {
+  left = el ∙ ap (λ w. Some (Accepted n w)) ew
+      ∙ sym (ap (outstanding_of (unwrap_or (free_in i.hopper.entered) 0)) er
+      ∙ ap (λ o. entering (unwrap_or (free_in i.hopper.entered) 0) o q.access) ei
+      ∙ ap (entering (unwrap_or (free_in i.hopper.entered) 0) None) ex);
+  slots = ap (λ (k : Inside). k.slots) ej;
+  board = ap (λ (k : Inside). k.board) ej;
+  queue = ap (λ (k : Inside). k.hopper) ej
+      ∙ sym (ap (queue_with i.hopper) el ∙ ap (λ es. record i.hopper { entered = es }) (append-nil i.hopper.entered));
+}
+
+pub store_has_gone : (i j : Inside) (rest : Option Relocated) (q : Relocated) (word : ℕ) (l : Option Outstanding)
+    → rest ≡ Some q → q.address ≡ None → q.access ≡ Store word → l ≡ None → j ≡ i → HasCome i j rest l
+unfolding outstanding_of entering queue_with
+store_has_gone i j rest q word l er ei ex el ej = record {
+  left = el ∙ sym (ap (outstanding_of (unwrap_or (free_in i.hopper.entered) 0)) er
+      ∙ ap (λ o. entering (unwrap_or (free_in i.hopper.entered) 0) o q.access) ei
+      ∙ ap (entering (unwrap_or (free_in i.hopper.entered) 0) None) ex);
+  slots = ap (λ (k : Inside). k.slots) ej;
+  board = ap (λ (k : Inside). k.board) ej;
+  queue = ap (λ (k : Inside). k.hopper) ej ∙ sym (ap (queue_with i.hopper) el);
+}
+
+pub none_has_come : (i j : Inside) (rest : Option Relocated) (l : Option Outstanding) → rest ≡ None → l ≡ None
+    → j ≡ i → HasCome i j rest l
+unfolding outstanding_of queue_with
+none_has_come i j rest l er el ej = record {
+  left = el ∙ sym (ap (outstanding_of (unwrap_or (free_in i.hopper.entered) 0)) er);
+  slots = ap (λ (k : Inside). k.slots) ej;
+  board = ap (λ (k : Inside). k.board) ej;
+  queue = ap (λ (k : Inside). k.hopper) ej ∙ sym (ap (queue_with i.hopper) el);
+}
+
+-- what an instruction leaves is answered, where there is one
+pub left_answered : (u : FunctionalUnit) (ms : List Pending) (queue : Queue) (f : Found Pending Stage)
+    (rest : Option Relocated) (l : Option Outstanding) (now : Flight) → queue.entered ≡ waiting ms
+    → ms ≡ now.pending → seek (stage_at u) ms ≡ Some f
+    → l ≡ outstanding_of (unwrap_or (free_in queue.entered) 0) rest
+    → MatchOption (located (seek (stage_at u) now.pending)) (l ≡ None)
+    (λ s. l ≡ outstanding_of (unwrap_or (place_for now.pending) 0) rest)
+unfolding located
+left_answered u ms queue f rest l now e en h el =
+    subst (λ o. MatchOption (located o) (l ≡ None)
+    (λ s. l ≡ outstanding_of (unwrap_or (place_for now.pending) 0) rest)) (sym (ap (seek (stage_at u)) (sym en) ∙ h))
+    (later_is ms queue rest l e el ∙ ap (λ z. outstanding_of (unwrap_or (place_for z) 0) rest) en)
+
 -- ---- the references in the order in which they entered ----
 
 not_entered : (l m : Pending) → has_turn m ≡ true → IsApart m l → waiting_in l.phase ≡ []
@@ -608,20 +714,6 @@ leave_tied u ms ns queue after b c f rest l tied apart h is el en eq ec =
 abbrev pub left_from : FunctionalUnit → Option Relocated → List Pending → List Pending
 left_from u rest ms =
     replaced (seek (stage_at u) ms) ms (λ m. kept m (outstanding_of (unwrap_or (place_for ms) 0) rest))
-
--- what the store answers is left of the instruction, if one holds the unit
-pub left_is : (u : FunctionalUnit) (ms : List Pending) (queue : Queue) (b : Standing) (rest : Option Relocated)
-    (l : Option Outstanding) (now : Flight) → flight_of ms queue b ≡ now → IsTied ms queue b
-    → l ≡ outstanding_of (unwrap_or (free_in queue.entered) 0) rest
-    → (f : Found Pending Stage) → seek (stage_at u) ms ≡ Some f
-    → MatchOption (located (seek (stage_at u) now.pending)) (l ≡ None)
-    (λ s. l ≡ outstanding_of (unwrap_or (place_for now.pending) 0) rest)
-unfolding located
-left_is u ms queue b rest l now ev tied el f h =
-    subst (λ (x : Flight). MatchOption (located (seek (stage_at u) x.pending)) (l ≡ None)
-    (λ s. l ≡ outstanding_of (unwrap_or (place_for x.pending) 0) rest)) ev
-    (subst (λ o. MatchOption (located o) (l ≡ None)
-    (λ s. l ≡ outstanding_of (unwrap_or (place_for ms) 0) rest)) (sym h) (later_is ms queue rest l tied.entered el))
 
 pub leave_flight : (u : FunctionalUnit) (ms ns : List Pending) (queue after : Queue) (b c : Standing)
     (rest : Option Relocated) (l : Option Outstanding) (now : Flight) → flight_of ms queue b ≡ now → IsTied ms queue b

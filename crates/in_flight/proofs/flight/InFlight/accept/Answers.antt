@@ -1,15 +1,17 @@
-use Rattle.std.proofs.Common.{◌≡◌, ◌<◌, sym, ap, ◌∙◌, subst, length}
+use Rattle.std.proofs.Common.{◌≡◌, ◌<◌, sym, ap, ◌∙◌, subst, length, Some}
 use Rattle.std.specs.Prelude.{IfSome}
 use Rattle.instructions.specs.Each.{Pairs}
 use Rattle.hopper.specs.declared.reference.Reference.{Reference}
 use Rattle.in_flight.specs.Tests.{refusal_in, refusal_of, tests_found, accept_tests}
-use Rattle.in_flight.specs.Flight.{Flight}
+use Rattle.in_flight.specs.declared.pending.Outstanding.TheVariants.{Accepted}
+use Rattle.in_flight.specs.Flight.{Flight, left_by}
 use Rattle.in_flight.specs.inner.OwnSlots.{HasOwnSlots}
 use Rattle.in_flight.specs.Apart.{IsApart}
 use Rattle.instructions.specs.Finding.{seek}
 use Rattle.in_flight.specs.Lookup.{entry_at}
 use Rattle.in_flight.proofs.answering.Referring.{accept_answered, accept_found, entry_answered, entry_placed}
 use Rattle.in_flight.proofs.answering.Referring.{room_for_word, accept_tied, accept_flight}
+use Rattle.in_flight.proofs.flight.InFlight.accept.Goals.{in-Load, in-Store}
 use Rattle.in_flight.proofs.flight.InFlight.accept.Goals as goal
 
 pub returns-in-Err-clause-answer : goal.returns-in-Err-clause-answer
@@ -21,8 +23,8 @@ returns-in-Err-clause-answer c =
     c.accept.ensures.answer
     ∙ ap refusal_in c.in-Err.is
 
-pub left_by-left-requires : goal.left_by-left-requires
-left_by-left-requires c =
+pub load-requires : goal.load-requires
+load-requires c =
     let p = (accept_found c.args.place c.self.inside.slots c.self.inside.hopper c.accept.result c.in-Ok.reference
     c.self.invariant.entered c.accept.ensures.answer c.in-Ok.is) in
     subst (λ (r : Reference). r.address < length c.args.memory.now) p.2
@@ -42,18 +44,30 @@ pub accept-requires-2-clause-room : goal.accept-requires-2-clause-room
 accept-requires-2-clause-room c =
     let p = (accept_found c.args.place c.self.inside.slots c.self.inside.hopper c.accept.result c.in-Ok.reference
     c.self.invariant.entered c.accept.ensures.answer c.in-Ok.is) in
-    room_for_word c.args.memory.now c.args.place c.self.inside.slots p.0 c.in-Ok.reference c.left_by-left.result
+    let left : c.match-reference.left ≡ left_by c.args.memory.now c.in-Ok.reference.address c.in-Ok.reference.access =
+    elim c.match-reference.branch [
+      | in-Load w ↦ w.left-is ∙ ap (λ word. Some (Accepted w.in-Load.n word)) w.load.ensures
+          ∙ sym (ap (left_by c.args.memory.now c.in-Ok.reference.address) w.in-Load.is)
+      | in-Store w ↦ w.left-is ∙ sym (ap (left_by c.args.memory.now c.in-Ok.reference.address) w.in-Store.is)
+    ] in
+    room_for_word c.args.memory.now c.args.place c.self.inside.slots p.0 c.in-Ok.reference c.match-reference.left
     (subst (λ (x : Flight). Pairs IsApart x.pending) (sym c.self.view_is) c.requires.apart)
     (subst (λ (x : Flight). HasOwnSlots (length c.args.memory.now) x.pending) (sym c.self.view_is)
-    c.requires.own_slots) p.1 p.2 c.left_by-left.ensures
+    c.requires.own_slots) p.1 p.2 left
 
 pub invariant_of-self-2 : goal.invariant_of-self-2
 invariant_of-self-2 c =
     let p = (accept_found c.args.place c.self.inside.slots c.self.inside.hopper c.accept.result c.in-Ok.reference
     c.self.invariant.entered c.accept.ensures.answer c.in-Ok.is) in
+    let left : c.match-reference.left ≡ left_by c.args.memory.now c.in-Ok.reference.address c.in-Ok.reference.access =
+    elim c.match-reference.branch [
+      | in-Load w ↦ w.left-is ∙ ap (λ word. Some (Accepted w.in-Load.n word)) w.load.ensures
+          ∙ sym (ap (left_by c.args.memory.now c.in-Ok.reference.address) w.in-Load.is)
+      | in-Store w ↦ w.left-is ∙ sym (ap (left_by c.args.memory.now c.in-Ok.reference.address) w.in-Store.is)
+    ] in
     accept_tied c.args.memory.now c.args.place c.self.inside.slots c.accept-2.new.self c.self.inside.hopper
-    c.accept.new.self c.self.inside.board p.0 c.in-Ok.reference c.left_by-left.result c.self.invariant p.1 p.2
-    c.left_by-left.ensures c.accept-2.ensures c.in-Ok.ensures.after
+    c.accept.new.self c.self.inside.board p.0 c.in-Ok.reference c.match-reference.left c.self.invariant p.1 p.2
+    left c.accept-2.ensures c.in-Ok.ensures.after
 
 pub returns-clause-answer : goal.returns-clause-answer
 returns-clause-answer c =
@@ -76,6 +90,12 @@ pub returns-clause-after : goal.returns-clause-after
 returns-clause-after c =
     let p = (accept_found c.args.place c.self.inside.slots c.self.inside.hopper c.accept.result c.in-Ok.reference
     c.self.invariant.entered c.accept.ensures.answer c.in-Ok.is) in
+    let left : c.match-reference.left ≡ left_by c.args.memory.now c.in-Ok.reference.address c.in-Ok.reference.access =
+    elim c.match-reference.branch [
+      | in-Load w ↦ w.left-is ∙ ap (λ word. Some (Accepted w.in-Load.n word)) w.load.ensures
+          ∙ sym (ap (left_by c.args.memory.now c.in-Ok.reference.address) w.in-Load.is)
+      | in-Store w ↦ w.left-is ∙ sym (ap (left_by c.args.memory.now c.in-Ok.reference.address) w.in-Store.is)
+    ] in
     accept_flight c.args.memory.now c.args.place c.self.inside.slots c.accept-2.new.self c.self.inside.hopper
-    c.accept.new.self c.self.inside.board p.0 c.in-Ok.reference c.left_by-left.result c.args.self.now
-    c.self.view_is c.self.invariant p.1 p.2 c.left_by-left.ensures c.accept-2.ensures c.in-Ok.ensures.after
+    c.accept.new.self c.self.inside.board p.0 c.in-Ok.reference c.match-reference.left c.args.self.now
+    c.self.view_is c.self.invariant p.1 p.2 left c.accept-2.ensures c.in-Ok.ensures.after

@@ -1,79 +1,144 @@
-use Rattle.std.proofs.Common.{◌≡◌, true, false, refl, sym, ap, ◌∙◌, subst}
-use Rattle.std.specs.Prelude.{IfSome, MatchOption, None, Option, Some, is_none, unwrap_or}
+use Rattle.std.proofs.Common.{◌≡◌, true, false, sym, ap, ◌∙◌, subst}
+use Rattle.std.specs.Prelude.{IfSome, is_none}
 use Rattle.instructions.specs.Each.{Pairs}
 use Rattle.instructions.specs.Shape.{shape_of}
+use Rattle.instructions.specs.Finding.{seek, replaced}
+use Rattle.scoreboard.specs.Answers.{Standing, held_in, left, with_issued}
 use Rattle.in_flight.specs.Flight.{Flight, IsRestOf, outstanding_of}
-use Rattle.in_flight.specs.Lookup.{located, stage_at, place_for, enters}
+use Rattle.in_flight.specs.inner.Slots.{HasRoom}
+use Rattle.in_flight.specs.Lookup.{located, stage_at, place_for, enters, kept}
 use Rattle.in_flight.specs.Apart.{IsApart}
-use Rattle.instructions.specs.Finding.{Found, seek}
-use Rattle.in_flight.specs.declared.pending.Outstanding.{Outstanding}
-use Rattle.in_flight.specs.declared.pending.Pending.{Pending}
-use Rattle.in_flight.specs.declared.pending.Stage.{Stage}
 use Rattle.in_flight.proofs.answering.Beside.{some_from, nobody_from}
-use Rattle.in_flight.proofs.answering.Referring.{room_for_rest, room_in_queue, leave_tied, leave_flight, leave_nobody}
-use Rattle.in_flight.proofs.answering.Referring.{left_is}
+use Rattle.in_flight.proofs.answering.Referring.{HasCome, has_entered, not_refused, load_has_come, store_has_gone}
+use Rattle.in_flight.proofs.answering.Referring.{none_has_come, room_for_rest, room_in_queue, leave_tied, leave_flight}
+use Rattle.in_flight.proofs.answering.Referring.{leave_nobody, left_answered}
+use Rattle.in_flight.proofs.flight.InFlight.leave.Goals.{in-None, in-Some+in-Some-address+in-Ok}
+use Rattle.in_flight.proofs.flight.InFlight.leave.Goals.{in-Some+in-Some-address+in-Err, in-Some+in-None-address+in-Load}
+use Rattle.in_flight.proofs.flight.InFlight.leave.Goals.{in-Some+in-None-address+in-Store}
 use Rattle.in_flight.proofs.flight.InFlight.leave.Goals as goal
-use Rattle.in_flight.proofs.flight.InFlight.leave.Goals.{After-release, Then-is_none}
 
-nobody : (c : Then-is_none) → seek (stage_at c.args.unit) c.args.self.now.pending ≡ None
-nobody c = sym (ap (λ (x : Flight). seek (stage_at c.args.unit) x.pending) c.self.view_is)
+pub returns-then-is_none-clause-after : goal.returns-then-is_none-clause-after
+returns-then-is_none-clause-after c =
+    leave_nobody c.args.unit c.args.rest.now c.args.self.now
+    (sym (ap (λ (x : Flight). seek (stage_at c.args.unit) x.pending) c.self.view_is)
     ∙ nobody_from (seek (stage_at c.args.unit) c.self.inside.slots) c.find_stage.result c.is_none.result
-    c.find_stage.ensures c.is_none.ensures c.if-is_none.true
-
-found : (c : After-release) → (f : Found Pending Stage) × (seek (stage_at c.args.unit) c.self.inside.slots ≡ Some f)
-found c = some_from (seek (stage_at c.args.unit) c.self.inside.slots) c.find_stage.result c.is_none.result
-    c.find_stage.ensures c.is_none.ensures c.if-is_none.false
-
-no_rest : Option Outstanding
-no_rest = None
-
-pub returns-then-is_none : goal.returns-then-is_none
-unfolding located no_rest
-returns-then-is_none c = record {
-  left = subst (λ o. MatchOption (located o) (no_rest ≡ None)
-      (λ s. no_rest ≡ outstanding_of (unwrap_or (place_for c.args.self.now.pending) 0) c.args.rest.now))
-      (sym (nobody c)) refl;
-  after = leave_nobody c.args.unit c.args.rest.now c.args.self.now (nobody c);
-}
+    c.find_stage.ensures c.is_none.ensures c.if-is_none.true)
 
 pub leave-requires : goal.leave-requires
 leave-requires c =
     let p = (some_from (seek (stage_at c.args.unit) c.self.inside.slots) c.find_stage.result c.is_none.result
     c.find_stage.ensures c.is_none.ensures c.if-is_none.false) in
-    room_for_rest c.args.unit c.self.inside.slots c.self.inside.hopper p.0 c.args.rest.now c.waiting_rest-later.result
-    c.self.invariant.entered (subst (λ (x : Flight). Pairs IsApart x.pending) (sym c.self.view_is)
-    c.requires.apart) p.1 (subst (λ (x : Flight). IfSome (located (seek (stage_at c.args.unit) x.pending))
+    let come : HasCome c.self.inside c.match-rest.self-inside c.args.rest.now c.match-rest.left =
+    elim c.match-rest.branch [
+      | in-None w ↦ none_has_come c.self.inside c.match-rest.self-inside c.args.rest.now c.match-rest.left
+          w.in-None.is w.left-is w.self-inside-is
+      | in-Some+in-Some-address+in-Ok w ↦ has_entered c.self.inside c.match-rest.self-inside c.args.rest.now
+          w.in-Some.reference w.in-Some-address.address w.in-Ok.place w.enter.result w.enter.new.self
+          c.match-rest.left w.in-Some.is w.in-Some-address.is w.enter.ensures.answer w.in-Ok.is
+          w.in-Ok.ensures.after w.left-is w.self-inside-is
+      | in-Some+in-Some-address+in-Err w ↦ absurd (not_refused c.self.inside.hopper.entered c.args.rest.now
+          w.in-Some.reference w.in-Some-address.address w.enter.result w.in-Err.field-0 w.in-Some.is w.in-Some-address.is
+          w.enter.ensures.answer w.in-Err.is (room_in_queue c.self.inside.slots c.self.inside.hopper c.args.rest.now
+          c.self.invariant.entered (subst (λ (x : Flight). enters (outstanding_of 0 c.args.rest.now) ≡ true
+          → is_none (place_for x.pending) ≡ false) (sym c.self.view_is) c.requires.room)))
+      | in-Some+in-None-address+in-Load w ↦ load_has_come c.self.inside c.match-rest.self-inside c.args.rest.now w.in-Some.reference
+          w.in-Load.n w.default.result c.match-rest.left w.in-Some.is w.in-None-address.is w.in-Load.is
+          (sym w.default.ensures.1 ∙ w.default.ensures.2) w.left-is w.self-inside-is
+      | in-Some+in-None-address+in-Store w ↦ store_has_gone c.self.inside c.match-rest.self-inside c.args.rest.now w.in-Some.reference
+          w.in-Store.field-0 c.match-rest.left w.in-Some.is w.in-None-address.is w.in-Store.is w.left-is w.self-inside-is
+    ] in
+    subst (HasRoom c.match-rest.left) (sym come.slots)
+    (room_for_rest c.args.unit c.self.inside.slots c.self.inside.hopper p.0 c.args.rest.now c.match-rest.left
+    c.self.invariant.entered (subst (λ (x : Flight). Pairs IsApart x.pending) (sym c.self.view_is) c.requires.apart) p.1 (subst (λ (x : Flight). IfSome (located (seek (stage_at c.args.unit) x.pending))
     (λ s. IsRestOf (shape_of s.pending.instr) c.args.rest.now)) (sym
     c.self.view_is) c.requires.rest) (subst (λ (x : Flight). enters (outstanding_of 0 c.args.rest.now) ≡ true
     → is_none (place_for x.pending)
-    ≡ false) (sym c.self.view_is) c.requires.room) c.waiting_rest-later.ensures.answer
-
-pub waiting_rest-later-requires : goal.waiting_rest-later-requires
-waiting_rest-later-requires c =
-    room_in_queue c.self.inside.slots c.self.inside.hopper c.args.rest.now c.self.invariant.entered
-    (subst (λ (x : Flight). enters (outstanding_of 0 c.args.rest.now) ≡ true
-    → is_none (place_for x.pending)
-    ≡ false) (sym c.self.view_is) c.requires.room)
+    ≡ false) (sym c.self.view_is) c.requires.room) come.left)
 
 pub invariant_of-self : goal.invariant_of-self
 invariant_of-self c =
     let p = (some_from (seek (stage_at c.args.unit) c.self.inside.slots) c.find_stage.result c.is_none.result
     c.find_stage.ensures c.is_none.ensures c.if-is_none.false) in
-    leave_tied c.args.unit c.self.inside.slots c.leave.new.self c.self.inside.hopper c.waiting_rest-later.new.hopper
-    c.self.inside.board c.release.new.self p.0 c.args.rest.now c.waiting_rest-later.result c.self.invariant
+    let come : HasCome c.self.inside c.match-rest.self-inside c.args.rest.now c.match-rest.left =
+    elim c.match-rest.branch [
+      | in-None w ↦ none_has_come c.self.inside c.match-rest.self-inside c.args.rest.now c.match-rest.left
+          w.in-None.is w.left-is w.self-inside-is
+      | in-Some+in-Some-address+in-Ok w ↦ has_entered c.self.inside c.match-rest.self-inside c.args.rest.now
+          w.in-Some.reference w.in-Some-address.address w.in-Ok.place w.enter.result w.enter.new.self
+          c.match-rest.left w.in-Some.is w.in-Some-address.is w.enter.ensures.answer w.in-Ok.is
+          w.in-Ok.ensures.after w.left-is w.self-inside-is
+      | in-Some+in-Some-address+in-Err w ↦ absurd (not_refused c.self.inside.hopper.entered c.args.rest.now
+          w.in-Some.reference w.in-Some-address.address w.enter.result w.in-Err.field-0 w.in-Some.is w.in-Some-address.is
+          w.enter.ensures.answer w.in-Err.is (room_in_queue c.self.inside.slots c.self.inside.hopper c.args.rest.now
+          c.self.invariant.entered (subst (λ (x : Flight). enters (outstanding_of 0 c.args.rest.now) ≡ true
+          → is_none (place_for x.pending) ≡ false) (sym c.self.view_is) c.requires.room)))
+      | in-Some+in-None-address+in-Load w ↦ load_has_come c.self.inside c.match-rest.self-inside c.args.rest.now w.in-Some.reference
+          w.in-Load.n w.default.result c.match-rest.left w.in-Some.is w.in-None-address.is w.in-Load.is
+          (sym w.default.ensures.1 ∙ w.default.ensures.2) w.left-is w.self-inside-is
+      | in-Some+in-None-address+in-Store w ↦ store_has_gone c.self.inside c.match-rest.self-inside c.args.rest.now w.in-Some.reference
+          w.in-Store.field-0 c.match-rest.left w.in-Some.is w.in-None-address.is w.in-Store.is w.left-is w.self-inside-is
+    ] in
+    leave_tied c.args.unit c.self.inside.slots c.leave.new.self c.self.inside.hopper
+    c.match-rest.self-inside.hopper c.self.inside.board c.release.new.self p.0 c.args.rest.now c.match-rest.left
+    c.self.invariant
     (subst (λ (x : Flight). Pairs IsApart x.pending) (sym c.self.view_is) c.requires.apart) p.1
     (subst (λ (x : Flight). IfSome (located (seek (stage_at c.args.unit) x.pending))
     (λ s. IsRestOf (shape_of s.pending.instr) c.args.rest.now)) (sym
-    c.self.view_is) c.requires.rest) c.waiting_rest-later.ensures.answer c.leave.ensures
-    c.waiting_rest-later.ensures.after c.release.ensures
+    c.self.view_is) c.requires.rest) come.left
+    (c.leave.ensures ∙ ap (λ ms. replaced (seek (stage_at c.args.unit) ms) ms (λ m. kept m c.match-rest.left)) come.slots) come.queue
+    (c.release.ensures ∙ ap (λ (b : Standing). with_issued b (replaced (seek (held_in c.args.unit) b.issued) b.issued
+    left)) come.board)
 
-pub returns : goal.returns
-returns c = record {
-  left = left_is c.args.unit c.self.inside.slots c.self.inside.hopper c.self.inside.board c.args.rest.now
-      c.waiting_rest-later.result c.args.self.now c.self.view_is c.self.invariant c.waiting_rest-later.ensures.answer
-      (found c).0 (found c).1;
-  after = leave_flight c.args.unit c.self.inside.slots c.leave.new.self c.self.inside.hopper
-      c.waiting_rest-later.new.hopper c.self.inside.board c.release.new.self c.args.rest.now
-      c.waiting_rest-later.result c.args.self.now c.self.view_is c.self.invariant c.waiting_rest-later.ensures.answer
-      c.leave.ensures c.waiting_rest-later.ensures.after c.release.ensures;
-}
+pub returns-clause-left : goal.returns-clause-left
+returns-clause-left c =
+    let p = (some_from (seek (stage_at c.args.unit) c.self.inside.slots) c.find_stage.result c.is_none.result
+    c.find_stage.ensures c.is_none.ensures c.if-is_none.false) in
+    let come : HasCome c.self.inside c.match-rest.self-inside c.args.rest.now c.match-rest.left =
+    elim c.match-rest.branch [
+      | in-None w ↦ none_has_come c.self.inside c.match-rest.self-inside c.args.rest.now c.match-rest.left
+          w.in-None.is w.left-is w.self-inside-is
+      | in-Some+in-Some-address+in-Ok w ↦ has_entered c.self.inside c.match-rest.self-inside c.args.rest.now
+          w.in-Some.reference w.in-Some-address.address w.in-Ok.place w.enter.result w.enter.new.self
+          c.match-rest.left w.in-Some.is w.in-Some-address.is w.enter.ensures.answer w.in-Ok.is
+          w.in-Ok.ensures.after w.left-is w.self-inside-is
+      | in-Some+in-Some-address+in-Err w ↦ absurd (not_refused c.self.inside.hopper.entered c.args.rest.now
+          w.in-Some.reference w.in-Some-address.address w.enter.result w.in-Err.field-0 w.in-Some.is w.in-Some-address.is
+          w.enter.ensures.answer w.in-Err.is (room_in_queue c.self.inside.slots c.self.inside.hopper c.args.rest.now
+          c.self.invariant.entered (subst (λ (x : Flight). enters (outstanding_of 0 c.args.rest.now) ≡ true
+          → is_none (place_for x.pending) ≡ false) (sym c.self.view_is) c.requires.room)))
+      | in-Some+in-None-address+in-Load w ↦ load_has_come c.self.inside c.match-rest.self-inside c.args.rest.now w.in-Some.reference
+          w.in-Load.n w.default.result c.match-rest.left w.in-Some.is w.in-None-address.is w.in-Load.is
+          (sym w.default.ensures.1 ∙ w.default.ensures.2) w.left-is w.self-inside-is
+      | in-Some+in-None-address+in-Store w ↦ store_has_gone c.self.inside c.match-rest.self-inside c.args.rest.now w.in-Some.reference
+          w.in-Store.field-0 c.match-rest.left w.in-Some.is w.in-None-address.is w.in-Store.is w.left-is w.self-inside-is
+    ] in
+    left_answered c.args.unit c.self.inside.slots c.self.inside.hopper p.0 c.args.rest.now c.match-rest.left
+    c.args.self.now c.self.invariant.entered (ap (λ (x : Flight). x.pending) c.self.view_is) p.1 come.left
+
+pub returns-clause-after : goal.returns-clause-after
+returns-clause-after c =
+    let come : HasCome c.self.inside c.match-rest.self-inside c.args.rest.now c.match-rest.left =
+    elim c.match-rest.branch [
+      | in-None w ↦ none_has_come c.self.inside c.match-rest.self-inside c.args.rest.now c.match-rest.left
+          w.in-None.is w.left-is w.self-inside-is
+      | in-Some+in-Some-address+in-Ok w ↦ has_entered c.self.inside c.match-rest.self-inside c.args.rest.now
+          w.in-Some.reference w.in-Some-address.address w.in-Ok.place w.enter.result w.enter.new.self
+          c.match-rest.left w.in-Some.is w.in-Some-address.is w.enter.ensures.answer w.in-Ok.is
+          w.in-Ok.ensures.after w.left-is w.self-inside-is
+      | in-Some+in-Some-address+in-Err w ↦ absurd (not_refused c.self.inside.hopper.entered c.args.rest.now
+          w.in-Some.reference w.in-Some-address.address w.enter.result w.in-Err.field-0 w.in-Some.is w.in-Some-address.is
+          w.enter.ensures.answer w.in-Err.is (room_in_queue c.self.inside.slots c.self.inside.hopper c.args.rest.now
+          c.self.invariant.entered (subst (λ (x : Flight). enters (outstanding_of 0 c.args.rest.now) ≡ true
+          → is_none (place_for x.pending) ≡ false) (sym c.self.view_is) c.requires.room)))
+      | in-Some+in-None-address+in-Load w ↦ load_has_come c.self.inside c.match-rest.self-inside c.args.rest.now w.in-Some.reference
+          w.in-Load.n w.default.result c.match-rest.left w.in-Some.is w.in-None-address.is w.in-Load.is
+          (sym w.default.ensures.1 ∙ w.default.ensures.2) w.left-is w.self-inside-is
+      | in-Some+in-None-address+in-Store w ↦ store_has_gone c.self.inside c.match-rest.self-inside c.args.rest.now w.in-Some.reference
+          w.in-Store.field-0 c.match-rest.left w.in-Some.is w.in-None-address.is w.in-Store.is w.left-is w.self-inside-is
+    ] in
+    leave_flight c.args.unit c.self.inside.slots c.leave.new.self c.self.inside.hopper
+    c.match-rest.self-inside.hopper c.self.inside.board c.release.new.self c.args.rest.now c.match-rest.left
+    c.args.self.now c.self.view_is c.self.invariant come.left
+    (c.leave.ensures ∙ ap (λ ms. replaced (seek (stage_at c.args.unit) ms) ms (λ m. kept m c.match-rest.left)) come.slots) come.queue
+    (c.release.ensures ∙ ap (λ (b : Standing). with_issued b (replaced (seek (held_in c.args.unit) b.issued) b.issued
+    left)) come.board)

@@ -6,14 +6,9 @@ use Rattle.sequential.specs.declared.fetching.Fetched.TheVariants.{Taking}
 use Rattle.in_flight.specs.Tests.{refusal_in, refusal_of, reservation_tests}
 use Rattle.in_flight.specs.Flight.{Flight, flight_of, unit_taken, reserved_in}
 use Rattle.in_flight.specs.inner.Board.{IsTied}
-use Rattle.in_flight.proofs.answering.Beside.{none_from, no_unit_there, reserve_answered, unreserved, reserved_now}
+use Rattle.in_flight.proofs.answering.Beside.{reserve_answered, unreserved, reserved_now}
 use Rattle.in_flight.proofs.answering.Beside.{reserved_as, unit_free, all_below, reserve_tied, reserved_flight}
 use Rattle.in_flight.proofs.flight.InFlight.reserve.Goals as goal
-
-pub returns-then-is_none-clause-answer : goal.returns-then-is_none-clause-answer
-returns-then-is_none-clause-answer c place =
-    no_unit_there c.args.self.now.pending c.args.instr.now place c.unit_kind.result c.unit_kind.ensures
-    (none_from c.unit_kind.result c.is_none.result c.is_none.ensures c.if-is_none.true)
 
 pub invariant_of-self : goal.invariant_of-self
 invariant_of-self c = subst (IsTied c.self.inside.slots c.self.inside.hopper)

@@ -9,22 +9,22 @@ pub returns-in_default : goal.returns-in_default
 unfolding located
 returns-in_default c =
     ap located (sym (stage_nobody c.self.inside.units c.self.inside.places c.self.inside.channels c.args.unit
-    c.index_of-index.result c.self.invariant c.index_of-index.ensures.value
-    (slot_any c.self.inside.units c.index_of-index.result c.index-self-index.result
-    (omega (arith, c.index_of-index.ensures.range, c.self.invariant.all_units)) ∙ c.in_default.is)))
+    c.unit_number-index.result c.self.invariant c.unit_number-index.ensures.value
+    (slot_any c.self.inside.units c.unit_number-index.result c.index-self-index.result
+    (omega (arith, c.unit_number-index.ensures.range, c.self.invariant.all_units)) ∙ c.in_default.is)))
     ∙ ap (λ ms. located (seek (stage_at c.args.unit) ms)) c.self.view_is
 
 pub returns-in-Before : goal.returns-in-Before
 returns-in-Before c =
-    found_answer c.self.inside.units c.self.inside.places c.self.inside.channels c.args.unit c.index_of-index.result
-    c.in-Some.pending c.in-Before.answer c.self.invariant c.index_of-index.ensures.value
-    (slot_any c.self.inside.units c.index_of-index.result c.index-self-index.result
-    (omega (arith, c.index_of-index.ensures.range, c.self.invariant.all_units))
+    found_answer c.self.inside.units c.self.inside.places c.self.inside.channels c.args.unit c.unit_number-index.result
+    c.in-Some.pending c.in-Before.answer c.self.invariant c.unit_number-index.ensures.value
+    (slot_any c.self.inside.units c.unit_number-index.result c.index-self-index.result
+    (omega (arith, c.unit_number-index.ensures.range, c.self.invariant.all_units))
     ∙ c.in-Some.is) c.in-Before.is
     ∙ ap (λ ms. located (seek (stage_at c.args.unit) ms)) c.self.view_is
 
 pub returns-in-After : goal.returns-in-After
 returns-in-After c = absurd (found_must c.self.inside.units c.self.inside.places c.self.inside.channels c.args.unit
-    c.index_of-index.result c.in-Some.pending c.in-After.field-0 c.self.invariant c.index_of-index.ensures.value
-    (slot_any c.self.inside.units c.index_of-index.result c.index-self-index.result
-    (omega (arith, c.index_of-index.ensures.range, c.self.invariant.all_units)) ∙ c.in-Some.is) c.in-After.is)
+    c.unit_number-index.result c.in-Some.pending c.in-After.field-0 c.self.invariant c.unit_number-index.ensures.value
+    (slot_any c.self.inside.units c.unit_number-index.result c.index-self-index.result
+    (omega (arith, c.unit_number-index.ensures.range, c.self.invariant.all_units)) ∙ c.in-Some.is) c.in-After.is)

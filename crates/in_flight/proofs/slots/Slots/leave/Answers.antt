@@ -10,32 +10,32 @@ pub returns-in_default : goal.returns-in_default
 returns-in_default c =
     sym c.self.view_is
     ∙ nobody_replaced (λ m. kept m c.args.later.now) c.self.inside.units c.self.inside.places c.self.inside.channels
-    c.args.unit c.index_of-index.result c.self.invariant c.index_of-index.ensures.value
-    (slot_any c.self.inside.units c.index_of-index.result c.index-self-index.result
-    (omega (arith, c.index_of-index.ensures.range, c.self.invariant.all_units)) ∙ c.in_default.is)
+    c.args.unit c.unit_number-index.result c.self.invariant c.unit_number-index.ensures.value
+    (slot_any c.self.inside.units c.unit_number-index.result c.index-self-index.result
+    (omega (arith, c.unit_number-index.ensures.range, c.self.invariant.all_units)) ∙ c.in_default.is)
     ∙ ap (λ ms. replaced (seek (stage_at c.args.unit) ms) ms (λ m. kept m c.args.later.now)) c.self.view_is
 
 pub invariant_of-self : goal.invariant_of-self
 invariant_of-self c =
-    subst (λ ps. IsRight (set c.self.inside.units c.index_of-index.result None) ps c.put_rest.new.channels)
+    subst (λ ps. IsRight (set c.self.inside.units c.unit_number-index.result None) ps c.put_rest.new.channels)
     (sym c.put_rest.ensures.places)
-    (subst (λ cs. IsRight (set c.self.inside.units c.index_of-index.result None)
+    (subst (λ cs. IsRight (set c.self.inside.units c.unit_number-index.result None)
     (places_with c.self.inside.places c.in-Some.pending c.args.later.now) cs) (sym c.put_rest.ensures.channels)
-    (left_right c.self.inside.units c.self.inside.places c.self.inside.channels c.index_of-index.result
+    (left_right c.self.inside.units c.self.inside.places c.self.inside.channels c.unit_number-index.result
     c.in-Some.pending c.args.later.now c.self.invariant
-    (slot_any c.self.inside.units c.index_of-index.result c.index-self-index.result
-    (omega (arith, c.index_of-index.ensures.range, c.self.invariant.all_units))
+    (slot_any c.self.inside.units c.unit_number-index.result c.index-self-index.result
+    (omega (arith, c.unit_number-index.ensures.range, c.self.invariant.all_units))
     ∙ c.in-Some.is) (subst (HasRoom c.args.later.now) (sym c.self.view_is) c.requires)))
 
 pub returns : goal.returns
 returns c =
-    ap (λ ps. in_order (slots (set c.self.inside.units c.index_of-index.result None) ps c.put_rest.new.channels))
+    ap (λ ps. in_order (slots (set c.self.inside.units c.unit_number-index.result None) ps c.put_rest.new.channels))
     c.put_rest.ensures.places
-    ∙ ap (λ cs. in_order (slots (set c.self.inside.units c.index_of-index.result None)
+    ∙ ap (λ cs. in_order (slots (set c.self.inside.units c.unit_number-index.result None)
     (places_with c.self.inside.places c.in-Some.pending c.args.later.now) cs)) c.put_rest.ensures.channels
-    ∙ left_view c.self.inside.units c.self.inside.places c.self.inside.channels c.args.unit c.index_of-index.result
-    c.in-Some.pending c.args.later.now c.self.invariant c.index_of-index.ensures.value
-    (slot_any c.self.inside.units c.index_of-index.result c.index-self-index.result
-    (omega (arith, c.index_of-index.ensures.range, c.self.invariant.all_units))
+    ∙ left_view c.self.inside.units c.self.inside.places c.self.inside.channels c.args.unit c.unit_number-index.result
+    c.in-Some.pending c.args.later.now c.self.invariant c.unit_number-index.ensures.value
+    (slot_any c.self.inside.units c.unit_number-index.result c.index-self-index.result
+    (omega (arith, c.unit_number-index.ensures.range, c.self.invariant.all_units))
     ∙ c.in-Some.is) (subst (HasRoom c.args.later.now) (sym c.self.view_is) c.requires)
     ∙ ap (λ ms. replaced (seek (stage_at c.args.unit) ms) ms (λ m. kept m c.args.later.now)) c.self.view_is

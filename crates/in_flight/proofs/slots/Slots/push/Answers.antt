@@ -8,19 +8,19 @@ use Rattle.in_flight.proofs.slots.Slots.push.Goals as goal
 
 pub invariant_of-self : goal.invariant_of-self
 invariant_of-self c =
-    new_right c.self.inside.units c.self.inside.places c.self.inside.channels c.index_of-index.result c.args.pending
-    Waiting c.self.invariant c.index_of-index.ensures.value c.requires.waits
+    new_right c.self.inside.units c.self.inside.places c.self.inside.channels c.unit_number-index.result c.args.pending
+    Waiting c.self.invariant c.unit_number-index.ensures.value c.requires.waits
     (slot_free c.self.inside.units c.self.inside.places c.self.inside.channels c.args.pending.unit
-    c.index_of-index.result c.self.invariant c.index_of-index.ensures.value
+    c.unit_number-index.result c.self.invariant c.unit_number-index.ensures.value
     (ap (seek (stage_at c.args.pending.unit)) c.self.view_is ∙ c.requires.free))
     (subst (Each (λ x. x.number < c.args.pending.number)) (sym c.self.view_is) c.requires.last)
 
 pub returns : goal.returns
 returns c =
-    new_view c.self.inside.units c.self.inside.places c.self.inside.channels c.index_of-index.result c.args.pending
-    c.self.invariant c.index_of-index.ensures.value
+    new_view c.self.inside.units c.self.inside.places c.self.inside.channels c.unit_number-index.result c.args.pending
+    c.self.invariant c.unit_number-index.ensures.value
     (slot_free c.self.inside.units c.self.inside.places c.self.inside.channels c.args.pending.unit
-    c.index_of-index.result c.self.invariant c.index_of-index.ensures.value
+    c.unit_number-index.result c.self.invariant c.unit_number-index.ensures.value
     (ap (seek (stage_at c.args.pending.unit)) c.self.view_is ∙ c.requires.free))
     (subst (Each (λ x. x.number < c.args.pending.number)) (sym c.self.view_is) c.requires.last)
     ∙ ap (λ ms. ms ++ c.args.pending ∷ []) c.self.view_is

@@ -17,13 +17,13 @@ invariant_of-self c =
       | in-Some w ↦
           subst (λ (x : Inside). IsRight x.units x.places x.channels) (sym w.self-inside-is)
           (staged_right c.self.inside.units c.self.inside.places c.self.inside.channels c.args.unit
-          c.index_of-index.result w.in-Some.pending c.args.stage c.self.invariant c.index_of-index.ensures.value
-          (slot_any c.self.inside.units c.index_of-index.result c.index-self-index.result
-          (omega (arith, c.index_of-index.ensures.range, c.self.invariant.all_units)) ∙ w.in-Some.is))
+          c.unit_number-index.result w.in-Some.pending c.args.stage c.self.invariant c.unit_number-index.ensures.value
+          (slot_any c.self.inside.units c.unit_number-index.result c.index-self-index.result
+          (omega (arith, c.unit_number-index.ensures.range, c.self.invariant.all_units)) ∙ w.in-Some.is))
       | in_default w ↦
           subst (λ (x : Inside). IsRight x.units x.places x.channels) (sym w.self-inside-is)
           (subst (λ us. IsRight us c.self.inside.places c.self.inside.channels)
-          (sym (set-get_or c.self.inside.units c.index_of-index.result c.index-self-index.result)) c.self.invariant)
+          (sym (set-get_or c.self.inside.units c.unit_number-index.result c.index-self-index.result)) c.self.invariant)
     ]
 
 pub returns : goal.returns
@@ -33,20 +33,20 @@ returns c =
       | in-Some w ↦
           ap (λ (x : Inside). in_order (slots x.units x.places x.channels)) w.self-inside-is
           ∙ staged_view c.self.inside.units c.self.inside.places c.self.inside.channels c.args.unit
-          c.index_of-index.result w.in-Some.pending c.args.stage c.self.invariant c.index_of-index.ensures.value
-          (slot_any c.self.inside.units c.index_of-index.result c.index-self-index.result
-          (omega (arith, c.index_of-index.ensures.range, c.self.invariant.all_units)) ∙ w.in-Some.is)
+          c.unit_number-index.result w.in-Some.pending c.args.stage c.self.invariant c.unit_number-index.ensures.value
+          (slot_any c.self.inside.units c.unit_number-index.result c.index-self-index.result
+          (omega (arith, c.unit_number-index.ensures.range, c.self.invariant.all_units)) ∙ w.in-Some.is)
           ∙ ap (λ ms. replaced (seek (stage_at c.args.unit) ms) ms (λ m. in_phase m (Before c.args.stage) ∷ []))
           c.self.view_is
       | in_default w ↦
           ap (λ (x : Inside). in_order (slots x.units x.places x.channels)) w.self-inside-is
           ∙ ap (λ us. in_order (slots us c.self.inside.places c.self.inside.channels))
-          (set-get_or c.self.inside.units c.index_of-index.result c.index-self-index.result)
+          (set-get_or c.self.inside.units c.unit_number-index.result c.index-self-index.result)
           ∙ nobody_replaced (λ m. in_phase m (Before c.args.stage) ∷ []) c.self.inside.units c.self.inside.places
-          c.self.inside.channels c.args.unit c.index_of-index.result c.self.invariant
-          c.index_of-index.ensures.value
-          (slot_any c.self.inside.units c.index_of-index.result c.index-self-index.result
-          (omega (arith, c.index_of-index.ensures.range, c.self.invariant.all_units)) ∙ w.in_default.is)
+          c.self.inside.channels c.args.unit c.unit_number-index.result c.self.invariant
+          c.unit_number-index.ensures.value
+          (slot_any c.self.inside.units c.unit_number-index.result c.index-self-index.result
+          (omega (arith, c.unit_number-index.ensures.range, c.self.invariant.all_units)) ∙ w.in_default.is)
           ∙ ap (λ ms. replaced (seek (stage_at c.args.unit) ms) ms (λ m. in_phase m (Before c.args.stage) ∷ []))
           c.self.view_is
     ]

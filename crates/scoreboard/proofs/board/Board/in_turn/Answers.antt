@@ -16,21 +16,21 @@ pub returns-in_default : goal.returns-in_default
 unfolding turn_answer
 returns-in_default c =
     ap turn_answer (sym (nobody_answers c.self.inside.units c.self.inside.channels c.self.inside.producers
-    c.self.inside.writers c.self.inside.last c.args.unit c.index_of-index.result c.self.invariant
-    c.index_of-index.ensures.value
-    (slot_any c.self.inside.units c.index_of-index.result c.index-self-index.result
-    (omega (arith, c.index_of-index.ensures.range, c.self.invariant.all_units))
-    ∙ no_slot (get_or c.self.inside.units c.index_of-index.result c.index-self-index.result)
+    c.self.inside.writers c.self.inside.last c.args.unit c.unit_number-index.result c.self.invariant
+    c.unit_number-index.ensures.value
+    (slot_any c.self.inside.units c.unit_number-index.result c.index-self-index.result
+    (omega (arith, c.unit_number-index.ensures.range, c.self.invariant.all_units))
+    ∙ no_slot (get_or c.self.inside.units c.unit_number-index.result c.index-self-index.result)
     c.in_default.not-Some)))
     ∙ ap (λ (s : Standing). turn_answer (seek (held_in c.args.unit) s.issued)) c.self.view_is
 
 pub returns-then-any_turn : goal.returns-then-any_turn
 returns-then-any_turn c =
     turn_answered c.self.inside.units c.self.inside.channels c.self.inside.producers c.self.inside.writers
-    c.self.inside.last c.args.unit c.index_of-index.result c.in-Some.issued true c.self.invariant
-    c.index_of-index.ensures.value
-    (slot_any c.self.inside.units c.index_of-index.result c.index-self-index.result
-    (omega (arith, c.index_of-index.ensures.range, c.self.invariant.all_units)) ∙ c.in-Some.is)
+    c.self.inside.last c.args.unit c.unit_number-index.result c.in-Some.issued true c.self.invariant
+    c.unit_number-index.ensures.value
+    (slot_any c.self.inside.units c.unit_number-index.result c.index-self-index.result
+    (omega (arith, c.unit_number-index.ensures.range, c.self.invariant.all_units)) ∙ c.in-Some.is)
     (sym (ap (λ b. b && (slot_has_turn c.in-Some.issued.number (slot_at c.self.inside.units Branch)
     || in_increment (slot_has_turn c.in-Some.issued.number)
     c.self.inside.units)) (sym c.has_reference.ensures ∙ c.if-has_reference.true) ∙ (sym c.any_turn.ensures
@@ -40,10 +40,10 @@ returns-then-any_turn c =
 pub returns-else-has_reference : goal.returns-else-has_reference
 returns-else-has_reference c =
     turn_answered c.self.inside.units c.self.inside.channels c.self.inside.producers c.self.inside.writers
-    c.self.inside.last c.args.unit c.index_of-index.result c.in-Some.issued false c.self.invariant
-    c.index_of-index.ensures.value
-    (slot_any c.self.inside.units c.index_of-index.result c.index-self-index.result
-    (omega (arith, c.index_of-index.ensures.range, c.self.invariant.all_units)) ∙ c.in-Some.is)
+    c.self.inside.last c.args.unit c.unit_number-index.result c.in-Some.issued false c.self.invariant
+    c.unit_number-index.ensures.value
+    (slot_any c.self.inside.units c.unit_number-index.result c.index-self-index.result
+    (omega (arith, c.unit_number-index.ensures.range, c.self.invariant.all_units)) ∙ c.in-Some.is)
     (elim c.else-has_reference.branch [
       | else-has_reference-via-then-has_reference+else-any_turn w ↦ sym
           (ap (λ b. b && (slot_has_turn c.in-Some.issued.number (slot_at c.self.inside.units Branch)

@@ -13,11 +13,11 @@ pub returns-in_default : goal.returns-in_default
 unfolding read_answer
 returns-in_default c =
     ap read_answer (sym (nobody_answers c.self.inside.units c.self.inside.channels c.self.inside.producers
-    c.self.inside.writers c.self.inside.last c.args.unit c.index_of-index.result c.self.invariant
-    c.index_of-index.ensures.value
-    (slot_any c.self.inside.units c.index_of-index.result c.index-self-index.result
-    (omega (arith, c.index_of-index.ensures.range, c.self.invariant.all_units))
-    ∙ no_slot (get_or c.self.inside.units c.index_of-index.result c.index-self-index.result)
+    c.self.inside.writers c.self.inside.last c.args.unit c.unit_number-index.result c.self.invariant
+    c.unit_number-index.ensures.value
+    (slot_any c.self.inside.units c.unit_number-index.result c.index-self-index.result
+    (omega (arith, c.unit_number-index.ensures.range, c.self.invariant.all_units))
+    ∙ no_slot (get_or c.self.inside.units c.unit_number-index.result c.index-self-index.result)
     c.in_default.not-Some)))
     ∙ ap (λ (s : Standing). read_answer (seek (held_in c.args.unit) s.issued)) c.self.view_is
 
@@ -25,13 +25,13 @@ pub returns-then-not-any_writer : goal.returns-then-not-any_writer
 unfolding from_found
 returns-then-not-any_writer c =
     read_answered c.self.inside.units c.self.inside.channels c.self.inside.producers c.self.inside.writers
-    c.self.inside.last c.args.unit c.index_of-index.result c.in-Some.issued (sources_of
+    c.self.inside.last c.args.unit c.unit_number-index.result c.in-Some.issued (sources_of
     c.in-Some.issued.reservation.instr)
-    c.index-producers-index.result None c.self.invariant c.index_of-index.ensures.value
-    (slot_any c.self.inside.units c.index_of-index.result c.index-self-index.result
-    (omega (arith, c.index_of-index.ensures.range, c.self.invariant.all_units))
-    ∙ c.in-Some.is) refl (list_read c.self.inside.producers c.index_of-index.result c.index-producers-index.result
-    (omega (arith, c.index_of-index.ensures.range, c.self.invariant.all_producers)) c.index-producers-index.is)
+    c.index-producers-index.result None c.self.invariant c.unit_number-index.ensures.value
+    (slot_any c.self.inside.units c.unit_number-index.result c.index-self-index.result
+    (omega (arith, c.unit_number-index.ensures.range, c.self.invariant.all_units))
+    ∙ c.in-Some.is) refl (list_read c.self.inside.producers c.unit_number-index.result c.index-producers-index.result
+    (omega (arith, c.unit_number-index.ensures.range, c.self.invariant.all_producers)) c.index-producers-index.is)
     (none_produced (sources_of c.in-Some.issued.reservation.instr) c.index-producers-index.result
     (sym c.any_writer.ensures ∙ c.if-not-any_writer.true))
     ∙ ap (λ (s : Standing). read_answer (seek (held_in c.args.unit) s.issued)) c.self.view_is
@@ -41,13 +41,13 @@ unfolding from_found
 returns-in-Some-first_produced c =
     ap (λ o. from_found o OperandAwaited) (sym c.in-Some-first_produced.is)
     ∙ read_answered c.self.inside.units c.self.inside.channels c.self.inside.producers c.self.inside.writers
-    c.self.inside.last c.args.unit c.index_of-index.result c.in-Some.issued c.as_slice.result.now
-    c.index-producers-index.result c.first_produced.result c.self.invariant c.index_of-index.ensures.value
-    (slot_any c.self.inside.units c.index_of-index.result c.index-self-index.result
-    (omega (arith, c.index_of-index.ensures.range, c.self.invariant.all_units))
+    c.self.inside.last c.args.unit c.unit_number-index.result c.in-Some.issued c.as_slice.result.now
+    c.index-producers-index.result c.first_produced.result c.self.invariant c.unit_number-index.ensures.value
+    (slot_any c.self.inside.units c.unit_number-index.result c.index-self-index.result
+    (omega (arith, c.unit_number-index.ensures.range, c.self.invariant.all_units))
     ∙ c.in-Some.is) (c.as_slice.ensures.value
-    ∙ c.sources-sources.ensures) (list_read c.self.inside.producers c.index_of-index.result
-    c.index-producers-index.result (omega (arith, c.index_of-index.ensures.range, c.self.invariant.all_producers))
+    ∙ c.sources-sources.ensures) (list_read c.self.inside.producers c.unit_number-index.result
+    c.index-producers-index.result (omega (arith, c.unit_number-index.ensures.range, c.self.invariant.all_producers))
     c.index-producers-index.is) c.first_produced.ensures
     ∙ ap (λ (s : Standing). read_answer (seek (held_in c.args.unit) s.issued)) c.self.view_is
 
@@ -56,12 +56,12 @@ unfolding from_found
 returns-in-None c =
     ap (λ o. from_found o OperandAwaited) (sym c.in-None.is)
     ∙ read_answered c.self.inside.units c.self.inside.channels c.self.inside.producers c.self.inside.writers
-    c.self.inside.last c.args.unit c.index_of-index.result c.in-Some.issued c.as_slice.result.now
-    c.index-producers-index.result c.first_produced.result c.self.invariant c.index_of-index.ensures.value
-    (slot_any c.self.inside.units c.index_of-index.result c.index-self-index.result
-    (omega (arith, c.index_of-index.ensures.range, c.self.invariant.all_units))
+    c.self.inside.last c.args.unit c.unit_number-index.result c.in-Some.issued c.as_slice.result.now
+    c.index-producers-index.result c.first_produced.result c.self.invariant c.unit_number-index.ensures.value
+    (slot_any c.self.inside.units c.unit_number-index.result c.index-self-index.result
+    (omega (arith, c.unit_number-index.ensures.range, c.self.invariant.all_units))
     ∙ c.in-Some.is) (c.as_slice.ensures.value
-    ∙ c.sources-sources.ensures) (list_read c.self.inside.producers c.index_of-index.result
-    c.index-producers-index.result (omega (arith, c.index_of-index.ensures.range, c.self.invariant.all_producers))
+    ∙ c.sources-sources.ensures) (list_read c.self.inside.producers c.unit_number-index.result
+    c.index-producers-index.result (omega (arith, c.unit_number-index.ensures.range, c.self.invariant.all_producers))
     c.index-producers-index.is) c.first_produced.ensures
     ∙ ap (λ (s : Standing). read_answer (seek (held_in c.args.unit) s.issued)) c.self.view_is

@@ -15,11 +15,11 @@ pub returns-in_default : goal.returns-in_default
 unfolding store_answer
 returns-in_default c =
     ap store_answer (sym (nobody_answers c.self.inside.units c.self.inside.channels c.self.inside.producers
-    c.self.inside.writers c.self.inside.last c.args.unit c.index_of-index.result c.self.invariant
-    c.index_of-index.ensures.value
-    (slot_any c.self.inside.units c.index_of-index.result c.index-self-index.result
-    (omega (arith, c.index_of-index.ensures.range, c.self.invariant.all_units))
-    ∙ no_slot (get_or c.self.inside.units c.index_of-index.result c.index-self-index.result)
+    c.self.inside.writers c.self.inside.last c.args.unit c.unit_number-index.result c.self.invariant
+    c.unit_number-index.ensures.value
+    (slot_any c.self.inside.units c.unit_number-index.result c.index-self-index.result
+    (omega (arith, c.unit_number-index.ensures.range, c.self.invariant.all_units))
+    ∙ no_slot (get_or c.self.inside.units c.unit_number-index.result c.index-self-index.result)
     c.in_default.not-Some)))
     ∙ ap (λ (s : Standing). store_answer (seek (held_in c.args.unit) s.issued)) c.self.view_is
 
@@ -27,10 +27,10 @@ pub returns-in-Some-sets : goal.returns-in-Some-sets
 unfolding from_found
 returns-in-Some-sets c =
     store_answered c.self.inside.units c.self.inside.channels c.self.inside.producers c.self.inside.writers
-    c.self.inside.last c.args.unit c.index_of-index.result c.in-Some.issued (option_to_list c.sets.result)
-    (Some c.in-Some-sets.register) c.self.invariant c.index_of-index.ensures.value
-    (slot_any c.self.inside.units c.index_of-index.result c.index-self-index.result
-    (omega (arith, c.index_of-index.ensures.range, c.self.invariant.all_units))
+    c.self.inside.last c.args.unit c.unit_number-index.result c.in-Some.issued (option_to_list c.sets.result)
+    (Some c.in-Some-sets.register) c.self.invariant c.unit_number-index.ensures.value
+    (slot_any c.self.inside.units c.unit_number-index.result c.index-self-index.result
+    (omega (arith, c.unit_number-index.ensures.range, c.self.invariant.all_units))
     ∙ c.in-Some.is) (sym c.sets.ensures)
     (ap (λ b. cond b (Some c.in-Some-sets.register) None) (sym c.if-is_to_be_read.true ∙ c.is_to_be_read.ensures)
     ∙ ap (λ o. find (λ r. list_any (slot_reads c.in-Some.issued.number r) c.self.inside.units) (option_to_list o))
@@ -41,10 +41,10 @@ pub returns-in_default-sets : goal.returns-in_default-sets
 unfolding from_found
 returns-in_default-sets c =
     store_answered c.self.inside.units c.self.inside.channels c.self.inside.producers c.self.inside.writers
-    c.self.inside.last c.args.unit c.index_of-index.result c.in-Some.issued (option_to_list c.sets.result)
-    None c.self.invariant c.index_of-index.ensures.value
-    (slot_any c.self.inside.units c.index_of-index.result c.index-self-index.result
-    (omega (arith, c.index_of-index.ensures.range, c.self.invariant.all_units))
+    c.self.inside.last c.args.unit c.unit_number-index.result c.in-Some.issued (option_to_list c.sets.result)
+    None c.self.invariant c.unit_number-index.ensures.value
+    (slot_any c.self.inside.units c.unit_number-index.result c.index-self-index.result
+    (omega (arith, c.unit_number-index.ensures.range, c.self.invariant.all_units))
     ∙ c.in-Some.is) (sym c.sets.ensures)
     (elim c.in_default-sets.branch [
       | in_default-sets-via-in-Some-sets+else-is_to_be_read w ↦

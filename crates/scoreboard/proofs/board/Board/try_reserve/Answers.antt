@@ -46,17 +46,17 @@ pub returns-in-Some-first_produced-clause-after : goal.returns-in-Some-first_pro
 returns-in-Some-first_produced-clause-after c = refused_after c.args.self.now c.args.instr.now _
 
 pub overflow_add-number : goal.overflow_add-number
-overflow_add-number c = let e = ap (λ (s : Standing). s.last) c.self.view_is in omega (arith, e, c.requires.number)
+overflow_add-number c = let e = ap (λ (s : Standing). s.last) c.self.view_is in omega (arith, e, c.requires)
 
 pub invariant_of-self : goal.invariant_of-self
 unfolding new_issued
 invariant_of-self c =
     new_right c.self.inside.units c.self.inside.channels c.self.inside.producers c.self.inside.writers
-    c.expect.new.writers c.self.inside.last (c.self.inside.last + 1) c.in-Some.unit c.index_of-index.result
+    c.expect.new.writers c.self.inside.last (c.self.inside.last + 1) c.in-Some.unit c.unit_number-index.result
     c.args.instr.now c.as_slice-3.result.now c.of.result (new_issued c.args.instr.now c.in-Some.unit (c.self.inside.last + 1)) c.self.invariant (omega arith)
-    c.index_of-index.ensures.value
+    c.unit_number-index.ensures.value
     (slot_found c.self.inside.units (uses c.args.instr.now).unit c.free_unit.result c.in-Some.unit
-    c.index_of-index.result c.free_unit.ensures c.in-Some.is c.index_of-index.ensures.value)
+    c.unit_number-index.result c.free_unit.ensures c.in-Some.is c.unit_number-index.ensures.value)
     (c.as_slice-3.ensures.value ∙ c.sources-sources.ensures) c.of.ensures.writers c.of.ensures.registers
     c.expect.ensures.registers c.expect.ensures.channel
     (sym (first_found c.self.inside.units c.self.inside.channels c.self.inside.producers c.self.inside.writers
@@ -91,8 +91,8 @@ pub returns-clause-after : goal.returns-clause-after
 unfolding new_issued
 returns-clause-after c =
     new_view c.self.inside.units c.self.inside.channels c.self.inside.producers c.self.inside.writers
-    c.self.inside.last (c.self.inside.last + 1) c.in-Some.unit c.index_of-index.result c.args.instr.now
-    (new_issued c.args.instr.now c.in-Some.unit (c.self.inside.last + 1)) c.self.invariant (omega arith) c.index_of-index.ensures.value
+    c.self.inside.last (c.self.inside.last + 1) c.in-Some.unit c.unit_number-index.result c.args.instr.now
+    (new_issued c.args.instr.now c.in-Some.unit (c.self.inside.last + 1)) c.self.invariant (omega arith) c.unit_number-index.ensures.value
     (slot_found c.self.inside.units (uses c.args.instr.now).unit c.free_unit.result c.in-Some.unit
-    c.index_of-index.result c.free_unit.ensures c.in-Some.is c.index_of-index.ensures.value) refl
+    c.unit_number-index.result c.free_unit.ensures c.in-Some.is c.unit_number-index.ensures.value) refl
     ∙ ap (λ (s : Standing). reserved s c.args.instr.now (Ok (c.in-Some.unit, c.self.inside.last + 1))) c.self.view_is
