@@ -16,7 +16,7 @@ ghost use Rattle.program_order.specs.Refusals.{is_store_refusal, is_accept_refus
 ghost use Rattle.program_order.specs.Refusals.{is_access_refusal, is_exchange_refusal, may_refuse};
 ghost use Rattle.program_order.specs.Run.{IsAnswer, settled};
 ghost use Rattle.machine.specs.Tokens.{can_claim, finished_in, one_more, read_of, reading_in, refusal_to, refused};
-ghost use Rattle.machine.specs.Tokens.{slot, waits_in};
+ghost use Rattle.machine.specs.Tokens.{rest_after, slot, waits_in};
 ghost use Rattle.progress_word.specs.CallerKnowledge.{IsMade, Learnt, HasReplay, IsNoteOf, IsWhyOf, IsWordOf};
 ghost use Rattle.progress_word.specs.CallerKnowledge.{note_in, word_in};
 ghost use Rattle.machine_lock.specs.Held.{IsAskedNext, IsCurrent, made_or_refused, told, with_processor};
@@ -26,7 +26,8 @@ ghost use Rattle.progress_word.specs.inner.Rules.{IsKeeper, past};
 
 use instruction_table::Refusal;
 use machine::{
-    Answer, Computed, Done, Event, Finished, Loaded, Machine, Note, Reserved, Seat, Snapshot,
+    Answer, Computed, Done, Event, Finished, Loaded, Machine, Note, Outstanding, Reserved, Seat,
+    Snapshot,
 };
 use progress_word::{Naming, Pass, Seen, Word};
 use signals::Told;
@@ -341,21 +342,27 @@ impl<K: Naming> LockedMachine<K> {
         finished
     }
 
-    /// The unit stores its result, as `Shared::store`.
+    /// The unit stores its result, as `Shared::store`. Returns also what is left of the instruction: its reference, in a
+    /// place of the hopper or in its load channel.
     ///
     /// # Errors
     /// `ResultHeld`, `HopperFull`, `OutOfTurn` or `Stranger`, with the token.
-    pub fn store(&mut self, token: Finished) -> Result<Seat, (Refusal, Finished)>
+    pub fn store(
+        &mut self,
+        token: Finished,
+    ) -> Result<(Seat, Option<Outstanding>), (Refusal, Finished)>
         ensures answer { refusal_to (finished_in token.number (slot self.old.processor token.seat.unit))
             (allowed self.old.processor (Store token.seat.unit)) ≡ refused result }
         ensures after { MatchResult result
-            (λ seat. self.new ≡ with_processor self.old (after self.old.processor (Store token.seat.unit)))
+            (λ stored. self.new ≡ with_processor self.old (after self.old.processor (Store token.seat.unit)))
             (λ back. self.new ≡ self.old) }
-        ensures seat { IfOk result (λ seat. seat ≡ one_more token) }
+        ensures seat { IfOk result (λ stored. stored.0 ≡ one_more token) }
+        ensures rest { IfOk result (λ stored. stored.1
+            ≡ rest_after self.old.processor (slot self.old.processor token.seat.unit)) }
         ensures given_back { IfErr result
             (λ back. (back.1 ≡ token) × ((is_stranger back.0 || is_store_refusal back.0) ≡ true)) }
     {
-        let stored = self.machine.store(token);
+        let stored = self.machine.store_with_rest(token);
         self.machine.keeps_replay();
         self.told.changed = self.told.changed || stored.is_ok();
         stored

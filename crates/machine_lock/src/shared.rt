@@ -348,7 +348,10 @@ impl<K: Naming> Shared<K> {
         let stored = machine.store(token);
         machine.leave_to_memory();
         self.release(machine);
-        stored
+        match stored {
+            Ok((seat, _)) => Ok(seat),
+            Err(back) => Err(back),
+        }
     }
 
     /// Memory takes the reference in a place of the hopper, 0 to 3: the event `Accept`.

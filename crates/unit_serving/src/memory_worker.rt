@@ -7,7 +7,7 @@ use std::sync::Wait;
 
 /// The outcome of a sweep through the places of the hopper and the load channels.
 #[derive(Clone, Copy, Drop)]
-pub(crate) struct Swept {
+struct Swept {
     /// Whether a reference was accepted or a load returned.
     has_worked: bool,
     /// Whether a reference was refused because an older one to its address was still in a later place.
@@ -41,7 +41,7 @@ impl Swept {
 ///
 /// # Errors
 /// `Nothing` if the place is empty, and `OlderAtAddress`.
-fn accept<K: Naming>(machine: &mut LockedMachine<K>, place: u8) -> Result<(), Refusal> {
+pub(crate) fn accept<K: Naming>(machine: &mut LockedMachine<K>, place: u8) -> Result<(), Refusal> {
     match machine.accept(place) {
         Err(Refusal::BankBusy(bank)) => {
             let _ = machine.bank_free(bank);
@@ -65,18 +65,12 @@ fn return_all<K: Naming>(machine: &mut LockedMachine<K>, swept: &mut Swept) {
     }
 }
 
-/// Takes references as far through memory as may be.
-pub(crate) fn sweep<K: Naming>(machine: &mut LockedMachine<K>) -> Swept {
-    let mut swept = Swept::new();
-    accept_all(machine, &mut swept);
-    return_all(machine, &mut swept);
-    swept
-}
-
-/// Makes a sweep in one hold of the lock.
-fn sweep_once<K: Naming, R: Wait>(rt: &R, shared: &Shared<K>) -> Swept {
+/// Takes references as far through memory as may be, in one hold of the lock.
+fn sweep<K: Naming, R: Wait>(rt: &R, shared: &Shared<K>) -> Swept {
     let mut machine = shared.lock(rt);
-    let swept = sweep(&mut machine);
+    let mut swept = Swept::new();
+    accept_all(&mut machine, &mut swept);
+    return_all(&mut machine, &mut swept);
     shared.signals().memory.await_read(swept.has_held);
     shared.release(machine);
     swept
@@ -89,7 +83,7 @@ pub fn storage_worker<K: Naming, R: Wait>(rt: &R, shared: &Shared<K>) {
     let mut wait = shared.signals().waiting();
     for _ in rt.forever() {
         let count = signal.count();
-        let swept = sweep_once(rt, shared);
+        let swept = sweep(rt, shared);
         if swept.has_worked && swept.has_older {
             continue;
         }

@@ -3,10 +3,11 @@ ghost use Rattle.std.specs.Prelude.{◌≡◌, suc, IfOk, IfErr, MatchBool, Matc
 ghost use Rattle.machine.specs.Tokens.{one_more};
 
 use crate::gate::Gate;
-use crate::memory_worker::sweep;
+use crate::memory_worker::accept;
 use instruction_table::{Refusal, Unit};
-use machine::{Computed, Event, Loaded, Note, Seat};
+use machine::{Computed, Event, Loaded, Note, Outstanding, Seat};
 use machine_lock::{LockedMachine, Naming, Shared};
+use relocation::Access;
 use signals::Waiting;
 use std::sync::Wait;
 
@@ -50,14 +51,24 @@ fn load<K: Naming, R: Wait>(
     unreachable!()
 }
 
-/// Takes the reference that a unit has just made through memory, if no earlier instruction was pending at its store.
-/// References enter the hopper in program order, so this one is then alone in the hopper and the load channels, and the
-/// sweep takes no other. Otherwise the storage worker is woken.
-fn refer<K: Naming>(machine: &mut LockedMachine<K>, was_oldest: bool) {
-    if was_oldest {
-        let _ = sweep(machine);
-    } else {
+/// Takes the reference that a unit has just made through memory, if no earlier instruction was pending at its store:
+/// then nothing is in its way. Otherwise the storage worker is woken.
+fn refer<K: Naming>(machine: &mut LockedMachine<K>, rest: Outstanding, was_oldest: bool) {
+    if !was_oldest {
         machine.leave_to_memory();
+        return;
+    }
+    match rest {
+        Outstanding::Entered(place, _, Access::Load(channel)) => {
+            let _ = accept(machine, place);
+            let _ = machine.return_load(channel.get());
+        }
+        Outstanding::Entered(place, _, Access::Store(_)) => {
+            let _ = accept(machine, place);
+        }
+        Outstanding::Accepted(channel, _) => {
+            let _ = machine.return_load(channel.get());
+        }
     }
 }
 
@@ -97,9 +108,9 @@ fn store<K: Naming, R: Wait>(
         let count = signal.count();
         let was_oldest = has_reference && is_oldest(&machine, unit);
         match machine.store(token) {
-            Ok(seat) => {
-                if has_reference {
-                    refer(&mut machine, was_oldest);
+            Ok((seat, rest)) => {
+                if let Some(rest) = rest {
+                    refer(&mut machine, rest, was_oldest);
                 }
                 shared.release(machine);
                 signal.await_nothing();
