@@ -51,24 +51,29 @@ fn load<K: Naming, R: Wait>(
     unreachable!()
 }
 
+/// Returns the load of the oldest pending instruction, if its word has come.
+fn return_oldest<K: Naming>(machine: &mut LockedMachine<K>) {
+    if let Some(Event::Return(channel)) = machine.next_work() {
+        let _ = machine.return_load(channel);
+    }
+}
+
 /// Takes the reference that a unit has just made through memory, if no earlier instruction was pending at its store:
-/// then nothing is in its way. Otherwise the storage worker is woken.
+/// then it is the oldest one, and nothing is in its way. Otherwise the storage worker is woken.
 fn refer<K: Naming>(machine: &mut LockedMachine<K>, rest: Outstanding, was_oldest: bool) {
     if !was_oldest {
         machine.leave_to_memory();
         return;
     }
     match rest {
-        Outstanding::Entered(place, _, Access::Load(channel)) => {
-            let _ = accept(machine, place);
-            let _ = machine.return_load(channel.get());
-        }
         Outstanding::Entered(place, _, Access::Store(_)) => {
             let _ = accept(machine, place);
         }
-        Outstanding::Accepted(channel, _) => {
-            let _ = machine.return_load(channel.get());
+        Outstanding::Entered(place, _, Access::Load(_)) => {
+            let _ = accept(machine, place);
+            return_oldest(machine);
         }
+        Outstanding::Accepted(_, _) => return_oldest(machine),
     }
 }
 
