@@ -319,15 +319,16 @@ LIMITS = {
     ("hopper/src/reference.rt", "PLACES"): answered("full-hopper", "E11 hopper full"),
     ("hopper/src/reference.rt", "BANKS"): repeated("BANKS", shown("all-banks")),
     ("machine/src/events.rt", "MOST_WORK"): nothing("the contract of `drain` says that nothing is pending after it"),
-    ("machine/src/judging.rt", "MOST_REQUESTS"): repeated(
+    ("judging/src/exchanging.rt", "MOST_REQUESTS"): repeated(
         "MOST_REQUESTS", check("large", "MOST_REQUESTS", "one request more")
     ),
-    ("machine/src/judging.rt", "MOST_ACCESSES"): repeated(
+    ("judging/src/accessing.rt", "MOST_ACCESSES"): repeated(
         "MOST_ACCESSES", check("large", "MOST_ACCESSES", "one too many")
     ),
     ("machine/src/processor.rt", "MOST_ISSUES"): repeated(
         "MOST_INSTRUCTIONS", test("operator_main/src/command_tests.rt", "{more}")
     ),
+    ("machine/src/processor/exchanging.rt", "REQUEST_ROOM"): check("allocations", "EXCHANGE"),
     ("machine/src/processor/peripheral.rt", "ACCESS_ROOM"): check("allocations", "ACCESSES"),
     ("relocation/src/area.rt", "PACKAGE_WORDS"): repeated("PACKAGE_WORDS", answered("asking", "E19 package range")),
     ("relocation/src/saved.rt", "PAGE"): size("second-page"),
