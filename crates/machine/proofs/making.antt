@@ -1,5 +1,4 @@
 -- What each event leaves of a machine.
-pub mod Steps
 pub mod Saving
 pub mod Making
 pub mod Admitting
