@@ -26,7 +26,7 @@ use Rattle.scoreboard.specs.declared.writer.Writer.TheVariants.{OfUnit, OfChanne
 use Rattle.scoreboard.specs.declared.writers.Writers.{Writers}
 use Rattle.scoreboard.specs.Answers.{Standing, new_issued, reserve_answer, reserved}
 use Rattle.instructions.specs.Each.{Each, Pairs}
-use Rattle.scoreboard.specs.inner.Fields.{writers_with, is_taken, free_for}
+use Rattle.scoreboard.specs.inner.Fields.{is_taken, free_for}
 use Rattle.scoreboard.specs.Issued.{reservation_of, number_of, channel_of, written_by_channel, written_in, written_by}
 use Rattle.scoreboard.specs.Issued.{or_else}
 use Rattle.scoreboard.specs.Issued.{first_some, if_earlier, writer_of, writer_before}
@@ -44,6 +44,12 @@ use Rattle.scoreboard.proofs.in_slots.Standing.{none_any, unit_slot, nobody_hold
 use Rattle.scoreboard.proofs.changing.Right.{right_again, producers_same}
 
 -- ---- the registers' writers ----
+
+-- the writers after an issue: the unit for the registers that its store event writes, the load's channel for its X
+-- register
+unfoldable pub writers_with : Writers → FunctionalUnit → List Reg → Option ℕ → Writers
+writers_with ws unit rs None = set_each ws rs (Some (OfUnit unit))
+writers_with ws unit rs (Some n) = set_each (set_writer ws (X n) (Some (OfChannel n))) rs (Some (OfUnit unit))
 
 with_sized : (ws : Writers) (u : FunctionalUnit) (rs : List Reg) (c : Option ℕ) → AreSized ws
     → AreSized (writers_with ws u rs c)
