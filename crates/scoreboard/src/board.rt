@@ -12,9 +12,10 @@ ghost use Rattle.scoreboard.specs.Answers.{held_in, returning_by, read_answer, s
 ghost use Rattle.scoreboard.specs.Answers.{turn_answer, reserve_answer, reserved, read, left, gone, with_issued};
 
 use crate::fields::{
-    any_reference, any_turn, any_writer, expect, first_produced, first_unit, forget_in_taken,
-    free_unit, is_to_be_read, put_left,
+    any_reference, any_turn, any_writer, first_produced, first_unit, forget_in_taken, free_unit,
+    is_to_be_read, put_left,
 };
+use crate::issued::channel;
 use crate::{Issued, Progress, Reservation, Writer, Writers, unit_number};
 use instructions::{Digit, Instr, Refusal, Reg, Unit, results, sources};
 use std::marker::Model;
@@ -110,7 +111,11 @@ impl Board {
                 progress: Progress::Reserved { has_read: false },
             },
         });
-        expect(&mut self.writers, instr, unit);
+        let writers = &mut self.writers;
+        if let Some(n) = channel(instr) {
+            writers.set(Some(Reg::X(n)), Some(Writer::OfChannel(n)));
+        }
+        writers.set(instr.sets(), Some(Writer::OfUnit(unit)));
         self.last = number;
         Ok((unit, number))
     }

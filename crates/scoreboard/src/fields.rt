@@ -8,16 +8,14 @@ ghost use Rattle.instructions.specs.Operands.{uses};
 ghost use Rattle.scoreboard.specs.Units.{first_unit};
 ghost use Rattle.scoreboard.specs.Reservations.{has_turn};
 ghost use Rattle.scoreboard.specs.inner.Fields.{slot_at, in_increment, is_taken, slot_is, slot_reads};
-ghost use Rattle.scoreboard.specs.inner.Fields.{slot_has_turn, free_for, channels_with, writers_with, forget_in_taken};
-ghost use Rattle.instructions.specs.Shape.{shape_of, sets_of};
-ghost use Rattle.instructions.specs.Each.{Each};
+ghost use Rattle.scoreboard.specs.inner.Fields.{slot_has_turn, free_for, channels_with, forget_in_taken};
+ghost use Rattle.instructions.specs.Shape.{shape_of};
 ghost use Rattle.scoreboard.specs.Issued.{channel_of};
-ghost use Rattle.scoreboard.specs.Writers.{IsRegister};
 ghost use Rattle.scoreboard.specs.inner.View.{first_produced};
 
 use crate::issued::channel;
 use crate::writer::forget_in;
-use crate::{Issued, Progress, Writer, Writers};
+use crate::{Issued, Progress, Writer};
 use instructions::{Instr, Reg, Unit, UnitKind, unit_kind};
 
 /// Whether there is a writer among the three.
@@ -141,20 +139,6 @@ pub(crate) fn put_left(channels: &mut [Option<Issued>], issued: &Issued)
         load.reservation.progress = Progress::Left { returning: Some(n) };
         channels[usize::from(n.get())] = Some(load);
     }
-}
-
-/// A new instruction is to write its results: its unit at the store event, the channel the X register of a load.
-#[tactic(auto, unfolding(crate::specs::inner::Fields::writers_with))]
-pub(crate) fn expect(writers: &mut Writers, instr: &Instr, unit: Unit)
-    ensures value { writers.new ≡ writers_with writers.old unit (sets_of (shape_of instr.now))
-        (channel_of (shape_of instr.now)) }
-    ensures registers { Each IsRegister (sets_of (shape_of instr.now)) }
-    ensures channel { IfSome (channel_of (shape_of instr.now)) (λ n. n < 8) }
-{
-    if let Some(n) = channel(instr) {
-        writers.set(Some(Reg::X(n)), Some(Writer::OfChannel(n)));
-    }
-    writers.set(instr.sets(), Some(Writer::OfUnit(unit)));
 }
 
 /// No instruction in a unit waits for the writer any longer, for it has written. The producers of a free unit are

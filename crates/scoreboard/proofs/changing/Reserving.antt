@@ -1,7 +1,7 @@
 -- A unit is reserved: who writes which register then, and what the board stands for.
 use Rattle.std.proofs.Common.{◌≡◌, ◌<◌, ◌≤◌, ℕ, zero, suc, Bool, true, false, cond, List, [], ◌∷◌, ◌++◌, Option, Some}
 use Rattle.std.proofs.Common.{None, refl, sym, ap, ◌∙◌, subst, eqb, get_or, set, length, arith}
-use Rattle.std.specs.Prelude.{is_some, ◌&&◌, ◌||◌, IfSome, unwrap_or, find, Ok, Err}
+use Rattle.std.specs.Prelude.{is_some, ◌&&◌, ◌||◌, IfSome, unwrap_or, find, Ok, Err, option_to_list}
 use Rattle.std.specs.List.{list_any}
 use Rattle.std.proofs.lemmas.Bool.{eq-eqb, eqb-true, eqb-false, le-ltb, lt-ltb, or_parts}
 use Rattle.std.proofs.lemmas.List.{length-set, length-append, set-append_left, get_or_append_left, get_or-set_same}
@@ -26,14 +26,14 @@ use Rattle.scoreboard.specs.declared.writer.Writer.TheVariants.{OfUnit, OfChanne
 use Rattle.scoreboard.specs.declared.writers.Writers.{Writers}
 use Rattle.scoreboard.specs.Answers.{Standing, new_issued, reserve_answer, reserved}
 use Rattle.instructions.specs.Each.{Each, Pairs}
-use Rattle.scoreboard.specs.inner.Fields.{writers_with, is_taken, free_for}
+use Rattle.scoreboard.specs.inner.Fields.{is_taken, free_for}
 use Rattle.scoreboard.specs.Issued.{reservation_of, number_of, channel_of, written_by_channel, written_in, written_by}
 use Rattle.scoreboard.specs.Issued.{or_else}
 use Rattle.scoreboard.specs.Issued.{first_some, if_earlier, writer_of, writer_before}
 use Rattle.instructions.specs.Order.{sort_by, somes, IsInSlots}
 use Rattle.scoreboard.specs.inner.View.{standing_of, in_slots, slot_in, slot_of, IsOther, IsOfKind, AreProducers}
 use Rattle.scoreboard.specs.inner.View.{first_produced, IsRight}
-use Rattle.scoreboard.specs.Writers.{IsRegister, writer_at, set_writer}
+use Rattle.scoreboard.specs.Writers.{IsRegister, writer_at, set_writer, set_each}
 use Rattle.instructions.proofs.Lists.{each_map, any_same}
 use Rattle.instructions.proofs.Slots.{within, in_slots_fill, sort_new}
 use Rattle.instructions.proofs.Sorted.{any_sort, before_place, after_place, somes-at}
@@ -44,6 +44,12 @@ use Rattle.scoreboard.proofs.in_slots.Standing.{none_any, unit_slot, nobody_hold
 use Rattle.scoreboard.proofs.changing.Right.{right_again, producers_same}
 
 -- ---- the registers' writers ----
+
+-- the writers after an issue: the unit for the registers that its store event writes, the load's channel for its X
+-- register
+unfoldable pub writers_with : Writers → FunctionalUnit → List Reg → Option ℕ → Writers
+writers_with ws unit rs None = set_each ws rs (Some (OfUnit unit))
+writers_with ws unit rs (Some n) = set_each (set_writer ws (X n) (Some (OfChannel n))) rs (Some (OfUnit unit))
 
 with_sized : (ws : Writers) (u : FunctionalUnit) (rs : List Reg) (c : Option ℕ) → AreSized ws
     → AreSized (writers_with ws u rs c)
@@ -545,3 +551,24 @@ new_view units channels producers ws last n u k i y right en e h ey =
     ∙ ap (λ m. standing_of (set units k (Some (new_issued i u m))) channels m) en
     ∙ reserved_view units channels producers ws last u k i right e h
     ∙ ap (λ m. reserved (standing_of units channels last) i (Ok (u, m))) (sym en)
+
+-- the writers when the channel of a load is entered
+abbrev pub with_channel : Writers → Option ℕ → Writers
+with_channel ws None = ws
+with_channel ws (Some n) = set_writer ws (X n) (Some (OfChannel n))
+
+-- the writers after an issue, entered one after the other
+pub writers_entered : (ws middle after : Writers) (u : FunctionalUnit) (i : Instr) (r : Option Reg) (c : Option ℕ)
+    → sets_of (shape_of i) ≡ option_to_list r → c ≡ channel_of (shape_of i) → middle ≡ with_channel ws c
+    → after ≡ set_each middle (option_to_list r) (Some (OfUnit u))
+    → after ≡ writers_with ws u (sets_of (shape_of i)) (channel_of (shape_of i))
+unfolding writers_with
+writers_entered ws middle after u i r c es ec em ea =
+    ea ∙ ap (λ rs. set_each middle rs (Some (OfUnit u))) (sym es)
+    ∙ ap (λ w. set_each w (sets_of (shape_of i)) (Some (OfUnit u))) em
+    ∙ by_channel c ∙ ap (writers_with ws u (sets_of (shape_of i))) ec
+  where
+    by_channel : (o : Option ℕ) → set_each (with_channel ws o) (sets_of (shape_of i)) (Some (OfUnit u))
+        ≡ writers_with ws u (sets_of (shape_of i)) o
+    by_channel None = refl
+    by_channel (Some n) = refl

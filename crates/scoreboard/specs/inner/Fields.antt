@@ -3,7 +3,6 @@
 -- Source: Thornton, scoreboard; docs/scoreboard.md sets the fields beside his.
 use Rattle.std.specs.Prelude.{ℕ, Bool, false, ◌&&◌, ◌||◌, nat_lt, List, [], ◌∷◌, Option, Some, None, is_some, map}
 use Rattle.std.specs.Prelude.{slice_index_or, slice_set}
-use Rattle.instructions.specs.declared.instr.Reg.TheVariants.{X}
 use Rattle.instructions.specs.declared.instr.Unit.TheVariants.{Increment1, Increment2}
 use Rattle.instructions.specs.declared.instr.UnitKind.{UnitKind}
 use Rattle.scoreboard.specs.declared.reservation.Progress.TheVariants.{Left}
@@ -11,10 +10,8 @@ use Rattle.scoreboard.specs.declared.reservation.Reservation.{Reservation}
 use Rattle.scoreboard.specs.Conflicts.{first_free}
 use Rattle.scoreboard.specs.Units.{units_of, unit_number}
 use Rattle.scoreboard.specs.declared.writer.Writer.{Writer}
-use Rattle.scoreboard.specs.declared.writer.Writer.TheVariants.{OfUnit, OfChannel}
-use Rattle.scoreboard.specs.declared.writers.Writers.{Writers}
 use Rattle.scoreboard.specs.Answers.{in_progress}
-use Rattle.scoreboard.specs.Writers.{set_each, set_writer, forget}
+use Rattle.scoreboard.specs.Writers.{forget}
 use Rattle.instructions.specs.declared.instr.Reg.{Reg}
 use Rattle.instructions.specs.declared.instr.Unit.{Unit as FunctionalUnit}
 use Rattle.scoreboard.specs.Reservations.{reads_it, has_turn}
@@ -56,12 +53,6 @@ free_for taken (Some kind) = first_free taken (units_of kind)
 unfoldable pub channels_with : List (Option Issued) → Issued → Option ℕ → List (Option Issued)
 channels_with channels x None = channels
 channels_with channels x (Some n) = slice_set channels n (Some (in_progress x (Left (Some n))))
-
--- the writers after an issue: the unit for the registers that its store event writes, the load's channel for its X
--- register
-unfoldable pub writers_with : Writers → FunctionalUnit → List Reg → Option ℕ → Writers
-writers_with ws unit rs None = set_each ws rs (Some (OfUnit unit))
-writers_with ws unit rs (Some n) = set_each (set_writer ws (X n) (Some (OfChannel n))) rs (Some (OfUnit unit))
 
 -- the producers without that writer, where the unit is taken
 unfoldable pub forget_in_taken : Writer → List (Option Issued) → List (List (Option Writer))

@@ -1,6 +1,8 @@
 -- An issue: both refusals, the new reservation, and the invariant and the list after it.
-use Rattle.std.proofs.Common.{◌+◌, ap, refl, sym, ◌∙◌, Some, None, arith}
-use Rattle.std.specs.Prelude.{Ok, Err}
+use Rattle.std.proofs.Common.{◌≡◌, ◌<◌, ◌+◌, ap, refl, sym, ◌∙◌, subst, Some, None, arith}
+use Rattle.std.specs.Prelude.{Ok, Err, IfSome}
+use Rattle.instructions.specs.Each.{Each}
+use Rattle.scoreboard.specs.Writers.{IsRegister}
 use Rattle.instructions.specs.declared.refusal.Refusal.TheVariants.{UnitBusy}
 use Rattle.instructions.specs.Operands.{uses}
 use Rattle.scoreboard.specs.Conflicts.{unit_for}
@@ -9,6 +11,8 @@ use Rattle.scoreboard.specs.Answers.{Standing, reserve_answer, reserved, new_iss
 use Rattle.scoreboard.specs.inner.View.{standing_of}
 use Rattle.scoreboard.proofs.changing.Reserving.{first_found, unit_found, slot_found, kind_found, new_right, new_view}
 use Rattle.scoreboard.proofs.changing.Reserving.{reserved_answer, taken_answer, busy_answer, refused_after}
+use Rattle.scoreboard.proofs.changing.Reserving.{with_channel, writers_entered}
+use Rattle.scoreboard.proofs.board.Board.try_reserve.Goals.{in-Some-channel, in_default-channel}
 use Rattle.scoreboard.proofs.board.Board.try_reserve.Goals as goal
 
 pub returns-in_default-clause-answer : goal.returns-in_default-clause-answer
@@ -51,14 +55,26 @@ overflow_add-number c = let e = ap (λ (s : Standing). s.last) c.self.view_is in
 pub invariant_of-self : goal.invariant_of-self
 unfolding new_issued
 invariant_of-self c =
+    let below : IfSome c.channel.result (λ n. n < 8) = elim c.match-channel.branch [
+      | in-Some-channel w ↦ subst (λ o. IfSome o (λ n. n < 8)) (sym w.in-Some-channel.is) w.set.ensures.registers.0
+      | in_default-channel w ↦ subst (λ o. IfSome o (λ n. n < 8)) (sym w.in_default-channel.is) tt
+    ] in
+    let middle : c.match-channel.writers ≡ with_channel c.self.inside.writers c.channel.result =
+    elim c.match-channel.branch [
+      | in-Some-channel w ↦ w.writers-is ∙ w.set.ensures.value
+          ∙ sym (ap (with_channel c.self.inside.writers) w.in-Some-channel.is)
+      | in_default-channel w ↦ w.writers-is ∙ sym (ap (with_channel c.self.inside.writers) w.in_default-channel.is)
+    ] in
+    let entered = writers_entered c.self.inside.writers c.match-channel.writers c.set-2.new.self c.in-Some.unit
+    c.args.instr.now c.sets.result c.channel.result c.sets.ensures c.channel.ensures middle c.set-2.ensures.value in
     new_right c.self.inside.units c.self.inside.channels c.self.inside.producers c.self.inside.writers
-    c.expect.new.writers c.self.inside.last (c.self.inside.last + 1) c.in-Some.unit c.unit_number-index.result
+    c.set-2.new.self c.self.inside.last (c.self.inside.last + 1) c.in-Some.unit c.unit_number-index.result
     c.args.instr.now c.as_slice-3.result.now c.of.result (new_issued c.args.instr.now c.in-Some.unit (c.self.inside.last + 1)) c.self.invariant (omega arith)
     c.unit_number-index.ensures.value
     (slot_found c.self.inside.units (uses c.args.instr.now).unit c.free_unit.result c.in-Some.unit
     c.unit_number-index.result c.free_unit.ensures c.in-Some.is c.unit_number-index.ensures.value)
     (c.as_slice-3.ensures.value ∙ c.sources-sources.ensures) c.of.ensures.writers c.of.ensures.registers
-    c.expect.ensures.registers c.expect.ensures.channel
+    (subst (Each IsRegister) (sym c.sets.ensures) c.set-2.ensures.registers) (subst (λ o. IfSome o (λ n. n < 8)) c.channel.ensures below)
     (sym (first_found c.self.inside.units c.self.inside.channels c.self.inside.producers c.self.inside.writers
     c.self.inside.last c.args.instr.now c.as_slice.result.now c.as_slice-2.result.now c.of-taken.result
     c.first_produced.result c.self.invariant c.of-taken.ensures.writers c.of-taken.ensures.registers
@@ -67,7 +83,7 @@ invariant_of-self c =
     c.first_produced.ensures) ∙ c.in_default-first_produced.is)
     (kind_found c.self.inside.units (uses c.args.instr.now).unit c.free_unit.result c.in-Some.unit
     c.free_unit.ensures c.in-Some.is)
-    refl c.expect.ensures.value
+    refl entered
 
 pub returns-clause-answer : goal.returns-clause-answer
 returns-clause-answer c =
