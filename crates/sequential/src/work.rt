@@ -76,13 +76,14 @@ impl Work {
     pub fn of(instr: &Instr, value: &UnitValue) -> Work
         ensures { IsWorkOf (shape_of instr.now) value.now result }
     {
-        let (number, address, word) = match *value {
-            UnitValue::Word(word) => (word, Word18::default(), Word60::default()),
-            UnitValue::Index(index) => (index.widen(), Word18::default(), Word60::default()),
-            UnitValue::Load(address) => (address.widen(), address, Word60::default()),
-            UnitValue::Store(address, word) => (address.widen(), address, word),
-            UnitValue::Jump(_) => (Word60::default(), Word18::default(), Word60::default()),
-            UnitValue::Link { at, back } => (Word60::default(), at, link_word(back)),
+        let (no_number, nowhere) = (Word60::default(), Word18::default());
+        let (number, address, word, to) = match *value {
+            UnitValue::Word(word) => (word, nowhere, no_number, None),
+            UnitValue::Index(index) => (index.widen(), nowhere, no_number, None),
+            UnitValue::Load(address) => (address.widen(), address, no_number, None),
+            UnitValue::Store(address, word) => (address.widen(), address, word, None),
+            UnitValue::Jump(to) => (no_number, nowhere, no_number, to),
+            UnitValue::Link { at, back } => (no_number, at, link_word(back), Some(at.next())),
         };
         let memory = instr.memory();
         let reference = match memory {
@@ -98,10 +99,9 @@ impl Work {
         Work {
             register: instr.sets(),
             number,
-            jump: if instr.is_branch() {
-                value.destination()
-            } else {
-                None
+            jump: match to {
+                Some(to) if instr.is_branch() => Some(to),
+                _ => None,
             },
             reference,
         }

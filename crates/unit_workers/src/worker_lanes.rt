@@ -239,17 +239,12 @@ impl<'a> WorkerLanes<'a> {
         self.lanes.each().map(|lane| lane.is_served()).into_array() == [true; 7]
     }
 
-    /// Sends a note on the lane of its unit. A unit that is never reserved has no lane.
-    fn send<R: Wait>(&mut self, rt: &R, note: Note) {
-        if let Some(lane) = self.lanes.get_mut(note.unit) {
-            lane.send(rt, note);
-        }
-    }
-
-    /// Sends each note on the lane of its unit, and wakes that unit's worker.
+    /// Sends each note on the lane of its unit, and wakes that unit's worker. A unit that is never reserved has no lane.
     pub fn send_all<R: Wait>(&mut self, rt: &R, signals: &Signals, notes: &[Option<Note>]) {
         for note in notes.iter().flatten() {
-            self.send(rt, *note);
+            if let Some(lane) = self.lanes.get_mut(note.unit) {
+                lane.send(rt, *note);
+            }
             signals.worker(note.unit).raise();
         }
     }
