@@ -32,7 +32,8 @@ moves_known (Some bytes) left rest P a m = subst (λ o. Moves o rest P) a m
 
 -- the log can't be read
 pub lacks : (fault told : ProgramFault) (old : Option (List ℕ)) → told ≡ fault
-    → (fault ≡ faults.Refused refusals.Read) ⊎ (fault ≡ faults.Refused refusals.OutOfMemory) → LacksLog (Err told) old old
+    → (fault ≡ faults.Refused refusals.Read) ⊎ (fault ≡ faults.Refused refusals.OutOfMemory)
+    → LacksLog (Err told) old old
 lacks fault told old e (inl h) = (inl (ap Err (e ∙ h)), Keeps-refl old)
 lacks fault told old e (inr h) = (inr (ap Err (e ∙ h)), Keeps-refl old)
 

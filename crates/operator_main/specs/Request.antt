@@ -47,7 +47,8 @@ ReplaysOn text end bytes old new =
 
 -- the log can't be read, or there is no memory for it
 abbrev pub LacksLog : Result Status ProgramFault → Option (List ℕ) → Option (List ℕ) → Type 0
-LacksLog end old new = ((end ≡ Err (faults.Refused refusals.Read)) ⊎ (end ≡ Err (faults.Refused refusals.OutOfMemory))) × Keeps old new
+LacksLog end old new =
+    ((end ≡ Err (faults.Refused refusals.Read)) ⊎ (end ≡ Err (faults.Refused refusals.OutOfMemory))) × Keeps old new
 
 -- the same for a log that is among these bytes
 abbrev pub ReplaysLogIn : Option (List ℕ) → Result Status ProgramFault → Option (List ℕ) → Option (List ℕ)

@@ -18,7 +18,8 @@ returns-in-Ok-clause-replayed g c =
 
 pub returns-in-File-clause-replayed : goal.returns-in-File-clause-replayed
 returns-in-File-clause-replayed g c =
-    let why : (c.in-Err.fault ≡ faults.Refused refusals.Read) ⊎ (c.in-Err.fault ≡ faults.Refused refusals.OutOfMemory) = search rules in
+    let why : (c.in-Err.fault ≡ faults.Refused refusals.Read)
+    ⊎ (c.in-Err.fault ≡ faults.Refused refusals.OutOfMemory) = search rules in
     rw c.in-File.is (
       Err c.in-Err.fault,
       inr (lacks c.in-Err.fault c.in-Err.fault _ refl why),
@@ -47,8 +48,8 @@ returns-in-Ok-read_all-clause-replayed g c =
 
 pub returns-clause-replayed : goal.returns-clause-replayed
 returns-clause-replayed g c =
-    let why : (c.in-Err-read_all.fault ≡ faults.Refused refusals.Read) ⊎ (c.in-Err-read_all.fault ≡ faults.Refused refusals.OutOfMemory) =
-    search rules in
+    let why : (c.in-Err-read_all.fault ≡ faults.Refused refusals.Read)
+    ⊎ (c.in-Err-read_all.fault ≡ faults.Refused refusals.OutOfMemory) = search rules in
     rw c.in-Input.is (
       Err c.in-Err-read_all.fault,
       inr (lacks c.in-Err-read_all.fault c.in-Err-read_all.fault _ refl why),

@@ -10,8 +10,12 @@ use Rattle.operator_main.proofs.program.report_usage.Goals as goal
 
 pub returns-then-eq : goal.returns-then-eq
 returns-then-eq g c =
-    let same : kind_of c.args.error ≡ kinds.OutOfMemory = search rules in
-    (Err (faults.Refused refusals.OutOfMemory), rw same (refl, Keeps-refl _), c.report_fault.ensures.told, c.report_fault.ensures.status)
+    let same : kind_of c.args.error ≡ kinds.OutOfMemory = search rules in (
+      Err (faults.Refused refusals.OutOfMemory),
+      rw same (refl, Keeps-refl _),
+      c.report_fault.ensures.told,
+      c.report_fault.ensures.status,
+    )
 
 pub returns-then-use_stderr : goal.returns-then-use_stderr
 returns-then-use_stderr g c =
