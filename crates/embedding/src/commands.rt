@@ -1,6 +1,6 @@
 ghost use Rattle.std.specs.Prelude.{◌≡◌, [], Ok};
 ghost use Rattle.embedding.specs.Embedding.{IsListed, Ran, HasRun, Replayed, IsReplayed, Performed, IsSession};
-ghost use Rattle.embedding.specs.Embedding.{HandsOver, fault_in_memory, replay_end};
+ghost use Rattle.embedding.specs.Embedding.{HandsOver, fault_in_memory};
 ghost use Rattle.operator_terms.specs.declared.status.Status.TheVariants.{Usage};
 
 use crate::input_bytes::InputBytes;
@@ -8,7 +8,6 @@ use crate::outcome::{Outcome, hand_over};
 use instruction_table::Refusal;
 use job_deck::{CheckedWriter, LineBuffer, events_to, list_to, replay_to};
 use operator_terms::{Budget, ProgramFault, Status, end_status};
-use sequential::State;
 use sequential_job::run_to;
 use std::alloc::Global;
 
@@ -39,7 +38,10 @@ pub fn list_bytes(alloc: Global, input: &[u8], output: &mut [u8], line: &mut [u8
     let result = list_to(alloc, &mut bytes, &mut writer, &mut LineBuffer::new());
     // No effect at run time. The proof reads what the text holds from this use.
     let _ = &*writer.into_inner();
-    let ended = result.map(|_| Status::Stopped).map_err(fault_in_memory);
+    let ended = match result {
+        Ok(()) => Ok(Status::Stopped),
+        Err(refusal) => Err(fault_in_memory(refusal)),
+    };
     hand_over(ended, text.as_slice(), output, line)
 }
 
@@ -64,9 +66,10 @@ fn run_within(
         budget.get(),
     );
     let _ = &*writer.into_inner();
-    let ended = result
-        .map(|state| end_status(&state))
-        .map_err(fault_in_memory);
+    let ended = match result {
+        Ok(state) => Ok(end_status(&state)),
+        Err(refusal) => Err(fault_in_memory(refusal)),
+    };
     hand_over(ended, text.as_slice(), output, line)
 }
 
@@ -86,16 +89,6 @@ pub fn run_bytes(
     }
 }
 
-/// How a replay ends that no refusal ends: as the machine stands, or since its text is no log's.
-fn replay_status(found: Option<State>) -> Result<Status, ProgramFault>
-    ensures { result ≡ replay_end (Ok found) }
-{
-    match found {
-        Some(state) => Ok(end_status(&state)),
-        None => Err(ProgramFault::BadLog),
-    }
-}
-
 /// Replays the log of this text on the deck that these bytes are.
 fn replay_text(
     alloc: Global,
@@ -111,7 +104,11 @@ fn replay_text(
     let mut writer = CheckedWriter::new(&mut text);
     let result = replay_to(alloc, &mut bytes, &mut writer, &mut LineBuffer::new(), log);
     let _ = &*writer.into_inner();
-    let ended = result.map_err(fault_in_memory).and_then(replay_status);
+    let ended = match result {
+        Ok(Some(state)) => Ok(end_status(&state)),
+        Ok(None) => Err(ProgramFault::BadLog),
+        Err(refusal) => Err(fault_in_memory(refusal)),
+    };
     hand_over(ended, text.as_slice(), output, line)
 }
 
@@ -152,7 +149,10 @@ fn session(
         budget.get(),
     );
     let _ = &*writer.into_inner();
-    let ended = result.map(|_| Status::Stopped).map_err(fault_in_memory);
+    let ended = match result {
+        Ok(()) => Ok(Status::Stopped),
+        Err(refusal) => Err(fault_in_memory(refusal)),
+    };
     hand_over(ended, text.as_slice(), output, line)
 }
 

@@ -13,9 +13,7 @@ use crate::event_text::put_event;
 use crate::outcome::{Outcome, hand_over};
 use arrayvec::ArrayVec;
 use instruction_table::{DeckFault, Refusal};
-use job_deck::{
-    CheckedWriter, ScheduleLine, WriteFailed, parse_schedule_line, put_answer, with_line_number,
-};
+use job_deck::{CheckedWriter, ScheduleLine, WriteFailed, parse_schedule_line, put_answer};
 use machine::{Answer, Event, Machine};
 use operator_terms::{ProgramFault, Status};
 
@@ -80,8 +78,8 @@ fn line_said(text: &[u8]) -> ScheduleLine
 fn refuse_line(fault: DeckFault, output: &mut [u8], line: &mut [u8]) -> Outcome
     ensures { HandsOver result (Err (Refused (RefusedLine 1 fault))) [] output.old output.new }
 {
-    let ended = with_line_number(1, Err(fault)).map_err(ProgramFault::Refused);
-    hand_over(ended, &[], output, line)
+    let refusal = Refusal::Deck { line: 1, fault };
+    hand_over(Err(ProgramFault::Refused(refusal)), &[], output, line)
 }
 
 /// Makes the event that a text says as a line of a schedule.
