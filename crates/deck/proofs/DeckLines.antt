@@ -21,6 +21,26 @@ use Rattle.instructions.specs.declared.refusal.Refusal.{Refusal}
 use Rattle.instructions.specs.declared.refusal.Refusal.TheVariants as refusals
 use Rattle.device_text.proofs.Lines.{FirstHas, lines_whole, lines_first_long}
 
+-- a fault to which a line's number was added
+pub numbered : {T : Type 0} (found : Result T DeckFault) (told : Result T Refusal) (n : ℕ) (refusal : Refusal)
+    → MatchResult found (λ x. told ≡ Ok x) (λ fault. told ≡ Err (refusals.Deck n fault))
+    → told ≡ Err refusal → (fault : DeckFault) × (found ≡ Err fault) × (refusal ≡ refusals.Deck n fault)
+numbered (Ok x) told n refusal m h = cc
+numbered (Err fault) told n refusal m h = (
+  fault,
+  refl,
+  subst (λ r. IfErr r (λ e. e ≡ refusals.Deck n fault)) h
+      (subst (λ r. IfErr r (λ e. e ≡ refusals.Deck n fault)) (sym m) refl),
+)
+
+-- and what was found without a fault
+pub unrefused : {T : Type 0} (found : Result T DeckFault) (told : Result T Refusal) (n : ℕ) (x : T)
+    → MatchResult found (λ y. told ≡ Ok y) (λ fault. told ≡ Err (refusals.Deck n fault))
+    → told ≡ Ok x → found ≡ Ok x
+unrefused (Ok y) told n x m h = ap Ok (subst (λ r. IfOk r (λ z. y ≡ z)) h
+    (subst (λ r. IfOk r (λ z. y ≡ z)) (sym m) refl))
+unrefused (Err fault) told n x m h = cc
+
 -- the next line is taken
 abbrev pub Taken : List ℕ → List ℕ → List ℕ → Type 0
 Taken text xs ys = lines_of xs ≡ (text, ys) ∷ lines_of ys

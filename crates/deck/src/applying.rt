@@ -22,10 +22,10 @@ use std::alloc::Global;
 use word60::{Word18, Word60};
 
 /// The most instructions that an `ask` line waits for.
-const MOST_INSTRUCTIONS: u64 = 10_000_000;
+const LATEST_ASK: u64 = 10_000_000;
 
-/// How many parcels a word has.
-const PARCELS: usize = 4;
+/// The most parcels of a `code` line, which are those of a word.
+const MOST_PARCELS: usize = 4;
 
 /// The number of words that a `core` line gives memory.
 ///
@@ -124,7 +124,7 @@ impl Draft {
             return Err(DeckFault::Range);
         }
         let parcels = parcels_in(texts).ok_or(DeckFault::Instruction)?;
-        if parcels.len() > PARCELS {
+        if parcels.len() > MOST_PARCELS {
             return Err(DeckFault::Full);
         }
         let word = word_of(parcels.as_slice());
@@ -190,7 +190,7 @@ impl Draft {
     {
         let at = number(8, 6, address).ok_or(DeckFault::Number)? as u32;
         let count = number(10, 8, count).ok_or(DeckFault::Number)?;
-        if count > MOST_INSTRUCTIONS {
+        if count > LATEST_ASK {
             return Err(DeckFault::Number);
         }
         self.check_request(at)?;

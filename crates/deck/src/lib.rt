@@ -18,4 +18,4 @@ mod reading;
 pub use deck::{Ask, Deck, Show};
 pub use image::Image;
 pub use line_list::LineList;
-pub use reading::{MOST_LINES, read_deck, read_deck_from};
+pub use reading::{MOST_LINES, read_deck, read_deck_from, with_line_number};

@@ -1,5 +1,5 @@
 ghost use Rattle.std.specs.Prelude.{◌≡◌, ◌==◌, ◌<◌, ◌∷◌, [], position};
-ghost use Rattle.device_text.specs.Text.{fields_of, other_parts, from_space};
+ghost use Rattle.device_text.specs.Text.{fields_of, from_space};
 ghost use Rattle.deck.specs.Deck.{parsed_fields, parsed_line, parsed_code};
 ghost use Rattle.deck.specs.inner.ParsedLine.{line_with_bytes};
 
@@ -63,10 +63,14 @@ fn line_of_four<'a>(word: &[u8], first: &'a [u8], second: &[u8], rest: &'a [u8])
     Line::Unknown
 }
 
-/// What a line says that begins with another word.
-fn line_of_fields<'a>(word: &[u8], rest: Option<&'a [u8]>) -> Line<&'a [u8]>
-    ensures { line_with_bytes result ≡ parsed_fields (word.now ∷ other_parts 32 rest.entry) }
+/// What a line says.
+pub fn parse_line(text: &[u8]) -> Line<&[u8]>
+    ensures { line_with_bytes result ≡ parsed_line text.now }
 {
+    let (word, rest) = first_part(text, b' ');
+    if word == b"code".as_slice() {
+        return code_line(text);
+    }
     let Some(rest) = rest else {
         return if word == b"end".as_slice() {
             Line::End
@@ -99,16 +103,4 @@ fn line_of_fields<'a>(word: &[u8], rest: Option<&'a [u8]>) -> Line<&'a [u8]>
         };
     };
     line_of_four(word, first, second, rest)
-}
-
-/// What a line says.
-pub fn parse_line(text: &[u8]) -> Line<&[u8]>
-    ensures { line_with_bytes result ≡ parsed_line text.now }
-{
-    let (word, rest) = first_part(text, b' ');
-    if word == b"code".as_slice() {
-        code_line(text)
-    } else {
-        line_of_fields(word, rest)
-    }
 }

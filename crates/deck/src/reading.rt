@@ -1,4 +1,6 @@
-ghost use Rattle.std.specs.Prelude.{◌≡◌, ◌||◌, ◌≤◌, ◌∷◌, length, false, true, Some, OnOk, IfOk, IfErr};
+ghost use Rattle.std.specs.Prelude.{◌≡◌, ◌||◌, ◌≤◌, ◌∷◌, length, false, true, Some, Ok, Err, OnOk, IfOk, IfErr};
+ghost use Rattle.std.specs.Prelude.{MatchResult};
+ghost use Rattle.instructions.specs.declared.refusal.Refusal.TheVariants.{Deck as RefusedLine};
 ghost use Rattle.device_text.specs.Device.{Moves};
 ghost use Rattle.deck.specs.Deck.{deck, read_from};
 ghost use Rattle.device_text.specs.Line.{ReadsPart, lines_of};
@@ -15,6 +17,16 @@ use std::io::Read;
 /// The most lines of a deck, with those of the schedule that may follow.
 pub const MOST_LINES: u32 = 10_000_000;
 
+/// What a line gives, or its fault with its number.
+///
+/// # Errors
+/// `Deck` with the number and the fault.
+pub fn with_line_number<T>(line: u32, found: Result<T, DeckFault>) -> Result<T, Refusal>
+    ensures { MatchResult found (λ x. result ≡ Ok x) (λ fault. result ≡ Err (RefusedLine line fault)) }
+{
+    found.map_err(|fault| Refusal::Deck { line, fault })
+}
+
 /// Reads line `number`, of at most 200 bytes.
 fn next_line<I: Input>(input: &mut I, line: &mut LineBuffer, number: u32) -> Result<(), Refusal>
     ensures text { OnOk result (length line.new.items ≤ 200) }
@@ -29,14 +41,8 @@ fn next_line<I: Input>(input: &mut I, line: &mut LineBuffer, number: u32) -> Res
 {
     match read_line(input, line)? {
         LineRead::Whole => Ok(()),
-        LineRead::Long => Err(Refusal::Deck {
-            line: number,
-            fault: DeckFault::Long,
-        }),
-        LineRead::Nothing => Err(Refusal::Deck {
-            line: number,
-            fault: DeckFault::NoEnd,
-        }),
+        LineRead::Long => with_line_number(number, Err(DeckFault::Long)),
+        LineRead::Nothing => with_line_number(number, Err(DeckFault::NoEnd)),
     }
 }
 
@@ -60,10 +66,8 @@ fn first_draft<I: Input>(
     ensures same { I.lender input.new ≡ I.lender input.old }
 {
     next_line(input, line, 1)?;
-    match first_size(line.as_slice()) {
-        Ok(size) => Draft::new(alloc, size),
-        Err(fault) => Err(Refusal::Deck { line: 1, fault }),
-    }
+    let size = with_line_number(1, first_size(line.as_slice()))?;
+    Draft::new(alloc, size)
 }
 
 /// Reads a deck to the end of its `end` line, and nothing past it. Returns the number of that line too, since a
@@ -89,21 +93,12 @@ pub fn read_deck_from<I: Input>(
     let mut draft = first_draft(alloc, input, line)?;
     for number in 2..MOST_LINES + 1 {
         next_line(input, line, number)?;
-        match draft.apply(line.as_slice()) {
-            Ok(Flow::Goes) => {}
-            Ok(Flow::Ends(start)) => return Ok((draft.whole(start), number)),
-            Err(fault) => {
-                return Err(Refusal::Deck {
-                    line: number,
-                    fault,
-                });
-            }
+        match with_line_number(number, draft.apply(line.as_slice()))? {
+            Flow::Goes => {}
+            Flow::Ends(start) => return Ok((draft.whole(start), number)),
         }
     }
-    Err(Refusal::Deck {
-        line: MOST_LINES + 1,
-        fault: DeckFault::Lines,
-    })
+    with_line_number(MOST_LINES + 1, Err(DeckFault::Lines))
 }
 
 /// Reads a deck to the end of its `end` line, and nothing past it.
@@ -117,8 +112,6 @@ pub fn read_deck<R: Read>(alloc: Global, reader: &mut R) -> Result<Deck, Refusal
     let result = read_deck_from(alloc, &mut input, &mut LineBuffer::new());
     // No effect at run time. The proof reads what the reader has left from this use.
     let _ = &*input.into_inner();
-    match result {
-        Ok((deck, _)) => Ok(deck),
-        Err(refusal) => Err(refusal),
-    }
+    let (deck, _) = result?;
+    Ok(deck)
 }

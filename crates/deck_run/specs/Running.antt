@@ -3,6 +3,7 @@
 use Rattle.std.specs.Prelude.{◌≡◌, ◌⊎◌, ℕ, Bool, true, false, List, Option, Some, None, Result, Ok, Err}
 use Rattle.std.specs.Io.KnownBytes.{Keeps, Appends}
 use Rattle.instructions.specs.declared.refusal.Refusal.{Refusal}
+use Rattle.instructions.specs.declared.refusal.Refusal.TheVariants as refusals
 use Rattle.sequential.specs.declared.state.State.{State}
 use Rattle.sequential.specs.Log.{entries_of}
 use Rattle.sequential.specs.Replay.{LogStep}
@@ -20,7 +21,7 @@ use Rattle.operator_terms.specs.Status.{status_of, fault_of}
 
 -- why a run has no end: no memory is left, or the machine refused a step
 abbrev pub EndsNoRun : ProgramFault → Type 0
-EndsNoRun fault = (fault ≡ faults.OutOfMemory) ⊎ (fault ≡ faults.Stuck)
+EndsNoRun fault = (fault ≡ faults.Refused refusals.OutOfMemory) ⊎ (fault ≡ faults.Stuck)
 
 -- what is printed of a deck's run with a budget: the dump of the state to which some log leads, which also says how the
 -- program ends, or at a failed write a beginning of such a dump; else nothing
@@ -28,18 +29,18 @@ abbrev pub PrintsRun : Result Status ProgramFault → Deck → ℕ → Option (L
 PrintsRun (Ok status) deck budget old new =
     (log : List LogStep) × (s : State) × IsRun deck.image.memory deck.start (asks_after deck) deck.free budget log s
     × (status ≡ status_of s.fault s.halt) × Appends old new (dump_text s (entries_of log) deck.shows)
-PrintsRun (Err faults.Write) deck budget old new =
+PrintsRun (Err (faults.Refused refusals.Write)) deck budget old new =
     (log : List LogStep) × (s : State) × IsRun deck.image.memory deck.start (asks_after deck) deck.free budget log s
     × WritesFront old new (dump_text s (entries_of log) deck.shows)
-PrintsRun (Err faults.OutOfMemory) deck budget old new = Keeps old new
+PrintsRun (Err (faults.Refused refusals.OutOfMemory)) deck budget old new = Keeps old new
 PrintsRun (Err faults.Stuck) deck budget old new = Keeps old new
 PrintsRun other deck budget old new = ⊥
 
 -- the same from a deck's bytes on, of which these are left
 abbrev pub Runs : Result Status ProgramFault → Reading → ℕ → List ℕ → Option (List ℕ) → Option (List ℕ) → Type 0
-Runs (Err (faults.Deck m fault)) reading budget rest old new = (reading ≡ Bad m fault rest) × Keeps old new
-Runs (Err faults.Read) reading budget rest old new = Keeps old new
-Runs (Err faults.OutOfMemory) reading budget rest old new = Keeps old new
+Runs (Err (faults.Refused (refusals.Deck m fault))) reading budget rest old new = (reading ≡ Bad m fault rest) × Keeps old new
+Runs (Err (faults.Refused refusals.Read)) reading budget rest old new = Keeps old new
+Runs (Err (faults.Refused refusals.OutOfMemory)) reading budget rest old new = Keeps old new
 Runs result (Good deck n after) budget rest old new = (rest ≡ after) × PrintsRun result deck budget old new
 Runs result (Bad n fault after) budget rest old new = ⊥
 
@@ -69,10 +70,10 @@ EndsReplay result reading rest text old new =
 
 -- whether the program ends since a read failed
 abbrev pub is_read_fault : Result Status ProgramFault → Bool
-is_read_fault (Err faults.Read) = true
+is_read_fault (Err (faults.Refused refusals.Read)) = true
 is_read_fault other = false
 
 -- whether the program ends since a write failed
 abbrev pub is_write_fault : Result Status ProgramFault → Bool
-is_write_fault (Err faults.Write) = true
+is_write_fault (Err (faults.Refused refusals.Write)) = true
 is_write_fault other = false

@@ -4,6 +4,7 @@ ghost use Rattle.device_text.specs.Device.{Moves, NothingWaits};
 ghost use Rattle.deck_run.specs.Running.{PrintsRun, Runs, EndsReplay, EndsSequentialRun, is_read_fault, is_write_fault};
 
 use super::running::run;
+use instruction_table::Refusal;
 use job_deck::{Deck, Input, LineBuffer, Output, dump_to, read_deck_from, replay_to};
 use operator_terms::{Budget, ProgramFault, Status, end_status};
 use sequential_job::run_to;
@@ -33,7 +34,7 @@ fn print_run<T: Threads + Wait + Clock + Sync, O: Output>(
     let snapshot = run(rt, alloc, deck, budget)?;
     match dump_to(output, snapshot.state(), snapshot.log(), deck) {
         Ok(()) => Ok(end_status(snapshot.state())),
-        Err(_) => Err(ProgramFault::Write),
+        Err(_) => Err(ProgramFault::Refused(Refusal::Write)),
     }
 }
 

@@ -49,10 +49,8 @@ fn prepared(alloc: Global, deck: &Deck, budget: Budget) -> Result<(Machine, Orde
     let Ok(orders) = orders(alloc, deck) else {
         return Err(Refusal::OutOfMemory);
     };
-    match booted(alloc, deck, budget.get()) {
-        Ok(machine) => Ok((machine, orders)),
-        Err(refusal) => Err(refusal),
-    }
+    let machine = booted(alloc, deck, budget.get())?;
+    Ok((machine, orders))
 }
 
 /// Gates that hold up nobody.
@@ -87,11 +85,11 @@ pub fn run<T: Threads + Wait + Clock + Sync>(
     ensures budget { IfOk result (λ snapshot. snapshot.budget ≡ budget) }
 {
     let Ok((machine, orders)) = prepared(alloc, deck, budget) else {
-        return Err(ProgramFault::OutOfMemory);
+        return Err(ProgramFault::Refused(Refusal::OutOfMemory));
     };
     match run_threads(rt, alloc, machine, &orders, open_gates()) {
         Ok(ended) => Ok(ended.snapshot),
-        Err(Refusal::OutOfMemory) => Err(ProgramFault::OutOfMemory),
+        Err(Refusal::OutOfMemory) => Err(ProgramFault::Refused(Refusal::OutOfMemory)),
         Err(_) => Err(ProgramFault::Stuck),
     }
 }

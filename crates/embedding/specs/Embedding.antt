@@ -21,7 +21,7 @@ use Rattle.embedding.specs.declared.outcome.Outcome.{Outcome}
 
 -- why a command ends at this refusal: it writes to memory, so a write fails where memory runs out
 abbrev pub fault_in_memory : Refusal → ProgramFault
-fault_in_memory refusals.Write = faults.OutOfMemory
+fault_in_memory refusals.Write = faults.Refused refusals.OutOfMemory
 fault_in_memory other = fault_of other
 
 -- the exit status of a command that ends so

@@ -106,7 +106,7 @@ HasBooted input budget outcome new =
 -- how a call ends that writes to memory
 abbrev pub written_end : Result (Unit {0}) WriteFailed → Result Status ProgramFault
 written_end (Ok x) = Ok Stopped
-written_end (Err failed) = Err faults.OutOfMemory
+written_end (Err failed) = Err (faults.Refused refusals.OutOfMemory)
 
 -- a call hands over this text; where memory runs out a beginning of it
 abbrev pub HandsOverText : List ℕ → Outcome → List ℕ → List ℕ → Type 0
@@ -127,9 +127,9 @@ RefusesLine fault b c outcome old new = (c ≡ b) × HandsOver outcome (Err faul
 -- event
 abbrev pub DoesLine : ScheduleLine → Booted → Booted → Outcome → List ℕ → List ℕ → Type 0
 DoesLine (Makes e) b c outcome old new = MakesEvent e [] b c outcome old new
-DoesLine Ends b c outcome old new = RefusesLine (faults.Deck 1 line_faults.Unknown) b c outcome old new
-DoesLine Drains b c outcome old new = RefusesLine (faults.Deck 1 line_faults.Unknown) b c outcome old new
-DoesLine (Faulty fault) b c outcome old new = RefusesLine (faults.Deck 1 fault) b c outcome old new
+DoesLine Ends b c outcome old new = RefusesLine (faults.Refused (refusals.Deck 1 line_faults.Unknown)) b c outcome old new
+DoesLine Drains b c outcome old new = RefusesLine (faults.Refused (refusals.Deck 1 line_faults.Unknown)) b c outcome old new
+DoesLine (Faulty fault) b c outcome old new = RefusesLine (faults.Refused (refusals.Deck 1 fault)) b c outcome old new
 
 -- what a text says as the one line of a schedule
 abbrev pub text_says : List ℕ → ScheduleLine
@@ -180,7 +180,7 @@ pub record IsDrainedBy (b c : Booted) (count : ℕ) : Type 0 where
 abbrev pub DumpsText : Booted → Outcome → List ℕ → List ℕ → Type 0
 DumpsText b outcome old new =
     ((all : List ℕ) × IsDump b.machine b.deck.shows all × HandsOverText all outcome old new)
-    ⊎ HandsOver outcome (Err faults.OutOfMemory) [] old new
+    ⊎ HandsOver outcome (Err (faults.Refused refusals.OutOfMemory)) [] old new
 
 -- what a call hands over that dumps a machine
 abbrev pub IsDumped : Booted → Outcome → List ℕ → List ℕ → Type 0

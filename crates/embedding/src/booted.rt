@@ -58,14 +58,13 @@ fn boot_within(
     requires { machine.old.owned.machine ≡ None }
     ensures { BootsWithin input.now budget result machine.new.owned.machine }
 {
-    let ended = match boot_boxed(alloc, input, budget) {
+    match boot_boxed(alloc, input, budget) {
         Ok(booted) => {
             machine.put(booted);
-            Ok(Status::Stopped)
+            hand_over(Ok(Status::Stopped), &[], &mut [], line)
         }
-        Err(refusal) => Err(fault_in_memory(refusal)),
-    };
-    hand_over(ended, &[], &mut [], line)
+        Err(refusal) => hand_over(Err(fault_in_memory(refusal)), &[], &mut [], line),
+    }
 }
 
 /// The same with a budget of so many instructions, if that may be one. A machine that was there is freed.

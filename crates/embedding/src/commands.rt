@@ -16,7 +16,7 @@ pub fn fault_in_memory(refusal: Refusal) -> ProgramFault
     ensures { result ≡ fault_in_memory refusal }
 {
     match refusal {
-        Refusal::Write => ProgramFault::OutOfMemory,
+        Refusal::Write => ProgramFault::Refused(Refusal::OutOfMemory),
         other => ProgramFault::from(other),
     }
 }

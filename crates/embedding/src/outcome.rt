@@ -16,8 +16,8 @@ pub const NO_MACHINE: u8 = 8;
 /// The status of a call that wants a drained machine, where it isn't drained.
 pub const NOT_DRAINED: u8 = 9;
 
-/// The version of the program, as it prints it.
-const VERSION: &str = "0.1.0";
+/// The number of the program's version, as it prints it.
+const VERSION_NUMBER: &str = "0.1.0";
 
 /// What a call comes to. The bytes are counted whether there was room for them or not.
 #[repr(C)]
@@ -47,7 +47,7 @@ pub fn fill_version(output: &mut [u8]) -> usize
     ensures bytes { output.new ≡ filled version output.old }
     ensures needed { result ≡ length version }
 {
-    fill(VERSION.as_bytes(), output)
+    fill(VERSION_NUMBER.as_bytes(), output)
 }
 
 /// An outcome with nothing printed and no fault line.
@@ -89,7 +89,7 @@ pub fn hand_over(
         Err(fault) => Outcome {
             printed,
             told: tell(&fault, line),
-            status: fault.status().code(),
+            status: fault.exit_code(),
         },
     }
 }

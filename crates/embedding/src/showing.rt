@@ -10,6 +10,7 @@ use crate::booted::Booted;
 use crate::outcome::{NOT_DRAINED, Outcome, hand_over, silent};
 use crate::stepping::written_end;
 use device_text::{Piece, put_pieces};
+use instruction_table::Refusal;
 use job_deck::{CheckedWriter, Deck, Output, WriteFailed, dump_to};
 use machine::Snapshot;
 use operator_terms::ProgramFault;
@@ -44,7 +45,12 @@ pub fn show_dump(alloc: Global, booted: &Booted, output: &mut [u8], line: &mut [
     }
     match booted.machine.snapshot() {
         Ok(snapshot) => show_snapshot(alloc, &snapshot, &booted.deck, output, line),
-        Err(_) => hand_over(Err(ProgramFault::OutOfMemory), &[], output, line),
+        Err(_) => hand_over(
+            Err(ProgramFault::Refused(Refusal::OutOfMemory)),
+            &[],
+            output,
+            line,
+        ),
     }
 }
 

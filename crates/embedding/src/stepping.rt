@@ -5,13 +5,14 @@ ghost use Rattle.embedding.specs.Keeping.{DoesText, HandsOverText, MakesEvent, M
 ghost use Rattle.embedding.specs.Keeping.{text_says, written_end};
 ghost use Rattle.job_deck.specs.AnswerText.{answer_line};
 ghost use Rattle.embedding.specs.Embedding.{HandsOver};
-ghost use Rattle.operator_terms.specs.declared.fault.ProgramFault.TheVariants.{Deck as DeckFaultAt};
+ghost use Rattle.instructions.specs.declared.refusal.Refusal.TheVariants.{Deck as RefusedLine};
+ghost use Rattle.operator_terms.specs.declared.fault.ProgramFault.TheVariants.{Refused};
 
 use crate::booted::Booted;
 use crate::event_text::put_event;
 use crate::outcome::{Outcome, hand_over};
 use arrayvec::ArrayVec;
-use instruction_table::DeckFault;
+use instruction_table::{DeckFault, Refusal};
 use job_deck::{CheckedWriter, ScheduleLine, WriteFailed, parse_schedule_line, put_answer};
 use machine::{Answer, Event, Machine};
 use operator_terms::{ProgramFault, Status};
@@ -28,7 +29,7 @@ pub fn written_end(written: Result<(), WriteFailed>) -> Result<Status, ProgramFa
 {
     match written {
         Ok(()) => Ok(Status::Stopped),
-        Err(_) => Err(ProgramFault::OutOfMemory),
+        Err(_) => Err(ProgramFault::Refused(Refusal::OutOfMemory)),
     }
 }
 
@@ -75,14 +76,10 @@ fn line_said(text: &[u8]) -> ScheduleLine
 
 /// Refuses a line for this fault.
 fn refuse_line(fault: DeckFault, output: &mut [u8], line: &mut [u8]) -> Outcome
-    ensures { HandsOver result (Err (DeckFaultAt 1 fault)) [] output.old output.new }
+    ensures { HandsOver result (Err (Refused (RefusedLine 1 fault))) [] output.old output.new }
 {
-    hand_over(
-        Err(ProgramFault::Deck { line: 1, fault }),
-        &[],
-        output,
-        line,
-    )
+    let refusal = Refusal::Deck { line: 1, fault };
+    hand_over(Err(ProgramFault::Refused(refusal)), &[], output, line)
 }
 
 /// Makes the event that a text says as a line of a schedule.

@@ -1,4 +1,6 @@
 use crate::{Op, Reg, Unit};
+use std::fmt;
+use std::fmt::{Display, Formatter, Write};
 use thiserror::Error;
 
 /// Why the machine is halted.
@@ -160,5 +162,17 @@ impl Refusal {
             Refusal::PeripheralWait => "E26 peripheral waits",
             Refusal::PeripheralRange => "E27 peripheral range",
         }
+    }
+}
+
+/// The label, and for a line that is refused its number and its fault. The names that end some labels are written with
+/// the answers of a schedule, in `job_deck`.
+impl Display for Refusal {
+    fn fmt<W: Write>(&self, f: &mut Formatter<W>) -> fmt::Result {
+        f.write_str(self.label())?;
+        if let Refusal::Deck { line, fault } = self {
+            write!(f, "{line}: {fault}")?;
+        }
+        Ok(())
     }
 }

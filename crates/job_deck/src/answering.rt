@@ -25,7 +25,27 @@ fn put_named<O: Output>(output: &mut O, refusal: &Refusal) -> Result<(), WriteFa
         Refusal::OperandAwaited(register) => put_pieces(output, &[Piece::Register(register)]),
         Refusal::ResultHeld(register) => put_pieces(output, &[Piece::Register(register)]),
         Refusal::BankBusy(bank) => put_pieces(output, &[Piece::Count(u64::from(bank))]),
-        _ => Ok(()),
+        Refusal::Faulted
+        | Refusal::Budget
+        | Refusal::BranchPending
+        | Refusal::ExchangeWaiting
+        | Refusal::FetchWait
+        | Refusal::HopperFull
+        | Refusal::OutOfTurn
+        | Refusal::OlderAtAddress
+        | Refusal::Nothing
+        | Refusal::Stranger
+        | Refusal::ExchangeBusy
+        | Refusal::NotDrained
+        | Refusal::PackageRange
+        | Refusal::Deck { .. }
+        | Refusal::OutOfMemory
+        | Refusal::Read
+        | Refusal::Write
+        | Refusal::MemorySize
+        | Refusal::MidWord
+        | Refusal::PeripheralWait
+        | Refusal::PeripheralRange => Ok(()),
     }
 }
 

@@ -9,6 +9,7 @@ ghost use Rattle.job_deck.specs.LogText.{read_in, write_in, written_in, spent, s
 
 use device_text::{first_part, number};
 use instruction_table::Refusal;
+use machine::MOST_ISSUES;
 use sequential::{Entry, Log};
 use std::alloc::Global;
 use word60::Word60;
@@ -33,7 +34,7 @@ impl Allowance {
     {
         Allowance {
             after_count: false,
-            instructions: 10_000_000,
+            instructions: MOST_ISSUES,
             exchanges: 1_000_000,
             accesses: 1_000_000,
         }

@@ -13,7 +13,7 @@ use crate::answering::put_answer;
 use crate::ending::finish;
 use crate::schedule::ScheduleLine;
 use crate::schedule_reading::read_schedule_line;
-use deck::{Deck, MOST_LINES, read_deck_from};
+use deck::{Deck, MOST_LINES, read_deck_from, with_line_number};
 use device_text::{CheckedReader, CheckedWriter, Input, LineBuffer, Output, WriteFailed};
 use instruction_table::{DeckFault, Refusal};
 use machine::{Event, Machine};
@@ -55,19 +55,11 @@ fn answer_lines<I: Input, O: Output>(
         match read_schedule_line(input, output, line, before, number)? {
             ScheduleLine::Ends => return Ok(false),
             ScheduleLine::Drains => return Ok(true),
-            ScheduleLine::Faulty(fault) => {
-                return Err(Refusal::Deck {
-                    line: number,
-                    fault,
-                });
-            }
+            ScheduleLine::Faulty(fault) => return with_line_number(number, Err(fault)),
             ScheduleLine::Makes(event) => make(output, machine, event)?,
         }
     }
-    Err(Refusal::Deck {
-        line: MOST_LINES + 1,
-        fault: DeckFault::Lines,
-    })
+    with_line_number(MOST_LINES + 1, Err(DeckFault::Lines))
 }
 
 /// Runs a session: answers the lines of a schedule that come after line `before`, and does what the last

@@ -27,7 +27,7 @@ unbegun (Good whole n after) budget old = inl (le_refl _, Keeps-refl old)
 unbegun (Bad n fault after) budget old = Keeps-refl old
 
 unbegun_there : (work : Work) (xs : List ℕ) (old : Option (List ℕ))
-    → CarriesOut work (Err faults.OutOfMemory) xs (after_deck (deck xs)) old old
+    → CarriesOut work (Err (faults.Refused refusals.OutOfMemory)) xs (after_deck (deck xs)) old old
 unbegun_there (works.Run budget) xs old = Keeps-refl old
 unbegun_there (works.RunSequentially budget) xs old = (Err refusals.OutOfMemory, Keeps-refl old, refl)
 unbegun_there (works.Replay log) xs old = (Err refusals.OutOfMemory, Keeps-refl old, refl)
@@ -36,13 +36,13 @@ unbegun_there works.List xs old = (Err refusals.OutOfMemory, Keeps-refl old, ref
 
 left_there : (work : Work) (input old : Option (List ℕ))
     → Moves input (option_map (λ xs. after_deck (deck xs)) input)
-    (λ xs ys. CarriesOut work (Err faults.OutOfMemory) xs ys old old)
+    (λ xs ys. CarriesOut work (Err (faults.Refused refusals.OutOfMemory)) xs ys old old)
 left_there work None old = tt
 left_there work (Some xs) old = unbegun_there work xs old
 
 -- there is no memory for the buffer
 pub performed_nothing : (work : Work) (input old : Option (List ℕ))
-    → Performed work (Err faults.OutOfMemory) input old old
+    → Performed work (Err (faults.Refused refusals.OutOfMemory)) input old old
 performed_nothing work input old =
     record {
       rest = option_map (λ xs. after_deck (deck xs)) input;

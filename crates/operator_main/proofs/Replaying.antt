@@ -3,6 +3,7 @@ use Rattle.std.proofs.Common.{◌≡◌, ◌⊎◌, ℕ, List, Option, None, Som
 use Rattle.std.specs.Prelude.{IfOk, IfSome}
 use Rattle.std.proofs.KnownBytes.{Keeps-refl}
 use Rattle.device_text.specs.Device.{Moves}
+use Rattle.instructions.specs.declared.refusal.Refusal.TheVariants as refusals
 use Rattle.operator_terms.specs.declared.fault.ProgramFault.{ProgramFault}
 use Rattle.operator_terms.specs.declared.fault.ProgramFault.TheVariants as faults
 use Rattle.operator_terms.specs.declared.status.Status.{Status}
@@ -31,7 +32,8 @@ moves_known (Some bytes) left rest P a m = subst (λ o. Moves o rest P) a m
 
 -- the log can't be read
 pub lacks : (fault told : ProgramFault) (old : Option (List ℕ)) → told ≡ fault
-    → (fault ≡ faults.Read) ⊎ (fault ≡ faults.OutOfMemory) → LacksLog (Err told) old old
+    → (fault ≡ faults.Refused refusals.Read) ⊎ (fault ≡ faults.Refused refusals.OutOfMemory)
+    → LacksLog (Err told) old old
 lacks fault told old e (inl h) = (inl (ap Err (e ∙ h)), Keeps-refl old)
 lacks fault told old e (inr h) = (inr (ap Err (e ∙ h)), Keeps-refl old)
 

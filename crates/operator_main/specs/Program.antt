@@ -4,6 +4,7 @@ use Rattle.std.specs.Prelude.{◌≡◌, ◌⊎◌, ◌≤◌, ℕ, List, length
 use Rattle.std.specs.Io.KnownBytes.{Keeps, Appends}
 use Rattle.clap.specs.declared.error.kind.ErrorKind.{ErrorKind}
 use Rattle.clap.specs.declared.error.kind.ErrorKind.TheVariants as kinds
+use Rattle.instructions.specs.declared.refusal.Refusal.TheVariants as refusals
 use Rattle.operator_terms.specs.declared.fault.ProgramFault.{ProgramFault}
 use Rattle.operator_terms.specs.declared.fault.ProgramFault.TheVariants as faults
 use Rattle.operator_terms.specs.declared.status.Status.{Status}
@@ -20,9 +21,9 @@ exit_code (Err fault) = code_of (fault_status fault)
 -- how the program ends where its words ask for nothing that it does, and what becomes of its output: the words are
 -- refused, or ask for help or the version, whose text goes to the output, or memory ran out
 abbrev pub EndsUnasked : ErrorKind → Result Status ProgramFault → Option (List ℕ) → Option (List ℕ) → Type 0
-EndsUnasked kinds.OutOfMemory end old new = (end ≡ Err faults.OutOfMemory) × Keeps old new
-EndsUnasked kinds.DisplayHelp end old new = (end ≡ Ok Stopped) ⊎ (end ≡ Err faults.Write)
-EndsUnasked kinds.DisplayVersion end old new = (end ≡ Ok Stopped) ⊎ (end ≡ Err faults.Write)
+EndsUnasked kinds.OutOfMemory end old new = (end ≡ Err (faults.Refused refusals.OutOfMemory)) × Keeps old new
+EndsUnasked kinds.DisplayHelp end old new = (end ≡ Ok Stopped) ⊎ (end ≡ Err (faults.Refused refusals.Write))
+EndsUnasked kinds.DisplayVersion end old new = (end ≡ Ok Stopped) ⊎ (end ≡ Err (faults.Refused refusals.Write))
 EndsUnasked other end old new = (end ≡ Ok Usage) × Keeps old new
 
 -- what is told on the fault stream: at a fault a line, which has at most 256 bytes; where the words are refused some

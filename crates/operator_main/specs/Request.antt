@@ -5,6 +5,7 @@ use Rattle.std.specs.Prelude.{IsUtf8, codes, if◌then◌else◌}
 use Rattle.std.specs.Io.KnownBytes.{Keeps}
 use Rattle.device_text.specs.Device.{Moves}
 use Rattle.deck.specs.Deck.{deck}
+use Rattle.instructions.specs.declared.refusal.Refusal.TheVariants as refusals
 use Rattle.operator_terms.specs.declared.fault.ProgramFault.{ProgramFault}
 use Rattle.operator_terms.specs.declared.fault.ProgramFault.TheVariants as faults
 use Rattle.operator_terms.specs.declared.status.Status.{Status}
@@ -46,7 +47,8 @@ ReplaysOn text end bytes old new =
 
 -- the log can't be read, or there is no memory for it
 abbrev pub LacksLog : Result Status ProgramFault → Option (List ℕ) → Option (List ℕ) → Type 0
-LacksLog end old new = ((end ≡ Err faults.Read) ⊎ (end ≡ Err faults.OutOfMemory)) × Keeps old new
+LacksLog end old new =
+    ((end ≡ Err (faults.Refused refusals.Read)) ⊎ (end ≡ Err (faults.Refused refusals.OutOfMemory))) × Keeps old new
 
 -- the same for a log that is among these bytes
 abbrev pub ReplaysLogIn : Option (List ℕ) → Result Status ProgramFault → Option (List ℕ) → Option (List ℕ)

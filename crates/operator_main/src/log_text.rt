@@ -1,8 +1,10 @@
 //! The text of a log that is read from a file or from standard input.
 ghost use Rattle.std.specs.Prelude.{◌≡◌, ◌⊎◌, IfErr, IfOk, IfSome};
-ghost use Rattle.operator_terms.specs.declared.fault.ProgramFault.TheVariants.{OutOfMemory, Read};
+ghost use Rattle.instructions.specs.declared.refusal.Refusal.TheVariants.{OutOfMemory, Read};
+ghost use Rattle.operator_terms.specs.declared.fault.ProgramFault.TheVariants.{Refused};
 ghost use Rattle.operator_main.specs.Request.{IsTextOf, without_line_end};
 
+use instruction_table::Refusal;
 use operator_terms::ProgramFault;
 use std::alloc::Global;
 use std::io::{ErrorKind, Read};
@@ -26,14 +28,14 @@ fn without_line_end(bytes: &[u8]) -> &[u8]
 /// `Read`, and `OutOfMemory`.
 pub fn read_all<R: Read>(alloc: Global, reader: &mut R) -> Result<Vec<u8>, ProgramFault>
     ensures bytes { IfOk result (λ bytes. IfSome (R.remaining reader.old) (λ left. bytes.items ≡ left)) }
-    ensures fault { IfErr result (λ fault. (fault ≡ Read) ⊎ (fault ≡ OutOfMemory)) }
+    ensures fault { IfErr result (λ fault. (fault ≡ Refused Read) ⊎ (fault ≡ Refused OutOfMemory)) }
 {
     let mut bytes = Vec::new(alloc);
     match reader.read_to_end(&mut bytes) {
         Ok(_) => Ok(bytes),
         Err(error) => match error.kind() {
-            ErrorKind::OutOfMemory => Err(ProgramFault::OutOfMemory),
-            _ => Err(ProgramFault::Read),
+            ErrorKind::OutOfMemory => Err(ProgramFault::Refused(Refusal::OutOfMemory)),
+            _ => Err(ProgramFault::Refused(Refusal::Read)),
         },
     }
 }

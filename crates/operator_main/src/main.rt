@@ -17,11 +17,15 @@ mod progress;
 mod work;
 
 use files::SystemFiles;
+use instruction_table::Refusal;
 use operator_terms::ProgramFault;
 use std::io::{BufWriter, IsTerminal};
 use std::process::ExitCode;
 use std::sync::atomic::{AtomicU64, Ordering};
 use std::{env, thread};
+
+/// Why the program ends if there is no memory for its arguments or its buffers.
+const NO_MEMORY: ProgramFault = ProgramFault::Refused(Refusal::OutOfMemory);
 
 fn main(rt: HostRuntime) -> ExitCode {
     let mut stderr = rt.stderr();
@@ -31,10 +35,10 @@ fn main(rt: HostRuntime) -> ExitCode {
     };
     let _ = words.next();
     let Ok(words) = words.collect::<Vec<String>>(rt.alloc()) else {
-        return ExitCode::from(program::report_fault(&mut stderr, ProgramFault::OutOfMemory, b""));
+        return ExitCode::from(program::report_fault(&mut stderr, NO_MEMORY, b""));
     };
     let Ok(mut output) = BufWriter::new(rt.alloc(), rt.stdout()) else {
-        return ExitCode::from(program::report_fault(&mut stderr, ProgramFault::OutOfMemory, b""));
+        return ExitCode::from(program::report_fault(&mut stderr, NO_MEMORY, b""));
     };
     // Somebody who types a deck isn't told how long that takes.
     let is_shown = progress::may_take_long(words.as_slice())

@@ -4,7 +4,8 @@ ghost use Rattle.std.specs.IoError.{error_kind};
 ghost use Rattle.clap.specs.Values.{kind_of};
 ghost use Rattle.device_text.specs.Device.{Moves, NothingWaits};
 ghost use Rattle.operator_terms.specs.declared.fault.ProgramFault.{ProgramFault};
-ghost use Rattle.operator_terms.specs.declared.fault.ProgramFault.TheVariants.{OutOfMemory};
+ghost use Rattle.operator_terms.specs.declared.fault.ProgramFault.TheVariants.{Refused};
+ghost use Rattle.instructions.specs.declared.refusal.Refusal.TheVariants.{OutOfMemory};
 ghost use Rattle.operator_terms.specs.declared.status.Status.{Status};
 ghost use Rattle.operator_terms.specs.declared.status.Status.TheVariants.{Usage};
 ghost use Rattle.deck_run.specs.Running.{is_write_fault};
@@ -20,6 +21,7 @@ use clap::Error;
 use clap::error::ErrorKind;
 use command_line::{Replay, Request, Source, read_arguments};
 use deck_run::{replay_log, run_deck, run_deck_sequentially};
+use instruction_table::Refusal;
 use job_deck::{CheckedBufReader, CheckedWriter, Input, LineBuffer, Output, events_to, list_to};
 use operator_terms::{ProgramFault, Status};
 use refused_line::find;
@@ -30,43 +32,37 @@ use std::sync::Wait;
 use std::thread::Threads;
 use std::time::Clock;
 
-/// More bytes than a fault line has. With the position of a fault in a refused line it has at most 229.
-const FAULT_LINE: usize = 256;
-
-/// The fault line, with the position of the fault if a line was refused, which then is `line`.
-fn fault_line(fault: &ProgramFault, line: &[u8]) -> ArrayVec<u8, FAULT_LINE> {
-    let mut text = ArrayVec::new();
-    let _ = write!(text, "cdc6600: {fault}");
-    if let ProgramFault::Deck { fault, .. } = fault
-        && let Some(position) = find(*fault, line)
-    {
-        let _ = write!(text, ", {position}");
-    }
-    let _ = text.write_all(b"\n");
-    text
-}
+/// More bytes than a fault line has, which with the position of a fault in a refused line has at most 229.
+const FAULT_LINE_WITH_POSITION: usize = 256;
 
 /// Writes the fault line to the fault stream, in one write, so that the lines of programs that run side by side don't
-/// mix. If a line was refused, it is `line`. Returns the exit status.
+/// mix. If a line was refused, it is `line`, and the position of the fault in it is written too. Returns the exit status.
 pub fn report_fault<F: Write>(faults: &mut F, fault: ProgramFault, line: &[u8]) -> u8
     ensures status { result ≡ exit_code (Err fault) }
     ensures told { Tells (Err fault) (F.contents faults.old) (F.contents faults.new) }
 {
-    let text = fault_line(&fault, line);
+    let mut text = ArrayVec::<u8, FAULT_LINE_WITH_POSITION>::new();
+    let _ = write!(text, "cdc6600: {fault}");
+    if let ProgramFault::Refused(Refusal::Deck { fault, .. }) = fault
+        && let Some(position) = find(fault, line)
+    {
+        let _ = write!(text, ", {position}");
+    }
+    let _ = text.write_all(b"\n");
     let mut told = CheckedWriter::new(&mut *faults);
     let _ = told.put(text.as_slice());
     // The proof reads what the fault stream holds from this use, which has no other effect.
     let _ = &*told.into_inner();
-    fault.status().code()
+    fault.exit_code()
 }
 
 /// The answer where the arguments can't be had: they are no text, or there is no memory for them.
 pub fn report_bad_argument<F: Write>(faults: &mut F, error: io::Error) -> u8
-    ensures memory { error_kind error ≡ IoErrorKind.OutOfMemory → result ≡ exit_code (Err OutOfMemory) }
+    ensures memory { error_kind error ≡ IoErrorKind.OutOfMemory → result ≡ exit_code (Err (Refused OutOfMemory)) }
     ensures refused { error_kind error ≢ IoErrorKind.OutOfMemory → result ≡ exit_code (Ok Usage) }
 {
     if error.kind() == IoErrorKind::OutOfMemory {
-        return report_fault(faults, ProgramFault::OutOfMemory, b"");
+        return report_fault(faults, ProgramFault::Refused(Refusal::OutOfMemory), b"");
     }
     let _ = faults.write_all(b"error: an argument is no text\n");
     Status::Usage.code()
@@ -89,7 +85,7 @@ fn report_usage<W: Write, F: Write>(output: &mut W, faults: &mut F, error: Error
         (F.contents faults.old) (F.contents faults.new) }
 {
     if error.kind() == ErrorKind::OutOfMemory {
-        return report_fault(faults, ProgramFault::OutOfMemory, b"");
+        return report_fault(faults, ProgramFault::Refused(Refusal::OutOfMemory), b"");
     }
     if error.use_stderr() {
         let _ = write!(faults, "{error}");
@@ -97,7 +93,7 @@ fn report_usage<W: Write, F: Write>(output: &mut W, faults: &mut F, error: Error
     }
     match put_text(output, &error) {
         Ok(()) => Status::Stopped.code(),
-        Err(_) => report_fault(faults, ProgramFault::Write, b""),
+        Err(_) => report_fault(faults, ProgramFault::Refused(Refusal::Write), b""),
     }
 }
 
@@ -149,7 +145,7 @@ fn perform<T: Threads + Wait + Clock + Sync, R: Read, W: Write, F: Write>(
         (F.contents faults.old) (F.contents faults.new) }
 {
     let Ok(mut reader) = BufReader::new(alloc, &mut *input) else {
-        return report_fault(faults, ProgramFault::OutOfMemory, b"");
+        return report_fault(faults, ProgramFault::Refused(Refusal::OutOfMemory), b"");
     };
     let mut input = CheckedBufReader::new(&mut reader);
     let mut output = CheckedWriter::new(&mut *output);

@@ -13,7 +13,7 @@ const QUIET: u64 = 3;
 const MOST: u64 = 86_400;
 
 /// More bytes than what is shown has.
-const SHOWN: usize = 32;
+const PROGRESS_LINE: usize = 32;
 
 /// Whether these words of a command line ask for what may take long.
 pub fn may_take_long(words: &[String]) -> bool {
@@ -36,7 +36,7 @@ pub fn show<R: Wait, F: Write>(rt: &R, terminal: &mut F, ended: &AtomicU64) {
             return;
         }
         if second >= QUIET {
-            let mut line = ArrayVec::<u8, SHOWN>::new();
+            let mut line = ArrayVec::<u8, PROGRESS_LINE>::new();
             let _ = write!(line, "   cdc6600: {second} s\r");
             let _ = terminal.write_all(line.as_slice());
         }

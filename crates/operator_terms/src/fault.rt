@@ -1,48 +1,62 @@
 ghost use Rattle.std.specs.Prelude.{◌≡◌};
 
 use crate::status::Status;
-use instruction_table::{DeckFault, Refusal};
-use thiserror::Error;
+use instruction_table::Refusal;
+use std::error::Error;
+use std::fmt;
+use std::fmt::{Display, Formatter, Write};
 
 /// Why the program ends without its output.
-#[derive(Debug, Drop, Error)]
+#[derive(Clone, Copy, Debug, Drop, PartialEq, Eq)]
 pub enum ProgramFault {
-    #[error("{}{line}: {fault}", Refusal::Deck {line: *line, fault: *fault}.label())]
-    Deck { line: u32, fault: DeckFault },
-    #[error("{}", Refusal::PackageRange.label())]
-    PackageRange,
-    #[error("{}", Refusal::PeripheralRange.label())]
-    PeripheralRange,
-    #[error("bad log")]
+    /// The deck, an access of the log, memory or a device: the refusals for which the program has a status.
+    Refused(Refusal),
+    /// The log on the command line isn't one.
     BadLog,
-    #[error("{}", Refusal::OutOfMemory.label())]
-    OutOfMemory,
-    #[error("{}", Refusal::Read.label())]
-    Read,
-    #[error("{}", Refusal::Write.label())]
-    Write,
     /// The machine refused a step of a run. As far as is known it never does, since the deck was judged.
-    #[error("the machine refused a step of the run")]
     Stuck,
 }
 
 impl ProgramFault {
-    ghost use Rattle.operator_terms.specs.Status.{fault_status};
+    ghost use Rattle.operator_terms.specs.Status.{code_of, fault_status};
 
-    /// How the program ends.
-    pub fn status(&self) -> Status
-        ensures { result ≡ fault_status self.now }
+    /// The exit status.
+    pub fn exit_code(&self) -> u8
+        ensures { result ≡ code_of (fault_status self.now) }
     {
-        match self {
-            ProgramFault::Deck { .. } => Status::Refused,
-            ProgramFault::PackageRange => Status::Usage,
-            ProgramFault::PeripheralRange => Status::Usage,
+        let status = match self {
+            ProgramFault::Refused(Refusal::Deck { .. }) => Status::Refused,
+            ProgramFault::Refused(Refusal::PackageRange | Refusal::PeripheralRange) =>
+                Status::Usage,
+            ProgramFault::Refused(Refusal::OutOfMemory) => Status::OutOfMemory,
+            ProgramFault::Refused(Refusal::Read | Refusal::Write) => Status::Device,
+            ProgramFault::Refused(
+                Refusal::Halted(_)
+                | Refusal::Faulted
+                | Refusal::Budget
+                | Refusal::BranchPending
+                | Refusal::ExchangeWaiting
+                | Refusal::FetchWait
+                | Refusal::UnitBusy(_)
+                | Refusal::ResultReserved(_)
+                | Refusal::OperandAwaited(_)
+                | Refusal::ResultHeld(_)
+                | Refusal::HopperFull
+                | Refusal::OutOfTurn
+                | Refusal::BankBusy(_)
+                | Refusal::OlderAtAddress
+                | Refusal::Nothing
+                | Refusal::Stranger
+                | Refusal::ExchangeBusy
+                | Refusal::NotDrained
+                | Refusal::MemorySize
+                | Refusal::MidWord
+                | Refusal::PeripheralWait,
+            ) => Status::Running,
             ProgramFault::BadLog => Status::Usage,
-            ProgramFault::OutOfMemory => Status::OutOfMemory,
-            ProgramFault::Read => Status::Device,
-            ProgramFault::Write => Status::Device,
             ProgramFault::Stuck => Status::Running,
-        }
+        };
+        status as u8
     }
 }
 
@@ -53,12 +67,12 @@ impl From<Refusal> for ProgramFault {
 
     fn from(refusal: Refusal) -> ProgramFault {
         match refusal {
-            Refusal::Deck { line, fault } => ProgramFault::Deck { line, fault },
-            Refusal::PackageRange => ProgramFault::PackageRange,
-            Refusal::PeripheralRange => ProgramFault::PeripheralRange,
-            Refusal::OutOfMemory => ProgramFault::OutOfMemory,
-            Refusal::Read => ProgramFault::Read,
-            Refusal::Write => ProgramFault::Write,
+            Refusal::Deck { .. }
+            | Refusal::PackageRange
+            | Refusal::PeripheralRange
+            | Refusal::OutOfMemory
+            | Refusal::Read
+            | Refusal::Write => ProgramFault::Refused(refusal),
             Refusal::Halted(_)
             | Refusal::Faulted
             | Refusal::Budget

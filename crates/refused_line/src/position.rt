@@ -4,7 +4,7 @@ use std::fmt;
 use std::fmt::{Display, Formatter, Write};
 
 /// How many bytes of a text are shown at most.
-const SHOWN: usize = 32;
+const MOST_SHOWN_BYTES: usize = 32;
 
 /// What is wrong at a position.
 #[derive(Clone, Copy, Debug, Drop, PartialEq, Eq)]
@@ -38,7 +38,7 @@ pub struct Position<'a> {
 impl Position<'_> {
     /// The text as it is printed: cut if it is long, with an escape for each byte that isn't printable.
     fn shown<W: Write>(&self, f: &mut Formatter<W>) -> fmt::Result {
-        let shown = self.text.len().min(SHOWN);
+        let shown = self.text.len().min(MOST_SHOWN_BYTES);
         let rest = if shown < self.text.len() { ".." } else { "" };
         write!(f, "'{}'{rest}", self.text[..shown].escape_ascii())
     }

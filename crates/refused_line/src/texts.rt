@@ -11,7 +11,7 @@ use instruction_table::{encode, read_bytes};
 const BEFORE: usize = 5;
 
 /// How many parcels a word has.
-const PARCELS: usize = 4;
+const PARCELS_OF_A_WORD: usize = 4;
 
 /// Whether a text begins as the instructions of floating point do.
 fn is_floating_point(text: &[u8]) -> bool {
@@ -35,14 +35,14 @@ pub fn text_at_fault(line: &[u8]) -> Option<Position<'_>>
     ensures { IfSome result (λ position. IsPart line.now position.start position.text.now) }
 {
     let (mut ending, mut parcels) = (line.get(BEFORE..)?, 0usize);
-    for _ in 0..PARCELS + 1 {
+    for _ in 0..PARCELS_OF_A_WORD + 1 {
         let (text, others) = first_part(ending, b';');
         let start = start_of(line, ending);
         let Some(instr) = read_bytes(text) else {
             return Some(position_from(line, start, b';', cause_of(text)));
         };
         parcels = parcels.saturating_add(encode(&instr).len());
-        if parcels > PARCELS {
+        if parcels > PARCELS_OF_A_WORD {
             return Some(position_from(line, start, b';', Cause::Text));
         }
         let others = others?;

@@ -44,10 +44,7 @@ impl Course {
         if self.log.reserve(1).is_err() {
             return Err(Refusal::OutOfMemory);
         }
-        match self.state.exchange(at) {
-            Ok(()) => {}
-            Err(refusal) => return Err(refusal),
-        }
+        self.state.exchange(at)?;
         self.log.exchanged(at);
         self.requests.exchanged();
         self.waiting = None;

@@ -89,11 +89,9 @@ pub fn run(
     let Ok(mut course) = begin(alloc, memory, start, after, free) else {
         return Err(Refusal::OutOfMemory);
     };
-    match finish(&mut course, budget) {
-        Ok(()) => Ok(Ended {
-            state: course.state,
-            log: course.log,
-        }),
-        Err(refusal) => Err(refusal),
-    }
+    finish(&mut course, budget)?;
+    Ok(Ended {
+        state: course.state,
+        log: course.log,
+    })
 }

@@ -1,6 +1,6 @@
 //! Exit statuses, the texts of faults, and budgets.
 
-use instruction_table::{DeckFault, Digit, Halt, Op};
+use instruction_table::{DeckFault, Digit, Halt, Op, Refusal};
 use operator_terms::{Budget, LARGEST_BUDGET, ProgramFault, end_status};
 use registers::RegisterFile;
 use relocation::{Area, Storage};
@@ -40,7 +40,7 @@ fn statuses(rt: HostRuntime) -> Result<(), Fail> {
     ] {
         assert_eq!(rt; ended_code(rt.alloc(), halt, fault)?, code);
     }
-    assert_eq!(rt; ProgramFault::OutOfMemory.status().code(), 6);
+    assert_eq!(rt; ProgramFault::Refused(Refusal::OutOfMemory).exit_code(), 6);
     Ok(())
 }
 
@@ -57,11 +57,17 @@ fn expect_text(
 
 /// Faults of other kinds than a deck's, and their texts.
 const FAULT_TEXTS: [(ProgramFault, &str); 5] = [
-    (ProgramFault::PackageRange, "E19 package range"),
+    (
+        ProgramFault::Refused(Refusal::PackageRange),
+        "E19 package range",
+    ),
     (ProgramFault::BadLog, "bad log"),
-    (ProgramFault::OutOfMemory, "E21 out of memory"),
-    (ProgramFault::Read, "E22 read failed"),
-    (ProgramFault::Write, "E23 write failed"),
+    (
+        ProgramFault::Refused(Refusal::OutOfMemory),
+        "E21 out of memory",
+    ),
+    (ProgramFault::Refused(Refusal::Read), "E22 read failed"),
+    (ProgramFault::Refused(Refusal::Write), "E23 write failed"),
 ];
 
 #[test]
@@ -94,10 +100,10 @@ const DECK_FAULT_TEXTS: [(DeckFault, &str); 14] = [
 fn deck_fault_texts(rt: HostRuntime) -> Result<(), Fail> {
     let line = 10_000_001;
     for (fault, text) in &DECK_FAULT_TEXTS {
-        let fault = ProgramFault::Deck {
+        let fault = ProgramFault::Refused(Refusal::Deck {
             line,
             fault: *fault,
-        };
+        });
         expect_text(&rt, &fault, text)?;
     }
     Ok(())

@@ -342,17 +342,14 @@ LIMITS = {
         repeated("MOST_SHOWS", check("mutations", "self.shows < MOST_SHOWS")),
         repeated("MOST_ASKS", requests("most-requests")),
     ),
-    ("deck/src/applying.rt", "MOST_INSTRUCTIONS"): repeated(
+    ("deck/src/applying.rt", "LATEST_ASK"): repeated(
         "MOST_INSTRUCTIONS", test("text_tests/src/deck_tests.rt", "after {more}")
     ),
-    ("deck/src/applying.rt", "PARCELS"): too_full(),
+    ("deck/src/applying.rt", "MOST_PARCELS"): too_full(),
     ("deck/src/reading.rt", "MOST_LINES"): repeated("MOST_LINES", TOO_MANY_LINES),
     ("deck/src/coding.rt", "ArrayVec<u16, "): check("mutations", "{less}, {value}, 256"),
     ("device_text/src/line.rt", "ArrayVec<u8, "): LONG_LINES,
     ("device_text/src/line.rt", "for _ in .."): LONG_LINES,
-    ("job_deck/src/logs.rt", "instructions: "): repeated(
-        "MOST_INSTRUCTIONS", test("text_tests/src/printing_tests.rt", "I{more}")
-    ),
     ("job_deck/src/logs.rt", "exchanges: "): LARGEST_LOG,
     ("job_deck/src/logs.rt", "accesses: "): LARGEST_LOG,
     ("job_deck/src/dumping.rt", "for number in .."): nothing("there are eight X registers"),
@@ -363,11 +360,15 @@ LIMITS = {
     ("operator_main/src/progress.rt", "QUIET"): check("progress", "is_shown=True"),
     ("operator_main/src/progress.rt", "Duration::from_secs("): check("progress", "is_shown=True"),
     ("operator_main/src/progress.rt", "MOST"): nothing("a run or a replay takes less than a day"),
-    ("operator_main/src/progress.rt", "SHOWN"): nothing("the line has at most five digits, and 12 bytes beside them"),
-    ("operator_main/src/program.rt", "FAULT_LINE"): nothing("the longest fault line has 229 bytes"),
-    ("refused_line/src/position.rt", "SHOWN"): named("decks/pages/refusals.md", "'12345670123456701234567012345670'.."),
+    ("operator_main/src/progress.rt", "PROGRESS_LINE"): nothing(
+        "the line has at most five digits, and 12 bytes beside them"
+    ),
+    ("operator_main/src/program.rt", "FAULT_LINE_WITH_POSITION"): nothing("the longest fault line has 229 bytes"),
+    ("refused_line/src/position.rt", "MOST_SHOWN_BYTES"): named(
+        "decks/pages/refusals.md", "'12345670123456701234567012345670'.."
+    ),
     ("refused_line/src/texts.rt", "BEFORE"): nothing("no text begins before the word and its blank end"),
-    ("refused_line/src/texts.rt", "PARCELS"): too_full(),
+    ("refused_line/src/texts.rt", "PARCELS_OF_A_WORD"): too_full(),
     ("embedding/src/outcome.rt", "FAULT_LINE"): nothing("the longest fault line has 47 bytes"),
     ("embedding/src/outcome.rt", "NO_MACHINE"): nothing("it is the number of a status"),
     ("embedding/src/outcome.rt", "NOT_DRAINED"): nothing("it is the number of a status"),

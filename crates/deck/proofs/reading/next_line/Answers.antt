@@ -11,5 +11,5 @@ pub returns-in-Long-clause-err : goal.returns-in-Long-clause-err
 returns-in-Long-clause-err g c =
     let text = rw c.in-Long.is at c.in_ok-read_line.ensures.text in
     let taken = rw c.in-Long.is at c.in_ok-read_line.ensures.ok in
-    taken_long (g.I.Input.remaining c.args.input.now) (g.I.Input.remaining c.read_line.new.input) c.args.number
-    c.read_line.new.line.items text.0 text.1 taken
+    rw c.with_line_number.ensures (taken_long (g.I.Input.remaining c.args.input.now)
+    (g.I.Input.remaining c.read_line.new.input) c.args.number c.read_line.new.line.items text.0 text.1 taken)

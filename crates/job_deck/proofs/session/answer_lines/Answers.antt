@@ -41,10 +41,10 @@ returns-in-Drains-clause-told g c =
 
 pub returns-in-Faulty-clause-told : goal.returns-in-Faulty-clause-told
 returns-in-Faulty-clause-told g c =
-    session_refused c.args.machine.now (c.args.before + 1) (g.O.Output.contents c.args.output.now) _ _
+    rw c.with_line_number.ensures (session_refused c.args.machine.now (c.args.before + 1) (g.O.Output.contents c.args.output.now) _ _
     (g.I.Input.remaining c.read_schedule_line.new.input) (g.O.Output.contents c.loop-number.output) c.loop-number.number
     c.loop-number.machine c.in-Faulty.fault c.loop-number.invariant.told
-    (rw c.in-Faulty.is at c.in_ok-read_schedule_line.ensures.line)
+    (rw c.in-Faulty.is at c.in_ok-read_schedule_line.ensures.line))
 
 pub returns-in_err-make-in-Makes-clause-told : goal.returns-in_err-make-in-Makes-clause-told
 returns-in_err-make-in-Makes-clause-told g c =
@@ -87,6 +87,7 @@ loop-number-preserved g c =
 
 pub returns-clause-told : goal.returns-clause-told
 returns-clause-told g c =
-    session_over c.args.machine.now (c.args.before + 1) (g.O.Output.contents c.args.output.now) _ _
+    rw c.with_line_number-2.ensures
+    (session_over c.args.machine.now (c.args.before + 1) (g.O.Output.contents c.args.output.now) _ _
     (g.O.Output.contents c.loop-number.output) c.loop-number.number c.loop-number.machine (omega arith)
-    c.loop-number.invariant.told
+    c.loop-number.invariant.told)

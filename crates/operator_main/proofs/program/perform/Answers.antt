@@ -1,5 +1,6 @@
 use Rattle.std.proofs.Common.{◌≡◌, rules, ap, sym, ◌∙◌, Ok, Err}
 use Rattle.std.specs.Io.Buffered.{reader_remaining}
+use Rattle.instructions.specs.declared.refusal.Refusal.TheVariants as refusals
 use Rattle.operator_terms.specs.declared.fault.ProgramFault.TheVariants as faults
 use Rattle.operator_main.specs.Work.{Performed}
 use Rattle.operator_main.proofs.Performing.{fresh_reader, performed, performed_nothing}
@@ -8,7 +9,7 @@ use Rattle.operator_main.proofs.program.perform.Goals as goal
 
 pub returns-in_default : goal.returns-in_default
 returns-in_default g c = (
-  Err faults.OutOfMemory,
+  Err (faults.Refused refusals.OutOfMemory),
   performed_nothing c.args.work.now (g.R.Read.remaining c.args.input.now) (g.W.Write.contents c.args.output.now),
   c.report_fault.ensures.told,
   c.report_fault.ensures.status,

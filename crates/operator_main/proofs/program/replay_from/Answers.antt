@@ -1,5 +1,6 @@
 use Rattle.std.proofs.Common.{◌≡◌, ◌⊎◌, Some, Err, refl, rules, inl, inr}
 use Rattle.std.specs.Prelude.{IfSome}
+use Rattle.instructions.specs.declared.refusal.Refusal.TheVariants as refusals
 use Rattle.operator_terms.specs.declared.fault.ProgramFault.TheVariants as faults
 use Rattle.operator_main.specs.Request.{IsTextOf}
 use Rattle.operator_main.proofs.Replaying.{followed, lacks, log_of_file, log_read, moves_known}
@@ -17,7 +18,8 @@ returns-in-Ok-clause-replayed g c =
 
 pub returns-in-File-clause-replayed : goal.returns-in-File-clause-replayed
 returns-in-File-clause-replayed g c =
-    let why : (c.in-Err.fault ≡ faults.Read) ⊎ (c.in-Err.fault ≡ faults.OutOfMemory) = search rules in
+    let why : (c.in-Err.fault ≡ faults.Refused refusals.Read)
+    ⊎ (c.in-Err.fault ≡ faults.Refused refusals.OutOfMemory) = search rules in
     rw c.in-File.is (
       Err c.in-Err.fault,
       inr (lacks c.in-Err.fault c.in-Err.fault _ refl why),
@@ -46,8 +48,8 @@ returns-in-Ok-read_all-clause-replayed g c =
 
 pub returns-clause-replayed : goal.returns-clause-replayed
 returns-clause-replayed g c =
-    let why : (c.in-Err-read_all.fault ≡ faults.Read) ⊎ (c.in-Err-read_all.fault ≡ faults.OutOfMemory) =
-    search rules in
+    let why : (c.in-Err-read_all.fault ≡ faults.Refused refusals.Read)
+    ⊎ (c.in-Err-read_all.fault ≡ faults.Refused refusals.OutOfMemory) = search rules in
     rw c.in-Input.is (
       Err c.in-Err-read_all.fault,
       inr (lacks c.in-Err-read_all.fault c.in-Err-read_all.fault _ refl why),

@@ -10,18 +10,18 @@ finish-requires c = record {
       c.in-Ok.ensures.begun;
 }
 
-pub returns-in-Ok-finish-clause-run : goal.returns-in-Ok-finish-clause-run
-returns-in-Ok-finish-clause-run c = run_ended c.args.memory c.args.start c.args.after.now c.args.free.now c.args.budget
-    c.in-Ok.course c.finish.new.course c.in-Ok.ensures.begun c.in-Ok-finish.ensures.ended
+pub returns-clause-run : goal.returns-clause-run
+returns-clause-run c = run_ended c.args.memory c.args.start c.args.after.now c.args.free.now c.args.budget
+    c.in-Ok.course c.finish.new.course c.in-Ok.ensures.begun c.in_ok-finish.ensures.ended
 
-pub returns-in-Ok-finish-clause-promised : goal.returns-in-Ok-finish-clause-promised
-returns-in-Ok-finish-clause-promised c =
+pub returns-clause-promised : goal.returns-clause-promised
+returns-clause-promised c =
     run_on c.args.memory c.args.memory c.args.start c.args.after.now c.args.free.now c.args.budget _ _ refl
     (run_begins c.args.memory c.args.start c.args.after.now c.args.free.now c.args.budget _ _
-    (returns-in-Ok-finish-clause-run c))
+    (returns-clause-run c))
     (run_fulfils c.args.memory c.args.start c.args.after.now c.args.free.now c.args.budget _ _
-    (returns-in-Ok-finish-clause-run c)) c.in-Ok-finish.ensures.within
+    (returns-clause-run c)) c.in_ok-finish.ensures.within
     (run_over c.args.memory c.args.start c.args.after.now c.args.free.now c.args.budget _ _
-    (returns-in-Ok-finish-clause-run c))
+    (returns-clause-run c))
     (run_replays c.args.memory c.args.start c.args.after.now c.args.free.now c.args.budget _ _
-    (returns-in-Ok-finish-clause-run c))
+    (returns-clause-run c))

@@ -1,14 +1,17 @@
 use Rattle.std.proofs.Common.{rules, refl}
+use Rattle.std.proofs.lemmas.Result.{err_from_is_err_and}
 use Rattle.sequential_run.proofs.Going.{exchange_refused, exchange_goes, exchange_keeps}
 use Rattle.sequential_run.proofs.course.Course.exchange.Goals as goal
 
-pub returns-in-Err-clause-gone : goal.returns-in-Err-clause-gone
-returns-in-Err-clause-gone c = λ apart. exchange_refused c.args.budget c.args.self.now c.args.at _
-    c.requires.waits apart c.in-Err.ensures.answer.0 c.in-Err.ensures.answer.1
+pub returns-in_err-exchange-clause-gone : goal.returns-in_err-exchange-clause-gone
+returns-in_err-exchange-clause-gone c =
+    let p = err_from_is_err_and c.from_residual.result c.from_residual.ensures.1 in
+    λ apart. rw (p.1, p.2) (exchange_refused c.args.budget c.args.self.now c.args.at _
+    c.requires.waits apart c.in_err-exchange.ensures.answer.0 c.in_err-exchange.ensures.answer.1)
 
 pub returns-clause-gone : goal.returns-clause-gone
 returns-clause-gone c = λ apart. exchange_goes c.args.budget c.args.self.now _ c.args.at c.requires.waits apart
-    c.in-Ok.ensures.answer c.in-Ok.ensures.after (search rules) c.exchanged-2.ensures.left refl refl
+    c.in_ok-exchange.ensures.answer c.in_ok-exchange.ensures.after (search rules) c.exchanged-2.ensures.left refl refl
 
 pub returns-clause-kept : goal.returns-clause-kept
 returns-clause-kept c = exchange_keeps c.args.budget c.args.self.now _ c.args.at c.requires.kept (search rules)
