@@ -6,7 +6,7 @@ use Rattle.instructions.specs.declared.instr.Unit.TheVariants.{Increment2}
 use Rattle.per_unit.specs.declared.PerUnit.{PerUnit}
 use Rattle.per_unit.specs.Units.{in_order}
 use Rattle.unit_queue.specs.Lanes.{SendEnd}
-use Rattle.unit_serving.specs.declared.tally.Tally.{Tally}
+use Rattle.worker_loops.specs.declared.tally.Tally.{Tally}
 
 -- the units in use
 abbrev pub in_use : PerUnit Unit

@@ -29,7 +29,7 @@ use std::thread;
 use std::thread::{Scope, Threads};
 use std::time::Clock;
 use unit_queue::SendPass;
-use unit_serving::{Gate, Gates, Tally, storage_worker};
+use worker_loops::{Gate, Gates, Tally, storage_worker};
 
 /// What a run by threads has to do: the package with which it starts, and the exchanges for which it asks.
 #[derive(Drop)]

@@ -15,7 +15,7 @@ use std::snapshot::Snapshot;
 use std::sync::Wait;
 use std::thread::{Promise, PromisedHandle, Scope, Threads};
 use unit_queue::{Lane, SendPass, TakePass, lane};
-use unit_serving::{Gate, Gates, Tally, worker};
+use worker_loops::{Gate, Gates, Tally, worker};
 
 /// The tally that a worker's thread gives is of this lane.
 #[derive(Drop)]

@@ -1,6 +1,6 @@
 //! The worker of a unit.
 ghost use Rattle.std.specs.Prelude.{◌≡◌, ◌+◌};
-ghost use Rattle.unit_serving.specs.Tallies.{Served};
+ghost use Rattle.worker_loops.specs.Tallies.{Served};
 
 use crate::gate::Gate;
 use crate::service::serve_with;

@@ -2,7 +2,7 @@
 use denote.Param.Send.{IsSend, sendable}
 use Rattle.std.proofs.Crossing.{crosses}
 use Rattle.atomic_table.proofs.shared.Seat.TheSendSync as seat
-use Rattle.unit_serving.specs.contracts.tally.Tally.{the_row}
+use Rattle.worker_loops.specs.contracts.tally.Tally.{the_row}
 
 pub tally_send : IsSend the_row
 tally_send = search (sendable, crosses, seat.the_send) depth 40 fits 20000

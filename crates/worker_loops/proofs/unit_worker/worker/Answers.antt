@@ -2,8 +2,8 @@ use Rattle.std.proofs.Common.{◌≡◌, ◌++◌, ◌∷◌, [], ap, ◌∙◌,
 use Rattle.std.specs.Prelude.{suc}
 use Rattle.unit_queue.specs.declared.item.Item.TheVariants.{Work, Closed}
 use Rattle.machine.specs.Tokens.{Seating}
-use Rattle.unit_serving.proofs.NotesTaken.{notes_in-push, more, stored, note_counted}
-use Rattle.unit_serving.proofs.unit_worker.worker.Goals as goal
+use Rattle.worker_loops.proofs.NotesTaken.{notes_in-push, more, stored, note_counted}
+use Rattle.worker_loops.proofs.unit_worker.worker.Goals as goal
 
 -- the note is strange, and its seat is as it was
 pub loop-preserved-then-not-is_stored : goal.loop-preserved-then-not-is_stored

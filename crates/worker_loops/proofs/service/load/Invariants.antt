@@ -1,5 +1,5 @@
 use Rattle.std.proofs.Common.{◌≡◌}
-use Rattle.unit_serving.proofs.service.load.Given as goal
+use Rattle.worker_loops.proofs.service.load.Given as goal
 
 -- the reservation is the note's, with the same seat
 abbrev pub invariant-loop : goal.invariant-loop

@@ -5,7 +5,7 @@ use Rattle.unit_queue.specs.declared.item.Item.{Item}
 use Rattle.unit_queue.specs.declared.item.Item.TheVariants.{Work}
 use Rattle.program_order.specs.declared.event.Note.{Note}
 use Rattle.machine.specs.Tokens.{Seating}
-use Rattle.unit_serving.specs.Tallies.{note_count, notes_in}
+use Rattle.worker_loops.specs.Tallies.{note_count, notes_in}
 
 pub notes_in-push : (xs : List Item) (x : Item) → notes_in (xs ++ x ∷ []) ≡ notes_in xs + note_count x
 notes_in-push [] x = omega arith

@@ -1,5 +1,5 @@
 use Rattle.std.proofs.Common.{◌≡◌}
-use Rattle.unit_serving.proofs.service.store.Given as goal
+use Rattle.worker_loops.proofs.service.store.Given as goal
 
 -- the reservation is the one whose value was computed, with the same seat
 abbrev pub invariant-loop : goal.invariant-loop

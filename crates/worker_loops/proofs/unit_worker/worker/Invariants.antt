@@ -1,6 +1,6 @@
 use Rattle.std.proofs.Common.{◌≡◌}
-use Rattle.unit_serving.proofs.NotesTaken.{Counted}
-use Rattle.unit_serving.proofs.unit_worker.worker.Given as goal
+use Rattle.worker_loops.proofs.NotesTaken.{Counted}
+use Rattle.worker_loops.proofs.unit_worker.worker.Given as goal
 
 -- the items taken so far, and what became of the notes among them
 abbrev pub invariant-loop : goal.invariant-loop
