@@ -1,6 +1,6 @@
 //! A whole run by threads.
 ghost use Rattle.std.specs.Prelude.{◌≡◌, ◌≤◌, [], ◌∷◌, ◌++◌, true, IfOk, IfSome, OnOk, Ok, map};
-ghost use Rattle.fulfilled_requests.specs.Fulfilled.{IsFulfilled};
+ghost use Rattle.exchange_requests.specs.Fulfilled.{IsFulfilled};
 ghost use Rattle.sequential_run.specs.Turns.{is_in_mid_word};
 ghost use Rattle.sequential.specs.Log.{issued};
 ghost use Rattle.sequential.specs.Replay.{Exchanged};
@@ -14,8 +14,7 @@ ghost use Rattle.unit_workers.specs.Settled.{in_use, IsSettled, AreSettled};
 use crate::asking::{FreeRequests, ask_all};
 use crate::issuing::{PendingRequests, begin, conduct};
 use crate::worker_lanes::{LaneEnds, Settled, WorkerLanes, open_lanes};
-use exchange_requests::{Ask, Requests, in_order};
-use fulfilled_requests::are_fulfilled;
+use exchange_requests::{Ask, Requests, are_fulfilled, in_order};
 use instruction_table::Refusal;
 use machine::{Machine, Seat};
 use machine_lock::{Ground, Naming, Seen, Shared};

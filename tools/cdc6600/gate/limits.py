@@ -312,7 +312,7 @@ LIMITS = {
     ("signals/src/pace.rt", "HURRIED_WAITS"): branches("endless"),
     ("signals/src/signals.rt", "FEW_LOOKS"): WAITS,
     ("signals/src/signal.rt", "Duration::from_millis("): WAITS,
-    ("fulfilled_requests/src/judging.rt", "REST_OF_A_WORD"): test(
+    ("exchange_requests/src/judging.rt", "REST_OF_A_WORD"): test(
         "text_tests/src/fulfilled_requests_tests.rt", "E0 E60 E20 I8 E20 E40"
     ),
     # The machine.
