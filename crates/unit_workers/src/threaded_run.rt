@@ -8,17 +8,16 @@ ghost use Rattle.progress_word.specs.CallerKnowledge.{booted_by, known, StartsWi
 ghost use Rattle.unit_workers.specs.Beginning.{IsAtRest};
 ghost use Rattle.unit_workers.specs.Ending.{is_at_end};
 ghost use Rattle.unit_workers.specs.Onward.{EndsFrom};
-ghost use Rattle.per_unit.specs.Units.{Each, in_order, paired};
+ghost use Rattle.instructions.specs.PerUnit.{Each, in_order, paired};
 ghost use Rattle.unit_workers.specs.Settled.{in_use, IsSettled, AreSettled};
 
 use crate::asking::{FreeRequests, ask_all};
 use crate::issuing::{PendingRequests, begin, conduct};
 use crate::worker_lanes::{LaneEnds, Settled, WorkerLanes, open_lanes};
 use exchange_requests::{Ask, Requests, are_fulfilled, in_order};
-use instruction_table::Refusal;
+use instruction_table::{PerUnit, Refusal};
 use machine::{Machine, Seat};
 use machine_lock::{Ground, Naming, Seen, Shared};
-use per_unit::PerUnit;
 use sequential_run::is_in_mid_word;
 use std::alloc::Global;
 use std::marker::Brand;

@@ -1,10 +1,9 @@
 //! What a worker calls at two moments of each reservation.
 
 ghost use Rattle.std.specs.Prelude.{◌≡◌, ◌∷◌, []};
-ghost use Rattle.per_unit.specs.Units.{in_order};
+ghost use Rattle.instructions.specs.PerUnit.{in_order};
 
-use instruction_table::Unit;
-use per_unit::PerUnit;
+use instruction_table::{PerUnit, Unit};
 
 /// What the worker of a unit calls at two moments of each reservation: before it computes, and after it stored. It
 /// holds no lock then, so a gate may wait for others. Both calls tell the reservation's unit and number.

@@ -3,7 +3,7 @@ use Rattle.std.specs.Prelude.{List, [], ◌∷◌, Option, Some, None, Bool, ◌
 use Rattle.instructions.specs.declared.instr.Unit.{Unit}
 use Rattle.instructions.specs.declared.instr.Unit.TheVariants.{Branch, Boolean, Shift, LongAdd, Divide, Increment1}
 use Rattle.instructions.specs.declared.instr.Unit.TheVariants.{Increment2}
-use Rattle.per_unit.specs.declared.PerUnit.{PerUnit}
+use Rattle.instructions.specs.declared.per_unit.PerUnit.{PerUnit}
 
 -- all of them, in the order of the units' numbers
 abbrev pub in_order : {T : Type 0} → PerUnit T → List T

@@ -1,15 +1,13 @@
 //! Something of each of the seven units in use, as a lane or a worker's thread of each.
 //!
 //! Callers rely on `PerUnit::get`, which finds the one of a unit, and on `zip` and `map`, which keep what belongs to
-//! one unit together. Its tests are in `crates/core_tests/src/per_unit_tests.rt`. Begin with `PerUnit::get`.
-#![tactic(auto)]
-
+//! one unit together.
 ghost use Rattle.std.specs.Prelude.{◌≡◌, ◌∷◌, [], IfSome, MatchOption, Some, None, is_some};
 ghost use Rattle.instructions.specs.declared.instr.Unit.TheVariants.{Branch, Boolean, Shift, LongAdd, Divide};
 ghost use Rattle.instructions.specs.declared.instr.Unit.TheVariants.{Increment1, Increment2};
-ghost use Rattle.per_unit.specs.Units.{in_order, of_unit, is_complete, paired, Each};
+ghost use Rattle.instructions.specs.PerUnit.{in_order, of_unit, is_complete, paired, Each};
 
-use instructions::Unit;
+use crate::instr::Unit;
 
 /// Something of each of the seven units in use.
 #[derive(Default, Drop)]
