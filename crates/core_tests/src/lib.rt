@@ -1,5 +1,5 @@
-//! Tests of the crates below `in_flight`, and of `per_unit` and `exchange_requests`, by what these crates hand out.
-//! The crate hands out nothing itself.
+//! Tests of the crates below `in_flight`, and of the order of requests in `exchange_requests`, by what these crates
+//! hand out. The crate hands out nothing itself.
 //!
 //! There is a file for each crate or subject. Where an instruction is needed the tables have its text. `fixtures` has
 //! registers and words, which constants can't hold. The first table is `RESERVES_A_FREE_UNIT`: calls to a new

@@ -1,7 +1,6 @@
 //! What is kept of each unit: found by its unit, changed for it alone, and in the order of the units' numbers.
 
-use instructions::Unit;
-use per_unit::PerUnit;
+use instructions::{PerUnit, Unit};
 
 /// What is kept in the tests, in the order of the units' numbers.
 const KEPT: [u8; 7] = [10, 11, 12, 13, 14, 15, 16];

@@ -1,1 +1,4 @@
 pub mod First
+pub mod Choosing
+pub mod Counting
+pub mod Due

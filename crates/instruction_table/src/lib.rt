@@ -23,8 +23,8 @@ pub use decoding::{Decoded, decode, decode_as, first_digits};
 pub use encoding::encode;
 pub use instructions::{
     Addends, Addition, BTest, Base, DeckFault, Digit, Direction, Halt, Instr, Logic, MemoryUse, Op,
-    OperandRegisters, Pair, ParcelNumber, Refusal, Reg, SixBits, Target, Unit, UnitKind, XTest,
-    operand_registers, results, sources, unit_kind,
+    OperandRegisters, Pair, ParcelNumber, PerUnit, Refusal, Reg, SixBits, Target, Unit, UnitKind,
+    XTest, operand_registers, results, sources, unit_kind,
 };
 pub use reading::{read_bytes, read_text};
 pub use spelling::{InstrText, spell, text};

@@ -8,13 +8,15 @@
 //!
 //! Callers rely on `operand_registers`, `results` and `unit_kind`: they answer exactly what the instruction's row of
 //! `uses` in `specs/Operands` says. `shape` says which instructions refer to memory, and `refusal` has why the machine
-//! halts and everything that may be refused. Its tests are in `crates/core_tests/src/instructions_tests.rt`. Begin with
-//! `Instr` in `instr`, then `registers`.
+//! halts and everything that may be refused. `per_unit` keeps something of each of the units in use. Its tests are in
+//! `crates/core_tests/src/instructions_tests.rt` and `crates/core_tests/src/per_unit_tests.rt`. Begin with `Instr` in
+//! `instr`, then `registers`.
 #![tactic(auto)]
 
 mod below;
 mod instr;
 mod operations;
+mod per_unit;
 mod refusal;
 mod registers;
 mod shape;
@@ -24,6 +26,7 @@ pub use instr::{
     Addends, Addition, BTest, Base, Direction, Instr, Logic, Op, Pair, Reg, Target, Unit, UnitKind,
     XTest,
 };
+pub use per_unit::PerUnit;
 pub use refusal::{DeckFault, Halt, Refusal};
 pub use registers::{OperandRegisters, operand_registers, results, sources, unit_kind};
 pub use shape::MemoryUse;

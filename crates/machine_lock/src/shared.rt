@@ -13,9 +13,8 @@ ghost use Rattle.progress_word.specs.CallerKnowledge.{IsWordOf};
 ghost use Rattle.progress_word.specs.CallerKnowledge.{AreApart, NumbersApart};
 
 use crate::locked_machine::{LockedMachine, MachineGuard};
-use instruction_table::Refusal;
+use instruction_table::{PerUnit, Refusal};
 use machine::{Computed, Finished, Loaded, Machine, Note, Reserved, Seat, Snapshot};
-use per_unit::PerUnit;
 use progress_word::{Naming, Pass, Progress, Seen, Word};
 use signals::Signals;
 use std::alloc::Global;

@@ -4,7 +4,7 @@ use Rattle.std.proofs.Common.{◌&&◌, ◌||◌, Option, Some, None, is_some, n
 use Rattle.std.proofs.Common.{length, refl, sym, ap, subst, ◌∙◌, arith, le-leb}
 use Rattle.std.proofs.lemmas.Bool.{ltb-false}
 use Rattle.std.specs.Prelude.{option_and_then, is_none, nat_le, nat_lt}
-use Rattle.fulfilled_requests.specs.Fulfilled.{IsFulfilled}
+use Rattle.exchange_requests.specs.Fulfilled.{IsFulfilled}
 use Rattle.instructions.specs.declared.refusal.Refusal.{Refusal}
 use Rattle.instructions.specs.declared.refusal.Refusal.TheVariants.{OutOfMemory, PackageRange}
 use Rattle.program_order.proofs.theorem.Headline.{replay_faulted}

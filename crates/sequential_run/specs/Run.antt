@@ -2,7 +2,7 @@
 -- Source: ours.
 use Rattle.std.specs.Prelude.{◌≡◌, ◌≤◌, ◌||◌, ℕ, Bool, true, false, List, ◌∷◌, length, Some, is_some, nat_le}
 use Rattle.exchange_requests.specs.Requests.{AreOrdered}
-use Rattle.fulfilled_requests.specs.Fulfilled.{IsFulfilled}
+use Rattle.exchange_requests.specs.Fulfilled.{IsFulfilled}
 use Rattle.instructions.specs.declared.refusal.Refusal.{Refusal}
 use Rattle.instructions.specs.declared.refusal.Refusal.TheVariants.{OutOfMemory, PackageRange}
 use Rattle.program_order.specs.Headline.{IsFaultedRun}

@@ -4,8 +4,7 @@ use crate::signal::Signal;
 use crate::told::Told;
 use crate::waiting::Waiting;
 use crossbeam_utils::CachePadded;
-use instructions::Unit;
-use per_unit::PerUnit;
+use instructions::{PerUnit, Unit};
 use std::sync::atomic::{AtomicU32, Ordering};
 
 /// The looks of a wait if the number of processors isn't known.

@@ -1,7 +1,6 @@
 //! Logs that fulfil the requests of their run, and logs that don't.
 
-use exchange_requests::in_order;
-use fulfilled_requests::are_fulfilled;
+use exchange_requests::{are_fulfilled, in_order};
 use job_deck::read_log;
 use std::alloc::AllocError;
 use std::process::Abort;

@@ -1,5 +1,5 @@
 //! Tests of the crates that read and print texts: `device_text`, `deck`, `job_deck`, `sequential_job` and
-//! `operator_terms`, and of `sequential_run` and `fulfilled_requests`, by what they hand out. The crate hands out
+//! `operator_terms`, and of `sequential_run` and `are_fulfilled`, by what they hand out. The crate hands out
 //! nothing itself.
 //!
 //! `session_tests` answers schedules, `printing_tests` has dumps, listings and logs, `led_tests` a caller that knows a

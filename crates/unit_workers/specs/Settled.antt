@@ -3,10 +3,10 @@ use Rattle.std.specs.Prelude.{◌≡◌, List, map}
 use Rattle.instructions.specs.declared.instr.Unit.{Unit}
 use Rattle.instructions.specs.declared.instr.Unit.TheVariants.{Branch, Boolean, Shift, LongAdd, Divide, Increment1}
 use Rattle.instructions.specs.declared.instr.Unit.TheVariants.{Increment2}
-use Rattle.per_unit.specs.declared.PerUnit.{PerUnit}
-use Rattle.per_unit.specs.Units.{in_order}
+use Rattle.instructions.specs.declared.per_unit.PerUnit.{PerUnit}
+use Rattle.instructions.specs.PerUnit.{in_order}
 use Rattle.unit_queue.specs.Lanes.{SendEnd}
-use Rattle.unit_serving.specs.declared.tally.Tally.{Tally}
+use Rattle.worker_loops.specs.declared.tally.Tally.{Tally}
 
 -- the units in use
 abbrev pub in_use : PerUnit Unit

@@ -5,7 +5,7 @@
 //! Callers rely on `run_threads`: it ends with a snapshot of the machine that it was given, with that machine's boot
 //! memory and budget, whose log begins with that machine's and keeps to the budget. Nothing promises that a run ends.
 //! `issuing` issues, `worker_lanes` starts the workers of the units, and `asking` makes the requests at any time.
-//! `unit_serving` has what a worker does with a reservation. Its tests are in
+//! `worker_loops` has what a worker does with a reservation. Its tests are in
 //! `crates/thread_tests/src/thread_tests.rt`. Begin with `run_threads` in `threaded_run`.
 #![tactic(auto)]
 
@@ -15,4 +15,4 @@ mod threaded_run;
 mod worker_lanes;
 
 pub use threaded_run::{Ended, Orders, run_threads};
-pub use unit_serving::{Gate, Gates, Open, Tally, serve, storage_worker, worker};
+pub use worker_loops::{Gate, Gates, Open, Tally, serve, storage_worker, worker};

@@ -1,6 +1,6 @@
 //! A whole run by threads.
 ghost use Rattle.std.specs.Prelude.{◌≡◌, ◌≤◌, [], ◌∷◌, ◌++◌, true, IfOk, IfSome, OnOk, Ok, map};
-ghost use Rattle.fulfilled_requests.specs.Fulfilled.{IsFulfilled};
+ghost use Rattle.exchange_requests.specs.Fulfilled.{IsFulfilled};
 ghost use Rattle.sequential_run.specs.Turns.{is_in_mid_word};
 ghost use Rattle.sequential.specs.Log.{issued};
 ghost use Rattle.sequential.specs.Replay.{Exchanged};
@@ -8,18 +8,16 @@ ghost use Rattle.progress_word.specs.CallerKnowledge.{booted_by, known, StartsWi
 ghost use Rattle.unit_workers.specs.Beginning.{IsAtRest};
 ghost use Rattle.unit_workers.specs.Ending.{is_at_end};
 ghost use Rattle.unit_workers.specs.Onward.{EndsFrom};
-ghost use Rattle.per_unit.specs.Units.{Each, in_order, paired};
+ghost use Rattle.instructions.specs.PerUnit.{Each, in_order, paired};
 ghost use Rattle.unit_workers.specs.Settled.{in_use, IsSettled, AreSettled};
 
 use crate::asking::{FreeRequests, ask_all};
 use crate::issuing::{PendingRequests, begin, conduct};
 use crate::worker_lanes::{LaneEnds, Settled, WorkerLanes, open_lanes};
-use exchange_requests::{Ask, Requests, in_order};
-use fulfilled_requests::are_fulfilled;
-use instruction_table::Refusal;
+use exchange_requests::{Ask, Requests, are_fulfilled, in_order};
+use instruction_table::{PerUnit, Refusal};
 use machine::{Machine, Seat};
 use machine_lock::{Ground, Naming, Seen, Shared};
-use per_unit::PerUnit;
 use sequential_run::is_in_mid_word;
 use std::alloc::Global;
 use std::marker::Brand;
@@ -29,7 +27,7 @@ use std::thread;
 use std::thread::{Scope, Threads};
 use std::time::Clock;
 use unit_queue::SendPass;
-use unit_serving::{Gate, Gates, Tally, storage_worker};
+use worker_loops::{Gate, Gates, Tally, storage_worker};
 
 /// What a run by threads has to do: the package with which it starts, and the exchanges for which it asks.
 #[derive(Drop)]

@@ -1,21 +1,20 @@
 //! The lanes of the seven units with their ends, and the workers' threads that serve them.
 ghost use Rattle.std.specs.Prelude.{◌≡◌, IfSome};
 ghost use Rattle.std.specs.Option.{ForSome};
-ghost use Rattle.per_unit.specs.Units.{Each, paired};
+ghost use Rattle.instructions.specs.PerUnit.{Each, paired};
 ghost use Rattle.unit_workers.specs.Settled.{in_use, IsSettled};
 
 use crossbeam_utils::Backoff;
-use instruction_table::Unit;
+use instruction_table::{PerUnit, Unit};
 use machine::{Note, Seat};
 use machine_lock::{Naming, Shared};
-use per_unit::PerUnit;
 use signals::Signals;
 use std::alloc::Global;
 use std::snapshot::Snapshot;
 use std::sync::Wait;
 use std::thread::{Promise, PromisedHandle, Scope, Threads};
 use unit_queue::{Lane, SendPass, TakePass, lane};
-use unit_serving::{Gate, Gates, Tally, worker};
+use worker_loops::{Gate, Gates, Tally, worker};
 
 /// The tally that a worker's thread gives is of this lane.
 #[derive(Drop)]

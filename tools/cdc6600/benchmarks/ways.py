@@ -11,7 +11,7 @@
 
 A function is one that the sources spell out: closures, derived implementations and what drops a value don't count. Nor
 do these, which carry nothing of the instruction: the conversions between numbers (`get`, `from_bits`, ..), the wake-ups
-between threads (crate `signals`) and the order of requests for exchanges (crate `exchange_requests`). Each function
+between threads (crate `signals`) and the order of requests for exchanges (`exchange_requests::requests`). Each function
 counts once, however often it is entered.
 
 It also counts, in the sources, the errors that are converted by hand, and the types and constants whose name stands in
@@ -46,7 +46,7 @@ end
 WORD_LINE = 4
 # What isn't spelled out, or carries nothing of the instruction.
 LEFT_OUT = re.compile(
-    r"Destruct|::fn::|\+Fn|(?:PartialEq|Default|Clone|Debug|From)::|\+start|^signals::|^exchange_requests::"
+    r"Destruct|::fn::|\+Fn|(?:PartialEq|Default|Clone|Debug|From)::|\+start|^signals::|^exchange_requests::requests::"
     r"|Below|word18::Word18::(?:get|widen|low_bits|from_bits)$|word60::Word60::(?:get|from_bits|low18)$"
 )
 # The functions at which a way begins and ends.

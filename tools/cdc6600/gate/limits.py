@@ -302,8 +302,8 @@ LIMITS = {
     ("unit_workers/src/issuing.rt", "ISSUES_OF_A_HOLD"): both(straight("straight"), asked_after("request-after-64")),
     ("unit_workers/src/issuing.rt", "ArrayVec<Option<Note>, "): burst("seven-units"),
     ("unit_queue/src/ends.rt", "::ruled("): test("thread_tests/src/queue_tests.rt", "full_then_room_then_closed"),
-    ("unit_serving/src/memory_worker.rt", "for place in .."): references("all-rows"),
-    ("unit_serving/src/memory_worker.rt", "for channel in .."): loads("all-rows"),
+    ("worker_loops/src/memory_worker.rt", "for place in .."): references("all-rows"),
+    ("worker_loops/src/memory_worker.rt", "for channel in .."): loads("all-rows"),
     ("machine_lock/src/shared.rt", "LOCK_TRIES"): check("busy", "BUDGET"),
     ("signals/src/pace.rt", "LOOKS"): WAITS,
     ("signals/src/pace.rt", "MOST_LOOKS"): WAITS,
@@ -312,7 +312,7 @@ LIMITS = {
     ("signals/src/pace.rt", "HURRIED_WAITS"): branches("endless"),
     ("signals/src/signals.rt", "FEW_LOOKS"): WAITS,
     ("signals/src/signal.rt", "Duration::from_millis("): WAITS,
-    ("fulfilled_requests/src/judging.rt", "REST_OF_A_WORD"): test(
+    ("exchange_requests/src/judging.rt", "REST_OF_A_WORD"): test(
         "text_tests/src/fulfilled_requests_tests.rt", "E0 E60 E20 I8 E20 E40"
     ),
     # The machine.

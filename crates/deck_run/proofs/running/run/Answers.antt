@@ -3,7 +3,7 @@ use Rattle.sequential.specs.Log.{issued}
 use Rattle.sequential.specs.Replay.{LogStep, Exchanged, boot}
 use Rattle.unit_workers.specs.Beginning.{IsAtRest}
 use Rattle.program_order.specs.Processor.{Processor, boot_processor}
-use Rattle.fulfilled_requests.specs.Fulfilled.{IsFulfilled}
+use Rattle.exchange_requests.specs.Fulfilled.{IsFulfilled}
 use Rattle.sequential_job.specs.Running.{asks_after}
 use Rattle.sequential_run.specs.Run.{is_over}
 use Rattle.sequential_run.specs.Turns.{is_in_mid_word}

@@ -1,5 +1,5 @@
 use denote.Param.Send.{sendable}
-use Rattle.unit_serving.proofs.Sent.{tally_send}
+use Rattle.worker_loops.proofs.Sent.{tally_send}
 use Rattle.unit_workers.proofs.worker_lanes.start_at.Goals as goal
 
 pub spawn_with-requires-send-T : goal.spawn_with-requires-send-T

@@ -1,0 +1,154 @@
+//! Which request for an exchange a run makes next, and so when a run ends.
+//!
+//! A request names a number of instructions. It is due once so many were issued, and a run makes it
+//! before it issues the next one; while another request waits for its exchange none is due. Of several
+//! the one after the fewest instructions comes first, and of equals the one that was given first. The
+//! request for the run's first package precedes all.
+//!
+//! A run ends where the machine is drained and either it is halted, faulted or out of budget, no request
+//! waits and none is due; or it is out of budget in mid word, where no exchange can be made. A run makes
+//! no request after more instructions than it has issued by then.
+ghost use Rattle.std.specs.Prelude.{◌≡◌, ◌<◌, ◌+◌, ◌^◌, ◌++◌, ◌∷◌, ◌||◌, true, false, None, is_some, option_to_list};
+ghost use Rattle.std.specs.Prelude.{IfOk, ℕ, ◌≤◌};
+ghost use Rattle.exchange_requests.specs.Requests.{AreOrdered, IsInOrder, KeepsTies, IsDue, StartsWithAny};
+
+use std::alloc::{AllocError, Global};
+use std::collections::VecDeque;
+use std::marker::Model;
+
+/// A request for an exchange: the absolute address of the package, and the number of instructions after which it is
+/// made.
+pub type Ask = (u32, u64);
+
+/// The requests of a run in the order in which they are made: that for the first package, which comes after no
+/// instruction and before all others, and the others.
+///
+/// # Errors
+/// Memory ran out.
+pub fn in_order(alloc: Global, start: u32, asks: &[Ask]) -> Result<Vec<Ask>, AllocError>
+    ensures { IfOk result (λ all. AreOrdered start asks.now all.items) }
+{
+    let mut all = Vec::from_slice(alloc, &[(start, 0)])?;
+    all.extend_from_slice(asks)?;
+    all.sort_by_key(|ask| ask.1)?;
+    Ok(all)
+}
+
+/// The requests that a run has still to make, and how far the run has come. A contract sees the requests in the order
+/// in which they are made, how many instructions were issued, and whether a request waits for its exchange.
+#[derive(Drop)]
+pub struct Requests {
+    /// In the order in which they are made.
+    left: VecDeque<Ask>,
+    /// How many instructions were issued.
+    issued: u64,
+    /// Whether a request waits for its exchange.
+    is_waiting: bool,
+}
+
+impl Model for Requests {
+    ghost use Rattle.exchange_requests.specs.Requests.{ToMake, IsInOrder};
+
+    ghost Value = { ToMake };
+
+    ghost view = { λ s. record { asks = s.left.items; issued = s.issued; is_waiting = s.is_waiting } };
+
+    ghost invariant = { λ s. IsInOrder s.left.items };
+}
+
+impl Requests {
+    /// The requests of a run before its first instruction.
+    ///
+    /// # Errors
+    /// Memory ran out.
+    pub fn new(alloc: Global, start: u32, asks: &[Ask]) -> Result<Requests, AllocError>
+        ensures left { IfOk result (λ requests. KeepsTies ((start, 0) ∷ asks.now) requests.asks) }
+        ensures order { IfOk result (λ requests. IsInOrder requests.asks) }
+        ensures issued { IfOk result (λ requests. requests.issued ≡ 0) }
+        ensures is_waiting { IfOk result (λ requests. requests.is_waiting ≡ false) }
+    {
+        let left = in_order(alloc, start, asks)?;
+        Ok(Requests {
+            left: VecDeque::from_vec(left),
+            issued: 0,
+            is_waiting: false,
+        })
+    }
+
+    /// The request that `take_due` would give if none waited for its exchange: while one waits, it is the one that
+    /// follows as soon as that exchange was made.
+    pub fn next_due(&self) -> Option<Ask>
+        ensures due { IsDue self.now.asks self.now.issued result }
+        ensures first { StartsWithAny self.now.asks result }
+    {
+        let next = self.left.front()?;
+        let after = next.1;
+        if after > self.issued {
+            return None;
+        }
+        Some(*next)
+    }
+
+    /// The request that is due: none is while one waits for its exchange.
+    pub fn due(&self) -> Option<Ask>
+        ensures due { self.now.is_waiting ≡ false → IsDue self.now.asks self.now.issued result }
+        ensures none { self.now.is_waiting ≡ true → result ≡ None }
+        ensures first { StartsWithAny self.now.asks result }
+    {
+        if self.is_waiting {
+            return None;
+        }
+        self.next_due()
+    }
+
+    /// Takes the request that is due, if one is; it waits for its exchange from then on.
+    pub fn take_due(&mut self) -> Option<Ask>
+        ensures due { self.old.is_waiting ≡ false → IsDue self.old.asks self.old.issued result }
+        ensures none { self.old.is_waiting ≡ true → result ≡ None }
+        ensures left { self.old.asks ≡ option_to_list result ++ self.new.asks }
+        ensures is_waiting { self.new.is_waiting ≡ (self.old.is_waiting || is_some result) }
+        ensures issued { self.new.issued ≡ self.old.issued }
+    {
+        self.due()?;
+        self.is_waiting = true;
+        self.left.pop_front()
+    }
+
+    /// The exchange of the request that waits was made.
+    pub fn exchanged(&mut self)
+        ensures left { self.new.asks ≡ self.old.asks }
+        ensures is_waiting { self.new.is_waiting ≡ false }
+        ensures issued { self.new.issued ≡ self.old.issued }
+    {
+        self.is_waiting = false;
+    }
+
+    /// An instruction was issued.
+    pub fn issued(&mut self)
+        ensures left { self.new.asks ≡ self.old.asks }
+        ensures is_waiting { self.new.is_waiting ≡ self.old.is_waiting }
+        ensures issued { self.old.issued + 1 < 2 ^ 64 → self.new.issued ≡ self.old.issued + 1 }
+    {
+        self.issued = self.issued.saturating_add(1);
+    }
+
+    /// So many instructions were issued.
+    pub fn issued_many(&mut self, count: u64)
+        ensures left { self.new.asks ≡ self.old.asks }
+        ensures is_waiting { self.new.is_waiting ≡ self.old.is_waiting }
+        ensures issued { self.old.issued + count < 2 ^ 64 → self.new.issued ≡ self.old.issued + count }
+    {
+        self.issued = self.issued.saturating_add(count);
+    }
+
+    /// For how many more instructions no request comes due, if none is due now; the largest number where none is left.
+    pub fn until_due(&self) -> u64
+        ensures none { (more : ℕ) → more < result → IsDue self.now.asks (self.now.issued + more) None }
+        ensures some { IsDue self.now.asks self.now.issued None → 0 < result }
+    {
+        match self.left.front() {
+            Some(next) => next.1.saturating_sub(self.issued),
+            None => u64::MAX,
+        }
+    }
+}

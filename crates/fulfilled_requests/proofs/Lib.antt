@@ -1,3 +1,0 @@
-pub mod Choosing
-pub mod Counting
-pub mod Due

@@ -1,3 +1,0 @@
--- Which logs fulfil the requests for exchanges of a run. Source: ours.
-pub mod Fulfilled
-pub mod inner

@@ -1,6 +1,0 @@
-use Rattle.std.proofs.Common.{◌≡◌}
-use Rattle.unit_serving.proofs.service.store.Given as goal
-
--- the reservation is the one whose value was computed, with the same seat
-abbrev pub invariant-loop : goal.invariant-loop
-invariant-loop g l = l.token ≡ record { seat = l.fn.computed.seat; number = l.fn.computed.number }

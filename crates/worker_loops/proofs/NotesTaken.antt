@@ -1,0 +1,40 @@
+-- One item more was taken.
+use Rattle.std.proofs.Common.{◌≡◌, ◌≤◌, ℕ, suc, ◌+◌, List, [], ◌∷◌, ◌++◌, ap, ◌∙◌}
+use Rattle.std.proofs.Common.{arith, append_assoc}
+use Rattle.unit_queue.specs.declared.item.Item.{Item}
+use Rattle.unit_queue.specs.declared.item.Item.TheVariants.{Work}
+use Rattle.program_order.specs.declared.event.Note.{Note}
+use Rattle.machine.specs.Tokens.{Seating}
+use Rattle.worker_loops.specs.Tallies.{note_count, notes_in}
+
+pub notes_in-push : (xs : List Item) (x : Item) → notes_in (xs ++ x ∷ []) ≡ notes_in xs + note_count x
+notes_in-push [] x = omega arith
+notes_in-push (y ∷ ys) x = omega (arith, notes_in-push ys x)
+
+pub more : (before at now taken : List Item) (x : Item) → at ≡ before ++ taken → now ≡ at ++ x ∷ [] → now ≡ before
+    ++ (taken ++ x ∷ [])
+more before at now taken x e f = f ∙ ap (λ l. l ++ x ∷ []) e ∙ append_assoc before taken (x ∷ [])
+
+-- the items taken since the worker began, whose notes are those that its seat has stored and the strange ones
+abbrev pub Counted : List Item → List Item → ℕ → ℕ → ℕ → Type 0
+Counted first at before stored strange =
+    (taken : List Item) × (at ≡ first ++ taken) × (stored + strange ≡ before + notes_in taken) × (before ≤ stored)
+
+-- what serving a note does to a seat
+pub stored : (s t : Seating) (number : ℕ) → t ≡ record s { stored = suc s.stored; last = number }
+    → (t.unit ≡ s.unit) × (t.stored ≡ s.stored + 1)
+stored s t number e = (ap (λ (u : Seating). u.unit) e, ap (λ (u : Seating). u.stored) e ∙ omega arith)
+
+-- one note more was taken, and was stored or strange
+pub note_counted : (first at now : List Item) (note : Note) (before stored strange stored' strange' : ℕ)
+    → Counted first at before stored strange → now ≡ at ++ Work note ∷ []
+    → stored' + strange' ≡ stored + strange + 1 → stored ≤ stored' → Counted first now before stored' strange'
+note_counted first at now note before stored strange stored' strange' n got one up =
+    let longer = notes_in-push n.0 (Work note) in
+    let sum = n.2 in
+    let least = n.3 in (
+      n.0 ++ Work note ∷ [],
+      more first at now n.0 (Work note) n.1 got,
+      (omega (arith, longer, sum, one)),
+      (omega (arith, least, up)),
+    )
