@@ -1,5 +1,5 @@
 ghost use Rattle.std.specs.Prelude.{◌≡◌};
-ghost use Rattle.in_flight.specs.Pending.{is_waiting, is_finished};
+ghost use Rattle.in_flight.specs.Pending.{is_unread, is_finished};
 ghost use Rattle.in_flight.specs.Lookup.{stage_at, arrival_at};
 
 use instruction_table::{Digit, Instr, Unit};
@@ -12,7 +12,7 @@ use word60::{Word18, Word60};
 #[derive(Clone, Copy, Debug, Drop, PartialEq, Eq)]
 pub enum Stage {
     /// It has still to read its operands.
-    Waiting,
+    Unread,
     /// It has read them.
     Read(Operands),
     /// It has its value.
@@ -60,11 +60,11 @@ pub struct Arrival {
 
 impl Stage {
     /// Whether it has still to read its operands.
-    #[tactic(auto, unfolding(crate::specs::Pending::is_waiting))]
-    pub fn is_waiting(&self) -> bool
-        ensures { result ≡ is_waiting self.now }
+    #[tactic(auto, unfolding(crate::specs::Pending::is_unread))]
+    pub fn is_unread(&self) -> bool
+        ensures { result ≡ is_unread self.now }
     {
-        matches!(self, Stage::Waiting)
+        matches!(self, Stage::Unread)
     }
 
     /// Whether it has its value.
@@ -80,10 +80,10 @@ impl Stage {
 impl Default for Pending {
     ghost use Rattle.instructions.specs.declared.instr.Instr.TheVariants.{Pass};
     ghost use Rattle.instructions.specs.declared.instr.Unit.TheVariants.{Branch};
-    ghost use Rattle.in_flight.specs.declared.pending.Stage.TheVariants.{Waiting};
+    ghost use Rattle.in_flight.specs.declared.pending.Stage.TheVariants.{Unread};
     ghost use Rattle.in_flight.specs.declared.pending.Phase.TheVariants.{Before};
 
-    ghost is_default = { λ p. p ≡ record { instr = Pass; at = 0; number = 0; unit = Branch; phase = Before Waiting } };
+    ghost is_default = { λ p. p ≡ record { instr = Pass; at = 0; number = 0; unit = Branch; phase = Before Unread } };
 
     fn default() -> Pending {
         Pending {
@@ -91,7 +91,7 @@ impl Default for Pending {
             at: Word18::default(),
             number: 0,
             unit: Unit::Branch,
-            phase: Phase::Before(Stage::Waiting),
+            phase: Phase::Before(Stage::Unread),
         }
     }
 }

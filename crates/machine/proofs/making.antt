@@ -3,4 +3,4 @@ pub mod Saving
 pub mod Making
 pub mod Admitting
 pub mod Leaving
-pub mod Told
+pub mod Answering

@@ -22,9 +22,9 @@ abbrev pub IsCurrent : Processor → Known → Type 0
 IsCurrent w k = (k.booted ≡ booted_by w) × (k.log ≡ w.log)
 
 -- an event's answer, from that of a call that answers a part of it
-abbrev pub told : {T : Type 0} → (T → Done) → Result T Refusal → Result Done Refusal
-told done (Ok x) = Ok (done x)
-told done (Err refusal) = Err refusal
+abbrev pub answered : {T : Type 0} → (T → Done) → Result T Refusal → Result Done Refusal
+answered done (Ok x) = Ok (done x)
+answered done (Err refusal) = Err refusal
 
 -- an event's answer, from that of a call that answers only whether it was made
 abbrev pub made_or_refused : {T : Type 0} → Result T Refusal → Result Done Refusal

@@ -21,11 +21,11 @@ impl Naming for Brand {
 }
 
 /// What a pass knows. No value of it is made: the passes' views have its model.
-pub struct View {
+pub struct PassView {
     nothing: (),
 }
 
-impl Model for View {
+impl Model for PassView {
     ghost use Rattle.progress_word.specs.inner.Rules.{Knowing, spent};
 
     ghost Value = { Knowing };
@@ -36,7 +36,7 @@ impl Model for View {
 /// What holds of the word and of all that is known, between any two steps.
 pub struct Law;
 
-impl TableRule<u8, View, ()> for Law {
+impl TableRule<u8, PassView, ()> for Law {
     ghost use Rattle.progress_word.specs.inner.Rules.{IsCounted, fresh};
 
     ghost holds = { λ key s. IsCounted s };
@@ -60,7 +60,7 @@ impl Chosen for Brand {
 /// An add of one, for a step.
 pub(crate) struct Adds<J: Chosen>(PhantomData<J>);
 
-impl<J: Chosen> Play<u8, View> for Adds<J> {
+impl<J: Chosen> Play<u8, PassView> for Adds<J> {
     ghost use Rattle.std.specs.Prelude.{◌≡◌};
     ghost use Rattle.progress_word.specs.inner.Rules.{Added};
 
@@ -84,7 +84,7 @@ impl Begun for Brand {
 /// The load that begins a log.
 pub(crate) struct Begins<J: Begun>(PhantomData<J>);
 
-impl<J: Begun> Play<u8, View> for Begins<J> {
+impl<J: Begun> Play<u8, PassView> for Begins<J> {
     ghost use Rattle.std.specs.Prelude.{◌≡◌, []};
     ghost use Rattle.progress_word.specs.inner.Rules.{history, keeper};
 
@@ -94,7 +94,7 @@ impl<J: Begun> Play<u8, View> for Begins<J> {
 /// A load.
 pub(crate) struct Looks;
 
-impl Play<u8, View> for Looks {
+impl Play<u8, PassView> for Looks {
     ghost use Rattle.std.specs.Prelude.{◌≡◌};
     ghost use Rattle.progress_word.specs.inner.Rules.{Looked};
 
@@ -104,7 +104,7 @@ impl Play<u8, View> for Looks {
 /// All that a pass knows goes to a new one.
 pub(crate) struct HandsOver;
 
-impl Split<View> for HandsOver {
+impl Split<PassView> for HandsOver {
     ghost use Rattle.progress_word.specs.inner.Rules.{spent};
 
     ghost left = { λ v. spent };
@@ -115,7 +115,7 @@ impl Split<View> for HandsOver {
 /// What was taken in goes out again, with all that is known now.
 pub(crate) struct HandsBack;
 
-impl Split<View> for HandsBack {
+impl Split<PassView> for HandsBack {
     ghost use Rattle.progress_word.specs.inner.Rules.{kept_back, handed_back};
 
     ghost left = { λ v. kept_back v };
@@ -126,7 +126,7 @@ impl Split<View> for HandsBack {
 /// A new pass that knows the same steps, none of them its own.
 pub(crate) struct Shares;
 
-impl Split<View> for Shares {
+impl Split<PassView> for Shares {
     ghost use Rattle.progress_word.specs.inner.Rules.{shared_out};
 
     ghost left = { λ v. v };
@@ -137,7 +137,7 @@ impl Split<View> for Shares {
 /// A pass takes in another.
 pub(crate) struct TakesIn;
 
-impl Join<View> for TakesIn {
+impl Join<PassView> for TakesIn {
     ghost use Rattle.progress_word.specs.inner.Rules.{with_told, spent};
 
     ghost both = { λ v w. with_told v w };
@@ -146,7 +146,7 @@ impl Join<View> for TakesIn {
 }
 
 /// The progress word, with the passes of all who know its log.
-pub type Progress = Table<u8, View, (), Law, Global>;
+pub type ProgressTable = Table<u8, PassView, (), Law, Global>;
 
 /// What its holder knows of the log: the machine's, or a caller's.
-pub type Pass = Seat<u8, View>;
+pub type Pass = Seat<u8, PassView>;

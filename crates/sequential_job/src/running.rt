@@ -13,7 +13,7 @@ use job_deck::{
     CheckedReader, CheckedWriter, Deck, Input, LineBuffer, Output, dump_to, read_deck_from,
 };
 use sequential::State;
-use sequential_run::Ended;
+use sequential_run::CompletedRun;
 use std::alloc::{AllocError, Global};
 use std::io::{Read, Write};
 
@@ -37,7 +37,7 @@ pub fn asks_after(alloc: Global, deck: &Deck) -> Result<Vec<Ask>, AllocError>
 ///
 /// # Errors
 /// `OutOfMemory`, and `PackageRange` if the sixteen words of an exchange that comes next don't all lie in memory.
-fn run_deck(alloc: Global, deck: &Deck, budget: u64) -> Result<Ended, Refusal>
+fn run_deck(alloc: Global, deck: &Deck, budget: u64) -> Result<CompletedRun, Refusal>
     ensures { MatchResult result (λ ended. IsJobRun deck.now budget ended.log.steps ended.state)
         (λ refusal. IsWhyNoJobRun deck.now budget refusal) }
 {

@@ -23,5 +23,5 @@ mod running;
 mod stepping;
 
 pub use law::{a_run_by_one_is_made_by_events, a_run_has_one_result};
-pub use running::{Ended, run};
+pub use running::{CompletedRun, run};
 pub use stepping::is_in_mid_word;

@@ -14,7 +14,7 @@ use std::collections::VecDeque;
 
 /// What a run ends with.
 #[derive(Drop)]
-pub struct Ended {
+pub struct CompletedRun {
     /// The final state of the machine.
     pub state: State,
     /// The instructions and exchanges that led to it.
@@ -79,7 +79,7 @@ pub fn run(
     after: &[Ask],
     free: &[u32],
     budget: u64,
-) -> Result<Ended, Refusal>
+) -> Result<CompletedRun, Refusal>
     ensures run { MatchResult result
         (λ ended. IsSequentialRun memory start after.now free.now budget ended.log.steps ended.state)
         (λ refusal. IsWhyNoRun memory start after.now free.now budget refusal) }
@@ -90,7 +90,7 @@ pub fn run(
         return Err(Refusal::OutOfMemory);
     };
     finish(&mut course, budget)?;
-    Ok(Ended {
+    Ok(CompletedRun {
         state: course.state,
         log: course.log,
     })

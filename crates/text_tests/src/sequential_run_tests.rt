@@ -8,7 +8,7 @@ use exchange_requests::Ask;
 use instruction_table::{Halt, Refusal};
 use relocation::Storage;
 use sequential::Entry;
-use sequential_run::{Ended, a_run_by_one_is_made_by_events, a_run_has_one_result};
+use sequential_run::{CompletedRun, a_run_by_one_is_made_by_events, a_run_has_one_result};
 use std::alloc::{AllocError, Global};
 use std::process::Abort;
 use std::test::Fail;
@@ -96,7 +96,7 @@ fn runs_twice(
     after: &[Ask],
     free: &[u32],
     budget: u64,
-) -> Option<(Ended, Ended)>
+) -> Option<(CompletedRun, CompletedRun)>
     ensures log { IfSome result (λ ended. ended.0.log.steps ≡ ended.1.log.steps) }
     ensures state { IfSome result (λ ended. ended.0.state ≡ ended.1.state) }
 {
@@ -120,7 +120,7 @@ fn runs_as_by_events(
     start: u32,
     free: &[u32],
     budget: u64,
-) -> Result<Ended, Refusal>
+) -> Result<CompletedRun, Refusal>
     requires { length free.now < 1000000 }
     ensures { IfOk result (λ ended. IsMadeByEvents memory budget ended.log.steps ended.state) }
 {

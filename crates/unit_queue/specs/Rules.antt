@@ -4,42 +4,42 @@ use Rattle.std.specs.Prelude.{◌≡◌, ◌<◌, ℕ, Bool, true, false, List, 
 use mathlib.Core.Option.{some}
 use lib.ListN.{get_elem?}
 use Rattle.unit_queue.specs.declared.item.Item.{Item}
-use Rattle.unit_queue.specs.declared.rule.View.{View}
+use Rattle.unit_queue.specs.declared.rule.LaneView.{LaneView}
 use Rattle.unit_queue.specs.Lanes.{is_closed, IsOrderly, IsBeginning}
 
 -- what the holder of a pass knows: whether it sends, whether it takes, what was sent and what was taken
-abbrev pub view_of : Bool → Bool → List Item → List Item → View
+abbrev pub view_of : Bool → Bool → List Item → List Item → LaneView
 view_of sends takes sent got = record { sends = sends; takes = takes; sent = sent; got = got }
 
 -- what the end for sending knows: what was sent, and what was taken when the last of it was sent
-abbrev pub sender : List Item → List Item → View
+abbrev pub sender : List Item → List Item → LaneView
 sender sent taken = view_of true false sent taken
 
 -- what the end for taking knows: what was taken, and what was sent when the last of it was taken
-abbrev pub taker : List Item → List Item → View
+abbrev pub taker : List Item → List Item → LaneView
 taker got sent = view_of false true sent got
 
 -- among the passes, by their numbers, only the writer's pass sends, and it knows all that was sent; only the reader's
 -- pass takes, and it knows all that was taken; what any pass knows of either is a beginning of it
-abbrev pub Fits : ℕ → ℕ → List Item → List Item → ℕ → View → Type 0
+abbrev pub Fits : ℕ → ℕ → List Item → List Item → ℕ → LaneView → Type 0
 Fits writer reader sent got port v =
     (v.sends ≡ true → (port ≡ writer) × (v.sent ≡ sent)) × (v.takes ≡ true → (port ≡ reader) × (v.got ≡ got))
     × IsBeginning v.sent sent × IsBeginning v.got got
 
 -- the rule, of the items that wait and of what each pass knows
-abbrev pub IsKept : List Item → List View → Type 0
+abbrev pub IsKept : List Item → List LaneView → Type 0
 IsKept items views =
     (writer : ℕ) × (reader : ℕ) × (sent : List Item) × (got : List Item) × (sent ≡ got ++ items) × IsOrderly sent
-    × ((port : ℕ) (v : View) → get_elem? views port ≡ some v → Fits writer reader sent got port v)
+    × ((port : ℕ) (v : LaneView) → get_elem? views port ≡ some v → Fits writer reader sent got port v)
 
 -- the item was sent next, when fewer than two waited
-abbrev pub IsSent : View → Item → View → Type 0
+abbrev pub IsSent : LaneView → Item → LaneView → Type 0
 IsSent v x w =
     (got : List Item) × (w ≡ view_of v.sends v.takes (v.sent ++ x ∷ []) got) × (waiting : List Item)
     × (length waiting < 2) × (v.sent ≡ got ++ waiting) × IsBeginning v.got got
 
 -- the item was taken next, which is never after Closed
-abbrev pub IsTaken : View → Item → View → Type 0
+abbrev pub IsTaken : LaneView → Item → LaneView → Type 0
 IsTaken v x w =
     (sent : List Item) × (w ≡ view_of v.sends v.takes sent (v.got ++ x ∷ [])) × IsBeginning (v.got ++ x ∷ []) sent
     × IsBeginning v.sent sent × IsOrderly sent × (is_closed v.got ≡ false)

@@ -6,7 +6,7 @@ ghost use Rattle.unit_queue.specs.Lanes.{LaneName, SendEnd, TakeEnd, send_end, t
 ghost use Rattle.unit_queue.specs.Lanes.{IsOrderly, IsBeginning, IsFull, HadRoom, IsEmpty};
 
 use crate::item::Item;
-use crate::rule::{Ends, LaneRule, Sends, Settles, Takes, View};
+use crate::rule::{Ends, LaneRule, LaneView, Sends, Settles, Takes};
 use crossbeam_queue::{Pass, RuledArrayQueue};
 use instruction_table::{Refusal, Unit};
 use machine::Note;
@@ -14,7 +14,7 @@ use std::alloc::Global;
 use std::marker::Model;
 use std::sync::Wait;
 
-type Queue = RuledArrayQueue<Item, View, LaneRule>;
+type Queue = RuledArrayQueue<Item, LaneView, LaneRule>;
 
 /// The lane of one unit: a queue of at most two items (this project's choice). A contract sees which lane it is, and
 /// whose.
@@ -45,7 +45,7 @@ impl Model for Lane {
 /// beginning.
 #[derive(Drop)]
 pub struct SendPass {
-    pass: Pass<Item, View>,
+    pass: Pass<Item, LaneView>,
     /// Whether `Closed` was sent.
     closed: bool,
 }
@@ -76,7 +76,7 @@ impl SendPass {
 /// the beginning.
 #[derive(Drop)]
 pub struct TakePass {
-    pass: Pass<Item, View>,
+    pass: Pass<Item, LaneView>,
 }
 
 impl Model for TakePass {

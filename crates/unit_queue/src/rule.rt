@@ -7,7 +7,7 @@ use std::collections::LinkedList;
 
 // What the holder of a pass knows: whether it may push and pop, and beginnings of what was pushed and of what was
 // popped. A pass that pushes knows all that was pushed, and one that pops all that was popped. No value of it is made.
-pub struct View {
+pub struct LaneView {
     pub sends: bool,
     pub takes: bool,
     pub sent: LinkedList<Item>,
@@ -16,7 +16,7 @@ pub struct View {
 
 pub struct LaneRule;
 
-impl Protocol<Item, View> for LaneRule {
+impl Protocol<Item, LaneView> for LaneRule {
     ghost use Rattle.std.specs.Prelude.{true, []};
     ghost use Rattle.unit_queue.specs.Rules.{view_of, IsKept};
 
@@ -29,7 +29,7 @@ impl Protocol<Item, View> for LaneRule {
 // together again.
 pub struct Ends;
 
-impl Split<View> for Ends {
+impl Split<LaneView> for Ends {
     ghost use Rattle.unit_queue.specs.Rules.{sender, taker};
 
     ghost left = { λ v. sender v.sent v.got };
@@ -37,7 +37,7 @@ impl Split<View> for Ends {
     ghost right = { λ v. taker v.got v.sent };
 }
 
-impl Join<View> for Ends {
+impl Join<LaneView> for Ends {
     ghost use Rattle.std.specs.Prelude.{true, false, []};
     ghost use Rattle.unit_queue.specs.Rules.{view_of};
 
@@ -50,13 +50,13 @@ impl Join<View> for Ends {
 // step. Where the queue is full, the items that wait are what was sent without what was taken.
 pub struct Sends;
 
-impl Outcome<Item, View> for Sends {
+impl Outcome<Item, LaneView> for Sends {
     ghost use Rattle.unit_queue.specs.Rules.{IsSent};
 
     ghost then = { IsSent };
 }
 
-impl Lesson<Item, View> for Sends {
+impl Lesson<Item, LaneView> for Sends {
     ghost use Rattle.unit_queue.specs.Lanes.{Waited};
 
     ghost fact = { λ v items. Waited v.got v.sent items };
@@ -66,13 +66,13 @@ impl Lesson<Item, View> for Sends {
 // what was sent is what was taken.
 pub struct Takes;
 
-impl Outcome<Item, View> for Takes {
+impl Outcome<Item, LaneView> for Takes {
     ghost use Rattle.unit_queue.specs.Rules.{IsTaken};
 
     ghost then = { IsTaken };
 }
 
-impl Lesson<Item, View> for Takes {
+impl Lesson<Item, LaneView> for Takes {
     ghost use Rattle.std.specs.Prelude.{◌++◌};
     ghost use Rattle.unit_queue.specs.Lanes.{IsBeginning};
 
@@ -83,11 +83,11 @@ impl Lesson<Item, View> for Takes {
 // between what was taken and what was sent.
 pub struct Settles;
 
-impl Outcome<Item, View> for Settles {
+impl Outcome<Item, LaneView> for Settles {
     ghost then = { λ v x w. ⊥ };
 }
 
-impl Lesson<Item, View> for Settles {
+impl Lesson<Item, LaneView> for Settles {
     ghost use Rattle.std.specs.Prelude.{◌≡◌, ◌++◌};
 
     ghost fact = { λ v items. v.sent ≡ v.got ++ items };

@@ -21,7 +21,7 @@ use machine_lock::{Ground, Naming, Seen, Shared};
 use sequential_run::is_in_mid_word;
 use std::alloc::Global;
 use std::marker::Brand;
-use std::snapshot::Snapshot;
+use std::snapshot::Snapshot as GhostCopy;
 use std::sync::Wait;
 use std::thread;
 use std::thread::{Scope, Threads};
@@ -50,7 +50,7 @@ pub struct Ended {
     /// Each worker took all notes that were sent to it.
     pub tallies: [Tally; 7],
     /// The sending ends of the lanes as they were closed, for contracts alone.
-    pub sent: PerUnit<Snapshot<SendPass>>,
+    pub sent: PerUnit<GhostCopy<SendPass>>,
     ghost settled: { AreSettled (map (λ sender. sender.value) (in_order sent)) tallies },
 }
 

@@ -10,7 +10,7 @@ use machine::{Note, Seat};
 use machine_lock::{Naming, Shared};
 use signals::Signals;
 use std::alloc::Global;
-use std::snapshot::Snapshot;
+use std::snapshot::Snapshot as GhostCopy;
 use std::sync::Wait;
 use std::thread::{Promise, PromisedHandle, Scope, Threads};
 use unit_queue::{Lane, SendPass, TakePass, lane};
@@ -18,7 +18,7 @@ use worker_loops::{Gate, Gates, Tally, worker};
 
 /// The tally that a worker's thread gives is of this lane.
 #[derive(Drop)]
-pub struct TallyOfLane(Snapshot<Lane>);
+pub struct TallyOfLane(GhostCopy<Lane>);
 
 impl Promise<Option<Tally>> for TallyOfLane {
     ghost use Rattle.std.specs.Prelude.{◌≡◌, IfSome};
@@ -29,7 +29,7 @@ impl Promise<Option<Tally>> for TallyOfLane {
 pub type Worker = PromisedHandle<Option<Tally>, TallyOfLane>;
 
 /// What was sent on the lane of each unit, and the tallies of the units' workers.
-pub type Settled = (PerUnit<Snapshot<SendPass>>, PerUnit<Tally>);
+pub type Settled = (PerUnit<GhostCopy<SendPass>>, PerUnit<Tally>);
 
 /// A lane with its two ends.
 #[derive(Drop)]
@@ -91,7 +91,7 @@ fn start_at<'s, E, K: Naming + Send + Sync + 's, G: Gate + Send + 's, R: Threads
     let lane = receiver.lane;
     scope
         .spawn_with(
-            TallyOfLane(Snapshot::of(lane)),
+            TallyOfLane(GhostCopy::of(lane)),
             move || -> Option<Tally>
                 ensures { IfSome result (λ t. t.pass.id ≡ receiver.entry.lane.now.id) }
             { work(rt, shared, receiver, holder, gate) },
@@ -180,7 +180,7 @@ impl<'a> WorkerLane<'a> {
     /// Waits for the lane's worker, and settles its tally with the sending end, which is kept for contracts alone.
     /// `None` if the worker's thread couldn't be started. Its seat came out of an array of values that must be spent,
     /// of which nothing is known, so its unit is compared.
-    pub fn end<R: Threads + Wait>(self, rt: &R, unit: Unit) -> Option<(Snapshot<SendPass>, Tally)>
+    pub fn end<R: Threads + Wait>(self, rt: &R, unit: Unit) -> Option<(GhostCopy<SendPass>, Tally)>
         ensures { IfSome result (λ ended. IsSettled unit ended.0.value ended.1) }
     {
         let WorkerLane {
@@ -193,7 +193,7 @@ impl<'a> WorkerLane<'a> {
         if tally.unit() != unit {
             return None;
         }
-        let sent = Snapshot::of(&sender);
+        let sent = GhostCopy::of(&sender);
         tally.settle(rt, lane, sender);
         Some((sent, tally))
     }

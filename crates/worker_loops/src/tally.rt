@@ -4,7 +4,7 @@ ghost use Rattle.unit_queue.specs.Lanes.{is_closed};
 
 use instruction_table::Unit;
 use machine::Seat;
-use std::snapshot::Snapshot;
+use std::snapshot::Snapshot as GhostCopy;
 use std::sync::Wait;
 use unit_queue::{Lane, SendPass, TakePass};
 
@@ -17,7 +17,7 @@ pub struct Tally {
     pub(crate) strange: u64,
     pub(crate) pass: TakePass,
     /// The seat as it was left, for contracts alone.
-    pub(crate) left: Snapshot<Seat>,
+    pub(crate) left: GhostCopy<Seat>,
     ghost ended: { is_closed pass.got ≡ true },
 }
 

@@ -7,7 +7,7 @@ use crate::service::serve_with;
 use crate::tally::Tally;
 use machine::Seat;
 use machine_lock::{Naming, Shared};
-use std::snapshot::Snapshot;
+use std::snapshot::Snapshot as GhostCopy;
 use std::sync::Wait;
 use unit_queue::{Item, Lane, TakePass};
 
@@ -55,7 +55,7 @@ pub fn worker<K: Naming, G: Gate, R: Wait>(
                 }
             }
             Some(Item::Closed) => {
-                let left = Snapshot::of(&at);
+                let left = GhostCopy::of(&at);
                 let stored = at.leave() - before;
                 return Tally {
                     unit,

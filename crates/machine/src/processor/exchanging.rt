@@ -7,8 +7,8 @@ ghost use Rattle.program_order.specs.Run.{IsAnswer, answer_of, settled};
 ghost use Rattle.program_order.specs.Telling.{IsWhy};
 
 use crate::changing::exchange;
-use judging::{judge_ask, judge_exchange};
 use crate::{Answer, Done, Machine};
+use judging::{judge_ask, judge_exchange};
 use relocation::PACKAGE_WORDS;
 
 /// The entries for which a request makes room in the log: those of an instruction, the exchange and an instruction, so

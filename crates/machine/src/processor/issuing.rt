@@ -10,8 +10,8 @@ ghost use Rattle.program_order.specs.Refusals.{may_refuse};
 ghost use Rattle.program_order.specs.Run.{answer_of, settled};
 ghost use Rattle.program_order.specs.Telling.{IsNoted, IsWhy};
 
-use judging::judge_issue;
 use crate::{Answer, Done, Machine, Note};
+use judging::judge_issue;
 use sequential::Fetched;
 
 impl Machine {

@@ -12,11 +12,11 @@ ghost use Rattle.program_order.specs.Refusals.{may_refuse};
 ghost use Rattle.program_order.specs.Run.{IsAnswer, settled};
 
 use crate::changing::perform;
-use judging::judge_access;
 use crate::{Answer, Done, Machine};
 use hopper::Reference;
 use in_flight::InFlight;
 use instruction_table::Refusal;
+use judging::judge_access;
 use relocation::Access;
 use sequential::Log;
 use word60::Word60;

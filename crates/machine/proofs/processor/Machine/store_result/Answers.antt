@@ -21,7 +21,7 @@ boot_same : (c : After-leave)
       state = c.write_and_jump.new.self;
       boot_memory = original c.self.inside.saved c.write_and_jump.new.self.memory;
     }) c.leave.new.self
-    ≡ with_flight (record (the_view c.self.inside) { state = c.write_and_jump.new.self; }) c.leave.new.self
+    ≡ with_flight (record (the_view c.self.inside) { state = c.write_and_jump.new.self }) c.leave.new.self
 boot_same c = ap (λ (m : List ℕ). with_flight
     (record (the_view c.self.inside) {
       state = c.write_and_jump.new.self;
