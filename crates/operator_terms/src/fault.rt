@@ -2,18 +2,19 @@ ghost use Rattle.std.specs.Prelude.{◌≡◌};
 
 use crate::status::Status;
 use instruction_table::Refusal;
-use std::error::Error;
-use std::fmt;
-use std::fmt::{Display, Formatter, Write};
+use thiserror::Error;
 
 /// Why the program ends without its output.
-#[derive(Clone, Copy, Debug, Drop, PartialEq, Eq)]
+#[derive(Clone, Copy, Debug, Drop, Error, PartialEq, Eq)]
 pub enum ProgramFault {
     /// The deck, an access of the log, memory or a device: the refusals for which the program has a status.
+    #[error("{0}")]
     Refused(Refusal),
     /// The log on the command line isn't one.
+    #[error("bad log")]
     BadLog,
     /// The machine refused a step of a run. As far as is known it never does, since the deck was judged.
+    #[error("the machine refused a step of the run")]
     Stuck,
 }
 
