@@ -12,7 +12,7 @@ ghost use Rattle.deck.specs.inner.ParsedLine.{line_with_bytes};
 
 use crate::Image;
 use crate::coding::{parcels_in, word_of};
-use crate::deck::{Ask, Deck, Draft, Flow, Show};
+use crate::deck::{AskLine, Deck, Draft, Flow, Show};
 use crate::line_list::{LINES_OF_A_KIND, LineList};
 use crate::parsing::{Line, parse_line};
 use device_text::{first_part, number};
@@ -194,7 +194,7 @@ impl Draft {
             return Err(DeckFault::Number);
         }
         self.check_request(at)?;
-        self.asks.push(Ask {
+        self.asks.push(AskLine {
             at,
             after: count as u32,
         });

@@ -11,7 +11,7 @@ pub struct Show {
 
 /// A request for an exchange while the deck's program runs.
 #[derive(Clone, Copy, Debug, Drop, PartialEq, Eq)]
-pub struct Ask {
+pub struct AskLine {
     /// The absolute address of the package.
     pub at: u32,
     /// How many instructions are issued before the exchange is asked for.
@@ -24,7 +24,7 @@ pub struct Ask {
 pub struct Deck {
     pub image: Image,
     pub start: u32,
-    pub asks: LineList<Ask>,
+    pub asks: LineList<AskLine>,
     pub free: LineList<u32>,
     pub shows: LineList<Show>,
 }
@@ -36,7 +36,7 @@ pub struct Draft {
     /// Where the next word goes.
     pub next_address: u32,
     pub start: Option<u32>,
-    pub asks: LineList<Ask>,
+    pub asks: LineList<AskLine>,
     pub free: LineList<u32>,
     pub shows: LineList<Show>,
 }

@@ -15,7 +15,7 @@ mod line_list;
 mod parsing;
 mod reading;
 
-pub use deck::{Ask, Deck, Show};
+pub use deck::{AskLine, Deck, Show};
 pub use image::Image;
 pub use line_list::LineList;
 pub use reading::{MOST_LINES, read_deck, read_deck_from, with_line_number};

@@ -20,7 +20,7 @@ mod schedule_reading;
 mod session;
 
 pub use answering::put_answer;
-pub use deck::{Ask, Deck, Image, LineList, Show, read_deck, read_deck_from, with_line_number};
+pub use deck::{AskLine, Deck, Image, LineList, Show, read_deck, read_deck_from, with_line_number};
 pub use device_text::{
     CheckedBufReader, CheckedReader, CheckedWriter, Input, LineBuffer, Output, ReadFailed,
     WriteFailed,

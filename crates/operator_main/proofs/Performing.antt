@@ -13,9 +13,9 @@ use Rattle.job_deck.specs.SessionResult.{Performs}
 use Rattle.operator_terms.specs.declared.fault.ProgramFault.{ProgramFault}
 use Rattle.operator_terms.specs.declared.fault.ProgramFault.TheVariants as faults
 use Rattle.operator_terms.specs.declared.status.Status.{Status}
-use Rattle.operator_main.specs.declared.work.Work.{Work}
-use Rattle.operator_main.specs.declared.work.Work.TheVariants as works
-use Rattle.operator_main.specs.Work.{CarriesOut, Performed}
+use Rattle.operator_main.specs.declared.task.Task.{Task}
+use Rattle.operator_main.specs.declared.task.Task.TheVariants as works
+use Rattle.operator_main.specs.Task.{CarriesOut, Performed}
 
 abbrev after_deck : Reading → List ℕ
 after_deck (Good whole n after) = after
@@ -26,7 +26,7 @@ unbegun : (reading : Reading) (budget : ℕ) (old : Option (List ℕ))
 unbegun (Good whole n after) budget old = inl (le_refl _, Keeps-refl old)
 unbegun (Bad n fault after) budget old = Keeps-refl old
 
-unbegun_there : (work : Work) (xs : List ℕ) (old : Option (List ℕ))
+unbegun_there : (work : Task) (xs : List ℕ) (old : Option (List ℕ))
     → CarriesOut work (Err (faults.Refused refusals.OutOfMemory)) xs (after_deck (deck xs)) old old
 unbegun_there (works.Run budget) xs old = Keeps-refl old
 unbegun_there (works.RunSequentially budget) xs old = (Err refusals.OutOfMemory, Keeps-refl old, refl)
@@ -34,14 +34,14 @@ unbegun_there (works.Replay log) xs old = (Err refusals.OutOfMemory, Keeps-refl 
 unbegun_there (works.Events budget) xs old = (Err refusals.OutOfMemory, unbegun (deck xs) budget old, refl)
 unbegun_there works.List xs old = (Err refusals.OutOfMemory, Keeps-refl old, refl)
 
-left_there : (work : Work) (input old : Option (List ℕ))
+left_there : (work : Task) (input old : Option (List ℕ))
     → Moves input (option_map (λ xs. after_deck (deck xs)) input)
     (λ xs ys. CarriesOut work (Err (faults.Refused refusals.OutOfMemory)) xs ys old old)
 left_there work None old = tt
 left_there work (Some xs) old = unbegun_there work xs old
 
 -- there is no memory for the buffer
-pub performed_nothing : (work : Work) (input old : Option (List ℕ))
+pub performed_nothing : (work : Task) (input old : Option (List ℕ))
     → Performed work (Err (faults.Refused refusals.OutOfMemory)) input old old
 performed_nothing work input old =
     record {
@@ -59,7 +59,7 @@ fresh_reader remaining r inner i b k =
     ap (λ n. if n == 0 then None else prepend_known (reader_buffer r) (remaining r.inner)) k ∙ whole
 
 -- the work is done between devices over the input and the output
-pub performed : (work : Work) (found end : Result Status ProgramFault)
+pub performed : (work : Task) (found end : Result Status ProgramFault)
     (input old start rest first last new : Option (List ℕ)) → found ≡ end → start ≡ input → first ≡ old → last ≡ new
     → Moves start rest (λ xs ys. CarriesOut work found xs ys first last) → Performed work end input old new
 performed work found end input old start rest first last new e s f l m =

@@ -1,5 +1,5 @@
 -- What the program does, and how it ends.
 -- Source: ours.
-pub mod Work
+pub mod Task
 pub mod Request
 pub mod Program

@@ -16,8 +16,8 @@ use Rattle.command_line.specs.declared.arguments.Replay.TheVariants as replays
 use Rattle.command_line.specs.declared.arguments.Request.{Request}
 use Rattle.command_line.specs.declared.arguments.Request.TheVariants as requests
 use Rattle.deck_run.specs.Running.{EndsReplay}
-use Rattle.operator_main.specs.declared.work.Work.TheVariants as works
-use Rattle.operator_main.specs.Work.{Performed}
+use Rattle.operator_main.specs.declared.task.Task.TheVariants as works
+use Rattle.operator_main.specs.Task.{Performed}
 
 -- the bytes of a source, if they are known: those of the standard input, or of the file of a name
 abbrev pub source_bytes : (List ℕ → Option (List ℕ)) → Source → Option (List ℕ) → Option (List ℕ)

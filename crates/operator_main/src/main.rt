@@ -14,7 +14,7 @@ mod files;
 mod log_text;
 mod program;
 mod progress;
-mod work;
+mod task;
 
 use files::SystemFiles;
 use instruction_table::Refusal;

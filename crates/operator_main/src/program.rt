@@ -11,11 +11,11 @@ ghost use Rattle.operator_terms.specs.declared.status.Status.TheVariants.{Usage}
 ghost use Rattle.deck_run.specs.Running.{is_write_fault};
 ghost use Rattle.operator_main.specs.Program.{EndsUnasked, EndsWith, ExitsAsItDoes, Tells, exit_code};
 ghost use Rattle.operator_main.specs.Request.{Answers, ReplaysFrom, ReplaysOn, source_bytes};
-ghost use Rattle.operator_main.specs.Work.{CarriesOut, Performed};
+ghost use Rattle.operator_main.specs.Task.{CarriesOut, Performed};
 
 use super::files::Opener;
 use super::log_text::{read_all, text_of};
-use super::work::Work;
+use super::task::Task;
 use arrayvec::ArrayVec;
 use clap::Error;
 use clap::error::ErrorKind;
@@ -77,7 +77,7 @@ fn put_text<W: Write>(output: &mut W, error: &Error) -> io::Result<()> {
     output.flush()
 }
 
-/// The answer to a command line that names no work: `clap`'s text, to the output where help was asked
+/// The answer to a command line that names no task: `clap`'s text, to the output where help was asked
 /// for.
 fn report_usage<W: Write, F: Write>(output: &mut W, faults: &mut F, error: Error) -> u8
     ensures { EndsWith result
@@ -97,51 +97,51 @@ fn report_usage<W: Write, F: Write>(output: &mut W, faults: &mut F, error: Error
     }
 }
 
-/// Does its work on the deck of an input.
+/// Does a task on the deck of an input.
 ///
 /// # Errors
 /// As the function that does it.
 fn carry_out<T: Threads + Wait + Clock + Sync, I: Input, O: Output>(
     rt: &T,
     alloc: Global,
-    work: &Work<'_>,
+    task: &Task<'_>,
     input: &mut I,
     output: &mut O,
     line: &mut LineBuffer,
 ) -> Result<Status, ProgramFault>
     ensures carried_out { Moves (I.remaining input.old) (I.remaining input.new)
-        (λ xs ys. CarriesOut work.now result xs ys (O.contents output.old) (O.contents output.new)) }
+        (λ xs ys. CarriesOut task.now result xs ys (O.contents output.old) (O.contents output.new)) }
     ensures handed_on { OnOk result (O.waits output.new ≡ false) }
     ensures kept { NothingWaits (is_write_fault result) (O.waits output.old) (O.waits output.new) }
     ensures same { O.lender output.new ≡ O.lender output.old }
 {
-    match *work {
-        Work::Run(budget) => run_deck(rt, alloc, input, output, line, budget),
-        Work::RunSequentially(budget) => run_deck_sequentially(alloc, input, output, line, budget),
-        Work::Replay(log) => replay_log(alloc, input, output, line, log),
-        Work::Events(budget) => {
+    match *task {
+        Task::Run(budget) => run_deck(rt, alloc, input, output, line, budget),
+        Task::RunSequentially(budget) => run_deck_sequentially(alloc, input, output, line, budget),
+        Task::Replay(log) => replay_log(alloc, input, output, line, log),
+        Task::Events(budget) => {
             events_to(alloc, input, output, line, budget.get())?;
             Ok(Status::Stopped)
         }
-        Work::List => {
+        Task::List => {
             list_to(alloc, input, output, line)?;
             Ok(Status::Stopped)
         }
     }
 }
 
-/// Does its work, with a buffer before its input, so that not each byte that is read costs a call of the system. Reports
-/// the fault if there is one. Returns the exit status.
+/// Does a task on an input, and reports its fault if there is one. A buffer before the input saves a system call for
+/// each byte. Returns the exit status.
 fn perform<T: Threads + Wait + Clock + Sync, R: Read, W: Write, F: Write>(
     rt: &T,
     alloc: Global,
-    work: &Work<'_>,
+    task: &Task<'_>,
     input: &mut R,
     output: &mut W,
     faults: &mut F,
 ) -> u8
     ensures { EndsWith result
-        (λ end. Performed work.now end (R.remaining input.old) (W.contents output.old) (W.contents output.new))
+        (λ end. Performed task.now end (R.remaining input.old) (W.contents output.old) (W.contents output.new))
         (F.contents faults.old) (F.contents faults.new) }
 {
     let Ok(mut reader) = BufReader::new(alloc, &mut *input) else {
@@ -150,7 +150,7 @@ fn perform<T: Threads + Wait + Clock + Sync, R: Read, W: Write, F: Write>(
     let mut input = CheckedBufReader::new(&mut reader);
     let mut output = CheckedWriter::new(&mut *output);
     let mut line = LineBuffer::new();
-    let ended = carry_out(rt, alloc, work, &mut input, &mut output, &mut line);
+    let ended = carry_out(rt, alloc, task, &mut input, &mut output, &mut line);
     // The proof reads what the output holds from this use, which has no other effect.
     let _ = &*output.into_inner();
     match ended {
@@ -199,12 +199,12 @@ fn replay_text<'a, T: Threads + Wait + Clock + Sync, D: Opener, R: Read, W: Writ
     ensures unopened { OnErr result (Keeps (R.remaining input.old) (R.remaining input.new)
         × Keeps (W.contents output.old) (W.contents output.new)) }
 {
-    let work = Work::Replay(log);
+    let task = Task::Replay(log);
     match deck {
-        Source::Input => Ok(perform(rt, alloc, &work, input, output, faults)),
+        Source::Input => Ok(perform(rt, alloc, &task, input, output, faults)),
         Source::File(name) => {
             let mut file = open(files, name)?;
-            Ok(perform(rt, alloc, &work, &mut file, output, faults))
+            Ok(perform(rt, alloc, &task, &mut file, output, faults))
         }
     }
 }
@@ -252,8 +252,8 @@ fn replay_from<'a, T: Threads + Wait + Clock + Sync, D: Opener, R: Read, W: Writ
             let mut file = open(files, deck)?;
             match read_all(alloc, input) {
                 Ok(bytes) => {
-                    let work = Work::Replay(text_of(bytes.as_slice()));
-                    Ok(perform(rt, alloc, &work, &mut file, output, faults))
+                    let task = Task::Replay(text_of(bytes.as_slice()));
+                    Ok(perform(rt, alloc, &task, &mut file, output, faults))
                 }
                 Err(fault) => Ok(report_fault(faults, fault, b"")),
             }
@@ -280,16 +280,16 @@ fn answer<'a, T: Threads + Wait + Clock + Sync, D: Opener, R: Read, W: Write, F:
     ensures unopened { OnErr result (Keeps (R.remaining input.old) (R.remaining input.new)
         × Keeps (W.contents output.old) (W.contents output.new)) }
 {
-    let work = match *request {
-        Request::Run(budget) => Work::Run(budget),
-        Request::RunSequentially(budget) => Work::RunSequentially(budget),
+    let task = match *request {
+        Request::Run(budget) => Task::Run(budget),
+        Request::RunSequentially(budget) => Task::RunSequentially(budget),
         Request::Replay(replay) => {
             return replay_from(rt, alloc, files, replay, input, output, faults);
         }
-        Request::Events(budget) => Work::Events(budget),
-        Request::List => Work::List,
+        Request::Events(budget) => Task::Events(budget),
+        Request::List => Task::List,
     };
-    Ok(perform(rt, alloc, &work, input, output, faults))
+    Ok(perform(rt, alloc, &task, input, output, faults))
 }
 
 /// The whole program, over its arguments without the program's name, the files that they name, its input, output and

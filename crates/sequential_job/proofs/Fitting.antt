@@ -9,7 +9,7 @@ use Rattle.deck.specs.Code.{items_of, parcels_in, word_of}
 use Rattle.deck.specs.Deck.{Ends, Goes, LineOutcome, Reading, Good, Bad, applied, applied_core, applied_line, applied_to}
 use Rattle.deck.specs.Deck.{begun, coded, deck, ended, goes_on, has_all_asks, is_no_size, parsed_line, read_from}
 use Rattle.deck.specs.Deck.{read_on, refuse_if, size, with_number, with_request, with_word}
-use Rattle.deck.specs.declared.deck.Ask.{Ask}
+use Rattle.deck.specs.declared.deck.AskLine.{AskLine}
 use Rattle.deck.specs.declared.deck.Deck.{Deck}
 use Rattle.deck.specs.declared.deck.Draft.{Draft}
 use Rattle.deck.specs.declared.parsing.Line.{Line}
@@ -32,9 +32,9 @@ abbrev pub Lies : ℕ → ℕ → Type 0
 Lies size at = package_fits at size ≡ true
 
 -- the packages that a deck has named so far lie in a memory of this size
-record Fits (size : ℕ) (first : Option ℕ) (given : List Ask) (always : List ℕ) : Type 0 where
+record Fits (size : ℕ) (first : Option ℕ) (given : List AskLine) (always : List ℕ) : Type 0 where
   pub start : IfSome first (Lies size)
-  pub asks : All (λ (ask : Ask). Lies size ask.at) given
+  pub asks : All (λ (ask : AskLine). Lies size ask.at) given
   pub free : All (Lies size) always
 
 -- those of a draft lie in its memory
@@ -113,11 +113,11 @@ line_fits d (says.Start a) f =
 line_fits d (says.Show a b) f =
     if_number (number_of 8 6 a) _ (λ low. if_number (number_of 8 6 b) _ (λ high.
     if_taken (nat_le 64 (length d.shows)) faults.Many _ (λ t. if_taken _ faults.Range _ (λ u. goes _ f))))
-line_fits d (says.Ask a k) f =
+line_fits d (says.AskLine a k) f =
     if_number (number_of 8 6 a) _ (λ n. if_number (number_of 10 8 k) _ (λ count.
     if_taken (nat_lt 10000000 count) faults.Number _ (λ t. request_fits d _ n (λ lies. record {
       start = f.start;
-      asks = All-push (λ (ask : Ask). Lies (size d) ask.at) d.asks _ f.asks lies;
+      asks = All-push (λ (ask : AskLine). Lies (size d) ask.at) d.asks _ f.asks lies;
       free = f.free;
     }))))
 line_fits d (says.AskFree a) f =

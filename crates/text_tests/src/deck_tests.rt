@@ -1,7 +1,7 @@
 //! Decks that are read, and those that are refused.
 
 use crate::fixtures::{FOUR_WORDS, joined};
-use deck::{Ask, Deck, read_deck, read_deck_from};
+use deck::{AskLine, Deck, read_deck, read_deck_from};
 use device_text::{CheckedBufReader, LineBuffer};
 use instruction_table::{DeckFault, Refusal};
 use std::process::Abort;
@@ -183,7 +183,7 @@ const ASKS: &str = "\
     end\n";
 
 /// Whether a deck is read, with these requests in its order.
-fn has_asks(read: &Result<Deck, Refusal>, asks: &[Ask], free: &[u32]) -> bool {
+fn has_asks(read: &Result<Deck, Refusal>, asks: &[AskLine], free: &[u32]) -> bool {
     match read {
         Ok(deck) => deck.asks.as_slice() == asks && deck.free.as_slice() == free,
         Err(_) => false,
@@ -196,12 +196,12 @@ fn asks(rt: HostRuntime) -> Result<(), Fail> {
     let mut input = ASKS.as_bytes();
     let read = read_deck(rt.alloc(), &mut input);
     let wanted = [
-        Ask {
+        AskLine {
             at: 0o360,
             after: 10_000_000,
         },
-        Ask { at: 0o40, after: 3 },
-        Ask { at: 0o20, after: 3 },
+        AskLine { at: 0o40, after: 3 },
+        AskLine { at: 0o20, after: 3 },
     ];
     assert!(rt; has_asks(&read, wanted.as_slice(), [0o60, 0].as_slice()));
     Ok(())

@@ -52,7 +52,7 @@ LEFT_OUT = re.compile(
 # The functions at which a way begins and ends.
 READ, LOOP, STEP, ISSUE, RELEASE, PUSH, WORKER, STORED, STORE, WRITTEN, FAULT = (
     "line::read_line", "reading::read_deck_from", "issuing::step", "LockedMachine::issue", "Shared::release",
-    "Lane::push", "unit_worker::worker", "OpenGate::stored", "Machine::store", "storage::Storage::store",
+    "Lane::push", "unit_worker::worker", "OpenGate::stored", "Machine::store_with_rest", "storage::Storage::store",
     "Draft::apply",
 )
 # The crates that know of faults.
@@ -161,9 +161,9 @@ def by_hand():
 def named_twice():
     """The types and constants whose name stands in several crates."""
     places = defaultdict(set)
-    for crate, path, text in sources():
+    for crate, _, text in sources():
         for name in NAMED.findall(text):
-            places[name].add(f"{crate}/{path.stem}")
+            places[name].add(crate)
     return [f"{name}: {', '.join(sorted(found))}" for name, found in sorted(places.items()) if len(found) > 1]
 
 

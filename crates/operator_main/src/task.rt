@@ -4,7 +4,7 @@ use operator_terms::Budget;
 
 /// What the program does with a deck.
 #[derive(Clone, Copy, Debug, Drop)]
-pub enum Work<'a> {
+pub enum Task<'a> {
     /// It runs the deck by threads, and issues at most so many instructions.
     Run(Budget),
     /// It runs the deck one instruction at a time, and does at most so many instructions.

@@ -11,8 +11,8 @@ use Rattle.operator_terms.specs.declared.status.Status.{Status}
 use Rattle.operator_terms.specs.declared.status.Status.TheVariants.{Stopped}
 use Rattle.operator_terms.specs.Status.{fault_of}
 use Rattle.deck_run.specs.Running.{Runs, EndsSequentialRun, EndsReplay}
-use Rattle.operator_main.specs.declared.work.Work.{Work}
-use Rattle.operator_main.specs.declared.work.Work.TheVariants as works
+use Rattle.operator_main.specs.declared.task.Task.{Task}
+use Rattle.operator_main.specs.declared.task.Task.TheVariants as works
 
 -- how the program ends after a session or a listing: all is written, or it says why not
 abbrev pub plain_end : Result (Unit {0}) Refusal → Result Status ProgramFault
@@ -20,7 +20,7 @@ plain_end (Ok x) = Ok Stopped
 plain_end (Err refusal) = Err (fault_of refusal)
 
 -- how the program ends its work, what that leaves of these bytes, and what it prints
-abbrev pub CarriesOut : Work → Result Status ProgramFault → List ℕ → List ℕ → Option (List ℕ) → Option (List ℕ)
+abbrev pub CarriesOut : Task → Result Status ProgramFault → List ℕ → List ℕ → Option (List ℕ) → Option (List ℕ)
     → Type 0
 CarriesOut (works.Run budget) end input rest old new = Runs end (deck input) budget rest old new
 CarriesOut (works.RunSequentially budget) end input rest old new =
@@ -33,7 +33,7 @@ CarriesOut works.List end input rest old new =
 
 -- the program does its work and ends so: it reads the deck from these bytes, and its output then holds what is printed
 -- after what it held before. More of the bytes may have been read than the work takes
-pub record Performed (work : Work) (end : Result Status ProgramFault) (input old new : Option (List ℕ))
+pub record Performed (work : Task) (end : Result Status ProgramFault) (input old new : Option (List ℕ))
     : Type 0 where
   -- the bytes that the work doesn't take
   pub rest : Option (List ℕ)
