@@ -1,6 +1,6 @@
 //! The board: reservations, conflicts between them, and their way through the fields.
 
-ghost use Rattle.std.specs.Prelude.{◌≡◌, ◌<◌, ◌+◌, ◌^◌, []};
+ghost use Rattle.std.specs.Prelude.{◌≡◌, ◌<◌, ◌+◌, ◌^◌, [], is_some};
 ghost use Rattle.std.specs.List.{list_any};
 ghost use Rattle.instructions.specs.Finding.{seek, replaced};
 ghost use Rattle.instructions.specs.Operands.{uses};
@@ -12,8 +12,8 @@ ghost use Rattle.scoreboard.specs.Answers.{held_in, returning_by, read_answer, s
 ghost use Rattle.scoreboard.specs.Answers.{turn_answer, reserve_answer, reserved, read, left, gone, with_issued};
 
 use crate::fields::{
-    any_reference, any_turn, any_writer, first_produced, first_unit, forget_in_taken, free_unit,
-    is_to_be_read, put_left,
+    any_reference, any_turn, first_produced, first_unit, forget_in_taken, free_unit, is_to_be_read,
+    put_left,
 };
 use crate::issued::channel;
 use crate::{Issued, Progress, Reservation, Writer, Writers, unit_number};
@@ -136,7 +136,11 @@ impl Board {
         };
         let producers = &self.producers[..];
         let awaited = &producers[index];
-        if !any_writer(awaited) {
+        if !awaited.iter().any(
+            |producer|
+                ensures { result ≡ is_some producer.now }
+            { producer.is_some() },
+        ) {
             return Ok(());
         }
         // Only a refusal has to know which sources they are.

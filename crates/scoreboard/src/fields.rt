@@ -1,7 +1,7 @@
 //! Questions to the fields of a board, and how an issue and a store event change the fields. A slot is the field of one
 //! unit.
 
-ghost use Rattle.std.specs.Prelude.{IfSome, ◌≡◌, ◌≤◌, ◌<◌, ◌||◌, length, is_some};
+ghost use Rattle.std.specs.Prelude.{IfSome, ◌≡◌, ◌≤◌, ◌<◌, ◌||◌, length};
 ghost use Rattle.std.specs.List.{list_any};
 ghost use Rattle.instructions.specs.declared.instr.Unit.TheVariants.{Branch};
 ghost use Rattle.instructions.specs.Operands.{uses};
@@ -17,13 +17,6 @@ use crate::issued::channel;
 use crate::writer::forget_in;
 use crate::{Issued, Progress, Writer};
 use instructions::{Instr, Reg, Unit, UnitKind, unit_kind};
-
-/// Whether there is a writer among the three.
-pub(crate) fn any_writer(producers: &[Option<Writer>; 3]) -> bool
-    ensures { result ≡ list_any is_some producers.now }
-{
-    producers[0].is_some() || producers[1].is_some() || producers[2].is_some()
-}
 
 /// The first of the registers that somebody is to write; the producers are in the registers' order.
 pub(crate) fn first_produced(registers: &[Reg], producers: &[Option<Writer>]) -> Option<Reg>

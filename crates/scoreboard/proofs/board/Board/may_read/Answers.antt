@@ -1,5 +1,9 @@
 -- Second order: the producers of the unit, as the list says it.
-use Rattle.std.proofs.Common.{ap, refl, sym, ◌∙◌, None, get_or, arith}
+use Rattle.std.proofs.Common.{◌≡◌, rules, tests, ap, refl, sym, ◌∙◌, None, get_or, arith}
+use Rattle.std.specs.Prelude.{is_some}
+use Rattle.std.specs.List.{list_any}
+use Rattle.std.proofs.lemmas.Iterator.{YieldsList-from_slice}
+use Rattle.std.proofs.lemmas.Iterator.Search.{any_from_yields_List}
 use Rattle.instructions.specs.Finding.{seek}
 use Rattle.instructions.specs.Operands.{sources_of}
 use Rattle.scoreboard.specs.Answers.{Standing, read_answer, held_in}
@@ -21,9 +25,12 @@ returns-in_default c =
     c.in_default.not-Some)))
     ∙ ap (λ (s : Standing). read_answer (seek (held_in c.args.unit) s.issued)) c.self.view_is
 
-pub returns-then-not-any_writer : goal.returns-then-not-any_writer
+pub returns-then-not-any : goal.returns-then-not-any
 unfolding from_found
-returns-then-not-any_writer c =
+returns-then-not-any c =
+    let h : c.any.result ≡ list_any is_some c.index-producers-index.result =
+    any_from_yields_List _ _ _ _ c.any.ensures.ran (YieldsList-from_slice c.index-producers-index.result cc)
+    (λ x b q k. search (rules, tests)) in
     read_answered c.self.inside.units c.self.inside.channels c.self.inside.producers c.self.inside.writers
     c.self.inside.last c.args.unit c.unit_number-index.result c.in-Some.issued (sources_of
     c.in-Some.issued.reservation.instr)
@@ -33,7 +40,7 @@ returns-then-not-any_writer c =
     ∙ c.in-Some.is) refl (list_read c.self.inside.producers c.unit_number-index.result c.index-producers-index.result
     (omega (arith, c.unit_number-index.ensures.range, c.self.invariant.all_producers)) c.index-producers-index.is)
     (none_produced (sources_of c.in-Some.issued.reservation.instr) c.index-producers-index.result
-    (sym c.any_writer.ensures ∙ c.if-not-any_writer.true))
+    (sym h ∙ c.if-not-any.true))
     ∙ ap (λ (s : Standing). read_answer (seek (held_in c.args.unit) s.issued)) c.self.view_is
 
 pub returns-in-Some-first_produced : goal.returns-in-Some-first_produced
