@@ -7,7 +7,7 @@ use Stage::{Gone, Read, Returning, Waiting};
 use Unit::{Branch, Increment1, Increment2};
 use instruction_table::read_text;
 use instructions::{Digit, Unit};
-use scoreboard::{Progress, Reservation, is_same_unit, unit_number};
+use scoreboard::{Occupancy, Reservation, is_same_unit, unit_number};
 
 /// A question to a reservation.
 #[derive(Clone, Copy, Drop)]
@@ -30,12 +30,12 @@ enum Stage {
     Returning(u16),
 }
 
-fn progress(stage: Stage) -> Progress {
+fn occupancy(stage: Stage) -> Occupancy {
     match stage {
-        Waiting => Progress::Reserved { has_read: false },
-        Read => Progress::Reserved { has_read: true },
-        Gone => Progress::Left { returning: None },
-        Returning(number) => Progress::Left {
+        Waiting => Occupancy::Reserved { has_read: false },
+        Read => Occupancy::Reserved { has_read: true },
+        Gone => Occupancy::Left { returning: None },
+        Returning(number) => Occupancy::Left {
             returning: Some(Digit::low(number)),
         },
     }
@@ -70,7 +70,7 @@ fn first_wrong(case: &Case) -> Option<usize> {
     let reservation = Reservation {
         instr,
         unit,
-        progress: progress(stage),
+        occupancy: occupancy(stage),
     };
     for index in 0..questions.len() {
         let (question, wanted) = questions[index];

@@ -5,7 +5,7 @@ use Rattle.scoreboard.specs.Reservations.{returning_to}
 use Rattle.in_flight.specs.Flight.{entering, outstanding_of}
 use Rattle.in_flight.specs.inner.Slots.{places_with, channels_with}
 use Rattle.in_flight.specs.Lookup.{enters, in_phase, located}
-use Rattle.in_flight.specs.Pending.{progress_of, reservation_of, returning, to_come}
+use Rattle.in_flight.specs.Pending.{occupancy_of, reservation_of, returning, to_come}
 use Rattle.in_flight.proofs.asking.PendingReservations.{comes}
 
 -- the pending instruction that leaves a unit, and what is left of it
@@ -15,7 +15,7 @@ leaving = tt
 
 -- a register that is a result still to come, by the instruction's phase
 unfoldable pub coming : Unit {0}
-unfolding comes board.comes to_come board.to_come reservation_of board.to_come_in progress_of returning returning_to
+unfolding comes board.comes to_come board.to_come reservation_of board.to_come_in occupancy_of returning returning_to
 coming = tt
 
 -- the slots when what is left of an instruction has come to its own

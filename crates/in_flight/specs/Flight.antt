@@ -19,7 +19,7 @@ use Rattle.in_flight.specs.declared.pending.Outstanding.{Outstanding}
 use Rattle.in_flight.specs.declared.pending.Outstanding.TheVariants.{Entered, Accepted}
 use Rattle.in_flight.specs.declared.pending.Pending.{Pending}
 use Rattle.in_flight.specs.declared.pending.Phase.TheVariants.{Before}
-use Rattle.in_flight.specs.declared.pending.Stage.TheVariants.{Waiting}
+use Rattle.in_flight.specs.declared.pending.Stage.TheVariants.{Unread}
 use Rattle.in_flight.specs.Pending.{left_to_return}
 use Rattle.in_flight.specs.Tests.{unit_for}
 use Rattle.in_flight.specs.Lookup.{enters}
@@ -86,7 +86,7 @@ reserved_in f i at = record f {
     at = at;
     number = suc f.last;
     unit = unit_taken f i;
-    phase = Before Waiting;
+    phase = Before Unread;
   } ∷ [];
   last = suc f.last;
 }

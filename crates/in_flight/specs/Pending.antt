@@ -4,13 +4,13 @@ use Rattle.instructions.specs.declared.instr.Reg.{Reg}
 use Rattle.relocation.specs.declared.area.Access.{Access}
 use Rattle.relocation.specs.declared.area.Access.TheVariants.{Load, Store}
 use Rattle.hopper.specs.Hopper.{keep_order, stores_to}
-use Rattle.scoreboard.specs.declared.reservation.Progress.{Progress}
-use Rattle.scoreboard.specs.declared.reservation.Progress.TheVariants.{Reserved, Left}
+use Rattle.scoreboard.specs.declared.reservation.Occupancy.{Occupancy}
+use Rattle.scoreboard.specs.declared.reservation.Occupancy.TheVariants.{Reserved, Left}
 use Rattle.scoreboard.specs.declared.reservation.Reservation.{Reservation}
 use Rattle.scoreboard.specs.Reservations as reservation
 use Rattle.scoreboard.specs.Conflicts as conflict
 use Rattle.in_flight.specs.declared.pending.Stage.{Stage}
-use Rattle.in_flight.specs.declared.pending.Stage.TheVariants.{Waiting, Read, Finished}
+use Rattle.in_flight.specs.declared.pending.Stage.TheVariants.{Unread, Read, Finished}
 use Rattle.in_flight.specs.declared.pending.Outstanding.{Outstanding}
 use Rattle.in_flight.specs.declared.pending.Outstanding.TheVariants.{Entered, Accepted}
 use Rattle.in_flight.specs.declared.pending.Phase.{Phase}
@@ -21,19 +21,19 @@ use Rattle.in_flight.specs.declared.pending.Pending.{Pending}
 
 -- it has read its operands
 unfoldable pub has_read : Stage → Bool
-has_read Waiting = false
+has_read Unread = false
 has_read (Read os) = true
 has_read (Finished v) = true
 
 -- it has still to read its operands
-unfoldable pub is_waiting : Stage → Bool
-is_waiting Waiting = true
-is_waiting (Read os) = false
-is_waiting (Finished v) = false
+unfoldable pub is_unread : Stage → Bool
+is_unread Unread = true
+is_unread (Read os) = false
+is_unread (Finished v) = false
 
 -- it has its value
 unfoldable pub is_finished : Stage → Bool
-is_finished Waiting = false
+is_finished Unread = false
 is_finished (Read os) = false
 is_finished (Finished v) = true
 
@@ -50,13 +50,13 @@ left_to_return (Some l) = returning l
 
 -- what the board knows of a phase: whether a unit's instruction has read, or which X register has still to be
 -- returned to
-unfoldable pub progress_of : Phase → Progress
-progress_of (Before t) = Reserved (has_read t)
-progress_of (After l) = Left (returning l)
+unfoldable pub occupancy_of : Phase → Occupancy
+occupancy_of (Before t) = Reserved (has_read t)
+occupancy_of (After l) = Left (returning l)
 
 -- what the board knows of an instruction
 unfoldable pub reservation_of : Pending → Reservation
-reservation_of m = record { instr = m.instr; unit = m.unit; progress = progress_of m.phase }
+reservation_of m = record { instr = m.instr; unit = m.unit; occupancy = occupancy_of m.phase }
 
 -- its results still to come
 unfoldable pub to_come : Pending → List Reg

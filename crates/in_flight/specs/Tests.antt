@@ -25,7 +25,7 @@ use Rattle.in_flight.specs.declared.pending.Arrival.{Arrival}
 use Rattle.hopper.specs.declared.reference.Reference.{Reference}
 use Rattle.in_flight.specs.declared.pending.Pending.{Pending}
 use Rattle.in_flight.specs.declared.pending.Stage.{Stage}
-use Rattle.in_flight.specs.declared.pending.Stage.TheVariants.{Waiting, Read as HasRead, Finished}
+use Rattle.in_flight.specs.declared.pending.Stage.TheVariants.{Unread, Read as HasRead, Finished}
 use Rattle.in_flight.specs.Lookup.{place_for}
 use Rattle.in_flight.specs.Pending.{reservation_of, awaited, to_be_read, holds_back}
 
@@ -77,7 +77,7 @@ reservation_tests ms (Taking i place) =
 -- E9, operand awaited (second order): an operand is a result still to come of an earlier instruction; E15, nothing,
 -- where it has read before
 unfoldable pub read_tests : Stage → List Pending → Instr → List Test
-read_tests Waiting earlier i =
+read_tests Unread earlier i =
     record {
       fails = operand_awaited reservation_of earlier (sources_of i);
       refusal = OperandAwaited (first_such (awaited earlier) (sources_of i));

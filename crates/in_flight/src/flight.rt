@@ -10,7 +10,7 @@ ghost use Rattle.sequential.specs.declared.position.ProgramPosition.{ProgramPosi
 ghost use Rattle.sequential.specs.Work.{operands};
 ghost use Rattle.in_flight.specs.declared.pending.Phase.TheVariants.{Before};
 ghost use Rattle.in_flight.specs.declared.pending.Stage.{Stage as SomeStage};
-ghost use Rattle.in_flight.specs.declared.pending.Stage.TheVariants.{Waiting, Read, Finished};
+ghost use Rattle.in_flight.specs.declared.pending.Stage.TheVariants.{Unread, Read, Finished};
 ghost use Rattle.in_flight.specs.Tests.{refusal_in, store_conflicts, refusal_of, tests_found};
 ghost use Rattle.in_flight.specs.Tests.{reservation_tests, read_tests};
 ghost use Rattle.in_flight.specs.Tests.{accept_tests, return_tests, free_tests};
@@ -148,7 +148,7 @@ impl InFlight {
             at,
             number,
             unit,
-            phase: Phase::Before(Stage::Waiting),
+            phase: Phase::Before(Stage::Unread),
         });
         Ok((unit, number))
     }
@@ -166,7 +166,7 @@ impl InFlight {
         ensures answer { refusal_of (tests_found (seek (stage_at unit) self.old.pending)
             (λ f. read_tests f.answer f.earlier f.item.instr)) ≡ refusal_in result }
         ensures pending { IfOk result (λ read. located (seek (stage_at unit) self.old.pending)
-            ≡ Some (record { pending = read.0; answer = Waiting })) }
+            ≡ Some (record { pending = read.0; answer = Unread })) }
         ensures operands { IfOk result (λ read. read.1 ≡ operands read.0.instr read.0.at registers.now) }
         ensures after { MatchResult result
             (λ read. self.new ≡ with_pending self.old
@@ -177,7 +177,7 @@ impl InFlight {
         let Some(found) = self.slots.find_stage(unit) else {
             return Err(Refusal::Nothing);
         };
-        let Stage::Waiting = found.answer else {
+        let Stage::Unread = found.answer else {
             return Err(Refusal::Nothing);
         };
         if let Err(refusal) = self.board.may_read(unit) {

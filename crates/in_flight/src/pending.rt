@@ -11,7 +11,7 @@ use word60::{Word18, Word60};
 #[derive(Clone, Copy, Debug, Drop, PartialEq, Eq)]
 pub enum Stage {
     /// It has still to read its operands.
-    Waiting,
+    Unread,
     /// It has read them.
     Read(Operands),
     /// It has its value.
@@ -61,10 +61,10 @@ pub struct Arrival {
 impl Default for Pending {
     ghost use Rattle.instructions.specs.declared.instr.Instr.TheVariants.{Pass};
     ghost use Rattle.instructions.specs.declared.instr.Unit.TheVariants.{Branch};
-    ghost use Rattle.in_flight.specs.declared.pending.Stage.TheVariants.{Waiting};
+    ghost use Rattle.in_flight.specs.declared.pending.Stage.TheVariants.{Unread};
     ghost use Rattle.in_flight.specs.declared.pending.Phase.TheVariants.{Before};
 
-    ghost is_default = { λ p. p ≡ record { instr = Pass; at = 0; number = 0; unit = Branch; phase = Before Waiting } };
+    ghost is_default = { λ p. p ≡ record { instr = Pass; at = 0; number = 0; unit = Branch; phase = Before Unread } };
 
     fn default() -> Pending {
         Pending {
@@ -72,7 +72,7 @@ impl Default for Pending {
             at: Word18::default(),
             number: 0,
             unit: Unit::Branch,
-            phase: Phase::Before(Stage::Waiting),
+            phase: Phase::Before(Stage::Unread),
         }
     }
 }

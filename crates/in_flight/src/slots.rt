@@ -2,7 +2,7 @@ ghost use Rattle.std.specs.Prelude.{◌≡◌, ◌<◌, ◌∷◌, ◌++◌, [],
 ghost use Rattle.std.specs.List.{list_all};
 ghost use Rattle.instructions.specs.Each.{Each};
 ghost use Rattle.in_flight.specs.declared.pending.Phase.TheVariants.{Before, After};
-ghost use Rattle.in_flight.specs.declared.pending.Stage.TheVariants.{Waiting};
+ghost use Rattle.in_flight.specs.declared.pending.Stage.TheVariants.{Unread};
 ghost use Rattle.instructions.specs.Finding.{seek, replaced};
 ghost use Rattle.in_flight.specs.Lookup.{stage_at, entry_at, arrival_at, in_phase, kept, located, first_of};
 ghost use Rattle.in_flight.specs.inner.Slots.{HasRoom, places_with, channels_with, has_none, lower_of, lowest_of};
@@ -239,7 +239,7 @@ impl Slots {
 
     /// A new instruction, with a number above all, goes to its unit, which is free.
     pub fn push(&mut self, pending: Pending)
-        requires waits { pending.phase ≡ Before Waiting }
+        requires waits { pending.phase ≡ Before Unread }
         requires free { seek (stage_at pending.unit) self.old ≡ None }
         requires last { Each (λ m. m.number < pending.number) self.old }
         ensures { self.new ≡ self.old ++ pending ∷ [] }

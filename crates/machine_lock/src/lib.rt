@@ -16,4 +16,4 @@ mod shared;
 pub use locked_machine::{LockedMachine, MachineGuard};
 pub use progress_word::{Naming, Seen};
 pub use shared::{Ground, Shared};
-pub use signals::{Signal, Signals, Told};
+pub use signals::{Signal, Signals, Wakeups};

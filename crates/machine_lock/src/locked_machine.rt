@@ -16,10 +16,10 @@ ghost use Rattle.program_order.specs.Refusals.{is_store_refusal, is_accept_refus
 ghost use Rattle.program_order.specs.Refusals.{is_access_refusal, is_exchange_refusal, may_refuse};
 ghost use Rattle.program_order.specs.Run.{IsAnswer, settled};
 ghost use Rattle.machine.specs.Tokens.{can_claim, finished_in, one_more, read_of, reading_in, refusal_to, refused};
-ghost use Rattle.machine.specs.Tokens.{rest_after, slot, waits_in};
+ghost use Rattle.machine.specs.Tokens.{rest_after, slot, unread_in};
 ghost use Rattle.progress_word.specs.CallerKnowledge.{IsMade, Learnt, HasReplay, IsNoteOf, IsWhyOf, IsWordOf};
 ghost use Rattle.progress_word.specs.CallerKnowledge.{note_in, word_in};
-ghost use Rattle.machine_lock.specs.Held.{IsAskedNext, IsCurrent, made_or_refused, told, with_processor};
+ghost use Rattle.machine_lock.specs.Held.{IsAskedNext, IsCurrent, made_or_refused, answered, with_processor};
 ghost use Rattle.program_order.specs.Invariant.{IsReplay, IsWithinBudget};
 ghost use Rattle.machine_lock.specs.inner.LockInvariant.{IsLogged, last_step};
 ghost use Rattle.progress_word.specs.inner.Rules.{IsKeeper, past};
@@ -30,7 +30,7 @@ use machine::{
     Snapshot,
 };
 use progress_word::{Naming, Pass, Seen, Word};
-use signals::Told;
+use signals::Wakeups;
 use std::alloc::Global;
 use std::marker::{Brand, Model};
 use std::sync::{Arc, MutexGuard};
@@ -49,7 +49,7 @@ pub struct LockedMachine<K: Naming> {
     machine: Machine,
     pass: Pass,
     word: Arc<Word<K>, Global>,
-    pub(crate) told: Told,
+    pub(crate) wakeups: Wakeups,
     is_ended: bool,
 }
 
@@ -139,7 +139,7 @@ impl<K: Naming> LockedMachine<K> {
             machine,
             pass,
             word,
-            told: Told::default(),
+            wakeups: Wakeups::default(),
             is_ended: false,
         }
     }
@@ -148,7 +148,7 @@ impl<K: Naming> LockedMachine<K> {
     pub fn leave_to_memory(&mut self)
         ensures { self.new ≡ self.old }
     {
-        self.told.referred = true;
+        self.wakeups.referred = true;
     }
 
     /// Issues the next instruction, as `Shared::issue`.
@@ -157,8 +157,8 @@ impl<K: Naming> LockedMachine<K> {
     /// What an issue may refuse.
     #[tactic(auto, unfolding(program_order::specs::Refusals::may_refuse, program_order::specs::Run::settled))]
     pub fn issue(&mut self, seen: &mut Seen<K>) -> Result<Option<Note>, Refusal>
-        ensures answer { IsAnswer self.old.processor Issue (told DoneIssue result) }
-        ensures after { self.new ≡ with_processor self.old (settled self.old.processor Issue (told DoneIssue result)) }
+        ensures answer { IsAnswer self.old.processor Issue (answered DoneIssue result) }
+        ensures after { self.new ≡ with_processor self.old (settled self.old.processor Issue (answered DoneIssue result)) }
         ensures seen { MatchResult result (λ note. IsMade Issued seen.old seen.new × IsNoteOf seen.new note)
             (λ refusal. Learnt seen.old seen.new × IsWhyOf seen.new refusal) }
         ensures current { IsCurrent self.new.processor seen.new }
@@ -187,7 +187,7 @@ impl<K: Naming> LockedMachine<K> {
         let answer = self.machine.ask(at);
         compare(&self.word, &mut self.pass, seen, &self.machine);
         answer?;
-        self.told.asked = true;
+        self.wakeups.asked = true;
         Ok(())
     }
 
@@ -210,7 +210,7 @@ impl<K: Naming> LockedMachine<K> {
         let answer = self.machine.exchange();
         record_or_compare(&self.word, &mut self.pass, seen, &self.machine, &answer);
         answer?;
-        self.told.exchanged = true;
+        self.wakeups.exchanged = true;
         Ok(())
     }
 
@@ -250,9 +250,9 @@ impl<K: Naming> LockedMachine<K> {
     /// What a peripheral access may refuse.
     #[tactic(auto, unfolding(program_order::specs::Refusals::may_refuse, program_order::specs::Run::settled))]
     pub fn pp_read(&mut self, seen: &mut Seen<K>, at: u32) -> Result<Word60, Refusal>
-        ensures answer { IsAnswer self.old.processor (PpRead at) (told DoneWord result) }
+        ensures answer { IsAnswer self.old.processor (PpRead at) (answered DoneWord result) }
         ensures after { self.new
-            ≡ with_processor self.old (settled self.old.processor (PpRead at) (told DoneWord result)) }
+            ≡ with_processor self.old (settled self.old.processor (PpRead at) (answered DoneWord result)) }
         ensures seen { MatchResult result (λ word. IsMade (ReadAt at) seen.old seen.new × IsWordOf seen.new at word)
             (λ refusal. Learnt seen.old seen.new) }
         ensures current { IsCurrent self.new.processor seen.new }
@@ -305,7 +305,7 @@ impl<K: Naming> LockedMachine<K> {
     /// # Errors
     /// `OperandAwaited` or `Stranger`, with the token.
     pub fn read(&mut self, token: Reserved) -> Result<Loaded, (Refusal, Reserved)>
-        ensures answer { refusal_to (waits_in token.number (slot self.old.processor token.seat.unit))
+        ensures answer { refusal_to (unread_in token.number (slot self.old.processor token.seat.unit))
             (allowed self.old.processor (Read token.seat.unit)) ≡ refused result }
         ensures after { MatchResult result
             (λ loaded. self.new ≡ with_processor self.old (after self.old.processor (Read token.seat.unit)))
@@ -318,7 +318,7 @@ impl<K: Naming> LockedMachine<K> {
     {
         let loaded = self.machine.read(token);
         self.machine.keeps_replay();
-        self.told.read = self.told.read || loaded.is_ok();
+        self.wakeups.read = self.wakeups.read || loaded.is_ok();
         loaded
     }
 
@@ -364,7 +364,7 @@ impl<K: Naming> LockedMachine<K> {
     {
         let stored = self.machine.store_with_rest(token);
         self.machine.keeps_replay();
-        self.told.changed = self.told.changed || stored.is_ok();
+        self.wakeups.changed = self.wakeups.changed || stored.is_ok();
         stored
     }
 
@@ -382,7 +382,7 @@ impl<K: Naming> LockedMachine<K> {
         let accepted = self.machine.accept(place);
         self.machine.keeps_replay();
         accepted?;
-        self.told.changed = true;
+        self.wakeups.changed = true;
         Ok(())
     }
 
@@ -400,7 +400,7 @@ impl<K: Naming> LockedMachine<K> {
         let returned = self.machine.return_load(channel);
         self.machine.keeps_replay();
         returned?;
-        self.told.changed = true;
+        self.wakeups.changed = true;
         Ok(())
     }
 

@@ -16,7 +16,7 @@ use crate::locked_machine::{LockedMachine, MachineGuard};
 use instruction_table::Refusal;
 use machine::{Computed, Finished, Loaded, Machine, Note, Reserved, Seat, Snapshot};
 use per_unit::PerUnit;
-use progress_word::{Naming, Pass, Progress, Seen, Word};
+use progress_word::{Naming, Pass, ProgressTable, Seen, Word};
 use signals::Signals;
 use std::alloc::Global;
 use std::hint::spin_loop;
@@ -32,7 +32,7 @@ const LOCK_TRIES: u32 = 128;
 /// it is.
 #[derive(Drop)]
 pub struct Ground {
-    table: Progress,
+    table: ProgressTable,
     pass: Pass,
 }
 
@@ -57,7 +57,7 @@ impl Ground {
     pub fn new(alloc: Global) -> Result<Ground, Refusal>
         ensures { IfErr result (λ refusal. refusal ≡ OutOfMemory) }
     {
-        let Ok((table, pass)) = Progress::of_words(alloc, &[0], &()) else {
+        let Ok((table, pass)) = ProgressTable::of_words(alloc, &[0], &()) else {
             return Err(Refusal::OutOfMemory);
         };
         Ok(Ground { table, pass })
@@ -165,9 +165,9 @@ impl<K: Naming> Shared<K> {
     /// earlier would only wait for the lock.
     pub fn release(&self, machine: MachineGuard<'_, K>) {
         let mut held = machine;
-        let told = mem::take(&mut held.told);
+        let wakeups = mem::take(&mut held.wakeups);
         drop(held);
-        self.signals.tell(&told);
+        self.signals.wake(&wakeups);
     }
 
     /// Issues the next instruction: the event `Issue`. It answers the reservation of an instruction that

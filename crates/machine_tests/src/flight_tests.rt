@@ -40,7 +40,7 @@ fn reserves_a_free_unit(rt: HostRuntime) {
         refused(Call::Reserve("IX4 X0+X0"), Refusal::UnitBusy(Unit::LongAdd)),
         (Call::IsEmpty, NO),
         (Call::Oldest, Answer::Number(1)),
-        (Call::Find(Unit::LongAdd), Answer::At(3, Stage::Waiting)),
+        (Call::Find(Unit::LongAdd), Answer::At(3, Stage::Unread)),
         (Call::Find(Unit::Shift), Answer::Free),
     ]);
     assert_eq!(rt; wrong, None);
@@ -67,7 +67,7 @@ fn reads_when_no_operand_is_awaited(rt: HostRuntime) {
         reserves("SX1 B0+B0", Unit::Increment1, 1),
         reserves("IX3 X1+X2", Unit::LongAdd, 2),
         refused(Call::Read(Unit::LongAdd), Refusal::OperandAwaited(x(1))),
-        (Call::Find(Unit::LongAdd), Answer::At(2, Stage::Waiting)),
+        (Call::Find(Unit::LongAdd), Answer::At(2, Stage::Unread)),
         (Call::Read(Unit::Increment1), FINE),
         refused(Call::Read(Unit::Increment1), Refusal::Nothing),
         (Call::Finish(Unit::Increment1), FINE),
@@ -90,7 +90,7 @@ fn finishes_what_has_read(rt: HostRuntime) {
             Call::Find(Unit::Increment1),
             Answer::At(1, Stage::Finished(five())),
         ),
-        (Call::Find(Unit::Increment2), Answer::At(2, Stage::Waiting)),
+        (Call::Find(Unit::Increment2), Answer::At(2, Stage::Unread)),
         (Call::Oldest, Answer::Number(1)),
     ]);
     assert_eq!(rt; wrong, None);
@@ -218,7 +218,7 @@ fn a_store_waits_in_the_hopper(rt: HostRuntime) -> Result<(), Fail> {
 fn reads_its_operand_registers(rt: HostRuntime) -> Result<(), Fail> {
     let instr = read_text("IX3 X1+X2").ok_or("text")?;
     let at = Word18::from_bits(0o1234);
-    let waiting = first_add(instr, at, Stage::Waiting);
+    let waiting = first_add(instr, at, Stage::Unread);
     let operands = three_and_four(at);
     let reading = first_add(instr, at, Stage::Read(operands));
     let mut flight = InFlight::new();

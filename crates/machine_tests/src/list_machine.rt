@@ -8,7 +8,7 @@ use in_flight::{Arrival, Outstanding, Pending, Phase, Stage};
 use instruction_table::{Instr, Refusal, Reg, Unit, UnitKind, results, sources, unit_kind};
 use machine::{Answer, Done, Event, MOST_ISSUES, Machine, Note, Snapshot};
 use relocation::{Access, PACKAGE_WORDS, Storage, relocate};
-use scoreboard::{Progress, Reservation, is_same_unit};
+use scoreboard::{Occupancy, Reservation, is_same_unit};
 use sequential::{Fetched, State, Work, faults, operands};
 use std::alloc::Global;
 use unit_ops::{UnitValue, value};
@@ -54,21 +54,21 @@ struct ListMachine {
 
 /// What the scoreboard sees of it.
 fn reservation(pending: &Pending) -> Reservation {
-    let progress = match pending.phase {
-        Phase::Before(Stage::Waiting) => Progress::Reserved { has_read: false },
-        Phase::Before(_) => Progress::Reserved { has_read: true },
-        Phase::After(Outstanding::Entered(_, _, Access::Store(_))) => Progress::Left {
+    let occupancy = match pending.phase {
+        Phase::Before(Stage::Unread) => Occupancy::Reserved { has_read: false },
+        Phase::Before(_) => Occupancy::Reserved { has_read: true },
+        Phase::After(Outstanding::Entered(_, _, Access::Store(_))) => Occupancy::Left {
             returning: None,
         },
-        Phase::After(Outstanding::Entered(_, _, Access::Load(n))) => Progress::Left {
+        Phase::After(Outstanding::Entered(_, _, Access::Load(n))) => Occupancy::Left {
             returning: Some(n),
         },
-        Phase::After(Outstanding::Accepted(n, _)) => Progress::Left { returning: Some(n) },
+        Phase::After(Outstanding::Accepted(n, _)) => Occupancy::Left { returning: Some(n) },
     };
     Reservation {
         instr: pending.instr,
         unit: pending.unit,
-        progress,
+        occupancy,
     }
 }
 
@@ -358,7 +358,7 @@ impl ListMachine {
             at: self.state.position.p,
             number: self.last,
             unit,
-            phase: Phase::Before(Stage::Waiting),
+            phase: Phase::Before(Stage::Unread),
         };
         if self.pending.len() < 16 {
             self.pending.push(pending);
@@ -406,7 +406,7 @@ impl ListMachine {
         let Some((index, pending, stage)) = find_stage(self.pending.as_slice(), unit) else {
             return Err(Refusal::Nothing);
         };
-        let Stage::Waiting = stage else {
+        let Stage::Unread = stage else {
             return Err(Refusal::Nothing);
         };
         let earlier = before(self.pending.as_slice(), index);

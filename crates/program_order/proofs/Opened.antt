@@ -1,7 +1,7 @@
 -- A name for each list of definitions that proofs open at once.
 use Rattle.scoreboard.specs.Reservations as board
 use Rattle.scoreboard.specs.Reservations.{is_reserved, returning_to}
-use Rattle.in_flight.specs.Pending.{has_read, has_turn, is_branch, progress_of, returning, reservation_of, to_come}
+use Rattle.in_flight.specs.Pending.{has_read, has_turn, is_branch, occupancy_of, returning, reservation_of, to_come}
 use Rattle.in_flight.specs.Lookup.{in_phase}
 use Rattle.in_flight.proofs.asking.PendingReservations.{reads}
 use Rattle.in_flight.proofs.asking.Phases.{before_and, reads_in, to_come_in}
@@ -11,17 +11,17 @@ use Rattle.program_order.specs.Refusals.{is_nothing, is_read_refusal, is_return_
 
 -- the results of an instruction that are still to come, by its phase
 unfoldable pub results_to_come : Unit {0}
-unfolding to_come board.to_come reservation_of to_come_in board.to_come_in progress_of returning_to returning
+unfolding to_come board.to_come reservation_of to_come_in board.to_come_in occupancy_of returning_to returning
 results_to_come = tt
 
 -- the operands of an instruction that are still to be read, by its phase
 unfoldable pub operands_to_read : Unit {0}
-unfolding reads board.reads reservation_of reads_in board.reads_in progress_of has_read
+unfolding reads board.reads reservation_of reads_in board.reads_in occupancy_of has_read
 operands_to_read = tt
 
 -- whether an instruction of some phase has a reference still to make in turn, and whether it is a branch
 unfoldable pub turns_and_branches : Unit {0}
-unfolding in_phase has_turn board.has_turn is_branch board.is_branch reservation_of before_and progress_of is_reserved
+unfolding in_phase has_turn board.has_turn is_branch board.is_branch reservation_of before_and occupancy_of is_reserved
 turns_and_branches = tt
 
 -- which refusals the events that work on what is pending may answer

@@ -15,12 +15,12 @@ use Rattle.in_flight.specs.declared.pending.Pending.{Pending}
 use Rattle.in_flight.specs.declared.pending.Phase.{Phase}
 use Rattle.in_flight.specs.declared.pending.Phase.TheVariants.{Before, After}
 use Rattle.in_flight.specs.declared.pending.Stage.{Stage}
-use Rattle.in_flight.specs.declared.pending.Stage.TheVariants.{Waiting, Read, Finished}
+use Rattle.in_flight.specs.declared.pending.Stage.TheVariants.{Unread, Read, Finished}
 
 -- the value of an instruction: one that waits reads the registers as they then are, a later one uses its operands or
 -- has its value
 unfoldable pub value_at : Instr → ℕ → Stage → RegisterFile → UnitValue
-value_at instr at Waiting g = value_of instr (operands instr at g)
+value_at instr at Unread g = value_of instr (operands instr at g)
 value_at instr at (Read os) g = value_of instr os
 value_at instr at (Finished v) g = v
 

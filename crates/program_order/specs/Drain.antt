@@ -10,7 +10,7 @@ use Rattle.program_order.specs.declared.event.Event.{Event}
 use Rattle.program_order.specs.declared.event.Event.TheVariants.{Issue, Read, Finish, Store, Accept, Return, BankFree}
 use Rattle.program_order.specs.declared.event.Event.TheVariants.{Ask, Exchange, PpRead, PpWrite}
 use Rattle.in_flight.specs.declared.pending.Stage.{Stage}
-use Rattle.in_flight.specs.declared.pending.Stage.TheVariants.{Waiting, Read as HasRead, Finished}
+use Rattle.in_flight.specs.declared.pending.Stage.TheVariants.{Unread, Read as HasRead, Finished}
 use Rattle.in_flight.specs.declared.pending.Outstanding.{Outstanding}
 use Rattle.in_flight.specs.declared.pending.Outstanding.TheVariants.{Entered, Accepted}
 use Rattle.in_flight.specs.declared.pending.Phase.{Phase}
@@ -87,7 +87,7 @@ pub record KeepsAccounts (w v : Processor) : Type 0 where
 
 -- the next event of an instruction that waits for no other: a busy bank is freed before its reference is accepted
 unfoldable pub next_in : FunctionalUnit → Phase → List Bool → Event
-next_in unit (Before Waiting) busy = Read unit
+next_in unit (Before Unread) busy = Read unit
 next_in unit (Before (HasRead os)) busy = Finish unit
 next_in unit (Before (Finished v)) busy = Store unit
 next_in unit (After (Entered place a access)) busy =
@@ -111,7 +111,7 @@ reference_cost Links = 2
 
 -- the events of the unit that are left: read, finish and store for an instruction that waits
 unfoldable pub stage_cost : Stage → ℕ
-stage_cost Waiting = 3
+stage_cost Unread = 3
 stage_cost (HasRead os) = 2
 stage_cost (Finished v) = 1
 

@@ -16,7 +16,7 @@ use Rattle.sequential.specs.declared.state.State.{State}
 use Rattle.sequential.specs.State.{Bounds, bounds_of, absolute, move_to, halt_by}
 use Rattle.sequential.specs.Step.{fetch}
 use Rattle.sequential.specs.Replay.{Issued}
-use Rattle.in_flight.specs.declared.pending.Stage.TheVariants.{Waiting}
+use Rattle.in_flight.specs.declared.pending.Stage.TheVariants.{Unread}
 use Rattle.in_flight.specs.declared.pending.Phase.TheVariants.{Before}
 use Rattle.in_flight.specs.declared.pending.Pending.{Pending}
 use Rattle.in_flight.specs.Pending.{is_branch, delays_fetch}
@@ -63,7 +63,7 @@ after_issue w (Taking i position) = record w {
     at = w.state.position.p;
     number = suc w.last;
     unit = unwrap_or (unit_for w.pending (uses i).unit) Branch;
-    phase = Before Waiting;
+    phase = Before Unread;
   } ∷ [];
   log = w.log ++ Issued ∷ [];
   last = suc w.last;

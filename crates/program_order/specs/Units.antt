@@ -11,7 +11,7 @@ use Rattle.sequential.specs.declared.work.ProgramReference.{ProgramReference}
 use Rattle.sequential.specs.State.{Bounds, bounds_of}
 use Rattle.sequential.specs.Work.{operands, Work, work_of, write_and_jump}
 use Rattle.in_flight.specs.declared.pending.Stage.{Stage}
-use Rattle.in_flight.specs.declared.pending.Stage.TheVariants.{Waiting, Read as HasRead, Finished}
+use Rattle.in_flight.specs.declared.pending.Stage.TheVariants.{Unread, Read as HasRead, Finished}
 use Rattle.in_flight.specs.declared.pending.Outstanding.{Outstanding}
 use Rattle.in_flight.specs.declared.pending.Phase.TheVariants.{Before}
 use Rattle.in_flight.specs.declared.pending.Pending.{Pending}
@@ -24,7 +24,7 @@ use Rattle.program_order.specs.Processor.{Processor}
 
 -- E15, nothing: the unit has not read its operands, or has its value already
 unfoldable pub finish_tests : Stage → List Test
-finish_tests Waiting = nothing
+finish_tests Unread = nothing
 finish_tests (HasRead os) = []
 finish_tests (Finished v) = nothing
 
@@ -34,7 +34,7 @@ rest_of b place r = outstanding_of place (relocated b r)
 
 -- E15, nothing, where the unit has not finished; then E10, result held, E11, hopper full, and E12, out of turn
 unfoldable pub store_tests : Bounds → List Pending → Stage → List Pending → Instr → List Test
-store_tests b ms Waiting earlier i = nothing
+store_tests b ms Unread earlier i = nothing
 store_tests b ms (HasRead os) earlier i = nothing
 store_tests b ms (Finished v) earlier i =
     store_conflicts ms earlier i (enters (rest_of b 0 (work_of (shape_of i) v).reference))
@@ -43,13 +43,13 @@ store_tests b ms (Finished v) earlier i =
 
 -- an instruction that waited has read its operands
 unfoldable pub stage_after_read : RegisterFile → Instr → ℕ → Stage → Stage
-stage_after_read g i at Waiting = HasRead (operands i at g)
+stage_after_read g i at Unread = HasRead (operands i at g)
 stage_after_read g i at (HasRead os) = HasRead os
 stage_after_read g i at (Finished v) = Finished v
 
 -- an instruction that had read its operands has its value
 unfoldable pub stage_after_finish : Instr → Stage → Stage
-stage_after_finish i Waiting = Waiting
+stage_after_finish i Unread = Unread
 stage_after_finish i (HasRead os) = Finished (value_of i os)
 stage_after_finish i (Finished v) = Finished v
 
@@ -75,6 +75,6 @@ after_work w f work = record w {
 
 -- the store event, which only an instruction that has its value comes to
 unfoldable pub after_store : Processor → Found Pending Stage → Stage → Processor
-after_store w f Waiting = w
+after_store w f Unread = w
 after_store w f (HasRead os) = w
 after_store w f (Finished v) = after_work w f (work_of (shape_of f.item.instr) v)

@@ -14,6 +14,6 @@ mod rule;
 mod seen;
 mod word;
 
-pub use rule::{Chosen, Law, Naming, Pass, Progress, View};
+pub use rule::{Chosen, Law, Naming, Pass, ProgressTable, View};
 pub use seen::Seen;
 pub use word::Word;

@@ -146,7 +146,7 @@ impl Join<View> for TakesIn {
 }
 
 /// The progress word, with the passes of all who know its log.
-pub type Progress = Table<u8, View, (), Law, Global>;
+pub type ProgressTable = Table<u8, View, (), Law, Global>;
 
 /// What its holder knows of the log: the machine's, or a caller's.
 pub type Pass = Seat<u8, View>;

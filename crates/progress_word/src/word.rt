@@ -7,7 +7,7 @@ ghost use Rattle.progress_word.specs.inner.Rules.{history, past, fresh, Continue
 ghost use Rattle.progress_word.specs.inner.Rules.{handed_back, Looked, IsKeeper, IsCaller};
 
 use crate::rule::{
-    Adds, Begins, Begun, Chosen, HandsBack, HandsOver, Looks, Naming, Pass, Progress, Shares,
+    Adds, Begins, Begun, Chosen, HandsBack, HandsOver, Looks, Naming, Pass, ProgressTable, Shares,
     TakesIn,
 };
 use machine::Machine;
@@ -17,14 +17,14 @@ use std::marker::{Brand, PhantomData};
 /// The progress word that K names.
 #[derive(Drop)]
 pub struct Word<K: Naming> {
-    table: Progress,
+    table: ProgressTable,
     of: PhantomData<K>,
     ghost named: { table.shared.table_id ≡ K.table },
     ghost one: { table.shared.table_id.words ≡ 1 },
 }
 
 impl<K: Naming> Word<K> {
-    pub fn of(table: Progress) -> Word<K>
+    pub fn of(table: ProgressTable) -> Word<K>
         requires named { table.shared.table_id ≡ K.table }
         requires one { table.shared.table_id.words ≡ 1 }
     {

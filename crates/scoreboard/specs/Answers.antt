@@ -12,8 +12,8 @@ use Rattle.instructions.specs.declared.refusal.Refusal.TheVariants.{ResultHeld, 
 use Rattle.instructions.specs.Finding.{Found}
 use Rattle.instructions.specs.Shape.{shape_of, sets_of, results, has_reference}
 use Rattle.instructions.specs.Operands.{uses, sources_of}
-use Rattle.scoreboard.specs.declared.reservation.Progress.{Progress}
-use Rattle.scoreboard.specs.declared.reservation.Progress.TheVariants.{Reserved, Left}
+use Rattle.scoreboard.specs.declared.reservation.Occupancy.{Occupancy}
+use Rattle.scoreboard.specs.declared.reservation.Occupancy.TheVariants.{Reserved, Left}
 use Rattle.scoreboard.specs.Reservations.{holds}
 use Rattle.scoreboard.specs.Units.{first_unit}
 use Rattle.scoreboard.specs.Conflicts.{awaited, to_be_read, first_such, result_reserved, operand_awaited, result_held}
@@ -34,15 +34,15 @@ pub record Standing : Type 0 where
 unfoldable pub held_in : FunctionalUnit → Issued → Option Instr
 held_in unit x = if holds unit x.reservation then Some x.reservation.instr else None
 
--- in that progress a load has still to return through the channel
-unfoldable pub returns_in : ℕ → Progress → Bool
+-- in that occupancy a load has still to return through the channel
+unfoldable pub returns_in : ℕ → Occupancy → Bool
 returns_in n (Reserved has_read) = false
 returns_in n (Left None) = false
 returns_in n (Left (Some m)) = m == n
 
 -- the instruction of the load that has still to return through the channel
 unfoldable pub returning_by : ℕ → Issued → Option Instr
-returning_by n x = if returns_in n x.reservation.progress then Some x.reservation.instr else None
+returning_by n x = if returns_in n x.reservation.occupancy then Some x.reservation.instr else None
 
 -- ---- the conflicts ----
 
@@ -89,7 +89,7 @@ reserve_answer s i (Some unit) =
 -- a new reservation: it holds its unit and has still to read its operands
 unfoldable pub new_issued : Instr → FunctionalUnit → ℕ → Issued
 new_issued i unit number =
-    record { number = number; reservation = record { instr = i; unit = unit; progress = Reserved false } }
+    record { number = number; reservation = record { instr = i; unit = unit; occupancy = Reserved false } }
 
 -- the board after an issue: it has one reservation more, or is as it was where the issue was refused
 unfoldable pub reserved : Standing → Instr → Result (FunctionalUnit × ℕ) Refusal → Standing
@@ -97,17 +97,17 @@ reserved s i (Err refusal) = s
 reserved s i (Ok (unit, number)) = record { issued = s.issued ++ new_issued i unit number ∷ []; last = number }
 
 -- the same instruction, which has come so far
-unfoldable pub in_progress : Issued → Progress → Issued
-in_progress x progress = record x { reservation = record x.reservation { progress = progress } }
+unfoldable pub in_occupancy : Issued → Occupancy → Issued
+in_occupancy x occupancy = record x { reservation = record x.reservation { occupancy = occupancy } }
 
 -- its operands are read
 unfoldable pub read : Issued → List Issued
-read x = in_progress x (Reserved true) ∷ []
+read x = in_occupancy x (Reserved true) ∷ []
 
 -- what the board has of it after its store event: a load with its channel, or nothing
 unfoldable pub left_with : Issued → Option ℕ → List Issued
 left_with x None = []
-left_with x (Some n) = in_progress x (Left (Some n)) ∷ []
+left_with x (Some n) = in_occupancy x (Left (Some n)) ∷ []
 
 -- it has left its unit: a load is still to return
 unfoldable pub left : Issued → List Issued

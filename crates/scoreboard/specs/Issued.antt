@@ -7,8 +7,8 @@ use Rattle.instructions.specs.declared.instr.Unit.{Unit as FunctionalUnit}
 use Rattle.instructions.specs.RegisterLists.{is_in}
 use Rattle.instructions.specs.Shape.{Shape, Sets, Loads, Stores, Jumps, Links, shape_of, sets_of}
 use Rattle.instructions.specs.Operands.{reg_eq}
-use Rattle.scoreboard.specs.declared.reservation.Progress.{Progress}
-use Rattle.scoreboard.specs.declared.reservation.Progress.TheVariants.{Reserved, Left}
+use Rattle.scoreboard.specs.declared.reservation.Occupancy.{Occupancy}
+use Rattle.scoreboard.specs.declared.reservation.Occupancy.TheVariants.{Reserved, Left}
 use Rattle.scoreboard.specs.declared.reservation.Reservation.{Reservation}
 use Rattle.scoreboard.specs.declared.writer.Writer.{Writer}
 use Rattle.scoreboard.specs.declared.writer.Writer.TheVariants.{OfUnit, OfChannel}
@@ -37,14 +37,14 @@ written_by_channel r (Some n) = if reg_eq r (X n) then Some (OfChannel n) else N
 
 -- before the store event the unit is the writer of what that event writes, and the channel that of a load's X
 -- register; after it only a channel is left
-unfoldable pub written_in : Reg → FunctionalUnit → Shape → Progress → Option Writer
+unfoldable pub written_in : Reg → FunctionalUnit → Shape → Occupancy → Option Writer
 written_in r unit shape (Reserved has_read) =
     if is_in (sets_of shape) r then Some (OfUnit unit) else written_by_channel r (channel_of shape)
 written_in r unit shape (Left returning) = written_by_channel r returning
 
 -- who writes the register for it: its unit at the store event, or the channel of its load
 unfoldable pub written_by : Reg → Issued → Option Writer
-written_by r x = written_in r x.reservation.unit (shape_of x.reservation.instr) x.reservation.progress
+written_by r x = written_in r x.reservation.unit (shape_of x.reservation.instr) x.reservation.occupancy
 
 -- this answer, or the other one where there is none
 unfoldable pub or_else : {W : Type 0} → Option W → Option W → Option W

@@ -6,14 +6,14 @@ use Rattle.instructions.specs.declared.instr.Reg.TheVariants.{X}
 use Rattle.instructions.specs.declared.instr.Unit.{Unit}
 use Rattle.instructions.specs.Shape.{Shape, shape_of, results, is_branch_shape, has_reference, has_store}
 use Rattle.instructions.specs.Operands.{sources_of}
-use Rattle.scoreboard.specs.declared.reservation.Progress.{Progress}
-use Rattle.scoreboard.specs.declared.reservation.Progress.TheVariants.{Reserved, Left}
+use Rattle.scoreboard.specs.declared.reservation.Occupancy.{Occupancy}
+use Rattle.scoreboard.specs.declared.reservation.Occupancy.TheVariants.{Reserved, Left}
 use Rattle.scoreboard.specs.declared.reservation.Reservation.{Reservation}
 use Rattle.instructions.specs.RegisterLists.{is_in}
 use Rattle.scoreboard.specs.Units.{same_unit}
 
 -- it holds its unit
-unfoldable pub is_reserved : Progress → Bool
+unfoldable pub is_reserved : Occupancy → Bool
 is_reserved (Reserved has_read) = true
 is_reserved (Left returning) = false
 
@@ -23,23 +23,23 @@ returning_to None = []
 returning_to (Some n) = X n ∷ []
 
 -- the results still to come: all of them while the unit is held, then the X register of a load that has to return
-unfoldable pub to_come_in : Shape → Progress → List Reg
+unfoldable pub to_come_in : Shape → Occupancy → List Reg
 to_come_in shape (Reserved has_read) = results shape
 to_come_in shape (Left returning) = returning_to returning
 
 -- its results still to come
 unfoldable pub to_come : Reservation → List Reg
-to_come reservation = to_come_in (shape_of reservation.instr) reservation.progress
+to_come reservation = to_come_in (shape_of reservation.instr) reservation.occupancy
 
 -- the operands that are still to be read: all of them before the read, none after it
-unfoldable pub reads_in : List Reg → Progress → List Reg
+unfoldable pub reads_in : List Reg → Occupancy → List Reg
 reads_in sources (Reserved false) = sources
 reads_in sources (Reserved true) = []
 reads_in sources (Left returning) = []
 
 -- the operands that it has still to read
 unfoldable pub reads : Reservation → List Reg
-reads reservation = reads_in (sources_of reservation.instr) reservation.progress
+reads reservation = reads_in (sources_of reservation.instr) reservation.occupancy
 
 -- a register is one of its results still to come
 unfoldable pub comes : Reg → Reservation → Bool
@@ -51,18 +51,18 @@ reads_it register reservation = is_in (reads reservation) register
 
 -- it holds this unit
 unfoldable pub holds : Unit → Reservation → Bool
-holds unit reservation = same_unit reservation.unit unit && is_reserved reservation.progress
+holds unit reservation = same_unit reservation.unit unit && is_reserved reservation.occupancy
 
 -- it is a branch that holds its unit
 unfoldable pub is_branch : Reservation → Bool
-is_branch reservation = is_reserved reservation.progress && is_branch_shape (shape_of reservation.instr)
+is_branch reservation = is_reserved reservation.occupancy && is_branch_shape (shape_of reservation.instr)
 
 -- it has a reference that has not come to its store event
 unfoldable pub has_turn : Reservation → Bool
-has_turn reservation = is_reserved reservation.progress && has_reference (shape_of reservation.instr)
+has_turn reservation = is_reserved reservation.occupancy && has_reference (shape_of reservation.instr)
 
 -- it is an SA6 or SA7 that has not come to its store event
 unfoldable pub has_store_turn : Reservation → Bool
 has_store_turn reservation =
-    (is_reserved reservation.progress && has_store (shape_of reservation.instr))
+    (is_reserved reservation.occupancy && has_store (shape_of reservation.instr))
     && not (is_branch_shape (shape_of reservation.instr))

@@ -16,7 +16,7 @@ use crate::fields::{
     put_left,
 };
 use crate::issued::channel;
-use crate::{Issued, Progress, Reservation, Writer, Writers, unit_number};
+use crate::{Issued, Occupancy, Reservation, Writer, Writers, unit_number};
 use instructions::{Digit, Instr, Refusal, Reg, Unit, results, sources};
 use std::marker::Model;
 
@@ -108,7 +108,7 @@ impl Board {
             reservation: Reservation {
                 instr: *instr,
                 unit,
-                progress: Progress::Reserved { has_read: false },
+                occupancy: Occupancy::Reserved { has_read: false },
             },
         });
         let writers = &mut self.writers;
@@ -255,7 +255,7 @@ impl Board {
     {
         let index = unit_number(unit);
         if let Some(issued) = &mut self.units[index] {
-            issued.reservation.progress = Progress::Reserved { has_read: true };
+            issued.reservation.occupancy = Occupancy::Reserved { has_read: true };
         }
     }
 

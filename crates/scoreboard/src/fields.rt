@@ -15,7 +15,7 @@ ghost use Rattle.scoreboard.specs.inner.View.{first_produced};
 
 use crate::issued::channel;
 use crate::writer::forget_in;
-use crate::{Issued, Progress, Writer};
+use crate::{Issued, Occupancy, Writer};
 use instructions::{Instr, Reg, Unit, UnitKind, unit_kind};
 
 /// The first of the registers that somebody is to write; the producers are in the registers' order.
@@ -129,7 +129,7 @@ pub(crate) fn put_left(channels: &mut [Option<Issued>], issued: &Issued)
 {
     if let Some(n) = channel(&issued.reservation.instr) {
         let mut load = *issued;
-        load.reservation.progress = Progress::Left { returning: Some(n) };
+        load.reservation.occupancy = Occupancy::Left { returning: Some(n) };
         channels[usize::from(n.get())] = Some(load);
     }
 }

@@ -20,7 +20,7 @@ mod writers;
 
 pub use board::Board;
 pub use issued::Issued;
-pub use reservation::{Progress, Reservation};
+pub use reservation::{Occupancy, Reservation};
 pub use units::{is_same_unit, unit_number};
 pub use writer::Writer;
 pub use writers::Writers;

@@ -10,7 +10,7 @@ use instructions::{Digit, Instr, Reg, Unit, results, sources};
 
 /// How far the scoreboard has seen an issued instruction come.
 #[derive(Clone, Copy, Debug, Drop, PartialEq, Eq)]
-pub enum Progress {
+pub enum Occupancy {
     /// It holds its unit.
     Reserved {
         /// Whether it has read its operands.
@@ -31,7 +31,7 @@ pub struct Reservation {
     /// The unit that it was issued to.
     pub unit: Unit,
     /// How far it has come.
-    pub progress: Progress,
+    pub occupancy: Occupancy,
 }
 
 /// The X register of this number, if there is one.
@@ -62,11 +62,11 @@ impl Reservation {
     /// Whether it holds a unit.
     #[tactic(auto, unfolding(crate::specs::Reservations::is_reserved))]
     fn is_reserved(&self) -> bool
-        ensures { result ≡ is_reserved self.now.progress }
+        ensures { result ≡ is_reserved self.now.occupancy }
     {
-        match self.progress {
-            Progress::Reserved { .. } => true,
-            Progress::Left { .. } => false,
+        match self.occupancy {
+            Occupancy::Reserved { .. } => true,
+            Occupancy::Left { .. } => false,
         }
     }
 
@@ -75,9 +75,9 @@ impl Reservation {
     fn to_come(&self) -> ArrayVec<Reg, 2>
         ensures { result.items ≡ to_come self.now }
     {
-        match self.progress {
-            Progress::Reserved { .. } => results(&self.instr),
-            Progress::Left { returning } => returning_to(returning),
+        match self.occupancy {
+            Occupancy::Reserved { .. } => results(&self.instr),
+            Occupancy::Left { returning } => returning_to(returning),
         }
     }
 
@@ -86,10 +86,10 @@ impl Reservation {
     fn reads(&self) -> ArrayVec<Reg, 3>
         ensures { result.items ≡ reads self.now }
     {
-        match self.progress {
-            Progress::Reserved { has_read: false } => sources(&self.instr),
-            Progress::Reserved { has_read: true } => ArrayVec::new(),
-            Progress::Left { .. } => ArrayVec::new(),
+        match self.occupancy {
+            Occupancy::Reserved { has_read: false } => sources(&self.instr),
+            Occupancy::Reserved { has_read: true } => ArrayVec::new(),
+            Occupancy::Left { .. } => ArrayVec::new(),
         }
     }
 

@@ -12,18 +12,18 @@
 //! - If other processes want the processors, a yield returns only after milliseconds. The clock of the issuing thread
 //!   shows that (`Pace`), and then no thread looks for a while: each sleeps at once.
 //!
-//! Callers rely on `Waiting::until_raised` to return. `Told` has the events that a thread reports. Its tests are in
+//! Callers rely on `Waiting::until_raised` to return. `Wakeups` has the events that a thread reports. Its tests are in
 //! `crates/thread_tests/src/signal_tests.rt`. Begin with `Signals`.
 #![tactic(auto)]
 
 mod pace;
 mod signal;
 mod signals;
-mod told;
+mod wakeups;
 mod waiting;
 
 pub use pace::Pace;
 pub use signal::Signal;
 pub use signals::Signals;
-pub use told::Told;
+pub use wakeups::Wakeups;
 pub use waiting::Waiting;

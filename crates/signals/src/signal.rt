@@ -1,6 +1,6 @@
 //! A count that wakes its thread.
 
-use crate::told::Told;
+use crate::wakeups::Wakeups;
 use crossbeam_utils::CachePadded;
 use std::sync::Wait;
 use std::sync::atomic::{AtomicBool, AtomicU64, Ordering};
@@ -82,9 +82,9 @@ impl Signal {
     }
 
     /// Raises the count if its thread waits for one of these changes.
-    pub fn tell(&self, told: &Told) {
-        if told.changed && self.awaited.change.load(Ordering::SeqCst)
-            || told.read && self.awaited.read.load(Ordering::SeqCst)
+    pub fn wake(&self, wakeups: &Wakeups) {
+        if wakeups.changed && self.awaited.change.load(Ordering::SeqCst)
+            || wakeups.read && self.awaited.read.load(Ordering::SeqCst)
         {
             self.raise();
         }

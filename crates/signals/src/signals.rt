@@ -1,7 +1,7 @@
 //! A signal for each thread of a run.
 
 use crate::signal::Signal;
-use crate::told::Told;
+use crate::wakeups::Wakeups;
 use crate::waiting::Waiting;
 use crossbeam_utils::CachePadded;
 use instructions::Unit;
@@ -59,19 +59,19 @@ impl Signals {
     }
 
     /// Wakes the threads that wait for these events.
-    pub fn tell(&self, told: &Told) {
-        if told.changed || told.read {
-            let _ = self.workers.each().map(|signal| signal.tell(told));
-            self.issuing.tell(told);
-            self.memory.tell(told);
+    pub fn wake(&self, wakeups: &Wakeups) {
+        if wakeups.changed || wakeups.read {
+            let _ = self.workers.each().map(|signal| signal.wake(wakeups));
+            self.issuing.wake(wakeups);
+            self.memory.wake(wakeups);
         }
-        if told.referred {
+        if wakeups.referred {
             self.memory.raise();
         }
-        if told.asked {
+        if wakeups.asked {
             self.issuing.raise();
         }
-        if told.exchanged {
+        if wakeups.exchanged {
             self.requests.raise();
         }
     }

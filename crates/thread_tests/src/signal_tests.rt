@@ -4,7 +4,7 @@ ghost use Rattle.std.specs.Prelude.{◌≡◌};
 use crate::fixtures::{FIRST, booted, leave, note};
 use instruction_table::{Refusal, Unit};
 use machine::{Machine, Note, Seat};
-use machine_lock::{Ground, Naming, Seen, Shared, Signal, Signals, Told};
+use machine_lock::{Ground, Naming, Seen, Shared, Signal, Signals, Wakeups};
 use std::alloc::Global;
 use std::marker::Brand;
 use std::sync::Wait;
@@ -192,13 +192,13 @@ fn told_by_turns<K: Naming, R: Wait>(
     let (shared, seat, _) = opened::<K>(alloc, ground, machine)?;
     seat.leave();
     let signal = &shared.signals().memory;
-    let changed = Told {
+    let changed = Wakeups {
         changed: true,
-        ..Told::default()
+        ..Wakeups::default()
     };
-    let read = Told {
+    let read = Wakeups {
         read: true,
-        ..Told::default()
+        ..Wakeups::default()
     };
     let mut counts = [0; 4];
     for (turn, waits) in [(false, false), (true, false), (false, false), (false, true)]

@@ -26,7 +26,7 @@ use Rattle.hopper.specs.Queue.{free_answer}
 use Rattle.hopper.specs.declared.entered.Entered.{Entered}
 use Rattle.hopper.proofs.Standing.{first_same}
 use Rattle.scoreboard.specs.declared.issued.Issued.{Issued}
-use Rattle.scoreboard.specs.declared.reservation.Progress.TheVariants.{Left}
+use Rattle.scoreboard.specs.declared.reservation.Occupancy.TheVariants.{Left}
 use Rattle.scoreboard.specs.declared.reservation.Reservation.{Reservation}
 use Rattle.scoreboard.specs.Reservations as board
 use Rattle.scoreboard.specs.Reservations.{is_reserved, has_store_turn}
@@ -48,7 +48,7 @@ use Rattle.in_flight.specs.declared.pending.Pending.{Pending}
 use Rattle.in_flight.specs.declared.pending.Phase.{Phase}
 use Rattle.in_flight.specs.declared.pending.Phase.TheVariants.{Before, After}
 use Rattle.in_flight.specs.declared.pending.Stage.{Stage}
-use Rattle.in_flight.specs.declared.pending.Stage.TheVariants.{Waiting, Read, Finished}
+use Rattle.in_flight.specs.declared.pending.Stage.TheVariants.{Unread, Read, Finished}
 use Rattle.in_flight.specs.declared.slots.Located.{Located}
 use Rattle.in_flight.specs.inner.Board.{on_board}
 use Rattle.in_flight.specs.Tests.{refusal_in, store_conflicts, Test, refusal_of, nothing, tests_found, read_tests}
@@ -56,7 +56,7 @@ use Rattle.in_flight.specs.Tests.{return_tests, free_tests, reservation_tests, u
 use Rattle.in_flight.specs.Flight.{Flight, flight_of, reserved_in, with_pending}
 use Rattle.in_flight.specs.Lookup.{waiting_in, waiting}
 use Rattle.in_flight.specs.inner.Board.{IsTied}
-use Rattle.in_flight.specs.Pending.{has_read, reservation_of, progress_of, to_come, awaited, is_branch}
+use Rattle.in_flight.specs.Pending.{has_read, reservation_of, occupancy_of, to_come, awaited, is_branch}
 use Rattle.in_flight.specs.Pending.{has_turn}
 use Rattle.in_flight.specs.Pending.{stores_in, waits_in, delays_fetch, delays_access}
 use Rattle.in_flight.proofs.asking.PendingReservations.{comes}
@@ -106,11 +106,11 @@ nothing_pending (m ∷ ms) = refl
 
 -- ---- what the board sees of them ----
 
-no_branch : (reservation : Reservation) → reservation.progress ≡ Left None → board.is_branch reservation ≡ false
+no_branch : (reservation : Reservation) → reservation.occupancy ≡ Left None → board.is_branch reservation ≡ false
 unfolding board.is_branch is_reserved
 no_branch reservation e = ap (λ p. is_reserved p && is_branch_shape (shape_of reservation.instr)) e
 
-no_store : (reservation : Reservation) → reservation.progress ≡ Left None → has_store_turn reservation ≡ false
+no_store : (reservation : Reservation) → reservation.occupancy ≡ Left None → has_store_turn reservation ≡ false
 unfolding has_store_turn is_reserved
 no_store reservation e =
     ap (λ p. (is_reserved p && has_store (shape_of reservation.instr)) && not (is_branch_shape (shape_of
@@ -165,7 +165,7 @@ any_either f g (x ∷ xs) =
 
 -- a test of what the board has, or one of what waits in the hopper, is a test of each pending instruction
 delayed_by : (t : Reservation → Bool) (f : Entered → Bool) (g : Phase → Bool)
-    → ((reservation : Reservation) → reservation.progress ≡ Left None → t reservation ≡ false)
+    → ((reservation : Reservation) → reservation.occupancy ≡ Left None → t reservation ≡ false)
     → ((p : Phase) → list_any f (waiting_in p) ≡ g p) → (ms : List Pending) (queue : Queue) (standing : Standing)
     → IsTied ms queue standing
     → (list_any (λ x. t x.reservation) standing.issued || list_any f queue.entered)
@@ -346,21 +346,21 @@ store_turned u ms xs f enters x r e h k room t =
 abbrev pub read_refused : Option (Found Pending Stage) → Option Refusal
 read_refused o = refusal_of (tests_found o (λ f. read_tests f.answer f.earlier f.item.instr))
 
-pub not_waiting : (o : Option (Found Pending Stage)) (s : Located Stage) → located o ≡ Some s → (s.answer ≡ Waiting → ⊥)
+pub not_waiting : (o : Option (Found Pending Stage)) (s : Located Stage) → located o ≡ Some s → (s.answer ≡ Unread → ⊥)
     → read_refused o ≡ Some Nothing
 unfolding refusal_of tests_found read_tests nothing
 not_waiting o s h k =
     let p = there o s h in
     ap read_refused p.1 ∙ by_stage p.0 p.0.answer refl (λ e. k (sym p.3 ∙ e))
   where
-    by_stage : (f : Found Pending Stage) (t : Stage) → f.answer ≡ t → (t ≡ Waiting → ⊥)
+    by_stage : (f : Found Pending Stage) (t : Stage) → f.answer ≡ t → (t ≡ Unread → ⊥)
         → refusal_of (read_tests f.answer f.earlier f.item.instr) ≡ Some Nothing
-    by_stage f Waiting e n = absurd (n refl)
+    by_stage f Unread e n = absurd (n refl)
     by_stage f (Read os) e n = ap (λ t. refusal_of (read_tests t f.earlier f.item.instr)) e
     by_stage f (Finished v) e n = ap (λ t. refusal_of (read_tests t f.earlier f.item.instr)) e
 
 pub read_answered : (u : FunctionalUnit) (ms : List Pending) (xs : List Issued) (s : Located Stage)
-    (r : Result (Unit {0}) Refusal) → xs ≡ on_board ms → located (seek (stage_at u) ms) ≡ Some s → s.answer ≡ Waiting
+    (r : Result (Unit {0}) Refusal) → xs ≡ on_board ms → located (seek (stage_at u) ms) ≡ Some s → s.answer ≡ Unread
     → r ≡ read_answer (seek (held_in u) xs) → read_refused (seek (stage_at u) ms) ≡ refusal_in r
 unfolding tests_found read_tests
 read_answered u ms xs s r e h w k =
@@ -411,7 +411,7 @@ finish_tied u ms ns queue b v (Some f) h k tied en =
 returns_apart : (n w : ℕ) (e m : Pending) → m.phase ≡ After (Accepted n w) → IsApart e m → comes (X n) e ≡ false
 unfolding coming overlap
 returns_apart n w e m h a = (or_parts (is_in (to_come e) (X n)) false
-    (ap (λ p. overlap (board.to_come_in (shape_of m.instr) (progress_of p)) (to_come e)) (sym h) ∙ a.disjoint)).0
+    (ap (λ p. overlap (board.to_come_in (shape_of m.instr) (occupancy_of p)) (to_come e)) (sym h) ∙ a.disjoint)).0
 
 none_awaits : (n w : ℕ) (es : List Pending) (m : Pending) → m.phase ≡ After (Accepted n w) → Each (λ e. IsApart e m) es
     → conflict.awaited reservation_of es (X n) ≡ false
@@ -632,10 +632,10 @@ first_free_is held (v ∷ us) u h = by_test (held v) refl (first_free_is held us
     by_test false e rest k = ap held (sym (same_Some v u k)) ∙ e
 
 not_held : (u : FunctionalUnit) (m : Pending) → board.holds u (reservation_of m) ≡ false → stage_at u m ≡ None
-unfolding board.holds reservation_of stage_at stage_in is_reserved progress_of
+unfolding board.holds reservation_of stage_at stage_in is_reserved occupancy_of
 not_held u m h = by_phase m.phase (same_unit m.unit u) h
   where
-    by_phase : (p : Phase) (t : Bool) → (t && is_reserved (progress_of p)) ≡ false → cond t (stage_in p) None ≡ None
+    by_phase : (p : Phase) (t : Bool) → (t && is_reserved (occupancy_of p)) ≡ false → cond t (stage_in p) None ≡ None
     by_phase (Before s) true k = cc
     by_phase (Before s) false k = refl
     by_phase (After l) true k = refl
@@ -652,10 +652,10 @@ unit_free ms (Some kind) u h =
 pub reserve_tied : (ms ns : List Pending) (queue : Queue) (b c : Standing) (i : Instr) (at : ℕ)
     (p : FunctionalUnit × ℕ) → IsTied ms queue b → p.1 ≡ suc b.last
     → c ≡ record { issued = b.issued ++ new_issued i p.0 p.1 ∷ []; last = p.1 } → ns ≡ ms
-    ++ record { instr = i; at = at; number = p.1; unit = p.0; phase = Before Waiting } ∷ [] → IsTied ns queue c
+    ++ record { instr = i; at = at; number = p.1; unit = p.0; phase = Before Unread } ∷ [] → IsTied ns queue c
 unfolding waiting waiting_in
 reserve_tied ms ns queue b c i at p tied en ec es =
-    let m : Pending = record { instr = i; at = at; number = p.1; unit = p.0; phase = Before Waiting } in
+    let m : Pending = record { instr = i; at = at; number = p.1; unit = p.0; phase = Before Unread } in
     let last : c.last ≡ p.1 = ap (λ (x : Standing). x.last) ec in
     record {
       boarded = ap (λ (x : Standing). x.issued) ec ∙ ap (λ l. l ++ new_issued i p.0 p.1 ∷ []) tied.boarded
@@ -675,20 +675,20 @@ all_below ms last n h e = each_map (λ m. m.number ≤ last) (λ m. m.number < n
 pub reserved_flight : (ms ns : List Pending) (queue : Queue) (b c : Standing) (i : Instr) (at : ℕ)
     (p : FunctionalUnit × ℕ) → unit_for ms (uses i).unit ≡ Some p.0 → p.1 ≡ suc b.last
     → c ≡ record { issued = b.issued ++ new_issued i p.0 p.1 ∷ []; last = p.1 } → ns ≡ ms
-    ++ record { instr = i; at = at; number = p.1; unit = p.0; phase = Before Waiting } ∷ []
+    ++ record { instr = i; at = at; number = p.1; unit = p.0; phase = Before Unread } ∷ []
     → flight_of ns queue c ≡ reserved_in (flight_of ms queue b) i at
 reserved_flight ms ns queue b c i at p eu en ec es =
     ap (λ (x : Standing). record { pending = ns; busy = queue.busy; last = x.last }) ec
     ∙ ap (λ l. record { pending = l; busy = queue.busy; last = p.1 }) es
     ∙ ap (λ n. record {
-      pending = ms ++ record { instr = i; at = at; number = n; unit = p.0; phase = Before Waiting }
+      pending = ms ++ record { instr = i; at = at; number = n; unit = p.0; phase = Before Unread }
           ∷ [];
       busy = queue.busy;
       last = n;
     }) en
     ∙ ap (λ o. record {
       pending = ms
-          ++ record { instr = i; at = at; number = suc b.last; unit = unwrap_or o Branch; phase = Before Waiting } ∷ [];
+          ++ record { instr = i; at = at; number = suc b.last; unit = unwrap_or o Branch; phase = Before Unread } ∷ [];
       busy = queue.busy;
       last = suc b.last;
     }) (sym eu)

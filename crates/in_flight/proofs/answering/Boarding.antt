@@ -16,8 +16,8 @@ use Rattle.instructions.specs.RegisterLists.{is_in}
 use Rattle.instructions.specs.Shape.{shape_of, sets_of, has_reference}
 use Rattle.instructions.specs.Operands.{sources_of}
 use Rattle.relocation.specs.declared.area.Access.TheVariants.{Load, Store}
-use Rattle.scoreboard.specs.declared.reservation.Progress.{Progress}
-use Rattle.scoreboard.specs.declared.reservation.Progress.TheVariants.{Reserved, Left}
+use Rattle.scoreboard.specs.declared.reservation.Occupancy.{Occupancy}
+use Rattle.scoreboard.specs.declared.reservation.Occupancy.TheVariants.{Reserved, Left}
 use Rattle.scoreboard.specs.declared.reservation.Reservation.{Reservation}
 use Rattle.scoreboard.specs.Reservations.{is_reserved, returning_to, to_come, to_come_in, reads, reads_in, comes}
 use Rattle.scoreboard.specs.Reservations.{reads_it}
@@ -28,7 +28,7 @@ use Rattle.unit_ops.specs.declared.Operands.{Operands}
 use Rattle.unit_ops.specs.declared.UnitValue.{UnitValue}
 use Rattle.scoreboard.specs.declared.issued.Issued.{Issued}
 use Rattle.scoreboard.specs.Answers.{held_in, returns_in, returning_by, new_issued, unless, read_answer, store_answer}
-use Rattle.scoreboard.specs.Answers.{return_answer, turn_answer, in_progress, read, left, left_with, gone}
+use Rattle.scoreboard.specs.Answers.{return_answer, turn_answer, in_occupancy, read, left, left_with, gone}
 use Rattle.scoreboard.specs.Issued.{reservation_of as reservation_of_issued, channel_of}
 use Rattle.scoreboard.proofs.in_slots.Standing.{find_same}
 use Rattle.scoreboard.proofs.changing.Reserving.{first_free_same}
@@ -41,8 +41,8 @@ use Rattle.in_flight.specs.declared.pending.Pending.{Pending}
 use Rattle.in_flight.specs.declared.pending.Phase.{Phase}
 use Rattle.in_flight.specs.declared.pending.Phase.TheVariants.{Before, After}
 use Rattle.in_flight.specs.declared.pending.Stage.{Stage}
-use Rattle.in_flight.specs.declared.pending.Stage.TheVariants.{Waiting, Read, Finished}
-use Rattle.in_flight.specs.Pending.{has_read, returning, progress_of, reservation_of}
+use Rattle.in_flight.specs.declared.pending.Stage.TheVariants.{Unread, Read, Finished}
+use Rattle.in_flight.specs.Pending.{has_read, returning, occupancy_of, reservation_of}
 use Rattle.instructions.specs.Finding.{Found, found_further, found_here, seek, put_back, replaced}
 use Rattle.in_flight.specs.Lookup.{arrival_in, stage_in, stage_at, entry_at, arrival_at, in_phase, kept}
 use Rattle.in_flight.specs.inner.Board.{issued_of, kept_on, on_board}
@@ -67,44 +67,44 @@ found_on_board (Some f) = Some
 board-append : (xs ys : List Pending) → on_board (xs ++ ys) ≡ on_board xs ++ on_board ys
 unfolding on_board kept_on
 board-append [] ys = refl
-board-append (m ∷ xs) ys = by_progress (reservation_of m).progress (board-append xs ys)
+board-append (m ∷ xs) ys = by_occupancy (reservation_of m).occupancy (board-append xs ys)
   where
-    by_progress : (p : Progress) → on_board (xs ++ ys) ≡ on_board xs ++ on_board ys
+    by_occupancy : (p : Occupancy) → on_board (xs ++ ys) ≡ on_board xs ++ on_board ys
         → kept_on p (on_board (xs ++ ys)) (issued_of m) ≡ kept_on p (on_board xs) (issued_of m) ++ on_board ys
-    by_progress (Reserved b) e = ap (λ l. issued_of m ∷ l) e
-    by_progress (Left (Some n)) e = ap (λ l. issued_of m ∷ l) e
-    by_progress (Left None) e = e
+    by_occupancy (Reserved b) e = ap (λ l. issued_of m ∷ l) e
+    by_occupancy (Left (Some n)) e = ap (λ l. issued_of m ∷ l) e
+    by_occupancy (Left None) e = e
 
 -- a test that an entered store fails
-pub board_any : (t : Reservation → Bool) → ((reservation : Reservation) → reservation.progress ≡ Left None
+pub board_any : (t : Reservation → Bool) → ((reservation : Reservation) → reservation.occupancy ≡ Left None
     → t reservation ≡ false) → (ms : List Pending)
     → list_any (λ x. t (reservation_of_issued x)) (on_board ms) ≡ list_any (λ m. t (reservation_of m)) ms
 unfolding on_board kept_on issued_of reservation_of_issued
 board_any t h [] = refl
-board_any t h (m ∷ ms) = by_progress (reservation_of m).progress refl (board_any t h ms)
+board_any t h (m ∷ ms) = by_occupancy (reservation_of m).occupancy refl (board_any t h ms)
   where
-    by_progress : (p : Progress) → (reservation_of m).progress ≡ p
+    by_occupancy : (p : Occupancy) → (reservation_of m).occupancy ≡ p
         → list_any (λ x. t (reservation_of_issued x)) (on_board ms) ≡ list_any (λ x. t (reservation_of x)) ms
         → list_any (λ x. t (reservation_of_issued x)) (kept_on p (on_board ms) (issued_of m))
         ≡ (t (reservation_of m) || list_any (λ x. t (reservation_of x)) ms)
-    by_progress (Reserved b) e k = ap (λ b. t (reservation_of m) || b) k
-    by_progress (Left (Some n)) e k = ap (λ b. t (reservation_of m) || b) k
-    by_progress (Left None) e k = k ∙ ap (λ b. b || list_any (λ x. t (reservation_of x)) ms) (sym (h (reservation_of m)
+    by_occupancy (Reserved b) e k = ap (λ b. t (reservation_of m) || b) k
+    by_occupancy (Left (Some n)) e k = ap (λ b. t (reservation_of m) || b) k
+    by_occupancy (Left None) e k = k ∙ ap (λ b. b || list_any (λ x. t (reservation_of x)) ms) (sym (h (reservation_of m)
         e))
 
-nothing_comes : (r : Reg) (reservation : Reservation) → reservation.progress ≡ Left None → comes r reservation ≡ false
+nothing_comes : (r : Reg) (reservation : Reservation) → reservation.occupancy ≡ Left None → comes r reservation ≡ false
 unfolding comes to_come to_come_in returning_to is_in
 nothing_comes r reservation e = ap (λ p. is_in (to_come_in (shape_of reservation.instr) p) r) e
 
-nothing_read : (r : Reg) (reservation : Reservation) → reservation.progress ≡ Left None → reads_it r reservation ≡ false
+nothing_read : (r : Reg) (reservation : Reservation) → reservation.occupancy ≡ Left None → reads_it r reservation ≡ false
 unfolding reads_it reads reads_in is_in
 nothing_read r reservation e = ap (λ p. is_in (reads_in (sources_of reservation.instr) p) r) e
 
-pub no_turn : (reservation : Reservation) → reservation.progress ≡ Left None → has_turn reservation ≡ false
+pub no_turn : (reservation : Reservation) → reservation.occupancy ≡ Left None → has_turn reservation ≡ false
 unfolding has_turn is_reserved
 no_turn reservation e = ap (λ p. is_reserved p && has_reference (shape_of reservation.instr)) e
 
-no_unit : (u : FunctionalUnit) (reservation : Reservation) → reservation.progress ≡ Left None
+no_unit : (u : FunctionalUnit) (reservation : Reservation) → reservation.occupancy ≡ Left None
     → holds u reservation ≡ false
 unfolding holds is_reserved
 no_unit u reservation e = ap (λ p. same_unit reservation.unit u && is_reserved p) e
@@ -141,7 +141,7 @@ kept_nothing : (l : List Issued) (x : Issued) → kept_on (Left None) l x ≡ l
 unfolding kept_on
 kept_nothing l x = refl
 
-after_off : {K : Type 0} (m : Pending) (o : Option (Found Pending K)) → (reservation_of m).progress ≡ Left None
+after_off : {K : Type 0} (m : Pending) (o : Option (Found Pending K)) → (reservation_of m).occupancy ≡ Left None
     → found_on_board (found_further m o) ≡ found_on_board o
 unfolding found_on_board found_further on_board
 after_off m None e = refl
@@ -149,13 +149,13 @@ after_off m (Some f) e = ap (λ l. Some
     (record { earlier = l; item = issued_of f.item; answer = f.item.instr; later = on_board f.later })) (ap
     (λ p. kept_on p (on_board f.earlier) (issued_of m)) e ∙ kept_nothing (on_board f.earlier) (issued_of m))
 
-kept_here : (p : Progress) (l : List Issued) (x : Issued) → (p ≡ Left None → ⊥) → kept_on p l x ≡ x ∷ l
+kept_here : (p : Occupancy) (l : List Issued) (x : Issued) → (p ≡ Left None → ⊥) → kept_on p l x ≡ x ∷ l
 unfolding kept_on
 kept_here (Reserved b) l x h = refl
 kept_here (Left (Some n)) l x h = refl
 kept_here (Left None) l x h = absurd (h refl)
 
-after_on : {K : Type 0} (m : Pending) (o : Option (Found Pending K)) → ((reservation_of m).progress ≡ Left None → ⊥)
+after_on : {K : Type 0} (m : Pending) (o : Option (Found Pending K)) → ((reservation_of m).occupancy ≡ Left None → ⊥)
     → found_on_board (found_further m o) ≡ found_further (issued_of m) (found_on_board o)
 unfolding found_on_board found_further on_board
 after_on m None h = refl
@@ -165,20 +165,20 @@ after_on m (Some f) h = ap (λ l. Some
       item = issued_of f.item;
       answer = f.item.instr;
       later = on_board f.later;
-    })) (kept_here (reservation_of m).progress (on_board f.earlier) (issued_of m) h)
+    })) (kept_here (reservation_of m).occupancy (on_board f.earlier) (issued_of m) h)
 
 -- the one that is looked for by its reservation is the one that is looked for among the pending
 board_seek : {K : Type 0} (f : Pending → Option K) (g : Issued → Option Instr)
     → ((m : Pending) (k : K) → f m ≡ Some k → g (issued_of m) ≡ Some m.instr)
     → ((m : Pending) → f m ≡ None → g (issued_of m) ≡ None)
-    → ((m : Pending) (k : K) → f m ≡ Some k → (reservation_of m).progress ≡ Left None → ⊥) → (ms : List Pending)
+    → ((m : Pending) (k : K) → f m ≡ Some k → (reservation_of m).occupancy ≡ Left None → ⊥) → (ms : List Pending)
     → seek g (on_board ms) ≡ found_on_board (seek f ms)
 unfolding seek found_here found_on_board on_board
 board_seek f g pass fail stay [] = refl
 board_seek {K} f g pass fail stay (m ∷ ms) =
-    by_answer (f m) refl (reservation_of m).progress refl (board_seek f g pass fail stay ms)
+    by_answer (f m) refl (reservation_of m).occupancy refl (board_seek f g pass fail stay ms)
   where
-    by_answer : (o : Option K) → f m ≡ o → (p : Progress) → (reservation_of m).progress ≡ p
+    by_answer : (o : Option K) → f m ≡ o → (p : Occupancy) → (reservation_of m).occupancy ≡ p
         → seek g (on_board ms) ≡ found_on_board (seek f ms)
         → seek g (kept_on p (on_board ms) (issued_of m)) ≡ found_on_board (found_here o m ms (seek f ms))
     by_answer (Some k) e p ep ih =
@@ -198,8 +198,8 @@ board_seek {K} f g pass fail stay (m ∷ ms) =
         ap (seek g) (kept_nothing (on_board ms) (issued_of m)) ∙ ih ∙ sym (after_off m (seek f ms) ep)
 
 unit_here_in : (u v : FunctionalUnit) (p : Phase) (t : Stage) → cond (same_unit v u) (stage_in p) None ≡ Some t
-    → (same_unit v u && is_reserved (progress_of p)) ≡ true
-unfolding stage_in is_reserved progress_of
+    → (same_unit v u && is_reserved (occupancy_of p)) ≡ true
+unfolding stage_in is_reserved occupancy_of
 unit_here_in u v (Before s) t h = by_test (same_unit v u) h
   where
     by_test : (b : Bool) → cond b (Some s) None ≡ Some t → (b && true) ≡ true
@@ -212,8 +212,8 @@ unit_here_in u v (After l) t h = by_test (same_unit v u) h
     by_test false k = cc
 
 unit_not_in : (u v : FunctionalUnit) (p : Phase) → cond (same_unit v u) (stage_in p) None ≡ None
-    → (same_unit v u && is_reserved (progress_of p)) ≡ false
-unfolding stage_in is_reserved progress_of
+    → (same_unit v u && is_reserved (occupancy_of p)) ≡ false
+unfolding stage_in is_reserved occupancy_of
 unit_not_in u v (Before s) h = by_test (same_unit v u) h
   where
     by_test : (b : Bool) → cond b (Some s) None ≡ None → (b && true) ≡ false
@@ -221,8 +221,8 @@ unit_not_in u v (Before s) h = by_test (same_unit v u) h
     by_test false k = refl
 unit_not_in u v (After l) h = and_right (same_unit v u) false refl
 
-unit_on_in : (b : Bool) (p : Phase) (t : Stage) → cond b (stage_in p) None ≡ Some t → progress_of p ≡ Left None → ⊥
-unfolding stage_in progress_of
+unit_on_in : (b : Bool) (p : Phase) (t : Stage) → cond b (stage_in p) None ≡ Some t → occupancy_of p ≡ Left None → ⊥
+unfolding stage_in occupancy_of
 unit_on_in true (Before s) t h e = cc
 unit_on_in true (After l) t h e = cc
 unit_on_in false p t h e = cc
@@ -286,17 +286,17 @@ arrival_in_there c (After (Accepted n v)) x h = by_test (eqb n c) refl h
         ∙ ap (λ (y : Arrival). After (Accepted c y.word)) (same_Some _ x k)
     by_test false e k = cc
 
-arrival_progress : (c : ℕ) (m : Pending) (x : Arrival) → arrival_at c m ≡ Some x
-    → (reservation_of m).progress ≡ Left (Some c)
-unfolding arrival_at reservation_of progress_of returning
-arrival_progress c m x h = ap progress_of (arrival_in_there c m.phase x h)
+arrival_occupancy : (c : ℕ) (m : Pending) (x : Arrival) → arrival_at c m ≡ Some x
+    → (reservation_of m).occupancy ≡ Left (Some c)
+unfolding arrival_at reservation_of occupancy_of returning
+arrival_occupancy c m x h = ap occupancy_of (arrival_in_there c m.phase x h)
 
-not_reserved : (n : ℕ) (e : Pending) (b : Bool) → (reservation_of e).progress ≡ Reserved b
+not_reserved : (n : ℕ) (e : Pending) (b : Bool) → (reservation_of e).occupancy ≡ Reserved b
     → returning_by n (issued_of e) ≡ None
 unfolding returning_by returns_in issued_of
 not_reserved n e b h = ap (λ p. cond (returns_in n p) (Some (reservation_of e).instr) None) h
 
-not_that : (n m : ℕ) (e : Pending) → (reservation_of e).progress ≡ Left (Some m)
+not_that : (n m : ℕ) (e : Pending) → (reservation_of e).occupancy ≡ Left (Some m)
     → comes (X n) (reservation_of e) ≡ false
     → returning_by n (issued_of e) ≡ None
 unfolding returning_by returns_in issued_of comes to_come to_come_in returning_to is_in
@@ -313,29 +313,29 @@ unfolding awaited on_board kept_on
 silent_returns n [] h = tt
 silent_returns n (e ∷ es) h =
     let p = or_parts (comes (X n) (reservation_of e)) (list_any (λ m. comes (X n) (reservation_of m)) es) h in
-    by_progress n (reservation_of e).progress refl (issued_of e) (on_board es) refl p.0 (silent_returns n es p.1)
+    by_occupancy n (reservation_of e).occupancy refl (issued_of e) (on_board es) refl p.0 (silent_returns n es p.1)
   where
-    by_progress : (n : ℕ) (p : Progress) → (reservation_of e).progress ≡ p → (x : Issued) (l : List Issued)
+    by_occupancy : (n : ℕ) (p : Occupancy) → (reservation_of e).occupancy ≡ p → (x : Issued) (l : List Issued)
         → x ≡ issued_of e
         → comes (X n) (reservation_of e) ≡ false → Each (λ x. returning_by n x ≡ None) l
         → Each (λ x. returning_by n x ≡ None) (kept_on p l x)
-    by_progress n (Reserved b) ep x l ex h k = (ap (returning_by n) ex ∙ not_reserved n e b ep, k)
-    by_progress n (Left (Some m)) ep x l ex h k = (ap (returning_by n) ex ∙ not_that n m e ep h, k)
-    by_progress n (Left None) ep x l ex h k = subst (Each (λ x. returning_by n x ≡ None)) (sym (kept_nothing l x)) k
+    by_occupancy n (Reserved b) ep x l ex h k = (ap (returning_by n) ex ∙ not_reserved n e b ep, k)
+    by_occupancy n (Left (Some m)) ep x l ex h k = (ap (returning_by n) ex ∙ not_that n m e ep h, k)
+    by_occupancy n (Left None) ep x l ex h k = subst (Each (λ x. returning_by n x ≡ None)) (sym (kept_nothing l x)) k
 
 returning_here : (n : ℕ) (m : Pending) (x : Arrival) → arrival_at n m ≡ Some x
     → returning_by n (issued_of m) ≡ Some m.instr
 unfolding returning_by returns_in issued_of reservation_of
 returning_here n m x h =
-    ap (λ p. cond (returns_in n p) (Some m.instr) None) (arrival_progress n m x h)
+    ap (λ p. cond (returns_in n p) (Some m.instr) None) (arrival_occupancy n m x h)
     ∙ ap (λ b. cond b (Some m.instr) None) (eq-eqb n n refl)
 
 -- the board's part of a list round an instruction that it has
-board_around : (es : List Pending) (m : Pending) (ls : List Pending) → ((reservation_of m).progress ≡ Left None → ⊥)
+board_around : (es : List Pending) (m : Pending) (ls : List Pending) → ((reservation_of m).occupancy ≡ Left None → ⊥)
     → on_board (es ++ m ∷ ls) ≡ on_board es ++ issued_of m ∷ on_board ls
 unfolding on_board
 board_around es m ls h =
-    board-append es (m ∷ ls) ∙ ap (λ l. on_board es ++ l) (kept_here (reservation_of m).progress (on_board ls)
+    board-append es (m ∷ ls) ∙ ap (λ l. on_board es ++ l) (kept_here (reservation_of m).occupancy (on_board ls)
     (issued_of m) h)
 
 -- a load that returns, as it is found on the board
@@ -344,7 +344,7 @@ pub return_found : (n : ℕ) (ms : List Pending) (f : Found Pending Arrival) →
 unfolding found_on_board
 return_found n ms f h k =
     let p = seek_splits (arrival_at n) ms f h in
-    let q = arrival_progress n f.item f.answer p.1 in
+    let q = arrival_occupancy n f.item f.answer p.1 in
     ap (seek (returning_by n)) (ap on_board p.0
     ∙ board_around f.earlier f.item f.later (λ z. let y : Left (Some n) ≡ Left None = sym q ∙ z in cc))
     ∙ seek_around (returning_by n) (on_board f.earlier) (issued_of f.item) f.item.instr (on_board f.later)
@@ -373,7 +373,7 @@ unfolding replaced put_back found_on_board
 unit_changed u ms f g h = ap (λ o. replaced o (on_board ms) g) (unit_found u ms ∙ ap found_on_board h)
 
 read_put : (m : Pending) (os : Operands) → on_board (in_phase m (Before (Read os)) ∷ []) ≡ read (issued_of m)
-unfolding on_board kept_on read issued_of reservation_of in_progress in_phase progress_of has_read
+unfolding on_board kept_on read issued_of reservation_of in_occupancy in_phase occupancy_of has_read
 read_put m os = refl
 
 pub read_follows : (u : FunctionalUnit) (ms : List Pending) (f : Found Pending Stage) (os : Operands)
@@ -396,31 +396,31 @@ same_put g ms f xs h e =
 
 seen_alike : (m n : Pending) → issued_of m ≡ issued_of n → on_board (m ∷ []) ≡ on_board (n ∷ [])
 unfolding on_board issued_of
-seen_alike m n e = ap (λ (x : Issued). kept_on x.reservation.progress [] x) e
+seen_alike m n e = ap (λ (x : Issued). kept_on x.reservation.occupancy [] x) e
 
 -- an instruction that has read comes to another stage in which it has
 pub stage_follows : (u : FunctionalUnit) (ms : List Pending) (f : Found Pending Stage) (v : UnitValue)
     → seek (stage_at u) ms ≡ Some f → has_read f.answer ≡ true
     → on_board (put_back f (in_phase f.item (Before (Finished v)) ∷ [])) ≡ on_board ms
-unfolding issued_of reservation_of in_phase progress_of has_read
+unfolding issued_of reservation_of in_phase occupancy_of has_read
 stage_follows u ms f v h e =
     let p = seek_splits (stage_at u) ms f h in
-    let q : progress_of f.item.phase ≡ Reserved true =
-    ap progress_of (stage_found u f.item f.answer p.1) ∙ ap Reserved e in
+    let q : occupancy_of f.item.phase ≡ Reserved true =
+    ap occupancy_of (stage_found u f.item f.answer p.1) ∙ ap Reserved e in
     same_put (stage_at u) ms f (in_phase f.item (Before (Finished v)) ∷ []) h
     (seen_alike (in_phase f.item (Before (Finished v))) f.item
     (sym (ap (λ z. record {
       number = f.item.number;
-      reservation = record { instr = f.item.instr; unit = f.item.unit; progress = z };
+      reservation = record { instr = f.item.instr; unit = f.item.unit; occupancy = z };
     }) q)))
 
 kept_put : (m : Pending) (l : Option Outstanding) → on_board (kept m l) ≡ left_with (issued_of m) (left_to_return l)
-unfolding on_board kept kept_on left_with issued_of reservation_of in_progress in_phase progress_of left_to_return
+unfolding on_board kept kept_on left_with issued_of reservation_of in_occupancy in_phase occupancy_of left_to_return
 kept_put m None = refl
 kept_put m (Some l) = by_register (returning l)
   where
     by_register : (o : Option ℕ) → kept_on (Left o) []
-        (record { number = m.number; reservation = record { instr = m.instr; unit = m.unit; progress = Left o } })
+        (record { number = m.number; reservation = record { instr = m.instr; unit = m.unit; occupancy = Left o } })
         ≡ left_with (issued_of m) o
     by_register None = refl
     by_register (Some n) = refl
@@ -438,7 +438,7 @@ store_follows u ms f l h e =
 pub load_follows : (p : ℕ) (ms : List Pending) (f : Found Pending Reference) (n w : ℕ)
     → seek (entry_at p) ms ≡ Some f → f.answer.access ≡ Load n
     → on_board (put_back f (in_phase f.item (After (Accepted n w)) ∷ [])) ≡ on_board ms
-unfolding entry_at issued_of reservation_of in_phase progress_of returning
+unfolding entry_at issued_of reservation_of in_phase occupancy_of returning
 load_follows p ms f n w h e =
     let q = entry_in_found p f.item.phase f.answer (seek_splits (entry_at p) ms f h).1 in
     same_put (entry_at p) ms f (in_phase f.item (After (Accepted n w)) ∷ []) h
@@ -448,21 +448,21 @@ load_follows p ms f n w h e =
       reservation = record {
         instr = f.item.instr;
         unit = f.item.unit;
-        progress = progress_of z;
+        occupancy = occupancy_of z;
       };
     }) (q.1 ∙ ap (λ x. After (Entered q.0 f.answer.address x)) e))))
 
-unseen : (m : Pending) → (reservation_of m).progress ≡ Left None → [] ≡ on_board (m ∷ [])
+unseen : (m : Pending) → (reservation_of m).occupancy ≡ Left None → [] ≡ on_board (m ∷ [])
 unfolding on_board kept_on
 unseen m e = sym (ap (λ p. kept_on p [] (issued_of m)) e)
 
 pub stored_follows : (p : ℕ) (ms : List Pending) (f : Found Pending Reference) (w : ℕ)
     → seek (entry_at p) ms ≡ Some f → f.answer.access ≡ Store w → on_board (put_back f []) ≡ on_board ms
-unfolding entry_at reservation_of progress_of returning on_board
+unfolding entry_at reservation_of occupancy_of returning on_board
 stored_follows p ms f w h e =
     let q = entry_in_found p f.item.phase f.answer (seek_splits (entry_at p) ms f h).1 in
     same_put (entry_at p) ms f [] h
-    (unseen f.item (ap progress_of (q.1 ∙ ap (λ x. After (Entered q.0 f.answer.address x)) e)))
+    (unseen f.item (ap occupancy_of (q.1 ∙ ap (λ x. After (Entered q.0 f.answer.address x)) e)))
 
 pub return_follows : (n : ℕ) (ms : List Pending) (f : Found Pending Arrival) → seek (arrival_at n) ms ≡ Some f
     → awaited reservation_of f.earlier (X n) ≡ false
@@ -473,8 +473,8 @@ return_follows n ms f h k =
     ∙ sym (ap (λ o. replaced o (on_board ms) gone) (return_found n ms f h k))
 
 pub issue_follows : (ms : List Pending) (i : Instr) (at number : ℕ) (u : FunctionalUnit)
-    → on_board (ms ++ record { instr = i; at = at; number = number; unit = u; phase = Before Waiting } ∷ [])
+    → on_board (ms ++ record { instr = i; at = at; number = number; unit = u; phase = Before Unread } ∷ [])
     ≡ on_board ms ++ new_issued i u number ∷ []
-unfolding on_board kept_on issued_of reservation_of progress_of has_read new_issued
+unfolding on_board kept_on issued_of reservation_of occupancy_of has_read new_issued
 issue_follows ms i at number u =
-    board-append ms (record { instr = i; at = at; number = number; unit = u; phase = Before Waiting } ∷ [])
+    board-append ms (record { instr = i; at = at; number = number; unit = u; phase = Before Unread } ∷ [])

@@ -48,7 +48,7 @@ use Rattle.in_flight.specs.inner.Board.{IsTied}
 use Rattle.in_flight.specs.inner.Board.{queue_with}
 use Rattle.in_flight.specs.Flight.{with_pending}
 use Rattle.in_flight.specs.Lookup.{waiting_in, waiting}
-use Rattle.in_flight.specs.Pending.{reservation_of, progress_of, returning, to_come, has_turn, is_entered, entered_in}
+use Rattle.in_flight.specs.Pending.{reservation_of, occupancy_of, returning, to_come, has_turn, is_entered, entered_in}
 use Rattle.in_flight.specs.Pending.{holds_back}
 use Rattle.in_flight.specs.Pending.{holds_back_in}
 use Rattle.in_flight.specs.inner.OwnSlots.{HasOwnSlots, IsChannel, IsPlaced}
@@ -268,8 +268,8 @@ one_load n rs ts e l he hl a =
     eqb-false n n f.0 refl
 
 coming_in : (n w : ℕ) (y : Pending) → y.phase ≡ After (Accepted n w) → to_come y ≡ X n ∷ []
-unfolding to_come board.to_come reservation_of board.to_come_in progress_of returning returning_to
-coming_in n w y h = ap (λ p. board.to_come_in (shape_of y.instr) (progress_of p)) h
+unfolding to_come board.to_come reservation_of board.to_come_in occupancy_of returning returning_to
+coming_in n w y h = ap (λ p. board.to_come_in (shape_of y.instr) (occupancy_of p)) h
 
 coming_to : (n : ℕ) (y : Pending) → n < 8 → slot_of y ≡ 14 + n → to_come y ≡ X n ∷ []
 coming_to n y b h =
@@ -290,8 +290,8 @@ channel_free n rs es m ls apart h b away =
     )
 
 referring_comes : (n p a : ℕ) (y : Pending) → y.phase ≡ After (HasEntered p a (Load n)) → to_come y ≡ X n ∷ []
-unfolding to_come board.to_come reservation_of board.to_come_in progress_of returning returning_to
-referring_comes n p a y h = ap (λ q. board.to_come_in (shape_of y.instr) (progress_of q)) h
+unfolding to_come board.to_come reservation_of board.to_come_in occupancy_of returning returning_to
+referring_comes n p a y h = ap (λ q. board.to_come_in (shape_of y.instr) (occupancy_of q)) h
 
 referring_away : (n p a : ℕ) (x : Access) (y : Pending) → p < 4 → y.phase ≡ After (HasEntered p a x)
     → slot_of y ≢ 14 + n
@@ -436,8 +436,8 @@ loads_through Links n e = cc
 
 load_comes : (m : Pending) (t : Stage) (n : ℕ) → m.phase ≡ Before t → shape_of m.instr ≡ Loads n
     → to_come m ≡ (A n ∷ []) ++ X n ∷ []
-unfolding to_come board.to_come reservation_of board.to_come_in progress_of results sets_of loads_of
-load_comes m t n h e = ap (λ p. board.to_come_in (shape_of m.instr) (progress_of p)) h ∙ ap results e
+unfolding to_come board.to_come reservation_of board.to_come_in occupancy_of results sets_of loads_of
+load_comes m t n h e = ap (λ p. board.to_come_in (shape_of m.instr) (occupancy_of p)) h ∙ ap results e
 
 unit_away : (m : Pending) (t : Stage) (n : ℕ) → m.phase ≡ Before t → slot_of m ≢ 14 + n
 unfolding slot_of slot_in
@@ -641,8 +641,8 @@ none_entered m (l ∷ ls) h a = ap (λ w. w ++ waiting ls) (not_entered l m h a.
 
 pub turn_there : (m : Pending) (t : Stage) → m.phase ≡ Before t → has_reference (shape_of m.instr) ≡ true
     → has_turn m ≡ true
-unfolding has_turn board.has_turn reservation_of is_reserved progress_of
-turn_there m t h e = ap (λ p. is_reserved (progress_of p) && has_reference (shape_of m.instr)) h ∙ e
+unfolding has_turn board.has_turn reservation_of is_reserved occupancy_of
+turn_there m t h e = ap (λ p. is_reserved (occupancy_of p) && has_reference (shape_of m.instr)) h ∙ e
 
 queue_entering : (u : FunctionalUnit) (ms : List Pending) (queue : Queue) (f : Found Pending Stage) (place : ℕ)
     (o : Option ℕ) (x : Access) → Pairs IsApart ms → seek (stage_at u) ms ≡ Some f

@@ -12,21 +12,21 @@ use Rattle.in_flight.specs.declared.pending.Outstanding.TheVariants.{Entered, Ac
 use Rattle.in_flight.specs.declared.pending.Phase.{Phase}
 use Rattle.in_flight.specs.declared.pending.Phase.TheVariants.{Before, After}
 use Rattle.in_flight.specs.declared.pending.Pending.{Pending}
-use Rattle.in_flight.specs.Pending.{returning, progress_of, reservation_of, is_branch, stores_in, delays_fetch}
+use Rattle.in_flight.specs.Pending.{returning, occupancy_of, reservation_of, is_branch, stores_in, delays_fetch}
 use Rattle.in_flight.specs.inner.OwnSlots.{unit_slot}
 use Rattle.instructions.specs.declared.instr.Unit.{Unit as FunctionalUnit}
 
 unfoldable pub to_come_in : Shape → Phase → List Reg
-to_come_in h p = reservation.to_come_in h (progress_of p)
+to_come_in h p = reservation.to_come_in h (occupancy_of p)
 
 unfoldable pub target_of : Outstanding → List Reg
 target_of l = returning_to (returning l)
 
 unfoldable pub reads_in : List Reg → Phase → List Reg
-reads_in rs p = reservation.reads_in rs (progress_of p)
+reads_in rs p = reservation.reads_in rs (occupancy_of p)
 
 unfoldable pub before_and : Bool → Phase → Bool
-before_and f p = is_reserved (progress_of p) && f
+before_and f p = is_reserved (occupancy_of p) && f
 
 unfoldable pub may_store_in : Bool → ℕ → Phase → Bool
 may_store_in f a (Before t) = f
@@ -58,9 +58,9 @@ no_store true true x h k = cc
 no_store true false x h k = cc
 
 may_store_none : (f g : Bool) (a : ℕ) (p : Phase)
-    → (((is_reserved (progress_of p) && f) && not g) || stores_in a p) ≡ false
-    → (is_reserved (progress_of p) && g) ≡ false → may_store_in f a p ≡ false
-unfolding progress_of is_reserved stores_in stores_to may_store_in
+    → (((is_reserved (occupancy_of p) && f) && not g) || stores_in a p) ≡ false
+    → (is_reserved (occupancy_of p) && g) ≡ false → may_store_in f a p ≡ false
+unfolding occupancy_of is_reserved stores_in stores_to may_store_in
 may_store_none f g a (Before t) h k = no_store f g false h k
 may_store_none f g a (After (Entered place b (StoreWord w))) h k = h
 may_store_none f g a (After (Entered place b (LoadInto n))) h k = refl

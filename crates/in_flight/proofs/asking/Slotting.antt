@@ -18,7 +18,7 @@ use Rattle.in_flight.specs.declared.pending.Phase.{Phase}
 use Rattle.in_flight.specs.declared.pending.Phase.TheVariants.{Before, After}
 use Rattle.in_flight.specs.declared.pending.Pending.{Pending}
 use Rattle.instructions.specs.Each.{Each, Pairs}
-use Rattle.in_flight.specs.Pending.{progress_of, returning, reservation_of, to_come}
+use Rattle.in_flight.specs.Pending.{occupancy_of, returning, reservation_of, to_come}
 use Rattle.in_flight.specs.inner.OwnSlots.{unit_slot, clash_in, clash, IsPlaced, IsProper, HasOwnSlots, IsChannel}
 use Rattle.in_flight.specs.Apart.{IsApart}
 use Rattle.instructions.proofs.Lists.{each_left, each_right, each_append, each_map, each_both, pairs_without}
@@ -70,7 +70,7 @@ other_slot u v h k e =
 
 channels_differ : (h k : Shape) (m n v w : ℕ)
     → overlap (to_come_in k (After (Accepted n w))) (to_come_in h (After (Accepted m v))) ≡ false → m ≢ n
-unfolding to_come_in board.to_come_in progress_of returning returning_to overlap is_in
+unfolding to_come_in board.to_come_in occupancy_of returning returning_to overlap is_in
 channels_differ h k m n v w e i =
     let f = or_parts (reg_eq (X n) (X m)) false (or_parts (list_any (reg_eq (X n)) (X m ∷ [])) false e).0 in
     eqb-false n m f.0 (sym i)

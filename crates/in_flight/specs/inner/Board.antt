@@ -3,8 +3,8 @@ use Rattle.std.specs.Prelude.{◌≡◌, ◌≤◌, List, [], ◌∷◌, ◌++�
 use Rattle.instructions.specs.Each.{Each}
 use Rattle.scoreboard.specs.Answers.{Standing}
 use Rattle.hopper.specs.Queue.{Queue}
-use Rattle.scoreboard.specs.declared.reservation.Progress.{Progress}
-use Rattle.scoreboard.specs.declared.reservation.Progress.TheVariants.{Reserved, Left}
+use Rattle.scoreboard.specs.declared.reservation.Occupancy.{Occupancy}
+use Rattle.scoreboard.specs.declared.reservation.Occupancy.TheVariants.{Reserved, Left}
 use Rattle.scoreboard.specs.declared.issued.Issued.{Issued}
 use Rattle.in_flight.specs.declared.pending.Outstanding.{Outstanding}
 use Rattle.in_flight.specs.declared.pending.Pending.{Pending}
@@ -17,7 +17,7 @@ unfoldable pub issued_of : Pending → Issued
 issued_of m = record { number = m.number; reservation = reservation_of m }
 
 -- one instruction before the others; a store that waits in the hopper has nothing more to do with the board
-unfoldable pub kept_on : Progress → List Issued → Issued → List Issued
+unfoldable pub kept_on : Occupancy → List Issued → Issued → List Issued
 kept_on (Reserved has_read) rest x = x ∷ rest
 kept_on (Left (Some n)) rest x = x ∷ rest
 kept_on (Left None) rest x = rest
@@ -25,7 +25,7 @@ kept_on (Left None) rest x = rest
 -- what the board has of the pending instructions, in issue order
 unfoldable pub on_board : List Pending → List Issued
 on_board [] = []
-on_board (m ∷ ms) = kept_on (reservation_of m).progress (on_board ms) (issued_of m)
+on_board (m ∷ ms) = kept_on (reservation_of m).occupancy (on_board ms) (issued_of m)
 
 -- the hopper when what is left of an instruction has come to wait in it, if it is a reference
 unfoldable pub queue_with : Queue → Option Outstanding → Queue

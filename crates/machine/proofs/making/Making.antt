@@ -45,7 +45,7 @@ use Rattle.in_flight.specs.declared.pending.Outstanding.{Outstanding}
 use Rattle.in_flight.specs.declared.pending.Pending.{Pending}
 use Rattle.in_flight.specs.declared.pending.Phase.TheVariants.{Before}
 use Rattle.in_flight.specs.declared.pending.Stage.{Stage}
-use Rattle.in_flight.specs.declared.pending.Stage.TheVariants.{Waiting, Read as HasRead, Finished}
+use Rattle.in_flight.specs.declared.pending.Stage.TheVariants.{Unread, Read as HasRead, Finished}
 use Rattle.in_flight.specs.Tests.{refusal_in, refusal_of, tests_found, read_tests, accept_tests, return_tests}
 use Rattle.in_flight.specs.Tests.{free_tests, reservation_tests}
 use Rattle.in_flight.specs.Flight.{left_by, Flight, outstanding_of, reserved_in, unit_taken, with_pending}
@@ -210,7 +210,7 @@ exchange_judged w r o h k = h ∙ k
 -- ---- the machines that are made ----
 
 pub read_made : (w : Processor) (u : FunctionalUnit) (m : Pending) (os : Operands) (g : Flight)
-    → located (seek (stage_at u) w.pending) ≡ Some (record { pending = m; answer = Waiting })
+    → located (seek (stage_at u) w.pending) ≡ Some (record { pending = m; answer = Unread })
     → os ≡ operands m.instr m.at w.state.registers
     → g ≡ with_pending (flight w)
     (replaced (seek (stage_at u) w.pending) w.pending (λ x. in_phase x (Before (HasRead os)) ∷ []))
@@ -218,19 +218,19 @@ pub read_made : (w : Processor) (u : FunctionalUnit) (m : Pending) (os : Operand
 unfolding after replaced after_found after_read stage_after_read
 read_made w u m os g h o e = ap (with_flight w) e ∙ found (seek (stage_at u) w.pending) h
   where
-    found : (q : Option (Found Pending Stage)) → located q ≡ Some (record { pending = m; answer = Waiting })
+    found : (q : Option (Found Pending Stage)) → located q ≡ Some (record { pending = m; answer = Unread })
         → record w { pending = replaced q w.pending (λ x. in_phase x (Before (HasRead os)) ∷ []) }
         ≡ after_found w q (after_read w)
-    found None k = absurd (no_sought (record { pending = m; answer = Waiting }) k)
+    found None k = absurd (no_sought (record { pending = m; answer = Unread }) k)
     found (Some f) k =
         ap (λ x. record w { pending = put_back f (in_phase f.item (Before (HasRead x)) ∷ []) })
         (o ∙ ap (λ (x : Pending). operands x.instr x.at w.state.registers)
-        (sym (sought_pending f (record { pending = m; answer = Waiting }) k)))
+        (sym (sought_pending f (record { pending = m; answer = Unread }) k)))
         ∙ ap (λ t. record w {
           pending = put_back f
               (in_phase f.item (Before (stage_after_read w.state.registers f.item.instr f.item.at t))
               ∷ []);
-        }) (sym (sought_what f (record { pending = m; answer = Waiting }) k))
+        }) (sym (sought_what f (record { pending = m; answer = Unread }) k))
 
 pub finish_made : (w : Processor) (u : FunctionalUnit) (m : Pending) (os : Operands) (v : UnitValue) (g : Flight)
     → located (seek (stage_at u) w.pending) ≡ Some (record { pending = m; answer = HasRead os })

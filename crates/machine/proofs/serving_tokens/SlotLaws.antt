@@ -15,12 +15,12 @@ use Rattle.program_order.specs.declared.event.Done.{Done}
 use Rattle.program_order.specs.declared.event.Note.{Note}
 use Rattle.program_order.specs.Run.{answer_by, answer_of}
 use Rattle.std.specs.Prelude.{◌≢◌, IfSome, MatchBool, Ok, Err}
-use Rattle.in_flight.specs.Pending.{has_read, is_finished, is_waiting}
+use Rattle.in_flight.specs.Pending.{has_read, is_finished, is_unread}
 use Rattle.instructions.specs.declared.instr.Instr.{Instr}
 use Rattle.in_flight.specs.declared.pending.Pending.{Pending}
 use Rattle.in_flight.specs.declared.pending.Phase.TheVariants.{Before}
 use Rattle.in_flight.specs.declared.pending.Stage.{Stage}
-use Rattle.in_flight.specs.declared.pending.Stage.TheVariants.{Waiting, Read as HasRead, Finished}
+use Rattle.in_flight.specs.declared.pending.Stage.TheVariants.{Unread, Read as HasRead, Finished}
 use Rattle.instructions.specs.Each.{Each}
 use Rattle.in_flight.specs.declared.slots.Located.{Located}
 use Rattle.in_flight.specs.Flight.{Flight, with_pending}
@@ -28,7 +28,7 @@ use Rattle.in_flight.specs.Lookup.{located, in_phase, stage_at, stage_in}
 use Rattle.instructions.specs.Finding.{replaced, Found, put_back, seek}
 use Rattle.machine.specs.Tokens.{Computation, Reading, ServedReservation, Seating, IsValueAt, IsValueIn, finished_in}
 use Rattle.machine.specs.Tokens.{read_of}
-use Rattle.machine.specs.Tokens.{reading_at, reading_in, refusal_to, slot, waits_in}
+use Rattle.machine.specs.Tokens.{reading_at, reading_in, refusal_to, slot, unread_in}
 use Rattle.program_order.specs.Processor.{Processor}
 use Rattle.program_order.specs.Events.{after, allowed, tests_of}
 use Rattle.program_order.specs.Units.{finish_tests}
@@ -67,7 +67,7 @@ still_at u m t s h = by_test (same_unit m.unit u) h
 
 -- a slot whose unit has read holds what was read
 pub slot_read : (u : FunctionalUnit) (pending ms : List Pending) (m : Pending) (os : Operands)
-    → located (seek (stage_at u) pending) ≡ Some (record { pending = m; answer = Waiting })
+    → located (seek (stage_at u) pending) ≡ Some (record { pending = m; answer = Unread })
     → ms ≡ replaced (seek (stage_at u) pending) pending (λ x. in_phase x (Before (HasRead os)) ∷ [])
     → (seat : Seating) → reading_in seat (seek (stage_at u) ms)
     ≡ Some (record { seat = seat; number = m.number; instr = m.instr; operands = os })
@@ -76,37 +76,37 @@ slot_read u pending ms m os h e seat =
     ap (λ l. reading_in seat (seek (stage_at u) l)) e ∙ found (seek (stage_at u) pending) refl h
   where
     found : (q : Option (Found Pending Stage)) → seek (stage_at u) pending ≡ q
-        → located q ≡ Some (record { pending = m; answer = Waiting })
+        → located q ≡ Some (record { pending = m; answer = Unread })
         → reading_in seat (seek (stage_at u) (replaced q pending (λ x. in_phase x (Before (HasRead os)) ∷ [])))
         ≡ Some (record { seat = seat; number = m.number; instr = m.instr; operands = os })
-    found None i k = absurd (no_sought (record { pending = m; answer = Waiting }) k)
+    found None i k = absurd (no_sought (record { pending = m; answer = Unread }) k)
     found (Some f) i k =
         ap (reading_in seat) (put_found (stage_at u) pending f (in_phase f.item (Before (HasRead os))) (HasRead os) i
         (still_at u f.item f.answer (HasRead os) (seek_splits (stage_at u) pending f i).1))
         ∙ ap (λ (x : Pending). Some (record { seat = seat; number = x.number; instr = x.instr; operands = os }))
-        (sought_pending f (record { pending = m; answer = Waiting }) k)
+        (sought_pending f (record { pending = m; answer = Unread }) k)
 
 -- the slot of a waiting instruction waits with its number
-pub slot_waits : (u : FunctionalUnit) (pending : List Pending) (m : Pending)
-    → located (seek (stage_at u) pending) ≡ Some (record { pending = m; answer = Waiting })
-    → waits_in m.number (seek (stage_at u) pending) ≡ true
-unfolding waits_in is_waiting
-slot_waits u pending m h = found (seek (stage_at u) pending) h
+pub slot_unread : (u : FunctionalUnit) (pending : List Pending) (m : Pending)
+    → located (seek (stage_at u) pending) ≡ Some (record { pending = m; answer = Unread })
+    → unread_in m.number (seek (stage_at u) pending) ≡ true
+unfolding unread_in is_unread
+slot_unread u pending m h = found (seek (stage_at u) pending) h
   where
-    found : (q : Option (Found Pending Stage)) → located q ≡ Some (record { pending = m; answer = Waiting })
-        → waits_in m.number q ≡ true
-    found None k = absurd (no_sought (record { pending = m; answer = Waiting }) k)
+    found : (q : Option (Found Pending Stage)) → located q ≡ Some (record { pending = m; answer = Unread })
+        → unread_in m.number q ≡ true
+    found None k = absurd (no_sought (record { pending = m; answer = Unread }) k)
     found (Some f) k =
-        ap (λ (x : Pending). is_waiting f.answer && eqb x.number m.number)
-        (sought_pending f (record { pending = m; answer = Waiting }) k)
-        ∙ ap (λ t. is_waiting t && eqb m.number m.number) (sought_what f (record { pending = m; answer = Waiting }) k)
+        ap (λ (x : Pending). is_unread f.answer && eqb x.number m.number)
+        (sought_pending f (record { pending = m; answer = Unread }) k)
+        ∙ ap (λ t. is_unread t && eqb m.number m.number) (sought_what f (record { pending = m; answer = Unread }) k)
         ∙ eq-eqb m.number m.number refl
 
 -- a slot waits with one number
-pub one_number : (m n : ℕ) (o : Option (Found Pending Stage)) → waits_in m o ≡ true → waits_in n o ≡ true → m ≡ n
-unfolding waits_in
+pub one_number : (m n : ℕ) (o : Option (Found Pending Stage)) → unread_in m o ≡ true → unread_in n o ≡ true → m ≡ n
+unfolding unread_in
 one_number m n None h k = cc
-one_number m n (Some f) h k = by_test (is_waiting f.answer) h k
+one_number m n (Some f) h k = by_test (is_unread f.answer) h k
   where
     by_test : (b : Bool) → (b && eqb f.item.number m) ≡ true → (b && eqb f.item.number n) ≡ true → m ≡ n
     by_test true i j = sym (eqb-true f.item.number m i) ∙ eqb-true f.item.number n j
@@ -116,8 +116,8 @@ one_number m n (Some f) h k = by_test (is_waiting f.answer) h k
 pub loaded_as : (w v : Processor) (t : ServedReservation) (k : Note) (m : Pending) (os : Operands)
     (pending : List Pending)
     (b : Bool) → k ≡ record { unit = t.seat.unit; number = t.number } → pending ≡ w.pending
-    → b ≡ waits_in k.number (seek (stage_at k.unit) pending) → b ≡ true
-    → waits_in m.number (slot w k.unit) ≡ true
+    → b ≡ unread_in k.number (seek (stage_at k.unit) pending) → b ≡ true
+    → unread_in m.number (slot w k.unit) ≡ true
     → ((seat : Seating) → reading_in seat (slot v k.unit)
     ≡ Some (record { seat = seat; number = m.number; instr = m.instr; operands = os }))
     → reading_in t.seat (slot v t.seat.unit)
@@ -127,7 +127,7 @@ loaded_as w v t k m os pending b ek em eb et h i =
     ∙ i t.seat
     ∙ ap (λ n. Some (record { seat = t.seat; number = n; instr = m.instr; operands = os }))
     (one_number m.number k.number (slot w k.unit) h
-    (ap (λ l. waits_in k.number (seek (stage_at k.unit) l)) (sym em) ∙ sym eb ∙ et)
+    (ap (λ l. unread_in k.number (seek (stage_at k.unit) l)) (sym em) ∙ sym eb ∙ et)
     ∙ ap (λ (x : Note). x.number) ek)
 
 -- the value of what was read is the value that the slot is to have
@@ -138,7 +138,7 @@ value_in None seat r v h e = cc
 value_in (Some f) seat r v h e = at_stage f.answer h
   where
     at_stage : (t : Stage) → reading_at seat f.item.number f.item.instr t ≡ Some r → IsValueAt v f.item.instr t
-    at_stage Waiting k = cc
+    at_stage Unread k = cc
     at_stage (HasRead os) k = e ∙ ap (λ (x : Reading). value_of x.instr x.operands) (sym (same_Some _ r k))
     at_stage (Finished w) k = cc
 
@@ -151,7 +151,7 @@ has_read_in v (Some f) h = at_stage f.answer refl h
   where
     at_stage : (t : Stage) → f.answer ≡ t → IsValueAt v f.item.instr t
         → IfSome (located (Some f)) (λ s. has_read s.answer ≡ true)
-    at_stage Waiting e k = absurd k
+    at_stage Unread e k = absurd k
     at_stage (HasRead os) e k = ap has_read e ∙ read_is os
       where
         read_is : (os : Operands) → has_read (HasRead os) ≡ true
@@ -181,7 +181,7 @@ value_put w u v g i e = found (slot w u) refl i
 
         at_stage : (t : Stage) → f.answer ≡ t → IsValueAt v f.item.instr t → (with_flight w g ≡ after w (Finish u))
             × (allowed w (Finish u) ≡ None)
-        at_stage Waiting et q = absurd q
+        at_stage Unread et q = absurd q
         at_stage (HasRead os) et q = (finish_made w u f.item os v g (sought_as os et) q e, finishes os et)
         at_stage (Finished x) et q = absurd q
 
@@ -206,19 +206,19 @@ is_same c number instr operands false en eo h k = λ e. search (rules, k (ap (λ
 
 -- ---- what the instruction that was located says of its slot ----
 
-pub waits_at : (n : ℕ) (o : Option (Found Pending Stage)) (s : Located Stage) → located o ≡ Some s
-    → (is_waiting s.answer && eqb s.pending.number n) ≡ waits_in n o
-unfolding waits_in
-waits_at n None s h = absurd (no_sought s h)
-waits_at n (Some f) s h =
-    ap (λ t. is_waiting t && eqb s.pending.number n) (sym (sought_what f s h))
-    ∙ ap (λ (m : Pending). is_waiting f.answer && eqb m.number n) (sym (sought_pending f s h))
+pub unread_at : (n : ℕ) (o : Option (Found Pending Stage)) (s : Located Stage) → located o ≡ Some s
+    → (is_unread s.answer && eqb s.pending.number n) ≡ unread_in n o
+unfolding unread_in
+unread_at n None s h = absurd (no_sought s h)
+unread_at n (Some f) s h =
+    ap (λ t. is_unread t && eqb s.pending.number n) (sym (sought_what f s h))
+    ∙ ap (λ (m : Pending). is_unread f.answer && eqb m.number n) (sym (sought_pending f s h))
 
-pub waits_nowhere : (n : ℕ) (o : Option (Found Pending Stage)) → ((s : Located Stage) → located o ≡ Some s → ⊥)
-    → false ≡ waits_in n o
-unfolding waits_in located
-waits_nowhere n None h = refl
-waits_nowhere n (Some f) h = absurd (h (record { pending = f.item; answer = f.answer }) refl)
+pub unread_nowhere : (n : ℕ) (o : Option (Found Pending Stage)) → ((s : Located Stage) → located o ≡ Some s → ⊥)
+    → false ≡ unread_in n o
+unfolding unread_in located
+unread_nowhere n None h = refl
+unread_nowhere n (Some f) h = absurd (h (record { pending = f.item; answer = f.answer }) refl)
 
 pub finished_at : (n : ℕ) (o : Option (Found Pending Stage)) (s : Located Stage) → located o ≡ Some s
     → (is_finished s.answer && eqb s.pending.number n) ≡ finished_in n o
@@ -249,10 +249,10 @@ reads_nothing seat None x h k = cc
 reads_nothing seat (Some f) x h k = h (record { pending = f.item; answer = f.answer }) refl
 
 pub reads_waiting : (seat : Seating) (o : Option (Found Pending Stage)) (m : Pending) (x : Reading)
-    → located o ≡ Some (record { pending = m; answer = Waiting }) → reading_in seat o ≡ Some x → ⊥
+    → located o ≡ Some (record { pending = m; answer = Unread }) → reading_in seat o ≡ Some x → ⊥
 unfolding reading_at
 reads_waiting seat o m x h k =
-    let e : None ≡ Some x = sym (reads_as seat o (record { pending = m; answer = Waiting }) h) ∙ k in cc
+    let e : None ≡ Some x = sym (reads_as seat o (record { pending = m; answer = Unread }) h) ∙ k in cc
 
 pub reads_finished : (seat : Seating) (o : Option (Found Pending Stage)) (m : Pending) (v : UnitValue) (x : Reading)
     → located o ≡ Some (record { pending = m; answer = Finished v }) → reading_in seat o ≡ Some x → ⊥

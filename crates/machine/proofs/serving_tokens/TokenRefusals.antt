@@ -7,11 +7,11 @@ use Rattle.program_order.specs.declared.event.Note.{Note}
 use Rattle.program_order.specs.declared.event.Event.TheVariants.{Read, Store}
 use Rattle.in_flight.specs.declared.pending.Pending.{Pending}
 use Rattle.in_flight.specs.declared.pending.Stage.{Stage}
-use Rattle.in_flight.specs.declared.pending.Stage.TheVariants.{Waiting, Read as HasRead, Finished}
+use Rattle.in_flight.specs.declared.pending.Stage.TheVariants.{Unread, Read as HasRead, Finished}
 use Rattle.program_order.specs.Refusals.{is_read_refusal, is_store_refusal, is_stranger}
 use Rattle.program_order.specs.Run.{answer_of}
-use Rattle.machine.specs.Tokens.{finished_in, slot, waits_in}
-use Rattle.in_flight.specs.Pending.{is_finished, is_waiting}
+use Rattle.machine.specs.Tokens.{finished_in, slot, unread_in}
+use Rattle.in_flight.specs.Pending.{is_finished, is_unread}
 use Rattle.instructions.specs.Finding.{Found, seek}
 use Rattle.in_flight.specs.Tests.{nothing, read_tests, refusal_of, tests_found}
 use Rattle.program_order.specs.Processor.{Processor}
@@ -22,20 +22,20 @@ use Rattle.sequential.specs.State.{bounds_of}
 use Rattle.program_order.proofs.keeping.Naming.{answered_err, one_of}
 
 -- where it waits, only its operands can be refused
-waiting_named : (w : Processor) (u : FunctionalUnit) (n : ℕ) (k : Refusal) → waits_in n (slot w u) ≡ true
+waiting_named : (w : Processor) (u : FunctionalUnit) (n : ℕ) (k : Refusal) → unread_in n (slot w u) ≡ true
     → allowed w (Read u) ≡ Some k → is_read_refusal k ≡ true
-unfolding allowed tests_of tests_found read_tests waits_in is_waiting is_read_refusal nothing refusal_of
+unfolding allowed tests_of tests_found read_tests unread_in is_unread is_read_refusal nothing refusal_of
 waiting_named w u n k h e = in_slot (slot w u) h e
   where
-    in_slot : (o : Option (Found Pending Stage)) → waits_in n o ≡ true
+    in_slot : (o : Option (Found Pending Stage)) → unread_in n o ≡ true
         → refusal_of (tests_found o (λ f. read_tests f.answer f.earlier f.item.instr)) ≡ Some k
         → is_read_refusal k ≡ true
     in_slot None i j = cc
     in_slot (Some f) i j = at_stage f.answer i j
       where
-        at_stage : (t : Stage) → (is_waiting t && eqb f.item.number n) ≡ true
+        at_stage : (t : Stage) → (is_unread t && eqb f.item.number n) ≡ true
             → refusal_of (read_tests t f.earlier f.item.instr) ≡ Some k → is_read_refusal k ≡ true
-        at_stage Waiting a b = one_of is_read_refusal (read_tests Waiting f.earlier f.item.instr) k (refl, tt) b
+        at_stage Unread a b = one_of is_read_refusal (read_tests Unread f.earlier f.item.instr) k (refl, tt) b
         at_stage (HasRead os) a b = cc
         at_stage (Finished v) a b = cc
 
@@ -53,7 +53,7 @@ finished_named w u n k h e = in_slot (slot w u) h e
         at_stage : (t : Stage) → (is_finished t && eqb f.item.number n) ≡ true
             → refusal_of (store_tests (bounds_of w.state) w.pending t f.earlier f.item.instr) ≡ Some k
             → is_store_refusal k ≡ true
-        at_stage Waiting a b = cc
+        at_stage Unread a b = cc
         at_stage (HasRead os) a b = cc
         at_stage (Finished v) a b = one_of is_store_refusal
             (store_tests (bounds_of w.state) w.pending (Finished v) f.earlier f.item.instr) k
@@ -64,12 +64,12 @@ or_second true q h = refl
 or_second false q h = h
 
 pub read_named_to : (w : Processor) (note : Note) (pending : List Pending) (b : Bool) (k : Refusal)
-    → pending ≡ w.pending → b ≡ waits_in note.number (seek (stage_at note.unit) pending) → b ≡ true
+    → pending ≡ w.pending → b ≡ unread_in note.number (seek (stage_at note.unit) pending) → b ≡ true
     → allowed w (Read note.unit) ≡ Some k → (is_stranger k || is_read_refusal k) ≡ true
 read_named_to w note pending b k em eb et h =
     or_second (is_stranger k) (is_read_refusal k)
     (waiting_named w note.unit note.number k
-    (ap (λ l. waits_in note.number (seek (stage_at note.unit) l)) (sym em) ∙ sym eb ∙ et) h)
+    (ap (λ l. unread_in note.number (seek (stage_at note.unit) l)) (sym em) ∙ sym eb ∙ et) h)
 
 pub store_named_to : (w : Processor) (note : Note) (pending : List Pending) (b : Bool) (k : Refusal)
     → pending ≡ w.pending → b ≡ finished_in note.number (seek (stage_at note.unit) pending) → b ≡ true

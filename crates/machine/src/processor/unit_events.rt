@@ -3,7 +3,7 @@ ghost use Rattle.program_order.specs.declared.event.Event.TheVariants.{Read, Fin
 ghost use Rattle.program_order.specs.Run.{answer_of, settled};
 ghost use Rattle.instructions.specs.Operands.{uses};
 ghost use Rattle.in_flight.specs.Tests.{refusal_in};
-ghost use Rattle.machine.specs.Tokens.{Seating, IsValueIn, slot, waits_in, reading_in, rest_after};
+ghost use Rattle.machine.specs.Tokens.{Seating, IsValueIn, slot, unread_in, reading_in, rest_after};
 ghost use Rattle.program_order.specs.Events.{allowed, after};
 
 use judging::{judge_finish, judge_store};
@@ -20,7 +20,7 @@ impl Machine {
         ensures after { MatchResult result (λ read. self.new ≡ after self.old (Read unit))
             (λ refusal. self.new ≡ self.old) }
         ensures unit { IfOk result (λ read. IsSome (uses read.0.instr).unit) }
-        ensures number { IfOk result (λ read. waits_in read.0.number (slot self.old unit) ≡ true) }
+        ensures number { IfOk result (λ read. unread_in read.0.number (slot self.old unit) ≡ true) }
         ensures read { IfOk result (λ read. (seat : Seating)
             → reading_in seat (slot self.new unit)
             ≡ Some (record { seat = seat; number = read.0.number; instr = read.0.instr; operands = read.1 })) }

@@ -7,7 +7,7 @@ use Rattle.sequential.specs.declared.state.State.{State}
 use Rattle.hopper.specs.declared.reference.Reference.{Reference}
 use Rattle.in_flight.specs.declared.pending.Pending.{Pending}
 use Rattle.in_flight.specs.declared.pending.Stage.{Stage}
-use Rattle.in_flight.specs.declared.pending.Stage.TheVariants.{Waiting, Read as HasRead, Finished}
+use Rattle.in_flight.specs.declared.pending.Stage.TheVariants.{Unread, Read as HasRead, Finished}
 use Rattle.program_order.specs.declared.event.Event.{Event}
 use Rattle.program_order.specs.declared.event.Event.TheVariants.{Issue, Read, Finish, Store as StoreResult, Accept}
 use Rattle.program_order.specs.declared.event.Event.TheVariants.{Return, BankFree, Ask, Exchange, PpRead, PpWrite}
@@ -55,7 +55,7 @@ found_accounts w (Some x) f h = h x
 
 store_accounts : (w : Processor) (f : Found Pending Stage) (t : Stage) → KeepsAccounts w (after_store w f t)
 unfolding after_store after_work
-store_accounts w f Waiting = same_accounts w
+store_accounts w f Unread = same_accounts w
 store_accounts w f (HasRead os) = same_accounts w
 store_accounts w f (Finished v) = kept_accounts w _ _ w.busy
 

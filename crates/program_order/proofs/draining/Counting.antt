@@ -33,9 +33,9 @@ use Rattle.in_flight.specs.declared.pending.Pending.{Pending}
 use Rattle.in_flight.specs.declared.pending.Phase.{Phase}
 use Rattle.in_flight.specs.declared.pending.Phase.TheVariants.{Before, After}
 use Rattle.in_flight.specs.declared.pending.Stage.{Stage}
-use Rattle.in_flight.specs.declared.pending.Stage.TheVariants.{Waiting, Read as HasRead, Finished}
+use Rattle.in_flight.specs.declared.pending.Stage.TheVariants.{Unread, Read as HasRead, Finished}
 use Rattle.instructions.specs.Each.{Each, Pairs}
-use Rattle.in_flight.specs.Pending.{progress_of, reservation_of, entered_in, is_entered, has_turn}
+use Rattle.in_flight.specs.Pending.{occupancy_of, reservation_of, entered_in, is_entered, has_turn}
 use Rattle.in_flight.specs.inner.OwnSlots.{unit_slot, IsChannel, IsPlaced, IsProper, HasOwnSlots}
 use Rattle.in_flight.specs.Apart.{IsApart}
 use Rattle.program_order.specs.Drain.{reference_cost, stage_cost, outstanding_cost, phase_cost, cost, work_left}
@@ -139,7 +139,7 @@ channel_of m = channel_in (shape_of m.instr) m.phase
 
 stage_bound : (t : Stage) → stage_cost t ≤ 3
 unfolding stage_cost
-stage_bound Waiting = omega arith
+stage_bound Unread = omega arith
 stage_bound (HasRead os) = omega arith
 stage_bound (Finished v) = omega arith
 
@@ -151,7 +151,7 @@ costs = tt
 phase_bound : (h : Shape) (p : Phase)
     → phase_cost h p ≤ 3 * one_if (before_in p) + 2 * (one_if (before_and (has_reference h) p) + one_if (entered_in p))
     + one_if (load_in h p)
-unfolding costs before_in before_and progress_of is_reserved has_reference entered_in load_in
+unfolding costs before_in before_and occupancy_of is_reserved has_reference entered_in load_in
 phase_bound (Sets rs) (Before t) = let k = stage_bound t in omega (arith, k)
 phase_bound (Loads n) (Before t) = let k = stage_bound t in omega (arith, k)
 phase_bound (Stores n) (Before t) = let k = stage_bound t in omega (arith, k)
@@ -261,9 +261,9 @@ instr_slot (Increment TargetX i a) u e h = cc
 instr_slot (Increment TargetA i a) u e h = increment_slot u (sym (ap (λ o. may_take o u) (increment_unit i a)) ∙ h)
 
 turn_slot : (i : Instr) (u : FunctionalUnit) (p : Phase)
-    → (is_reserved (progress_of p) && has_reference (shape_of i)) ≡ true → may_take (uses i).unit u ≡ true
+    → (is_reserved (occupancy_of p) && has_reference (shape_of i)) ≡ true → may_take (uses i).unit u ≡ true
     → list_any (eqb (slot_in u p)) (0 ∷ 5 ∷ 6 ∷ []) ≡ true
-unfolding progress_of is_reserved slot_in
+unfolding occupancy_of is_reserved slot_in
 turn_slot i u (Before t) e h = instr_slot i u e h
 turn_slot i u (After l) e h = cc
 

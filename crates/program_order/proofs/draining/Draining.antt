@@ -26,7 +26,7 @@ use Rattle.in_flight.specs.declared.pending.Pending.{Pending}
 use Rattle.in_flight.specs.declared.pending.Phase.{Phase}
 use Rattle.in_flight.specs.declared.pending.Phase.TheVariants.{Before, After}
 use Rattle.in_flight.specs.declared.pending.Stage.{Stage}
-use Rattle.in_flight.specs.declared.pending.Stage.TheVariants.{Waiting, Read as HasRead, Finished}
+use Rattle.in_flight.specs.declared.pending.Stage.TheVariants.{Unread, Read as HasRead, Finished}
 use Rattle.instructions.specs.Each.{Each, Pairs}
 use Rattle.in_flight.specs.Pending.{is_entered, entered_in, has_turn}
 use Rattle.in_flight.specs.Apart.{IsApart}
@@ -142,8 +142,8 @@ working_tests = tt
 oldest_allowed : (w : Processor) (m : Pending) (ls : List Pending) (p : Phase) → w.pending ≡ m ∷ ls → m.phase ≡ p
     → Each (IsApart m) ls → allowed w (next_in m.unit p w.busy) ≡ None
 unfolding next_in allowed tests_of working_tests conflict.awaited conflict.to_be_read
-oldest_allowed w m ls (Before Waiting) e p h =
-    first_allowed (stage_at m.unit) _ w.pending ls m Waiting e (stage_first m Waiting p)
+oldest_allowed w m ls (Before Unread) e p h =
+    first_allowed (stage_at m.unit) _ w.pending ls m Unread e (stage_first m Unread p)
     (any_none _ (λ r. refl) (sources_of m.instr), tt)
 oldest_allowed w m ls (Before (HasRead os)) e p h =
     first_allowed (stage_at m.unit) _ w.pending ls m (HasRead os) e (stage_first m (HasRead os) p) tt
@@ -256,7 +256,7 @@ eases : (w v : Processor) (ms : List Pending) (k : ℕ) → v.pending ≡ ms →
 eases w v ms k e h l = let q : work_left v.pending ≡ work_left ms = ap work_left e in omega (arith, q, h, l)
 
 less_read : (m : Pending) (ls : List Pending) (os : Operands) (n : ℕ)
-    → n ≡ phase_cost (shape_of m.instr) (Before Waiting) + work_left ls
+    → n ≡ phase_cost (shape_of m.instr) (Before Unread) + work_left ls
     → work_left (in_phase m (Before (HasRead os)) ∷ ls) + 1 + 0 ≤ n
 unfolding work_left cost in_phase phase_cost stage_cost
 less_read m ls os n h = omega (arith, h)
@@ -327,12 +327,12 @@ unit_changes = tt
 oldest_eases : (w : Processor) (m : Pending) (ls : List Pending) (p : Phase) → w.pending ≡ m ∷ ls → m.phase ≡ p
     → Eases w (after w (next_in m.unit p w.busy))
 unfolding next_in after unit_changes after_return put_back saved_in
-oldest_eases w m ls (Before Waiting) e p =
+oldest_eases w m ls (Before Unread) e p =
     eases w (after w (Read m.unit)) _ 0
     (ap (λ (x : Processor). x.pending)
-    (after_first w (stage_at m.unit) (after_read w) ls m Waiting e (stage_first m Waiting p)))
-    (saved_first w m ls (Before Waiting) e p)
-    (less_read m ls _ _ (work_first w m ls (Before Waiting) e p))
+    (after_first w (stage_at m.unit) (after_read w) ls m Unread e (stage_first m Unread p)))
+    (saved_first w m ls (Before Unread) e p)
+    (less_read m ls _ _ (work_first w m ls (Before Unread) e p))
 oldest_eases w m ls (Before (HasRead os)) e p =
     eases w (after w (Finish m.unit)) _ 0
     (ap (λ (x : Processor). x.pending)
@@ -367,7 +367,7 @@ next_eases w e h = by_list w.pending refl h
 
 saved_less : (h : Shape) (p : Phase) (busy : List Bool) → saved_in p busy + 1 ≤ phase_cost h p
 unfolding saved_in phase_cost stage_cost outstanding_cost
-saved_less h (Before Waiting) busy = omega arith
+saved_less h (Before Unread) busy = omega arith
 saved_less h (Before (HasRead os)) busy = omega arith
 saved_less h (Before (Finished v)) busy = omega arith
 saved_less h (After (Entered place a (LoadInto n))) busy = by_bank (get_or busy (bank_of a) false)

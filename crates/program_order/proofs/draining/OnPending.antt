@@ -12,7 +12,7 @@ use Rattle.in_flight.specs.declared.pending.Pending.{Pending}
 use Rattle.in_flight.specs.declared.pending.Phase.{Phase}
 use Rattle.in_flight.specs.declared.pending.Phase.TheVariants.{Before, After}
 use Rattle.in_flight.specs.declared.pending.Stage.{Stage}
-use Rattle.in_flight.specs.declared.pending.Stage.TheVariants.{Waiting, Read as HasRead, Finished}
+use Rattle.in_flight.specs.declared.pending.Stage.TheVariants.{Unread, Read as HasRead, Finished}
 use Rattle.in_flight.specs.Lookup.{in_place, is_pending}
 use Rattle.program_order.specs.declared.event.Event.{Event}
 use Rattle.program_order.specs.declared.event.Event.TheVariants.{Issue, Read, Finish, Store as StoreResult, Accept}
@@ -69,7 +69,7 @@ channel_first m n word p = ap is_some (arrival_first m n word p)
 oldest_works : (m : Pending) (ms : List Pending) (p : Phase) (busy : List Bool) → m.phase ≡ p
     → works_on (m ∷ ms) (next_in m.unit p busy) ≡ true
 unfolding works_on next_in
-oldest_works m ms (Before Waiting) busy e = unit_first m ms Waiting e
+oldest_works m ms (Before Unread) busy e = unit_first m ms Unread e
 oldest_works m ms (Before (HasRead os)) busy e = unit_first m ms (HasRead os) e
 oldest_works m ms (Before (Finished v)) busy e = unit_first m ms (Finished v) e
 oldest_works m ms (After (Entered place a access)) busy e = by_bank (get_or busy (bank_of a) false)

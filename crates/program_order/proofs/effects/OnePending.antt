@@ -1,6 +1,6 @@
 -- What one pending instruction doesn't touch.
 use Rattle.scoreboard.specs.Reservations as board
-use Rattle.in_flight.specs.Pending.{has_read, progress_of, returning, reservation_of, is_branch, to_come}
+use Rattle.in_flight.specs.Pending.{has_read, occupancy_of, returning, reservation_of, is_branch, to_come}
 use Rattle.in_flight.proofs.asking.PendingReservations.{reads}
 use Rattle.scoreboard.specs.Reservations.{is_reserved, returning_to}
 use Rattle.scoreboard.proofs.in_slots.Registers.{reg_eq_same}
@@ -35,7 +35,7 @@ use Rattle.in_flight.specs.declared.pending.Pending.{Pending}
 use Rattle.in_flight.specs.declared.pending.Phase.{Phase}
 use Rattle.in_flight.specs.declared.pending.Phase.TheVariants.{After, Before}
 use Rattle.in_flight.specs.declared.pending.Stage.{Stage}
-use Rattle.in_flight.specs.declared.pending.Stage.TheVariants.{Finished, Read as HasRead, Waiting}
+use Rattle.in_flight.specs.declared.pending.Stage.TheVariants.{Finished, Read as HasRead, Unread}
 use Rattle.registers.specs.Registers.{get, put}
 use Rattle.registers.specs.declared.file.RegisterFile.{RegisterFile}
 use Rattle.relocation.specs.declared.area.Access.TheVariants.{Load as LoadInto, Store as StoreWord}
@@ -97,8 +97,8 @@ put_agrees g r v (t ∷ rs) h =
 
 value_at-put : (i : Instr) (at : ℕ) (t : Stage) (g : RegisterFile) (r : Reg) (v : ℕ)
     → is_in (reads_in (sources_of i) (Before t)) r ≡ false → value_at i at t (put g r v) ≡ value_at i at t g
-unfolding value_at reads_in board.reads_in progress_of has_read
-value_at-put i at Waiting g r v h =
+unfolding value_at reads_in board.reads_in occupancy_of has_read
+value_at-put i at Unread g r v h =
     ap (value_of i) (operands-agree i at (put g r v) g (put_agrees g r v (sources_of i) h))
 value_at-put i at (HasRead os) g r v h = refl
 value_at-put i at (Finished x) g r v h = refl
@@ -116,7 +116,7 @@ in_loads h r e = any_right (reg_eq r) (sets_of h) (loads_of h) e
 phase-write : (b : Bounds) (s : State) (i : Instr) (at : ℕ) (p : Phase) (r : Reg) (v : ℕ)
     → is_in (to_come_in (shape_of i) p) r ≡ false → is_in (reads_in (sources_of i) p) r ≡ false
     → run_phase b (write s r v) i at p ≡ write (run_phase b s i at p) r v
-unfolding run_phase to_come_in write board.to_come_in progress_of returning_to returning target_of
+unfolding run_phase to_come_in write board.to_come_in occupancy_of returning_to returning target_of
 phase-write b s i at (Before t) r v c d =
     ap (λ x. do_work b (write s r v) (work_of (shape_of i) x)) (value_at-put i at t s.registers r v d)
     ∙ do_work-write b s (shape_of i) _ r v (in_puts (shape_of i) r c) (in_loads (shape_of i) r c)
@@ -125,7 +125,7 @@ phase-write b s i at (After l) r v c d = do_outstanding-write s l r v c
 phase-move : (b : Bounds) (s : State) (i : Instr) (at : ℕ) (p : Phase) (k : ProgramPosition)
     → before_and (is_branch_shape (shape_of i)) p ≡ false
     → run_phase b (move_to s k) i at p ≡ move_to (run_phase b s i at p) k
-unfolding run_phase before_and move_to is_reserved progress_of
+unfolding run_phase before_and move_to is_reserved occupancy_of
 phase-move b s i at (Before t) k e = do_work-move b s (shape_of i) _ k e
 phase-move b s i at (After l) k e = do_outstanding-move s l k
 
@@ -154,7 +154,7 @@ phase-store_word b s i at (After l) a w e = do_outstanding-store_word s l a w e
 
 phase-get : (b : Bounds) (s : State) (i : Instr) (at : ℕ) (p : Phase) (r : Reg)
     → is_in (to_come_in (shape_of i) p) r ≡ false → get (run_phase b s i at p).registers r ≡ get s.registers r
-unfolding run_phase to_come_in board.to_come_in progress_of returning_to returning target_of
+unfolding run_phase to_come_in board.to_come_in occupancy_of returning_to returning target_of
 phase-get b s i at (Before t) r c =
     do_work-get b s (shape_of i) _ r (in_puts (shape_of i) r c) (in_loads (shape_of i) r c)
 phase-get b s i at (After l) r c = do_outstanding-get s l r c
@@ -182,7 +182,7 @@ phase-bounds b s i at (After l) = do_outstanding-bounds s l
 
 phase-position : (b : Bounds) (s : State) (i : Instr) (at : ℕ) (p : Phase)
     → before_and (is_branch_shape (shape_of i)) p ≡ false → (run_phase b s i at p).position ≡ s.position
-unfolding run_phase before_and is_reserved progress_of
+unfolding run_phase before_and is_reserved occupancy_of
 phase-position b s i at (Before t) e = do_work-position b s (shape_of i) _ e
 phase-position b s i at (After l) e = do_outstanding-position s l
 
@@ -195,7 +195,7 @@ finish_effects-write b s m r v c d = phase-write b s m.instr m.at m.phase r v c 
 
 pub finish_effects-move : (b : Bounds) (s : State) (m : Pending) (k : ProgramPosition) → is_branch m ≡ false
     → finish_effects b (move_to s k) m ≡ move_to (finish_effects b s m) k
-unfolding finish_effects is_branch board.is_branch reservation_of before_and is_reserved progress_of
+unfolding finish_effects is_branch board.is_branch reservation_of before_and is_reserved occupancy_of
 finish_effects-move b s m k e = phase-move b s m.instr m.at m.phase k e
 
 pub finish_effects-halt : (b : Bounds) (s : State) (m : Pending) (k : Halt) → finish_effects b (halt_by s k) m
@@ -237,5 +237,5 @@ finish_effects-bounds b s m = phase-bounds b s m.instr m.at m.phase
 
 pub finish_effects-position : (b : Bounds) (s : State) (m : Pending) → is_branch m ≡ false
     → (finish_effects b s m).position ≡ s.position
-unfolding finish_effects is_branch board.is_branch reservation_of before_and is_reserved progress_of
+unfolding finish_effects is_branch board.is_branch reservation_of before_and is_reserved occupancy_of
 finish_effects-position b s m e = phase-position b s m.instr m.at m.phase e

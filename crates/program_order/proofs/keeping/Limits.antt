@@ -35,7 +35,7 @@ use Rattle.in_flight.specs.declared.pending.Pending.{Pending}
 use Rattle.in_flight.specs.declared.pending.Phase.{Phase}
 use Rattle.in_flight.specs.declared.pending.Phase.TheVariants.{Before, After}
 use Rattle.in_flight.specs.declared.pending.Stage.{Stage}
-use Rattle.in_flight.specs.declared.pending.Stage.TheVariants.{Waiting, Read as HasRead, Finished}
+use Rattle.in_flight.specs.declared.pending.Stage.TheVariants.{Unread, Read as HasRead, Finished}
 use Rattle.in_flight.specs.Lookup.{arrival_at, arrival_in, entry_at, entry_in}
 use Rattle.in_flight.specs.Tests.{accept_tests, free_tests, nothing, refusal_of, return_tests, tests_found}
 use Rattle.in_flight.specs.inner.OwnSlots.{IsPlaced, IsProper, HasOwnSlots}
@@ -126,7 +126,7 @@ banks_found w (Some x) f h = h x
 
 banks_store : (w : Processor) (f : Found Pending Stage) (t : Stage) → length (after_store w f t).busy ≡ length w.busy
 unfolding after_store after_work
-banks_store w f Waiting = refl
+banks_store w f Unread = refl
 banks_store w f (HasRead os) = refl
 banks_store w f (Finished v) = refl
 
@@ -252,7 +252,7 @@ starts_work b s work h =
 
 starts_store : (w : Processor) (f : Found Pending Stage) (t : Stage) → Starts w → Starts (after_store w f t)
 unfolding after_store after_work
-starts_store w f Waiting h = h
+starts_store w f Unread h = h
 starts_store w f (HasRead os) h = h
 starts_store w f (Finished v) h = starts_work (bounds_of w.state) w.state _ h
 

@@ -13,7 +13,7 @@ use Rattle.program_order.specs.declared.event.Event.TheVariants.{Issue, Read, Fi
 use Rattle.program_order.specs.declared.event.Event.TheVariants.{Ask, Exchange, PpRead, PpWrite}
 use Rattle.in_flight.specs.declared.pending.Pending.{Pending}
 use Rattle.in_flight.specs.declared.pending.Stage.{Stage}
-use Rattle.in_flight.specs.declared.pending.Stage.TheVariants.{Waiting, Read as HasRead, Finished}
+use Rattle.in_flight.specs.declared.pending.Stage.TheVariants.{Unread, Read as HasRead, Finished}
 use Rattle.instructions.specs.Each.{Each}
 use Rattle.program_order.specs.Refusals.{is_accept_refusal, is_access_refusal, is_ask_refusal, is_exchange_refusal}
 use Rattle.program_order.specs.Refusals.{is_issue_refusal}
@@ -62,13 +62,13 @@ reservation_named ms (Taking i place) = (refl, (refl, tt))
 read_named : (t : Stage) (x : Found Pending Stage)
     → Each (λ t. (is_nothing t.refusal || is_read_refusal t.refusal) ≡ true) (read_tests t x.earlier x.item.instr)
 unfolding read_tests nothing is_nothing is_read_refusal
-read_named Waiting x = (refl, tt)
+read_named Unread x = (refl, tt)
 read_named (HasRead os) x = (refl, tt)
 read_named (Finished v) x = (refl, tt)
 
 finish_named : (t : Stage) → Each (λ t. (is_nothing t.refusal || false) ≡ true) (finish_tests t)
 unfolding finish_tests nothing is_nothing
-finish_named Waiting = (refl, tt)
+finish_named Unread = (refl, tt)
 finish_named (HasRead os) = tt
 finish_named (Finished v) = (refl, tt)
 
@@ -76,7 +76,7 @@ store_named : (b : Bounds) (ms : List Pending) (t : Stage) (x : Found Pending St
     → Each (λ t. (is_nothing t.refusal || is_store_refusal t.refusal) ≡ true)
     (store_tests b ms t x.earlier x.item.instr)
 unfolding store_tests nothing is_nothing is_store_refusal
-store_named b ms Waiting x = (refl, tt)
+store_named b ms Unread x = (refl, tt)
 store_named b ms (HasRead os) x = (refl, tt)
 store_named b ms (Finished v) x = (refl, (refl, (refl, tt)))
 

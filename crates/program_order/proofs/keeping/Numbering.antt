@@ -25,7 +25,7 @@ use Rattle.sequential.proofs.UnitIssues.{taken-push}
 use Rattle.hopper.specs.declared.reference.Reference.{Reference}
 use Rattle.in_flight.specs.declared.pending.Pending.{Pending}
 use Rattle.in_flight.specs.declared.pending.Stage.{Stage}
-use Rattle.in_flight.specs.declared.pending.Stage.TheVariants.{Waiting, Read as HasRead, Finished}
+use Rattle.in_flight.specs.declared.pending.Stage.TheVariants.{Unread, Read as HasRead, Finished}
 use Rattle.in_flight.specs.Pending.{is_branch}
 use Rattle.in_flight.specs.Tests.{reservation_tests, unit_for}
 use Rattle.in_flight.proofs.asking.Finding.{refusal_none}
@@ -74,7 +74,7 @@ numbers_found w (Some x) f h k = h x
 
 numbers_store : (w : Processor) (f : Found Pending Stage) (t : Stage) → IsNumbered w → IsNumbered (after_store w f t)
 unfolding after_store after_work
-numbers_store w f Waiting h = h
+numbers_store w f Unread h = h
 numbers_store w f (HasRead os) h = h
 numbers_store w f (Finished v) h = h
 

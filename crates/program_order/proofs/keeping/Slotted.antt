@@ -38,9 +38,9 @@ use Rattle.in_flight.specs.declared.pending.Phase.{Phase}
 use Rattle.in_flight.specs.declared.pending.Phase.TheVariants.{Before, After}
 use Rattle.in_flight.specs.declared.pending.Pending.{Pending}
 use Rattle.in_flight.specs.declared.pending.Stage.{Stage}
-use Rattle.in_flight.specs.declared.pending.Stage.TheVariants.{Waiting, Read as HasRead, Finished}
+use Rattle.in_flight.specs.declared.pending.Stage.TheVariants.{Unread, Read as HasRead, Finished}
 use Rattle.instructions.specs.Each.{Each}
-use Rattle.in_flight.specs.Pending.{progress_of, reservation_of}
+use Rattle.in_flight.specs.Pending.{occupancy_of, reservation_of}
 use Rattle.in_flight.proofs.asking.PendingReservations.{holds}
 use Rattle.in_flight.specs.inner.OwnSlots.{unit_slot, clash_in, clash, IsChannel, IsLoadable, IsPlaced}
 use Rattle.in_flight.specs.inner.OwnSlots.{IsProper, HasOwnSlots}
@@ -197,7 +197,7 @@ store_at : (w : Processor) (f : Found Pending Stage) (t : Stage) → w.pending �
     → refusal_of (store_tests (bounds_of w.state) w.pending t f.earlier f.item.instr) ≡ None → IsSlottedWhole w
     → IsSlottedWhole (after_store w f t)
 unfolding store_tests after_store after_work put_back bounds_of work_of
-store_at w f Waiting s h k = k
+store_at w f Unread s h k = k
 store_at w f (HasRead os) s h k = k
 store_at w f (Finished v) s h k =
     let test = (refusal_none _ h).1.0 in
@@ -307,18 +307,18 @@ and_false true k = cc
 and_false false k = refl
 
 waiting_clash : (size : ℕ) (u v : FunctionalUnit) (p : Phase) → unit_slot u < 7 → IsPlaced size v p
-    → (same_unit v u && is_reserved (progress_of p)) ≡ false → clash_in v p u (Before Waiting) ≡ false
-unfolding clash_in progress_of is_reserved
+    → (same_unit v u && is_reserved (occupancy_of p)) ≡ false → clash_in v p u (Before Unread) ≡ false
+unfolding clash_in occupancy_of is_reserved
 waiting_clash size u v (Before t) h k e = other_slot v u k h (and_false (same_unit v u) e)
 waiting_clash size u v (After l) h k e = refl
 
-new_clash : (size : ℕ) (x m : Pending) → m.phase ≡ Before Waiting → unit_slot m.unit < 7 → IsProper size x
+new_clash : (size : ℕ) (x m : Pending) → m.phase ≡ Before Unread → unit_slot m.unit < 7 → IsProper size x
     → holds m.unit x ≡ false → clash x m ≡ false
 unfolding clash holds board.holds reservation_of
 new_clash size x m e h p k =
     ap (clash_in x.unit x.phase m.unit) e ∙ waiting_clash size m.unit x.unit x.phase h p.placed k
 
-pub slotted_push : (size : ℕ) (ms : List Pending) (m : Pending) → m.phase ≡ Before Waiting
+pub slotted_push : (size : ℕ) (ms : List Pending) (m : Pending) → m.phase ≡ Before Unread
     → may_take (uses m.instr).unit m.unit ≡ true → unit_slot m.unit < 7 → list_any (holds m.unit) ms ≡ false
     → HasOwnSlots size ms → HasOwnSlots size (ms ++ m ∷ [])
 slotted_push size ms m e u h free s = record {

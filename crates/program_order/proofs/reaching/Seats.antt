@@ -13,7 +13,7 @@ use Rattle.program_order.specs.declared.event.Event.{Event}
 use Rattle.program_order.specs.declared.event.Event.TheVariants.{Issue, Read, Finish, Store, Accept, Return, BankFree}
 use Rattle.program_order.specs.declared.event.Event.TheVariants.{Ask, Exchange, PpRead, PpWrite}
 use Rattle.in_flight.specs.declared.pending.Stage.{Stage}
-use Rattle.in_flight.specs.declared.pending.Stage.TheVariants.{Waiting, Read as HasRead, Finished}
+use Rattle.in_flight.specs.declared.pending.Stage.TheVariants.{Unread, Read as HasRead, Finished}
 use Rattle.hopper.specs.declared.reference.Reference.{Reference}
 use Rattle.program_order.specs.Run.{IsAnswer, IsAnswered, answer_by, answer_of, done_by, note_by, settled, settled_all}
 use Rattle.instructions.specs.Finding.{Found}
@@ -86,7 +86,7 @@ found_after b w (Some x) f g h = h x
 store_after : (b : Bool) (w : Processor) (f : Found Pending Stage) (t : Stage)
     → after_store (seated b w) f t ≡ seated b (after_store w f t)
 unfolding after_store after_work
-store_after b w f Waiting = refl
+store_after b w f Unread = refl
 store_after b w f (HasRead os) = refl
 store_after b w f (Finished v) = refl
 

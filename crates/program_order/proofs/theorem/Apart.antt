@@ -1,7 +1,7 @@
 -- What the tests of an event, and that pending instructions are apart, give for the earlier ones.
 use Rattle.scoreboard.specs.Conflicts as conflict
 use Rattle.scoreboard.specs.Reservations as board
-use Rattle.in_flight.specs.Pending.{progress_of, reservation_of, awaited, entered_in, has_turn, holds_back}
+use Rattle.in_flight.specs.Pending.{occupancy_of, reservation_of, awaited, entered_in, has_turn, holds_back}
 use Rattle.in_flight.specs.Pending.{holds_back_in, is_branch, is_entered, to_be_read, to_come, waits_in, delays_access}
 use Rattle.in_flight.proofs.asking.PendingReservations.{comes, reads_it}
 use Rattle.in_flight.proofs.asking.Phases.{before_and, may_store, may_store_in, target_of, to_come_in}
@@ -122,7 +122,7 @@ free_to_return es m c w e apart h =
 -- ---- references ----
 
 touches-from : (f : Bool) (a : ℕ) (p : Phase) → before_and f p ≡ false → waits_in a p ≡ false → touches_in f a p ≡ false
-unfolding before_and waits_in touches_in later_touches is_reserved progress_of
+unfolding before_and waits_in touches_in later_touches is_reserved occupancy_of
 touches-from f a (Before t) h k = h
 touches-from f a (After (Entered slot x access)) h k = k
 touches-from f a (After (Accepted n w)) h k = refl
@@ -130,7 +130,7 @@ touches-from f a (After (Accepted n w)) h k = refl
 -- a store keeps its order beside all references to its address, so what doesn't hold it back is elsewhere
 touches-unless-held : (f : Bool) (a v : ℕ) (p : Phase) → before_and f p ≡ false
     → holds_back_in a (StoreWord v) p ≡ false → touches_in f a p ≡ false
-unfolding before_and holds_back_in keep_order is_store touches_in later_touches is_reserved progress_of
+unfolding before_and holds_back_in keep_order is_store touches_in later_touches is_reserved occupancy_of
 touches-unless-held f a v (Before t) h k = h
 touches-unless-held f a v (After (Entered slot x access)) h k = k
 touches-unless-held f a v (After (Accepted n w)) h k = refl
@@ -145,7 +145,7 @@ store_from_reference Links e = e
 
 may_store-from : (h : Shape) (a : ℕ) (p : Phase) → before_and (has_reference h) p ≡ false → waits_in a p ≡ false
     → may_store_in (has_store h) a p ≡ false
-unfolding before_and waits_in may_store_in is_reserved progress_of
+unfolding before_and waits_in may_store_in is_reserved occupancy_of
 may_store-from h a (Before t) i k = store_from_reference h i
 may_store-from h a (After (Entered slot x (LoadInto n))) i k = refl
 may_store-from h a (After (Entered slot x (StoreWord w))) i k = k
@@ -154,7 +154,7 @@ may_store-from h a (After (Accepted n w)) i k = refl
 -- a load keeps its order beside stores to its address; another load of it may go before or after
 may_store-unless-held : (h : Shape) (a n : ℕ) (p : Phase) → before_and (has_reference h) p ≡ false
     → holds_back_in a (LoadInto n) p ≡ false → may_store_in (has_store h) a p ≡ false
-unfolding before_and holds_back_in keep_order is_store may_store_in is_reserved progress_of
+unfolding before_and holds_back_in keep_order is_store may_store_in is_reserved occupancy_of
 may_store-unless-held h a n (Before t) i k = store_from_reference h i
 may_store-unless-held h a n (After (Entered slot x (LoadInto m))) i k = refl
 may_store-unless-held h a n (After (Entered slot x (StoreWord w))) i k = k
@@ -173,7 +173,7 @@ turns_past es m slot a access e apart =
 
 pub untouched : (es : List Pending) (a v : ℕ) → Each (λ e. has_turn e ≡ false) es
     → list_any (holds_back a (StoreWord v)) es ≡ false → Each (λ e. touches a e ≡ false) es
-unfolding has_turn holds_back touches board.has_turn reservation_of before_and is_reserved progress_of
+unfolding has_turn holds_back touches board.has_turn reservation_of before_and is_reserved occupancy_of
 untouched es a v h k =
     each_both (λ y. has_turn y ≡ false) (λ y. holds_back a (StoreWord v) y ≡ false) (λ y. touches a y ≡ false)
     (λ y i j. touches-unless-held _ a v y.phase i j) es h
@@ -181,7 +181,7 @@ untouched es a v h k =
 
 pub unstored : (es : List Pending) (a n : ℕ) → Each (λ e. has_turn e ≡ false) es
     → list_any (holds_back a (LoadInto n)) es ≡ false → Each (λ e. may_store a e ≡ false) es
-unfolding has_turn holds_back may_store board.has_turn reservation_of before_and is_reserved progress_of
+unfolding has_turn holds_back may_store board.has_turn reservation_of before_and is_reserved occupancy_of
 unstored es a n h k =
     each_both (λ y. has_turn y ≡ false) (λ y. holds_back a (LoadInto n) y ≡ false) (λ y. may_store a y ≡ false)
     (λ y i j. may_store-unless-held (shape_of y.instr) a n y.phase i j) es h
@@ -198,14 +198,14 @@ delaying_none ms a h = each_of_any (delays_access a) (DelaysNone a) (λ m k. k) 
 -- no pending instruction may read or write a word that a peripheral processor may go to
 pub untouched_by_access : (ms : List Pending) (a : ℕ) → list_any (delays_access a) ms ≡ false
     → Each (λ m. touches a m ≡ false) ms
-unfolding delays_access has_turn touches board.has_turn reservation_of before_and is_reserved progress_of
+unfolding delays_access has_turn touches board.has_turn reservation_of before_and is_reserved occupancy_of
 untouched_by_access ms a h =
     each_map (DelaysNone a) (λ m. touches a m ≡ false)
     (λ m k. let p = or_parts _ _ k in touches-from _ a m.phase p.0 p.1) ms (delaying_none ms a h)
 
 pub unstored_by_access : (ms : List Pending) (a : ℕ) → list_any (delays_access a) ms ≡ false
     → Each (λ m. may_store a m ≡ false) ms
-unfolding delays_access has_turn may_store board.has_turn reservation_of before_and is_reserved progress_of
+unfolding delays_access has_turn may_store board.has_turn reservation_of before_and is_reserved occupancy_of
 unstored_by_access ms a h =
     each_map (DelaysNone a) (λ m. may_store a m ≡ false)
     (λ m k. let p = or_parts _ _ k in may_store-from (shape_of m.instr) a m.phase p.0 p.1) ms (delaying_none ms a h)

@@ -45,7 +45,7 @@ use Rattle.hopper.specs.declared.reference.Reference.{Reference}
 use Rattle.in_flight.specs.declared.pending.Outstanding.{Outstanding}
 use Rattle.in_flight.specs.declared.pending.Outstanding.TheVariants.{Accepted, Entered}
 use Rattle.in_flight.specs.declared.pending.Stage.{Stage}
-use Rattle.in_flight.specs.declared.pending.Stage.TheVariants.{Finished, Read as HasRead, Waiting}
+use Rattle.in_flight.specs.declared.pending.Stage.TheVariants.{Finished, Read as HasRead, Unread}
 use Rattle.relocation.specs.declared.area.Access.{Access}
 use Rattle.relocation.specs.declared.area.Access.TheVariants.{Load as LoadInto, Store as StoreWord}
 use Rattle.sequential.specs.Log.{issued}
@@ -77,7 +77,7 @@ books_found w (Some x) f h = h x
 
 books_store : (w : Processor) (f : Found Pending Stage) (t : Stage) → Books w (after_store w f t) w.request []
 unfolding after_store after_work
-books_store w f Waiting = books_same w _ refl refl refl refl
+books_store w f Unread = books_same w _ refl refl refl refl
 books_store w f (HasRead os) = books_same w _ refl refl refl refl
 books_store w f (Finished v) = books_same w _ refl refl refl refl
 
@@ -392,7 +392,7 @@ fault_found w (Some x) f h k = h x
 fault_store : (w : Processor) (f : Found Pending Stage) (t : Stage) → w.state.fault ≡ true
     → (after_store w f t).state.fault ≡ true
 unfolding after_store after_work
-fault_store w f Waiting h = h
+fault_store w f Unread h = h
 fault_store w f (HasRead os) h = h
 fault_store w f (Finished v) h = write_and_jump-fault (bounds_of w.state) w.state _ h
 

@@ -23,7 +23,7 @@ use Rattle.in_flight.specs.Apart.{IsApart}
 use Rattle.program_order.specs.Issue.{fetch_waits, waits_at}
 use Rattle.in_flight.specs.declared.pending.Pending.{Pending}
 use Rattle.in_flight.specs.declared.pending.Phase.TheVariants.{Before}
-use Rattle.in_flight.specs.declared.pending.Stage.TheVariants.{Waiting}
+use Rattle.in_flight.specs.declared.pending.Stage.TheVariants.{Unread}
 use Rattle.sequential.specs.Replay.{LogStep, do_log_step, replay}
 use Rattle.sequential.specs.State.{Bounds, absolute, bounds_of, halt_by, move_to}
 use Rattle.sequential.specs.Step.{do_fetched, do_instruction, fetch, fetched_from, step, step_unless, word_at}
@@ -85,7 +85,7 @@ issue_halting b s ms position k nb =
     (complete-move b s ms position (each_no_branch ms nb))
 
 pub issue_taking : (b : Bounds) (s : State) (ms : List Pending) (position : ProgramPosition) (m : Pending)
-    → m.phase ≡ Before Waiting → list_any is_branch ms ≡ false
+    → m.phase ≡ Before Unread → list_any is_branch ms ≡ false
     → complete b (move_to s position) (ms ++ m ∷ []) ≡ do_instruction b
     (move_to (complete b s ms) position) m.instr m.at
 unfolding complete finish_effects run_phase value_at do_instruction
@@ -95,7 +95,7 @@ issue_taking b s ms position m e nb =
     ∙ ap (λ x. do_instruction b x m.instr m.at) (complete-move b s ms position (each_no_branch ms nb))
 
 -- a new instruction is apart from those before it
-pub new_apart : (ms : List Pending) (m : Pending) → m.phase ≡ Before Waiting → list_any is_branch ms ≡ false
+pub new_apart : (ms : List Pending) (m : Pending) → m.phase ≡ Before Unread → list_any is_branch ms ≡ false
     → list_any (awaited ms) (results (shape_of m.instr)) ≡ false → Pairs IsApart ms → Pairs IsApart (ms ++ m ∷ [])
 unfolding comes board.comes results_to_come overlap is_entered entered_in
 new_apart ms m e nb h apart =

@@ -15,7 +15,7 @@ use Rattle.in_flight.specs.declared.pending.Pending.{Pending}
 use Rattle.in_flight.specs.declared.pending.Phase.{Phase}
 use Rattle.in_flight.specs.declared.pending.Phase.TheVariants.{After, Before}
 use Rattle.in_flight.specs.declared.pending.Stage.{Stage}
-use Rattle.in_flight.specs.declared.pending.Stage.TheVariants.{Finished, Read as HasRead, Waiting}
+use Rattle.in_flight.specs.declared.pending.Stage.TheVariants.{Finished, Read as HasRead, Unread}
 use Rattle.registers.specs.declared.file.RegisterFile.{RegisterFile}
 use Rattle.relocation.specs.declared.area.Access.{Access}
 use Rattle.relocation.specs.declared.area.Access.TheVariants.{Load as LoadInto, Store as StoreWord}
@@ -45,7 +45,7 @@ run_in b s m p e = ap (run_phase b s m.instr m.at) e
 value-read : (i : Instr) (at : ℕ) (g k : RegisterFile) (t : Stage) → operands i at g ≡ operands i at k
     → value_at i at (stage_after_read g i at t) k ≡ value_at i at t k
 unfolding value_at stage_after_read
-value-read i at g k Waiting e = ap (value_of i) e
+value-read i at g k Unread e = ap (value_of i) e
 value-read i at g k (HasRead os) e = refl
 value-read i at g k (Finished v) e = refl
 
@@ -60,7 +60,7 @@ finish_effects-read b s m t g e a =
 value-finish : (i : Instr) (at : ℕ) (g : RegisterFile) (t : Stage)
     → value_at i at (stage_after_finish i t) g ≡ value_at i at t g
 unfolding value_at stage_after_finish
-value-finish i at g Waiting = refl
+value-finish i at g Unread = refl
 value-finish i at g (HasRead os) = refl
 value-finish i at g (Finished v) = refl
 

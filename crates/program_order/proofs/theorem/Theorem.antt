@@ -48,7 +48,7 @@ use Rattle.in_flight.specs.declared.pending.Outstanding.TheVariants.{Entered}
 use Rattle.in_flight.specs.declared.pending.Pending.{Pending}
 use Rattle.in_flight.specs.declared.pending.Phase.TheVariants.{After, Before}
 use Rattle.in_flight.specs.declared.pending.Stage.{Stage}
-use Rattle.in_flight.specs.declared.pending.Stage.TheVariants.{Finished, Read as HasRead, Waiting}
+use Rattle.in_flight.specs.declared.pending.Stage.TheVariants.{Finished, Read as HasRead, Unread}
 use Rattle.relocation.specs.declared.area.Access.{Access}
 use Rattle.relocation.specs.declared.area.Access.TheVariants.{Load as LoadInto, Store as StoreWord}
 use Rattle.sequential.specs.Replay.{Exchanged, Issued, ReadAt, Wrote, boot, do_log_step, replay}
@@ -81,7 +81,7 @@ from_kept w w' ms e k eb er eq r = (
 read_allowed : (t : Stage) (es : List Pending) (i : Instr) → refusal_of (read_tests t es i) ≡ None
     → list_any (awaited es) (sources_of i) ≡ false
 unfolding read_tests
-read_allowed Waiting es i h = (refusal_none _ h).0
+read_allowed Unread es i h = (refusal_none _ h).0
 read_allowed (HasRead os) es i h = absurd (not_nothing h)
 read_allowed (Finished v) es i h = absurd (not_nothing h)
 
@@ -117,7 +117,7 @@ store_at : (w : Processor) (f : Found Pending Stage) (t : Stage) → w.pending �
     → f.item.phase ≡ Before t → refusal_of (store_tests (bounds_of w.state) w.pending t f.earlier f.item.instr)
     ≡ None → IsRight w → IsRight (after_store w f t)
 unfolding has_turn store_tests after_store after_work put_back replayed
-store_at w f Waiting s e h r = absurd (not_nothing h)
+store_at w f Unread s e h r = absurd (not_nothing h)
 store_at w f (HasRead os) s e h r = absurd (not_nothing h)
 store_at w f (Finished v) s e h r =
     let t = refusal_none _ h in

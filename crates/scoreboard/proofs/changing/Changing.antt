@@ -6,12 +6,12 @@ use Rattle.std.proofs.lemmas.List.{length-set, length-append, set-set, set-appen
 use Rattle.instructions.specs.declared.instr.Unit.{Unit as FunctionalUnit}
 use Rattle.instructions.specs.Finding.{seek, replaced}
 use Rattle.instructions.specs.Shape.{shape_of}
-use Rattle.scoreboard.specs.declared.reservation.Progress.TheVariants.{Reserved, Left}
+use Rattle.scoreboard.specs.declared.reservation.Occupancy.TheVariants.{Reserved, Left}
 use Rattle.scoreboard.specs.Units.{unit_number, same_unit}
 use Rattle.scoreboard.specs.declared.issued.Issued.{Issued}
 use Rattle.scoreboard.specs.declared.writer.Writer.{Writer}
 use Rattle.scoreboard.specs.declared.writers.Writers.{Writers}
-use Rattle.scoreboard.specs.Answers.{Standing, held_in, returning_by, in_progress, read, left, left_with, gone}
+use Rattle.scoreboard.specs.Answers.{Standing, held_in, returning_by, in_occupancy, read, left, left_with, gone}
 use Rattle.scoreboard.specs.Answers.{with_issued}
 use Rattle.scoreboard.specs.inner.Fields.{channels_with}
 use Rattle.scoreboard.specs.Issued.{number_of, channel_of}
@@ -56,11 +56,11 @@ nobody_returned f units channels producers ws last n right h =
 pub marked_view : (units channels : List (Option Issued)) (producers : List (List (Option Writer))) (ws : Writers)
     (last : ℕ) (u : FunctionalUnit) (i : ℕ) (x : Issued) → IsRight units channels producers ws last → i ≡ unit_number u
     → get_or units i None ≡ Some x
-    → standing_of (set units i (Some (in_progress x (Reserved true)))) channels last
+    → standing_of (set units i (Some (in_occupancy x (Reserved true)))) channels last
     ≡ with_issued (standing_of units channels last)
     (replaced (seek (held_in u) (standing_of units channels last).issued) (standing_of units channels last).issued
     read)
-unfolding in_slots with_issued read number_of in_progress
+unfolding in_slots with_issued read number_of in_occupancy
 marked_view units channels producers ws last u i x right e h =
     ap (λ l. record { issued = l; last = last })
     (ap (λ l. sort_by number_of (somes l))
@@ -73,7 +73,7 @@ marked_view units channels producers ws last u i x right e h =
     os = units ++ channels
 
     y : Issued
-    y = in_progress x (Reserved true)
+    y = in_occupancy x (Reserved true)
 
     here : get_or os i None ≡ Some x
     here = unit_slot units channels u i (Some x) right.all_units e h
@@ -91,7 +91,7 @@ pub released_view : (units channels : List (Option Issued)) (producers : List (L
     ≡ with_issued (standing_of units channels last)
     (replaced (seek (held_in u) (standing_of units channels last).issued) (standing_of units channels last).issued
     left)
-unfolding in_slots with_issued left left_with number_of in_progress channels_with
+unfolding in_slots with_issued left left_with number_of in_occupancy channels_with
 released_view units channels producers ws last u i x right e h below_8 =
     ap (λ l. record { issued = l; last = last })
     (by_channel (channel_of (shape_of x.reservation.instr)) refl below_8
@@ -104,7 +104,7 @@ released_view units channels producers ws last u i x right e h below_8 =
     here : get_or os i None ≡ Some x
     here = unit_slot units channels u i (Some x) right.all_units e h
 
-    reserved : (b : Bool) × (x.reservation.progress ≡ Reserved b) × (same_unit x.reservation.unit u ≡ true)
+    reserved : (b : Bool) × (x.reservation.occupancy ≡ Reserved b) × (same_unit x.reservation.unit u ≡ true)
     reserved = stands_reserved u x (in_slots_here slot_of os 0 i x here right.stands ∙ omega (arith, e))
 
     front : set os i None ≡ set units i None ++ channels
@@ -126,7 +126,7 @@ released_view units channels producers ws last u i x right e h below_8 =
         (own_keys (somes os) right.apart)
       where
         y : Issued
-        y = in_progress x (Left (Some n))
+        y = in_occupancy x (Left (Some n))
 
         room : 10 + n < length (set os i None)
         room = let q = ap length front

@@ -44,8 +44,8 @@ use Rattle.instructions.proofs.Lists.{each_map, each_both, or_false, any_same}
 use Rattle.instructions.proofs.Slots.{in_slots_others, in_slots_empty, found_there}
 use Rattle.instructions.proofs.Sorted.{any_sort}
 use Rattle.scoreboard.specs.declared.issued.Issued.{Issued}
-use Rattle.scoreboard.specs.declared.reservation.Progress.{Progress}
-use Rattle.scoreboard.specs.declared.reservation.Progress.TheVariants.{Reserved, Left}
+use Rattle.scoreboard.specs.declared.reservation.Occupancy.{Occupancy}
+use Rattle.scoreboard.specs.declared.reservation.Occupancy.TheVariants.{Reserved, Left}
 use Rattle.scoreboard.specs.declared.writer.Writer.{Writer}
 use Rattle.scoreboard.specs.declared.writers.Writers.{Writers}
 use Rattle.scoreboard.specs.Answers.{held_in, unless, turn_answer}
@@ -277,31 +277,31 @@ and_swap false false = refl
 branch_holds : (y : Issued) → IsOfKind y → holds Branch y.reservation ≡ is_branch y.reservation
 unfolding holds is_branch
 branch_holds y h =
-    ap (λ b. b && is_reserved y.reservation.progress) (branch_there y.reservation.instr y.reservation.unit h)
-    ∙ and_swap (is_branch_shape (shape_of y.reservation.instr)) (is_reserved y.reservation.progress)
+    ap (λ b. b && is_reserved y.reservation.occupancy) (branch_there y.reservation.instr y.reservation.unit h)
+    ∙ and_swap (is_branch_shape (shape_of y.reservation.instr)) (is_reserved y.reservation.occupancy)
 
 turn_silent : (y : Issued) → IsOfKind y → slot_of y ≢ unit_number Branch → slot_of y ≢ unit_number Increment1
     → slot_of y ≢ unit_number Increment2 → has_turn y.reservation ≡ false
 unfolding has_turn slot_of slot_in is_reserved
-turn_silent y h = by_progress y.reservation.progress
+turn_silent y h = by_occupancy y.reservation.occupancy
   where
-    by_progress : (p : Progress) → slot_in y.reservation.unit p ≢ unit_number Branch
+    by_occupancy : (p : Occupancy) → slot_in y.reservation.unit p ≢ unit_number Branch
         → slot_in y.reservation.unit p ≢ unit_number Increment1 → slot_in y.reservation.unit p ≢ unit_number Increment2
         → (is_reserved p && has_reference (shape_of y.reservation.instr)) ≡ false
-    by_progress (Reserved has_read) a b c = no_reference y.reservation.instr y.reservation.unit h a b c
-    by_progress (Left o) a b c = refl
+    by_occupancy (Reserved has_read) a b c = no_reference y.reservation.instr y.reservation.unit h a b c
+    by_occupancy (Left o) a b c = refl
 
 store_silent : (y : Issued) → IsOfKind y → slot_of y ≢ unit_number Increment1 → slot_of y ≢ unit_number Increment2
     → has_store_turn y.reservation ≡ false
 unfolding has_store_turn slot_of slot_in is_reserved
-store_silent y h = by_progress y.reservation.progress
+store_silent y h = by_occupancy y.reservation.occupancy
   where
-    by_progress : (p : Progress) → slot_in y.reservation.unit p ≢ unit_number Increment1
+    by_occupancy : (p : Occupancy) → slot_in y.reservation.unit p ≢ unit_number Increment1
         → slot_in y.reservation.unit p ≢ unit_number Increment2
         → ((is_reserved p && has_store (shape_of y.reservation.instr)) && not (is_branch_shape (shape_of
         y.reservation.instr))) ≡ false
-    by_progress (Reserved has_read) b c = no_store y.reservation.instr y.reservation.unit h b c
-    by_progress (Left o) b c = refl
+    by_occupancy (Reserved has_read) b c = no_store y.reservation.instr y.reservation.unit h b c
+    by_occupancy (Left o) b c = refl
 
 -- ---- a test of all is a test of some slots ----
 

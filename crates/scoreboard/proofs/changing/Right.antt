@@ -11,14 +11,14 @@ use Rattle.instructions.specs.declared.instr.Unit.{Unit as FunctionalUnit}
 use Rattle.instructions.specs.RegisterLists.{is_in}
 use Rattle.instructions.specs.Shape.{Shape, Sets, Loads, Stores, Jumps, Links, shape_of, sets_of, loads_of, results}
 use Rattle.instructions.specs.Operands.{sources_of, reg_eq}
-use Rattle.scoreboard.specs.declared.reservation.Progress.TheVariants.{Reserved, Left}
+use Rattle.scoreboard.specs.declared.reservation.Occupancy.TheVariants.{Reserved, Left}
 use Rattle.scoreboard.specs.Reservations.{comes, to_come, to_come_in, returning_to}
 use Rattle.scoreboard.specs.Units.{unit_number, same_unit}
 use Rattle.scoreboard.specs.declared.issued.Issued.{Issued}
 use Rattle.scoreboard.specs.declared.writer.Writer.{Writer}
 use Rattle.scoreboard.specs.declared.writer.Writer.TheVariants.{OfUnit, OfChannel}
 use Rattle.scoreboard.specs.declared.writers.Writers.{Writers}
-use Rattle.scoreboard.specs.Answers.{in_progress}
+use Rattle.scoreboard.specs.Answers.{in_occupancy}
 use Rattle.instructions.specs.Each.{Each, Pairs}
 use Rattle.scoreboard.specs.inner.Fields.{channels_with, forget_in_taken}
 use Rattle.scoreboard.specs.Issued.{number_of, channel_of, written_by_channel, written_in, written_by, or_else}
@@ -91,31 +91,31 @@ other_less x y z e h k = record {
 
 -- ---- operands are read ----
 
-pub marked_written : (r : Reg) (x : Issued) (b : Bool) → x.reservation.progress ≡ Reserved b
-    → written_by r x ≡ written_by r (in_progress x (Reserved true))
-unfolding written_by written_in in_progress
+pub marked_written : (r : Reg) (x : Issued) (b : Bool) → x.reservation.occupancy ≡ Reserved b
+    → written_by r x ≡ written_by r (in_occupancy x (Reserved true))
+unfolding written_by written_in in_occupancy
 marked_written r x b e = ap (λ p. written_in r x.reservation.unit (shape_of x.reservation.instr) p) e
 
-pub marked_comes : (r : Reg) (x : Issued) (b : Bool) → x.reservation.progress ≡ Reserved b
-    → comes r (in_progress x (Reserved true)).reservation ≡ comes r x.reservation
-unfolding comes to_come to_come_in in_progress
+pub marked_comes : (r : Reg) (x : Issued) (b : Bool) → x.reservation.occupancy ≡ Reserved b
+    → comes r (in_occupancy x (Reserved true)).reservation ≡ comes r x.reservation
+unfolding comes to_come to_come_in in_occupancy
 marked_comes r x b e = sym (ap (λ p. is_in (to_come_in (shape_of x.reservation.instr) p) r) e)
 
-marked_slot : (x : Issued) (b : Bool) → x.reservation.progress ≡ Reserved b
-    → slot_of (in_progress x (Reserved true)) ≡ slot_of x
-unfolding slot_of slot_in in_progress
+marked_slot : (x : Issued) (b : Bool) → x.reservation.occupancy ≡ Reserved b
+    → slot_of (in_occupancy x (Reserved true)) ≡ slot_of x
+unfolding slot_of slot_in in_occupancy
 marked_slot x b e = sym (ap (slot_in x.reservation.unit) e)
 
-marked_other : (x z : Issued) (b : Bool) → x.reservation.progress ≡ Reserved b → IsOther x z
-    → IsOther (in_progress x (Reserved true)) z
-unfolding number_of in_progress
-marked_other x z b e k = other_less x (in_progress x (Reserved true)) z refl (λ r q. sym (marked_comes r x b e) ∙ q) k
+marked_other : (x z : Issued) (b : Bool) → x.reservation.occupancy ≡ Reserved b → IsOther x z
+    → IsOther (in_occupancy x (Reserved true)) z
+unfolding number_of in_occupancy
+marked_other x z b e k = other_less x (in_occupancy x (Reserved true)) z refl (λ r q. sym (marked_comes r x b e) ∙ q) k
 
 pub marked_right : (units channels : List (Option Issued)) (producers : List (List (Option Writer))) (ws : Writers)
     (last : ℕ) (u : FunctionalUnit) (i : ℕ) (x : Issued) → IsRight units channels producers ws last → i ≡ unit_number u
     → get_or units i None ≡ Some x
-    → IsRight (set units i (Some (in_progress x (Reserved true)))) channels producers ws last
-unfolding in_slots number_of in_progress
+    → IsRight (set units i (Some (in_occupancy x (Reserved true)))) channels producers ws last
+unfolding in_slots number_of in_occupancy
 marked_right units channels producers ws last u i x right e h =
     right_again (set units i (Some y)) channels (set os i (Some y)) producers ws last
     (set-append_left units channels i (Some y) (within units i x h))
@@ -139,12 +139,12 @@ marked_right units channels producers ws last u i x right e h =
     os = units ++ channels
 
     y : Issued
-    y = in_progress x (Reserved true)
+    y = in_occupancy x (Reserved true)
 
     here : get_or os i None ≡ Some x
     here = unit_slot units channels u i (Some x) right.all_units e h
 
-    reserved : (b : Bool) × (x.reservation.progress ≡ Reserved b) × (same_unit x.reservation.unit u ≡ true)
+    reserved : (b : Bool) × (x.reservation.occupancy ≡ Reserved b) × (same_unit x.reservation.unit u ≡ true)
     reserved = stands_reserved u x (in_slots_here slot_of os 0 i x here right.stands ∙ omega (arith, e))
 
     again : set (set os i None) i (Some y) ≡ set os i (Some y)
@@ -357,7 +357,7 @@ last_forgotten w units channels units' producers ws last i x right here others k
 
 -- ---- a load has returned ----
 
-field_returned : (n : ℕ) (r : Reg) (x : Issued) (rest : Option Writer) → x.reservation.progress ≡ Left (Some n)
+field_returned : (n : ℕ) (r : Reg) (x : Issued) (rest : Option Writer) → x.reservation.occupancy ≡ Left (Some n)
     → forget (OfChannel n) rest ≡ rest
     → cond (reg_eq r (X n)) None (or_else (written_by r x) rest) ≡ forget (OfChannel n) (or_else (written_by r x) rest)
 unfolding written_by written_in written_by_channel forget same_writer or_else
@@ -373,7 +373,7 @@ field_returned n r x rest e k =
     by_test true = sym (ap (λ b. cond b None (Some (OfChannel n))) (eq-eqb n n refl))
     by_test false = sym k
 
-comes_returning : (n : ℕ) (x : Issued) → x.reservation.progress ≡ Left (Some n) → comes (X n) x.reservation ≡ true
+comes_returning : (n : ℕ) (x : Issued) → x.reservation.occupancy ≡ Left (Some n) → comes (X n) x.reservation ≡ true
 unfolding comes to_come to_come_in returning_to is_in
 comes_returning n x e =
     ap (λ p. is_in (to_come_in (shape_of x.reservation.instr) p) (X n)) e ∙ ap (λ b. b || false) (eq-eqb n n refl)
@@ -409,7 +409,7 @@ returned_right units channels producers ws last n x right below_8 h pss forgotte
     here : get_or os (10 + n) None ≡ Some x
     here = channel_slot units channels n (Some x) right.all_units h
 
-    returning : x.reservation.progress ≡ Left (Some n)
+    returning : x.reservation.occupancy ≡ Left (Some n)
     returning = stands_returning n x below_8 (in_slots_here slot_of os 0 (10 + n) x here right.stands ∙ omega arith)
 
     others : (r : Reg) → Each (λ y. forget (OfChannel n) (written_by r y) ≡ written_by r y)
@@ -431,7 +431,7 @@ returned_last units channels producers ws last n x right below_8 h k =
     here : get_or (units ++ channels) (10 + n) None ≡ Some x
     here = channel_slot units channels n (Some x) right.all_units h
 
-    returning : x.reservation.progress ≡ Left (Some n)
+    returning : x.reservation.occupancy ≡ Left (Some n)
     returning =
         stands_returning n x below_8 (in_slots_here slot_of (units ++ channels) 0 (10 + n) x here right.stands
         ∙ omega arith)
@@ -462,7 +462,7 @@ field_left_in u v r s has_read rest h k = by_test (is_in (sets_of s) r)
     by_test false = by_channel (written_by_channel r (channel_of s)) (channel_no_unit u r (channel_of s))
 
 field_left : (u : FunctionalUnit) (r : Reg) (x : Issued) (has_read : Bool) (rest : Option Writer)
-    → x.reservation.progress ≡ Reserved has_read → same_unit x.reservation.unit u ≡ true → forget (OfUnit u) rest ≡ rest
+    → x.reservation.occupancy ≡ Reserved has_read → same_unit x.reservation.unit u ≡ true → forget (OfUnit u) rest ≡ rest
     → cond (is_in (sets_of (shape_of x.reservation.instr)) r) None (or_else (written_by r x) rest)
     ≡ forget (OfUnit u) (or_else (written_by r x) rest)
 unfolding written_by
@@ -490,7 +490,7 @@ comes_loading_in n Jumps b h = cc
 comes_loading_in n Links b h = cc
 
 -- a load in its unit has its register still to come
-pub comes_loading : (n : ℕ) (x : Issued) (b : Bool) → x.reservation.progress ≡ Reserved b
+pub comes_loading : (n : ℕ) (x : Issued) (b : Bool) → x.reservation.occupancy ≡ Reserved b
     → channel_of (shape_of x.reservation.instr) ≡ Some n → comes (X n) x.reservation ≡ true
 unfolding comes to_come
 comes_loading n x b e h =
@@ -498,10 +498,10 @@ comes_loading n x b e h =
     ∙ comes_loading_in n (shape_of x.reservation.instr) b h
 
 -- and nothing else once it has left
-left_comes : (n : ℕ) (x : Issued) (b : Bool) → x.reservation.progress ≡ Reserved b
+left_comes : (n : ℕ) (x : Issued) (b : Bool) → x.reservation.occupancy ≡ Reserved b
     → channel_of (shape_of x.reservation.instr) ≡ Some n
-    → (r : Reg) → comes r (in_progress x (Left (Some n))).reservation ≡ true → comes r x.reservation ≡ true
-unfolding comes to_come to_come_in returning_to is_in in_progress
+    → (r : Reg) → comes r (in_occupancy x (Left (Some n))).reservation ≡ true → comes r x.reservation ≡ true
+unfolding comes to_come to_come_in returning_to is_in in_occupancy
 left_comes n x b e h r k =
     ap (λ s. comes s x.reservation) (reg_eq_same r (X n) (or_left (reg_eq r (X n)) k)) ∙ comes_loading n x b e h
   where
@@ -509,37 +509,37 @@ left_comes n x b e h r k =
     or_left true q = refl
     or_left false q = q
 
-left_other : (n : ℕ) (x z : Issued) (b : Bool) → x.reservation.progress ≡ Reserved b
-    → channel_of (shape_of x.reservation.instr) ≡ Some n → IsOther x z → IsOther (in_progress x (Left (Some n))) z
-unfolding number_of in_progress
-left_other n x z b e h k = other_less x (in_progress x (Left (Some n))) z refl (left_comes n x b e h) k
+left_other : (n : ℕ) (x z : Issued) (b : Bool) → x.reservation.occupancy ≡ Reserved b
+    → channel_of (shape_of x.reservation.instr) ≡ Some n → IsOther x z → IsOther (in_occupancy x (Left (Some n))) z
+unfolding number_of in_occupancy
+left_other n x z b e h k = other_less x (in_occupancy x (Left (Some n))) z refl (left_comes n x b e h) k
 
-left_writes : (u : FunctionalUnit) (n : ℕ) (r : Reg) (x : Issued) (b : Bool) → x.reservation.progress ≡ Reserved b
+left_writes : (u : FunctionalUnit) (n : ℕ) (r : Reg) (x : Issued) (b : Bool) → x.reservation.occupancy ≡ Reserved b
     → same_unit x.reservation.unit u ≡ true → channel_of (shape_of x.reservation.instr) ≡ Some n
-    → written_by r (in_progress x (Left (Some n))) ≡ forget (OfUnit u) (written_by r x)
-unfolding written_by written_in in_progress
+    → written_by r (in_occupancy x (Left (Some n))) ≡ forget (OfUnit u) (written_by r x)
+unfolding written_by written_in in_occupancy
 left_writes u n r x b e h k = ap (written_by_channel r) (sym k) ∙ left_written u r x b e h
 
-left_nothing : (u : FunctionalUnit) (r : Reg) (x : Issued) (b : Bool) → x.reservation.progress ≡ Reserved b
+left_nothing : (u : FunctionalUnit) (r : Reg) (x : Issued) (b : Bool) → x.reservation.occupancy ≡ Reserved b
     → same_unit x.reservation.unit u ≡ true → channel_of (shape_of x.reservation.instr) ≡ None
     → None ≡ forget (OfUnit u) (written_by r x)
 unfolding written_by_channel
 left_nothing u r x b e h k = ap (written_by_channel r) (sym k) ∙ left_written u r x b e h
 
-left_slot : (n : ℕ) (x : Issued) → slot_of (in_progress x (Left (Some n))) ≡ 10 + n
-unfolding slot_of slot_in in_progress
+left_slot : (n : ℕ) (x : Issued) → slot_of (in_occupancy x (Left (Some n))) ≡ 10 + n
+unfolding slot_of slot_in in_occupancy
 left_slot n x = refl
 
 -- the channel of a load that is in its unit is empty
 pub channel_empty : (os : List (Option Issued)) (i n : ℕ) (x : Issued) (b : Bool) → n < 8 → get_or os i None ≡ Some x
-    → IsInSlots slot_of 0 os → Pairs IsOther (somes os) → x.reservation.progress ≡ Reserved b
+    → IsInSlots slot_of 0 os → Pairs IsOther (somes os) → x.reservation.occupancy ≡ Reserved b
     → channel_of (shape_of x.reservation.instr) ≡ Some n → get_or (set os i None) (10 + n) None ≡ None
 channel_empty os i n x b l h s p e k = by_slot (get_or (set os i None) (10 + n) None) refl
   where
     by_slot : (o : Option Issued) → get_or (set os i None) (10 + n) None ≡ o → o ≡ None
     by_slot None q = refl
     by_slot (Some z) q =
-        let t : z.reservation.progress ≡ Left (Some n) =
+        let t : z.reservation.occupancy ≡ Left (Some n) =
         stands_returning n z l (in_slots_here slot_of (set os i None) 0 (10 + n) z q (in_slots_empty slot_of os 0 i s)
         ∙ omega arith) in
         let o : IsOther x z = each_here (IsOther x) (set os i None) (10 + n) z q (others_of os i x h p) in
@@ -582,7 +582,7 @@ pub released_right : (units channels : List (Option Issued)) (producers : List (
     → (pss : List (List (Option Writer))) → AreForgotten (OfUnit u) (units ++ channels) (set units i None) pss
     → IsRight (set units i None) (channels_with channels x (channel_of (shape_of x.reservation.instr))) pss
     (set_each ws (sets_of (shape_of x.reservation.instr)) None) last
-unfolding in_slots channels_with number_of in_progress
+unfolding in_slots channels_with number_of in_occupancy
 released_right units channels producers ws last u i x right e h valid below_8 pss forgotten =
     by_channel (channel_of (shape_of x.reservation.instr)) refl below_8
   where
@@ -592,7 +592,7 @@ released_right units channels producers ws last u i x right e h valid below_8 ps
     here : get_or os i None ≡ Some x
     here = unit_slot units channels u i (Some x) right.all_units e h
 
-    reserved : (b : Bool) × (x.reservation.progress ≡ Reserved b) × (same_unit x.reservation.unit u ≡ true)
+    reserved : (b : Bool) × (x.reservation.occupancy ≡ Reserved b) × (same_unit x.reservation.unit u ≡ true)
     reserved = stands_reserved u x (in_slots_here slot_of os 0 i x here right.stands ∙ omega (arith, e))
 
     front : set os i None ≡ set units i None ++ channels
@@ -651,7 +651,7 @@ released_right units channels producers ws last u i x right e h valid below_8 ps
         forgotten
       where
         y : Issued
-        y = in_progress x (Left (Some n))
+        y = in_occupancy x (Left (Some n))
 
         empty : get_or (set os i None) (10 + n) None ≡ None
         empty = channel_empty os i n x reserved.0 l here right.stands right.apart reserved.1 k

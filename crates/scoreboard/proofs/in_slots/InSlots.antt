@@ -7,8 +7,8 @@ use Rattle.instructions.specs.declared.instr.Reg.{Reg}
 use Rattle.instructions.specs.declared.instr.Unit.{Unit as FunctionalUnit}
 use Rattle.instructions.specs.declared.instr.Unit.TheVariants.{Branch, Boolean, Shift, Add, LongAdd, Multiply1}
 use Rattle.instructions.specs.declared.instr.Unit.TheVariants.{Multiply2, Divide, Increment1, Increment2}
-use Rattle.scoreboard.specs.declared.reservation.Progress.{Progress}
-use Rattle.scoreboard.specs.declared.reservation.Progress.TheVariants.{Reserved, Left}
+use Rattle.scoreboard.specs.declared.reservation.Occupancy.{Occupancy}
+use Rattle.scoreboard.specs.declared.reservation.Occupancy.TheVariants.{Reserved, Left}
 use Rattle.scoreboard.specs.Reservations.{comes, holds, is_reserved}
 use Rattle.scoreboard.specs.Units.{unit_number, same_unit}
 use Rattle.scoreboard.specs.declared.issued.Issued.{Issued}
@@ -54,7 +54,7 @@ unit_below Divide = omega arith
 unit_below Increment1 = omega arith
 unit_below Increment2 = omega arith
 
-holds_in : (u v : FunctionalUnit) (p : Progress) → slot_in v p ≡ unit_number u → (same_unit v u && is_reserved p) ≡ true
+holds_in : (u v : FunctionalUnit) (p : Occupancy) → slot_in v p ≡ unit_number u → (same_unit v u && is_reserved p) ≡ true
 unfolding slot_in same_unit is_reserved
 holds_in u v (Reserved has_read) h = ap (λ b. b && true) (eq-eqb (unit_number v) (unit_number u) h)
 holds_in u v (Left None) h = absurd (let b = unit_below u in omega (arith, h, b))
@@ -62,9 +62,9 @@ holds_in u v (Left (Some n)) h = absurd (let b = unit_below u in omega (arith, h
 
 pub stands_holds : (u : FunctionalUnit) (x : Issued) → slot_of x ≡ unit_number u → holds u x.reservation ≡ true
 unfolding holds slot_of
-stands_holds u x h = holds_in u x.reservation.unit x.reservation.progress h
+stands_holds u x h = holds_in u x.reservation.unit x.reservation.occupancy h
 
-holds_not_in : (u v : FunctionalUnit) (p : Progress) → (slot_in v p ≡ unit_number u → ⊥)
+holds_not_in : (u v : FunctionalUnit) (p : Occupancy) → (slot_in v p ≡ unit_number u → ⊥)
     → (same_unit v u && is_reserved p) ≡ false
 unfolding slot_in same_unit is_reserved
 holds_not_in u v (Reserved has_read) h = ap (λ b. b && true) (ne_eqb (unit_number v) (unit_number u) h)
@@ -72,7 +72,7 @@ holds_not_in u v (Left o) h = and_right (same_unit v u) false refl
 
 pub stands_not : (u : FunctionalUnit) (x : Issued) → (slot_of x ≡ unit_number u → ⊥) → holds u x.reservation ≡ false
 unfolding holds slot_of
-stands_not u x h = holds_not_in u x.reservation.unit x.reservation.progress h
+stands_not u x h = holds_not_in u x.reservation.unit x.reservation.occupancy h
 
 pub stands_held : (u : FunctionalUnit) (x : Issued) → slot_of x ≡ unit_number u → held_in u x ≡ Some x.reservation.instr
 unfolding held_in
@@ -83,7 +83,7 @@ unfolding held_in
 stands_not_held u x h = ap (λ b. cond b (Some x.reservation.instr) None) (stands_not u x h)
 
 -- one in the slot of a unit is reserved there
-reserved_in : (u v : FunctionalUnit) (p : Progress) → slot_in v p ≡ unit_number u → (b : Bool) × (p ≡ Reserved b)
+reserved_in : (u v : FunctionalUnit) (p : Occupancy) → slot_in v p ≡ unit_number u → (b : Bool) × (p ≡ Reserved b)
     × (same_unit v u ≡ true)
 unfolding slot_in same_unit
 reserved_in u v (Reserved has_read) h = (has_read, refl, eq-eqb (unit_number v) (unit_number u) h)
@@ -91,26 +91,26 @@ reserved_in u v (Left None) h = absurd (let b = unit_below u in omega (arith, h,
 reserved_in u v (Left (Some n)) h = absurd (let b = unit_below u in omega (arith, h, b))
 
 pub stands_reserved : (u : FunctionalUnit) (x : Issued) → slot_of x ≡ unit_number u → (b : Bool)
-    × (x.reservation.progress ≡ Reserved b) × (same_unit x.reservation.unit u ≡ true)
+    × (x.reservation.occupancy ≡ Reserved b) × (same_unit x.reservation.unit u ≡ true)
 unfolding slot_of
-stands_reserved u x h = reserved_in u x.reservation.unit x.reservation.progress h
+stands_reserved u x h = reserved_in u x.reservation.unit x.reservation.occupancy h
 
-returns_at : (n : ℕ) (v : FunctionalUnit) (p : Progress) → n < 8 → slot_in v p ≡ 10 + n → p ≡ Left (Some n)
+returns_at : (n : ℕ) (v : FunctionalUnit) (p : Occupancy) → n < 8 → slot_in v p ≡ 10 + n → p ≡ Left (Some n)
 unfolding slot_in
 returns_at n v (Reserved has_read) b h = absurd (let k = unit_below v in omega (arith, h, k))
 returns_at n v (Left None) b h = absurd (omega (arith, h, b))
 returns_at n v (Left (Some m)) b h = let e : m ≡ n = omega (arith, h) in ap (λ k. Left (Some k)) e
 
-pub stands_returning : (n : ℕ) (x : Issued) → n < 8 → slot_of x ≡ 10 + n → x.reservation.progress ≡ Left (Some n)
+pub stands_returning : (n : ℕ) (x : Issued) → n < 8 → slot_of x ≡ 10 + n → x.reservation.occupancy ≡ Left (Some n)
 unfolding slot_of
-stands_returning n x b h = returns_at n x.reservation.unit x.reservation.progress b h
+stands_returning n x b h = returns_at n x.reservation.unit x.reservation.occupancy b h
 
 pub stands_returns : (n : ℕ) (x : Issued) → n < 8 → slot_of x ≡ 10 + n → returning_by n x ≡ Some x.reservation.instr
 unfolding returning_by returns_in
 stands_returns n x b h =
     ap (λ t. cond t (Some x.reservation.instr) None) (ap (returns_in n) (stands_returning n x b h) ∙ eq-eqb n n refl)
 
-returns_not_in : (n : ℕ) (v : FunctionalUnit) (p : Progress) → (slot_in v p ≡ 10 + n → ⊥) → returns_in n p ≡ false
+returns_not_in : (n : ℕ) (v : FunctionalUnit) (p : Occupancy) → (slot_in v p ≡ 10 + n → ⊥) → returns_in n p ≡ false
 unfolding slot_in returns_in
 returns_not_in n v (Reserved has_read) h = refl
 returns_not_in n v (Left None) h = refl
@@ -119,7 +119,7 @@ returns_not_in n v (Left (Some m)) h = ne_eqb m n (λ e. h (ap (λ k. 10 + k) e)
 pub stands_not_returning : (n : ℕ) (x : Issued) → (slot_of x ≡ 10 + n → ⊥) → returning_by n x ≡ None
 unfolding returning_by slot_of
 stands_not_returning n x h = ap (λ t. cond t (Some x.reservation.instr) None) (returns_not_in n x.reservation.unit
-    x.reservation.progress h)
+    x.reservation.occupancy h)
 
 -- ---- pairs in slots ----
 

@@ -15,8 +15,8 @@ use Rattle.instructions.specs.declared.instr.Instr.{Instr}
 use Rattle.instructions.specs.Finding.{seek, replaced}
 use Rattle.instructions.specs.Shape.{shape_of, sets_of}
 use Rattle.instructions.specs.Operands.{sources_of}
-use Rattle.scoreboard.specs.declared.reservation.Progress.{Progress}
-use Rattle.scoreboard.specs.declared.reservation.Progress.TheVariants.{Reserved, Left}
+use Rattle.scoreboard.specs.declared.reservation.Occupancy.{Occupancy}
+use Rattle.scoreboard.specs.declared.reservation.Occupancy.TheVariants.{Reserved, Left}
 use Rattle.scoreboard.specs.Reservations.{comes, holds, reads, reads_in, reads_it, is_reserved}
 use Rattle.scoreboard.specs.Units.{unit_number}
 use Rattle.scoreboard.specs.Conflicts.{awaited, to_be_read, first_such}
@@ -225,19 +225,19 @@ in_slots_back (None ∷ xs) ys k l e s = in_slots_back xs ys (suc k) l (omega (a
 in_slots_back (Some x ∷ xs) ys k l e s = in_slots_back xs ys (suc k) l (omega (arith, e)) s.1
 
 left_from : (os : List (Option Issued)) (k : ℕ) → 10 ≤ k → IsInSlots slot_of k os
-    → Each (λ y. is_reserved y.reservation.progress ≡ false) (somes os)
+    → Each (λ y. is_reserved y.reservation.occupancy ≡ false) (somes os)
 unfolding somes slot_in slot_of is_reserved
 left_from [] k h s = tt
 left_from (None ∷ os) k h s = left_from os (suc k) (omega arith) s
 left_from (Some x ∷ os) k h s = (
-  by_progress x.reservation.unit x.reservation.progress s.0,
+  by_occupancy x.reservation.unit x.reservation.occupancy s.0,
   left_from os (suc k) (omega
       arith) s.1,
 )
   where
-    by_progress : (u : FunctionalUnit) (p : Progress) → slot_in u p ≡ k → is_reserved p ≡ false
-    by_progress u (Reserved b) e = absurd (let q = unit_below u in omega (arith, e, q, h))
-    by_progress u (Left o) e = refl
+    by_occupancy : (u : FunctionalUnit) (p : Occupancy) → slot_in u p ≡ k → is_reserved p ≡ false
+    by_occupancy u (Reserved b) e = absurd (let q = unit_below u in omega (arith, e, q, h))
+    by_occupancy u (Left o) e = refl
 
 somes-append : (xs ys : List (Option Issued)) → somes (xs ++ ys) ≡ somes xs ++ somes ys
 unfolding somes
@@ -251,7 +251,7 @@ none_any t (y ∷ ys) h = ap (λ b. b || list_any t ys) h.0 ∙ none_any t ys h.
 
 -- a test that those in channels fail is a test of the units
 pub units_any : (t : Issued → Bool) (g : Option Issued → Bool) → g None ≡ false → ((x : Issued) → g (Some x) ≡ t x)
-    → ((y : Issued) → is_reserved y.reservation.progress ≡ false → t y ≡ false)
+    → ((y : Issued) → is_reserved y.reservation.occupancy ≡ false → t y ≡ false)
     → (units channels : List (Option Issued))
     → length units ≡ 10 → IsInSlots slot_of 0 (units ++ channels)
     → list_any g units ≡ list_any t (somes (units ++ channels))
@@ -260,18 +260,18 @@ units_any t g none some silent units channels l s =
     ∙ sym (or_false (list_any t (somes units)))
     ∙ ap (λ b. list_any t (somes units) || b)
     (sym (none_any t (somes channels)
-    (each_map (λ y. is_reserved y.reservation.progress ≡ false) (λ y. t y ≡ false) silent (somes channels)
+    (each_map (λ y. is_reserved y.reservation.occupancy ≡ false) (λ y. t y ≡ false) silent (somes channels)
     (left_from channels 10 (omega arith) (in_slots_back units channels 0 10 (omega (arith, l)) s)))))
     ∙ sym (list_any-append t (somes units) (somes channels))
     ∙ ap (list_any t) (sym (somes-append units channels))
 
-no_reads : (r : Reg) (y : Issued) → is_reserved y.reservation.progress ≡ false → reads_it r y.reservation ≡ false
+no_reads : (r : Reg) (y : Issued) → is_reserved y.reservation.occupancy ≡ false → reads_it r y.reservation ≡ false
 unfolding reads_it reads is_reserved reads_in is_in
-no_reads r y h = by_progress y.reservation.progress h
+no_reads r y h = by_occupancy y.reservation.occupancy h
   where
-    by_progress : (p : Progress) → is_reserved p ≡ false → is_in (reads_in (sources_of y.reservation.instr) p) r ≡ false
-    by_progress (Reserved b) k = cc
-    by_progress (Left o) k = refl
+    by_occupancy : (p : Occupancy) → is_reserved p ≡ false → is_in (reads_in (sources_of y.reservation.instr) p) r ≡ false
+    by_occupancy (Reserved b) k = cc
+    by_occupancy (Left o) k = refl
 
 -- a register has still to be read by a unit with a lower number where an earlier one has still to read it
 pub read_earlier : (r : Reg) (units channels : List (Option Issued)) (i : ℕ) (x : Issued) → length units ≡ 10

@@ -10,8 +10,8 @@ use Rattle.instructions.specs.declared.instr.Unit.{Unit as FunctionalUnit}
 use Rattle.instructions.specs.RegisterLists.{is_in}
 use Rattle.instructions.specs.Shape.{Shape, Sets, Loads, Stores, Jumps, Links, shape_of, sets_of, loads_of, results}
 use Rattle.instructions.specs.Operands.{reg_eq}
-use Rattle.scoreboard.specs.declared.reservation.Progress.{Progress}
-use Rattle.scoreboard.specs.declared.reservation.Progress.TheVariants.{Reserved, Left}
+use Rattle.scoreboard.specs.declared.reservation.Occupancy.{Occupancy}
+use Rattle.scoreboard.specs.declared.reservation.Occupancy.TheVariants.{Reserved, Left}
 use Rattle.scoreboard.specs.Reservations.{comes, to_come, to_come_in, returning_to}
 use Rattle.scoreboard.specs.Units.{unit_number, same_unit}
 use Rattle.scoreboard.specs.declared.issued.Issued.{Issued}
@@ -117,7 +117,7 @@ unfoldable writing : Unit {0}
 unfolding written_in written_by_channel channel_of to_come_in results sets_of loads_of is_in returning_to
 writing = tt
 
-some_in : (r : Reg) (u : FunctionalUnit) (s : Shape) (p : Progress)
+some_in : (r : Reg) (u : FunctionalUnit) (s : Shape) (p : Occupancy)
     → is_some (written_in r u s p) ≡ is_in (to_come_in s p) r
 unfolding writing
 some_in r u (Sets rs) (Reserved b) = some_if (is_in rs r) (OfUnit u) ∙ sym (in_nothing_more rs r)
@@ -141,7 +141,7 @@ some_in r u s (Left (Some n)) = by_test (reg_eq r (X n))
 -- somebody writes the register for it where it is a result still to come
 pub some_written : (r : Reg) (x : Issued) → is_some (written_by r x) ≡ comes r x.reservation
 unfolding written_by comes to_come
-some_written r x = some_in r x.reservation.unit (shape_of x.reservation.instr) x.reservation.progress
+some_written r x = some_in r x.reservation.unit (shape_of x.reservation.instr) x.reservation.occupancy
 
 -- a channel is no unit
 pub channel_no_unit : (u : FunctionalUnit) (r : Reg) (o : Option ℕ)
@@ -154,7 +154,7 @@ channel_no_unit u r (Some n) = by_test (reg_eq r (X n))
     by_test true = refl
     by_test false = refl
 
-unit_kept_in : (u : FunctionalUnit) (r : Reg) (v : FunctionalUnit) (s : Shape) (p : Progress)
+unit_kept_in : (u : FunctionalUnit) (r : Reg) (v : FunctionalUnit) (s : Shape) (p : Occupancy)
     → (slot_in v p ≡ unit_number u → ⊥) → forget (OfUnit u) (written_in r v s p) ≡ written_in r v s p
 unfolding forget written_in same_writer same_unit slot_in
 unit_kept_in u r v s (Reserved has_read) h = by_test (is_in (sets_of s) r)
@@ -169,7 +169,7 @@ unit_kept_in u r v s (Left o) h = channel_no_unit u r o
 pub unit_kept : (u : FunctionalUnit) (r : Reg) (y : Issued) → (slot_of y ≡ unit_number u → ⊥)
     → forget (OfUnit u) (written_by r y) ≡ written_by r y
 unfolding written_by slot_of
-unit_kept u r y h = unit_kept_in u r y.reservation.unit (shape_of y.reservation.instr) y.reservation.progress h
+unit_kept u r y h = unit_kept_in u r y.reservation.unit (shape_of y.reservation.instr) y.reservation.occupancy h
 
 other_channel : (n m : ℕ) (r : Reg) → (eqb n m || false) ≡ false
     → forget (OfChannel n) (written_by_channel r (Some m)) ≡ written_by_channel r (Some m)
@@ -183,7 +183,7 @@ other_channel n m r h = by_test (reg_eq r (X m))
     by_test true = ap (λ b. cond b None (Some (OfChannel m))) ne
     by_test false = refl
 
-channel_kept_in : (n : ℕ) (r : Reg) (v : FunctionalUnit) (s : Shape) (p : Progress)
+channel_kept_in : (n : ℕ) (r : Reg) (v : FunctionalUnit) (s : Shape) (p : Occupancy)
     → is_in (to_come_in s p) (X n) ≡ false → forget (OfChannel n) (written_in r v s p) ≡ written_in r v s p
 unfolding writing forget same_writer
 channel_kept_in n r v (Sets rs) (Reserved has_read) h = by_test (is_in rs r)
@@ -211,7 +211,7 @@ channel_kept_in n r v s (Left (Some m)) h = other_channel n m r h
 pub channel_kept : (n : ℕ) (r : Reg) (y : Issued) → comes (X n) y.reservation ≡ false
     → forget (OfChannel n) (written_by r y) ≡ written_by r y
 unfolding written_by comes to_come
-channel_kept n r y h = channel_kept_in n r y.reservation.unit (shape_of y.reservation.instr) y.reservation.progress h
+channel_kept n r y h = channel_kept_in n r y.reservation.unit (shape_of y.reservation.instr) y.reservation.occupancy h
 
 left_in : (u v : FunctionalUnit) (r : Reg) (s : Shape) (has_read : Bool) → same_unit v u ≡ true
     → written_by_channel r (channel_of s) ≡ forget (OfUnit u) (written_in r v s (Reserved has_read))
@@ -242,7 +242,7 @@ left_in u v r Links has_read h = refl
 
 -- what is written for one that has left its unit
 pub left_written : (u : FunctionalUnit) (r : Reg) (x : Issued) (has_read : Bool)
-    → x.reservation.progress ≡ Reserved has_read
+    → x.reservation.occupancy ≡ Reserved has_read
     → same_unit x.reservation.unit u ≡ true
     → written_by_channel r (channel_of (shape_of x.reservation.instr)) ≡ forget (OfUnit u) (written_by r x)
 unfolding written_by
@@ -250,7 +250,7 @@ left_written u r x has_read e h = left_in u x.reservation.unit r (shape_of x.res
     ∙ ap (λ p. forget (OfUnit u) (written_in r x.reservation.unit (shape_of x.reservation.instr) p)) (sym e)
 
 -- and for one that has returned
-pub returned_written : (n : ℕ) (r : Reg) (x : Issued) → x.reservation.progress ≡ Left (Some n)
+pub returned_written : (n : ℕ) (r : Reg) (x : Issued) → x.reservation.occupancy ≡ Left (Some n)
     → None ≡ forget (OfChannel n) (written_by r x)
 unfolding written_by written_in written_by_channel forget same_writer
 returned_written n r x e =

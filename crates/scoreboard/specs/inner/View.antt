@@ -5,8 +5,8 @@ use Rattle.std.specs.Prelude.{slice_index_or}
 use Rattle.instructions.specs.declared.instr.Reg.{Reg}
 use Rattle.instructions.specs.declared.instr.Unit.{Unit as FunctionalUnit}
 use Rattle.instructions.specs.Operands.{uses, sources_of}
-use Rattle.scoreboard.specs.declared.reservation.Progress.{Progress}
-use Rattle.scoreboard.specs.declared.reservation.Progress.TheVariants.{Reserved, Left}
+use Rattle.scoreboard.specs.declared.reservation.Occupancy.{Occupancy}
+use Rattle.scoreboard.specs.declared.reservation.Occupancy.TheVariants.{Reserved, Left}
 use Rattle.scoreboard.specs.Reservations.{comes}
 use Rattle.scoreboard.specs.Units.{unit_number, may_take}
 use Rattle.scoreboard.specs.declared.issued.Issued.{Issued}
@@ -27,14 +27,14 @@ abbrev pub standing_of : List (Option Issued) → List (Option Issued) → ℕ �
 standing_of units channels last = record { issued = sort_by number_of (in_slots units channels); last = last }
 
 -- units have the slots 0 to 9 by their numbers, the channels 10 to 17; there is no slot 18
-unfoldable pub slot_in : FunctionalUnit → Progress → ℕ
+unfoldable pub slot_in : FunctionalUnit → Occupancy → ℕ
 slot_in unit (Reserved has_read) = unit_number unit
 slot_in unit (Left (Some n)) = 10 + n
 slot_in unit (Left None) = 18
 
 -- the slot of an issued instruction
 unfoldable pub slot_of : Issued → ℕ
-slot_of x = slot_in x.reservation.unit x.reservation.progress
+slot_of x = slot_in x.reservation.unit x.reservation.occupancy
 
 -- two have neither the number nor a result still to come in common
 pub record IsOther (x y : Issued) : Type 0 where

@@ -2,7 +2,7 @@ use Rattle.std.proofs.Common.{Some, ap, sym, ◌∙◌}
 use Rattle.instructions.specs.Finding.{seek}
 use Rattle.in_flight.specs.Lookup.{stage_at}
 use Rattle.in_flight.specs.Pending.{is_finished}
-use Rattle.in_flight.specs.declared.pending.Stage.TheVariants.{Waiting, Read, Finished}
+use Rattle.in_flight.specs.declared.pending.Stage.TheVariants.{Unread, Read, Finished}
 use Rattle.machine.proofs.serving_tokens.SlotLaws.{finished_at, finished_nowhere}
 use Rattle.machine.proofs.serving.is_finished.Goals as goal
 
@@ -10,12 +10,12 @@ pub returns-in_default : goal.returns-in_default
 returns-in_default c = finished_nowhere c.args.note.number (seek (stage_at c.args.note.unit) c.args.in_flight.now.pending)
     (λ s h. c.in_default.not-Some s (c.find.ensures ∙ h))
 
-pub returns-in-Waiting : goal.returns-in-Waiting
+pub returns-in-Unread : goal.returns-in-Unread
 unfolding is_finished
-returns-in-Waiting c = finished_at c.args.note.number (seek (stage_at c.args.note.unit) c.args.in_flight.now.pending)
-    (record { pending = c.in-Some.field-0.pending; answer = Waiting; })
+returns-in-Unread c = finished_at c.args.note.number (seek (stage_at c.args.note.unit) c.args.in_flight.now.pending)
+    (record { pending = c.in-Some.field-0.pending; answer = Unread; })
     (sym c.find.ensures ∙ c.in-Some.is
-    ∙ ap (λ t. Some (record { pending = c.in-Some.field-0.pending; answer = t })) c.in-Waiting.is)
+    ∙ ap (λ t. Some (record { pending = c.in-Some.field-0.pending; answer = t })) c.in-Unread.is)
 
 pub returns-in-Read : goal.returns-in-Read
 unfolding is_finished

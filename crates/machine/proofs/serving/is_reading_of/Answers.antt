@@ -13,12 +13,12 @@ returns-in_default c = reads_nothing c.args.token.now.seat
     (c.find.ensures ∙ ap (λ (n : Note). located (seek (stage_at n.unit) c.args.in_flight.now.pending)) (c.note.ensures ∙ ap (λ (t : Computation). record { unit = t.seat.unit; number = t.number }) c.token.view_is)
     ∙ h))
 
-pub returns-in-Waiting : goal.returns-in-Waiting
-returns-in-Waiting c = reads_waiting c.args.token.now.seat
+pub returns-in-Unread : goal.returns-in-Unread
+returns-in-Unread c = reads_waiting c.args.token.now.seat
     (seek (stage_at c.args.token.now.seat.unit) c.args.in_flight.now.pending) c.in-Some.field-0.pending
     (read_of c.args.token.now) (ap (λ (n : Note). located (seek (stage_at n.unit) c.args.in_flight.now.pending))
     (sym (c.note.ensures ∙ ap (λ (t : Computation). record { unit = t.seat.unit; number = t.number }) c.token.view_is)) ∙ sym c.find.ensures ∙ c.in-Some.is
-    ∙ ap (λ t. Some (record { pending = c.in-Some.field-0.pending; answer = t })) c.in-Waiting.is)
+    ∙ ap (λ t. Some (record { pending = c.in-Some.field-0.pending; answer = t })) c.in-Unread.is)
 
 pub returns-in-Read : goal.returns-in-Read
 returns-in-Read c = reads_same c.is_of.result c.args.token.now

@@ -18,7 +18,7 @@ pub returns-in_default-answer : goal.returns-in_default-answer
 returns-in_default-answer c = record {
   answer = sym (ap (λ (f : Flight). read_refused (seek (stage_at c.args.unit) f.pending)) c.self.view_is)
       ∙ not_waiting (seek (stage_at c.args.unit) c.self.inside.slots) c.in-Some.found
-      (sym c.find_stage.ensures ∙ c.in-Some.is) c.in_default-answer.not-Waiting;
+      (sym c.find_stage.ensures ∙ c.in-Some.is) c.in_default-answer.not-Unread;
   pending = tt;
   operands = tt;
   after = refl;
@@ -28,7 +28,7 @@ pub returns-in-Err-clause-answer : goal.returns-in-Err-clause-answer
 returns-in-Err-clause-answer c =
     sym (ap (λ (f : Flight). read_refused (seek (stage_at c.args.unit) f.pending)) c.self.view_is)
     ∙ read_answered c.args.unit c.self.inside.slots c.self.inside.board.issued c.in-Some.found _
-    c.self.invariant.boarded (sym c.find_stage.ensures ∙ c.in-Some.is) c.in-Waiting.is
+    c.self.invariant.boarded (sym c.find_stage.ensures ∙ c.in-Some.is) c.in-Unread.is
     (sym c.in-Err.is ∙ c.may_read.ensures)
 
 pub invariant_of-self : goal.invariant_of-self
@@ -41,7 +41,7 @@ pub returns-clause-answer : goal.returns-clause-answer
 returns-clause-answer c =
     sym (ap (λ (f : Flight). read_refused (seek (stage_at c.args.unit) f.pending)) c.self.view_is)
     ∙ read_answered c.args.unit c.self.inside.slots c.self.inside.board.issued c.in-Some.found _
-    c.self.invariant.boarded (sym c.find_stage.ensures ∙ c.in-Some.is) c.in-Waiting.is
+    c.self.invariant.boarded (sym c.find_stage.ensures ∙ c.in-Some.is) c.in-Unread.is
     (sym c.in_default-may_read.is ∙ c.may_read.ensures)
 
 pub returns-clause-after : goal.returns-clause-after

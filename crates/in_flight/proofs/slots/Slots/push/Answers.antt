@@ -1,5 +1,5 @@
 use Rattle.std.proofs.Common.{◌<◌, ap, sym, ◌∙◌, subst, [], ◌∷◌, ◌++◌}
-use Rattle.in_flight.specs.declared.pending.Stage.TheVariants.{Waiting}
+use Rattle.in_flight.specs.declared.pending.Stage.TheVariants.{Unread}
 use Rattle.instructions.specs.Each.{Each}
 use Rattle.instructions.specs.Finding.{seek}
 use Rattle.in_flight.specs.Lookup.{stage_at}
@@ -9,7 +9,7 @@ use Rattle.in_flight.proofs.slots.Slots.push.Goals as goal
 pub invariant_of-self : goal.invariant_of-self
 invariant_of-self c =
     new_right c.self.inside.units c.self.inside.places c.self.inside.channels c.unit_number-index.result c.args.pending
-    Waiting c.self.invariant c.unit_number-index.ensures.value c.requires.waits
+    Unread c.self.invariant c.unit_number-index.ensures.value c.requires.waits
     (slot_free c.self.inside.units c.self.inside.places c.self.inside.channels c.args.pending.unit
     c.unit_number-index.result c.self.invariant c.unit_number-index.ensures.value
     (ap (seek (stage_at c.args.pending.unit)) c.self.view_is ∙ c.requires.free))

@@ -4,7 +4,7 @@ use Rattle.std.proofs.lemmas.List.{set-get_or}
 use Rattle.instructions.specs.Finding.{seek, replaced}
 use Rattle.instructions.proofs.Slots.{slot_any}
 use Rattle.scoreboard.specs.declared.board.Board.TheInside.{Inside}
-use Rattle.scoreboard.specs.Answers.{Standing, held_in, with_issued, read, in_progress}
+use Rattle.scoreboard.specs.Answers.{Standing, held_in, with_issued, read, in_occupancy}
 use Rattle.scoreboard.specs.inner.View.{standing_of, IsRight}
 use Rattle.scoreboard.proofs.changing.Right.{marked_right}
 use Rattle.scoreboard.proofs.changing.Changing.{nobody_marked, marked_view}
@@ -12,7 +12,7 @@ use Rattle.scoreboard.proofs.board.Board.mark_read.Goals as goal
 use Rattle.scoreboard.proofs.board.Board.mark_read.Goals.{in-Some, in_default}
 
 pub invariant_of-self : goal.invariant_of-self
-unfolding in_progress
+unfolding in_occupancy
 invariant_of-self c =
     elim c.match-self-index.branch [
       | in-Some w ↦
@@ -30,7 +30,7 @@ invariant_of-self c =
     ]
 
 pub returns : goal.returns
-unfolding in_progress
+unfolding in_occupancy
 returns c =
     elim c.match-self-index.branch [
       | in-Some w ↦

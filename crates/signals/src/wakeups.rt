@@ -2,7 +2,7 @@
 
 /// The kinds of event that a thread has made while it held the lock.
 #[derive(Clone, Copy, Debug, Default, Drop, PartialEq, Eq)]
-pub struct Told {
+pub struct Wakeups {
     /// A store, an acceptance or a return: a unit, a register or a place of the hopper may be free.
     pub changed: bool,
     /// A read of operands: a result that was held for this reader may be stored or returned.
