@@ -5,9 +5,10 @@ ghost use Rattle.instructions.specs.Finding.{seek};
 ghost use Rattle.hopper.specs.Queue.{reference_at, place_for, enter_answer, accept_answer, accepted, free_answer};
 ghost use Rattle.hopper.specs.Queue.{stands_at, is_taken, is_for, stores_here, holds_back};
 
-use crate::{BANKS, Entered, PLACES, Reference, bank_of};
+use crate::{Entered, PLACES, Reference, bank_of};
 use arrayvec::ArrayVec;
 use instructions::Refusal;
+use relocation::BANKS;
 use std::marker::Model;
 
 /// The references that wait for their bank in the four places, and which of the 32 banks are busy (Thornton, stunt
@@ -17,7 +18,7 @@ pub struct Hopper {
     /// Those that wait, in the order in which they entered.
     entered: ArrayVec<Entered, PLACES>,
     /// By the number of the bank.
-    busy: [bool; BANKS],
+    busy: [bool; BANKS as usize],
 }
 
 impl Model for Hopper {
@@ -66,7 +67,7 @@ impl Hopper {
     {
         Hopper {
             entered: ArrayVec::new(),
-            busy: [false; BANKS],
+            busy: [false; BANKS as usize],
         }
     }
 

@@ -13,4 +13,4 @@ mod reference;
 
 pub use entered::Entered;
 pub use hopper::Hopper;
-pub use reference::{BANKS, PLACES, Reference, bank_of};
+pub use reference::{PLACES, Reference, bank_of};

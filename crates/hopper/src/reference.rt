@@ -1,13 +1,10 @@
 ghost use Rattle.std.specs.Prelude.{◌≡◌, ◌<◌};
 ghost use Rattle.hopper.specs.Hopper.{bank_of, keep_order, stores_to};
 
-use relocation::Access;
+use relocation::{Access, BANKS};
 
 /// How many references can wait at a time (Thornton, stunt box). Places are numbered from 0.
 pub const PLACES: usize = 4;
-
-/// How many banks the memory has (Control Data 60100000, central memory). Banks are numbered from 0.
-pub const BANKS: usize = 32;
 
 /// A reference to a word of memory.
 #[derive(Clone, Copy, Debug, Drop, PartialEq, Eq)]
@@ -24,7 +21,7 @@ pub fn bank_of(address: u32) -> u8
     ensures value { result ≡ bank_of address }
     ensures range { result < 32 }
 {
-    (address % 32) as u8
+    (address % BANKS) as u8
 }
 
 impl Reference {

@@ -1,5 +1,4 @@
 ghost use Rattle.std.specs.Prelude.{◌≡◌};
-ghost use Rattle.in_flight.specs.Pending.{is_unread, is_finished};
 ghost use Rattle.in_flight.specs.Lookup.{stage_at, arrival_at};
 
 use instruction_table::{Digit, Instr, Unit};
@@ -56,24 +55,6 @@ pub struct Arrival {
     /// The channel, which is the number of the X register.
     pub channel: Digit,
     pub word: Word60,
-}
-
-impl Stage {
-    /// Whether it has still to read its operands.
-    #[tactic(auto, unfolding(crate::specs::Pending::is_unread))]
-    pub fn is_unread(&self) -> bool
-        ensures { result ≡ is_unread self.now }
-    {
-        matches!(self, Stage::Unread)
-    }
-
-    /// Whether it has its value.
-    #[tactic(auto, unfolding(crate::specs::Pending::is_finished))]
-    pub fn is_finished(&self) -> bool
-        ensures { result ≡ is_finished self.now }
-    {
-        matches!(self, Stage::Finished(_))
-    }
 }
 
 /// A pass that was never issued, number 0: what lists of a fixed room hold where nothing is.

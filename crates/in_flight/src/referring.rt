@@ -1,4 +1,4 @@
-ghost use Rattle.std.specs.Prelude.{◌≡◌, ◌||◌, ℕ};
+ghost use Rattle.std.specs.Prelude.{◌≡◌, ℕ};
 ghost use Rattle.in_flight.specs.Flight.{faults_at, relocated};
 
 use relocation::{Access, Area};
@@ -29,15 +29,13 @@ impl Relocated {
     }
 }
 
-/// The fault flag after a reference: it stays once it is set, and a reference out of range sets it where the exit mode
-/// says so.
+/// Whether the reference sets the fault flag: it is out of range, and the exit mode says so.
 #[tactic(auto, unfolding(crate::specs::Flight::faults_at))]
-pub fn fault_after(fault: bool, area: &Area, reference: &Option<Relocated>) -> bool
-    ensures { (size : ℕ)
-        → result ≡ (fault || faults_at (record { area = area.now; size = size }) reference.now) }
+pub fn faults(area: &Area, reference: &Option<Relocated>) -> bool
+    ensures { (size : ℕ) → result ≡ faults_at (record { area = area.now; size = size }) reference.now }
 {
     match reference {
-        None => fault,
-        Some(reference) => fault || (stops_at_fault(area) && reference.address.is_none()),
+        None => false,
+        Some(reference) => stops_at_fault(area) && reference.address.is_none(),
     }
 }

@@ -7,7 +7,6 @@ use in_flight::{InFlight, Relocated, Stage};
 use instruction_table::{Digit, Instr, Refusal, Target, Unit, read_text};
 use relocation::{Access, Storage};
 use std::test::Fail;
-use unit_ops::UnitValue;
 use word60::{Word18, Word60};
 
 /// Boot: nothing is pending, no unit is held and all banks are free.
@@ -230,18 +229,4 @@ fn reads_its_operand_registers(rt: HostRuntime) -> Result<(), Fail> {
             && flight.oldest() == Some(reading)
     );
     Ok(())
-}
-
-#[test]
-fn a_stage_waits_or_has_its_value(rt: HostRuntime) {
-    let read = Stage::Read(three_and_four(Word18::default()));
-    let finished = Stage::Finished(UnitValue::Jump(None));
-    for (stage, waits, has_value) in [
-        (Stage::Unread, true, false),
-        (read, false, false),
-        (finished, false, true),
-    ] {
-        assert_eq!(rt; stage.is_unread(), waits);
-        assert_eq!(rt; stage.is_finished(), has_value);
-    }
 }

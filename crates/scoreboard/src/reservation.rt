@@ -34,13 +34,6 @@ pub struct Reservation {
     pub occupancy: Occupancy,
 }
 
-/// Whether two registers are one.
-fn is_same(register: &Reg, other: &Reg) -> bool
-    ensures { result ≡ reg_eq register.now other.now }
-{
-    register == other
-}
-
 /// The X register of this number, if there is one.
 #[tactic(auto, unfolding(crate::specs::Reservations::returning_to))]
 fn returning_to(number: Option<Digit>) -> ArrayVec<Reg, 2>
@@ -58,7 +51,11 @@ fn returning_to(number: Option<Digit>) -> ArrayVec<Reg, 2>
 fn is_among(registers: &[Reg], register: &Reg) -> bool
     ensures { result ≡ is_in registers.now register.now }
 {
-    registers.iter().any(|other| is_same(register, other))
+    registers.iter().any(
+        |other|
+            ensures { result ≡ reg_eq register.entry.now other.now }
+        { register == other },
+    )
 }
 
 impl Reservation {

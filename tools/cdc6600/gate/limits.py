@@ -317,7 +317,6 @@ LIMITS = {
     ),
     # The machine.
     ("hopper/src/reference.rt", "PLACES"): answered("full-hopper", "E11 hopper full"),
-    ("hopper/src/reference.rt", "BANKS"): repeated("BANKS", shown("all-banks")),
     ("machine/src/events.rt", "MOST_WORK"): nothing("the contract of `drain` says that nothing is pending after it"),
     ("judging/src/exchanging.rt", "MOST_REQUESTS"): repeated(
         "MOST_REQUESTS", check("large", "MOST_REQUESTS", "one request more")

@@ -7,7 +7,7 @@ ghost use Rattle.machine.specs.Tokens.{Seating, IsValueIn, slot, unread_in, read
 ghost use Rattle.program_order.specs.Events.{allowed, after};
 
 use crate::{Answer, Done, Machine};
-use in_flight::{Outstanding, Pending, fault_after};
+use in_flight::{Outstanding, Pending, faults};
 use instruction_table::{Refusal, Unit};
 use judging::{judge_finish, judge_store};
 use unit_ops::{Operands, UnitValue, value};
@@ -80,7 +80,7 @@ impl Machine {
             Ok(event) => event,
             Err(refusal) => return Err(refusal),
         };
-        let faults = fault_after(false, &area, &event.reference);
+        let faults = faults(&area, &event.reference);
         self.state.write_and_jump(&event.work, faults);
         Ok(self.in_flight.leave(unit, &event.reference))
     }

@@ -39,9 +39,9 @@ made : (c : After-leave)
     }) c.leave.new.self ≡ after (the_view c.self.inside) (StoreResult c.args.unit)
 made c = boot_same c
     ∙ store_parts (the_view c.self.inside) c.args.unit c.size-size.result c.in-Ok.event.pending c.in-Ok.event.value
-    c.in-Ok.event.work c.write_and_jump.new.self c.fault_after-faults.result c.in-Ok.event.reference
+    c.in-Ok.event.work c.write_and_jump.new.self c.faults-faults.result c.in-Ok.event.reference
     c.leave.new.self c.in-Ok.ensures.found c.size-size.ensures.value c.in-Ok.ensures.work c.in-Ok.ensures.reference
-    (c.fault_after-faults.ensures c.size-size.result) c.write_and_jump.ensures c.leave.ensures.after
+    (c.faults-faults.ensures c.size-size.result) c.write_and_jump.ensures c.leave.ensures.after
 
 pub returns-in-Err-clause-answer : goal.returns-in-Err-clause-answer
 returns-in-Err-clause-answer c = ap (λ x. allowed x (StoreResult c.args.unit)) (sym c.self.view_is)
