@@ -19,6 +19,7 @@ from cdc6600.wrong_bodies.groups import clash, grouped, reached
 from cdc6600.wrong_bodies.opening import Opening, opened
 from cdc6600.wrong_bodies.second import after_one
 from cdc6600.wrong_bodies.edits import merged, read_bodies
+from cdc6600.wrong_bodies.libraries import stamps
 from cdc6600.wrong_bodies.verdicts import CANT_TELL, REFUSED as IS_REFUSED, is_of, outcome_of
 from cdc6600.wrong_bodies.written import without
 
@@ -260,6 +261,9 @@ class Reading(unittest.TestCase):
 
     def body(self, name):
         return next(body for body in self.bodies if body.name == name)
+
+    def test_kit_tells_the_stamps(self):
+        self.assertEqual(list(stamps(self.crate.parent.parent)), ["tiny"])
 
     def test_caller_and_callee_are_apart(self):
         reach = reached(self.source, self.bodies)
