@@ -1,18 +1,20 @@
-"""Checks that each block of code in docs/threads.md stands in the test that it is from. It says nothing where all is
-right."""
+"""Checks that each block of Rust in docs/threads.md is in the test that it is from. Prints nothing if all are."""
 
 from pathlib import Path
 
 from cdc6600.shared.program import ROOT
 
 PAGE, TEST = "docs/threads.md", "crates/thread_tests/src/example_tests.rt"
-FENCE = "```"
+FENCE, RUST = "```", "```rust"
 
 
 def blocks_of(lines):
-    """The blocks of a page, each with the number of the line that begins it."""
+    """The blocks of Rust in a page, each with the number of the line that begins it."""
     fences = [number for number, line in enumerate(lines, 1) if line.startswith(FENCE)]
-    return [(first, lines[first : last - 1]) for first, last in zip(fences[::2], fences[1::2])]
+    return [
+        (first, lines[first : last - 1]) for first, last in zip(fences[::2], fences[1::2])
+        if lines[first - 1] == RUST
+    ]
 
 
 def main():
