@@ -113,7 +113,7 @@ line_fits d (says.Start a) f =
 line_fits d (says.Show a b) f =
     if_number (number_of 8 6 a) _ (λ low. if_number (number_of 8 6 b) _ (λ high.
     if_taken (nat_le 64 (length d.shows)) faults.Many _ (λ t. if_taken _ faults.Range _ (λ u. goes _ f))))
-line_fits d (says.AskLine a k) f =
+line_fits d (says.Ask a k) f =
     if_number (number_of 8 6 a) _ (λ n. if_number (number_of 10 8 k) _ (λ count.
     if_taken (nat_lt 10000000 count) faults.Number _ (λ t. request_fits d _ n (λ lies. record {
       start = f.start;
