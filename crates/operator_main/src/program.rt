@@ -35,20 +35,26 @@ use std::time::Clock;
 /// More bytes than a fault line has, which with the position of a fault in a refused line has at most 229.
 const FAULT_LINE_WITH_POSITION: usize = 256;
 
-/// Writes the fault line to the fault stream, in one write, so that the lines of programs that run side by side don't
-/// mix. If a line was refused, it is `line`, and the position of the fault in it is written too. Returns the exit status.
-pub fn report_fault<F: Write>(faults: &mut F, fault: ProgramFault, line: &[u8]) -> u8
-    ensures status { result ≡ exit_code (Err fault) }
-    ensures told { Tells (Err fault) (F.contents faults.old) (F.contents faults.new) }
-{
-    let mut text = ArrayVec::<u8, FAULT_LINE_WITH_POSITION>::new();
+/// The fault line, with the position of the fault if a line was refused, which then is `line`.
+fn fault_line(fault: &ProgramFault, line: &[u8]) -> ArrayVec<u8, FAULT_LINE_WITH_POSITION> {
+    let mut text = ArrayVec::new();
     let _ = write!(text, "cdc6600: {fault}");
     if let ProgramFault::Refused(Refusal::Deck { fault, .. }) = fault
-        && let Some(position) = find(fault, line)
+        && let Some(position) = find(*fault, line)
     {
         let _ = write!(text, ", {position}");
     }
     let _ = text.write_all(b"\n");
+    text
+}
+
+/// Writes the fault line to the fault stream, in one write, so that the lines of programs that run side by side don't
+/// mix. If a line was refused, it is `line`. Returns the exit status.
+pub fn report_fault<F: Write>(faults: &mut F, fault: ProgramFault, line: &[u8]) -> u8
+    ensures status { result ≡ exit_code (Err fault) }
+    ensures told { Tells (Err fault) (F.contents faults.old) (F.contents faults.new) }
+{
+    let text = fault_line(&fault, line);
     let mut told = CheckedWriter::new(&mut *faults);
     let _ = told.put(text.as_slice());
     // The proof reads what the fault stream holds from this use, which has no other effect.
