@@ -4,3 +4,5 @@ pub mod Making
 pub mod Admitting
 pub mod Leaving
 pub mod Answering
+pub mod Made
+pub mod Reading

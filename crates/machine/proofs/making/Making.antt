@@ -1,10 +1,9 @@
 -- What the made and the refused events leave, over a plain machine.
 use Rattle.std.proofs.Common.{◌≡◌, ◌≤◌, ◌+◌, ℕ, Bool, true, false, List, [], ◌∷◌, ◌++◌, Option, Some, None, length}
 use Rattle.std.proofs.Common.{refl, sym, ap, ◌∙◌, subst, suc, add-one, arith, leb}
-use Rattle.std.specs.Prelude.{Result, Ok, Err, ◌||◌, ◌^◌, ◌-◌, min, unwrap_or, set, IfSome, MatchOption, replicate}
+use Rattle.std.specs.Prelude.{Result, Ok, Err, ◌^◌, ◌-◌, min, unwrap_or, set, IfSome, MatchOption, replicate}
 use Rattle.std.proofs.lemmas.Bool.{leb-true, leb-false, le-leb, lt-leb}
 use Rattle.instructions.specs.declared.instr.Instr.{Instr}
-use Rattle.instructions.specs.declared.instr.Reg.{Reg}
 use Rattle.instructions.specs.declared.instr.Reg.TheVariants.{X}
 use Rattle.instructions.specs.declared.instr.Unit.{Unit as FunctionalUnit}
 use Rattle.instructions.specs.declared.refusal.Halt.{Halt}

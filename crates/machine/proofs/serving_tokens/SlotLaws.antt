@@ -9,12 +9,12 @@ use Rattle.sequential.specs.Work.{operands}
 use Rattle.unit_ops.specs.declared.Operands.{Operands}
 use Rattle.unit_ops.specs.declared.UnitValue.{UnitValue}
 use Rattle.unit_ops.specs.Values.{value_of}
-use Rattle.program_order.specs.declared.event.Event.TheVariants.{Finish, Store as StoreResult}
+use Rattle.program_order.specs.declared.event.Event.TheVariants.{Finish}
 use Rattle.instructions.specs.declared.refusal.Refusal.{Refusal}
 use Rattle.program_order.specs.declared.event.Done.{Done}
 use Rattle.program_order.specs.declared.event.Note.{Note}
-use Rattle.program_order.specs.Run.{answer_by, answer_of}
-use Rattle.std.specs.Prelude.{◌≢◌, IfSome, MatchBool, Ok, Err}
+use Rattle.program_order.specs.Run.{answer_by}
+use Rattle.std.specs.Prelude.{◌≢◌, IfSome, MatchBool, Ok}
 use Rattle.in_flight.specs.Pending.{has_read, is_finished, is_unread}
 use Rattle.instructions.specs.declared.instr.Instr.{Instr}
 use Rattle.in_flight.specs.declared.pending.Pending.{Pending}
@@ -28,7 +28,7 @@ use Rattle.in_flight.specs.Lookup.{located, in_phase, stage_at, stage_in}
 use Rattle.instructions.specs.Finding.{replaced, Found, put_back, seek}
 use Rattle.machine.specs.Tokens.{Computation, Reading, ServedReservation, Seating, IsValueAt, IsValueIn, finished_in}
 use Rattle.machine.specs.Tokens.{read_of}
-use Rattle.machine.specs.Tokens.{reading_at, reading_in, refusal_to, slot, unread_in}
+use Rattle.machine.specs.Tokens.{reading_at, reading_in, slot, unread_in}
 use Rattle.program_order.specs.Processor.{Processor}
 use Rattle.program_order.specs.Events.{after, allowed, tests_of}
 use Rattle.program_order.specs.Units.{finish_tests}
@@ -36,7 +36,6 @@ use Rattle.in_flight.specs.Tests.{refusal_of, tests_found}
 use Rattle.in_flight.proofs.asking.Finding.{no_sought, sought_pending, sought_what}
 use Rattle.instructions.proofs.Finding.{seek_around, seek_splits}
 use Rattle.machine.proofs.making.Making.{finish_made, flight, with_flight}
-use Rattle.program_order.proofs.keeping.Naming.{answered_err}
 
 -- the note of a token
 pub noted : (n : Note) (t u : ServedReservation) → n ≡ record { unit = t.seat.unit; number = t.number } → t ≡ u

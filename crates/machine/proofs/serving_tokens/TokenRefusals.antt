@@ -1,6 +1,5 @@
 -- Each refusal of a token's call is a stranger's, or one of those that its event may have.
 use Rattle.std.proofs.Common.{◌≡◌, ℕ, Bool, true, false, ◌||◌, ◌&&◌, List, Option, Some, None, refl, sym, ap, ◌∙◌, eqb}
-use Rattle.std.specs.Prelude.{Err}
 use Rattle.instructions.specs.declared.refusal.Refusal.{Refusal}
 use Rattle.instructions.specs.declared.instr.Unit.{Unit as FunctionalUnit}
 use Rattle.program_order.specs.declared.event.Note.{Note}
@@ -9,7 +8,6 @@ use Rattle.in_flight.specs.declared.pending.Pending.{Pending}
 use Rattle.in_flight.specs.declared.pending.Stage.{Stage}
 use Rattle.in_flight.specs.declared.pending.Stage.TheVariants.{Unread, Read as HasRead, Finished}
 use Rattle.program_order.specs.Refusals.{is_read_refusal, is_store_refusal, is_stranger}
-use Rattle.program_order.specs.Run.{answer_of}
 use Rattle.machine.specs.Tokens.{finished_in, slot, unread_in}
 use Rattle.in_flight.specs.Pending.{is_finished, is_unread}
 use Rattle.instructions.specs.Finding.{Found, seek}
@@ -19,7 +17,7 @@ use Rattle.program_order.specs.Events.{allowed, tests_of}
 use Rattle.program_order.specs.Units.{store_tests}
 use Rattle.in_flight.specs.Lookup.{stage_at}
 use Rattle.sequential.specs.State.{bounds_of}
-use Rattle.program_order.proofs.keeping.Naming.{answered_err, one_of}
+use Rattle.program_order.proofs.keeping.Naming.{one_of}
 
 -- where it waits, only its operands can be refused
 waiting_named : (w : Processor) (u : FunctionalUnit) (n : ℕ) (k : Refusal) → unread_in n (slot w u) ≡ true

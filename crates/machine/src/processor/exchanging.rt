@@ -7,7 +7,9 @@ ghost use Rattle.program_order.specs.Run.{IsAnswer, answer_of, settled};
 ghost use Rattle.program_order.specs.Telling.{IsWhy};
 
 use crate::changing::exchange;
+use crate::processor::made;
 use crate::{Answer, Done, Machine};
+use instruction_table::Refusal;
 use judging::{judge_ask, judge_exchange};
 use relocation::PACKAGE_WORDS;
 
@@ -29,11 +31,9 @@ impl Machine {
         ensures why { IfErr result (λ refusal. IsWhy (completed self.old) refusal) }
     {
         let size = self.state.memory.size();
-        if let Err(refusal) = judge_ask(self.asked, &self.request, size, at) {
-            return Err(refusal);
-        }
-        if let Err(refusal) = self.log.reserve(REQUEST_ROOM) {
-            return Err(refusal);
+        judge_ask(self.asked, &self.request, size, at)?;
+        if self.log.reserve(REQUEST_ROOM).is_err() {
+            return Err(Refusal::OutOfMemory);
         }
         self.request = Some(at);
         self.asked += 1;
@@ -52,15 +52,13 @@ impl Machine {
         ensures why { IfErr result (λ refusal. IsWhy (completed self.old) refusal) }
     {
         let judged = judge_exchange(&self.request, &self.in_flight, &self.state);
-        let at = match judged {
-            Ok(at) => at,
-            Err(refusal) => return Err(refusal),
-        };
-        self.saved
-            .save_before_write(&self.state.memory, at, PACKAGE_WORDS);
-        exchange(&mut self.state, at);
-        self.log.exchanged(at);
-        self.request = None;
-        Ok(Done::Made)
+        if let Ok(at) = &judged {
+            self.saved
+                .save_before_write(&self.state.memory, *at, PACKAGE_WORDS);
+            exchange(&mut self.state, *at);
+            self.log.exchanged(*at);
+            self.request = None;
+        }
+        made(&judged)
     }
 }

@@ -55,11 +55,7 @@ impl Machine {
                 None
             }
             Fetched::Taking(instr, position) => {
-                let reserved = self.in_flight.reserve(&instr, self.state.position.p);
-                let (unit, number) = match reserved {
-                    Ok(reserved) => reserved,
-                    Err(refusal) => return Err(refusal),
-                };
+                let (unit, number) = self.in_flight.reserve(&instr, self.state.position.p)?;
                 self.state.position = position;
                 Some(Note { unit, number })
             }

@@ -5,7 +5,8 @@ ghost use Rattle.program_order.specs.Refusals.{may_refuse};
 ghost use Rattle.program_order.specs.Run.{answer_of, settled};
 
 use crate::changing::perform;
-use crate::{Answer, Done, Machine};
+use crate::processor::made;
+use crate::{Answer, Machine};
 use instruction_table::Reg;
 
 impl Machine {
@@ -19,12 +20,11 @@ impl Machine {
         ensures named { IfErr result (λ refusal. may_refuse (Accept place) refusal ≡ true) }
         ensures reached { GoesOn self.old (Accept place ∷ []) (result ∷ []) self.new }
     {
-        let reference = match self.in_flight.accept(place, &self.state.memory) {
-            Ok(reference) => reference,
-            Err(refusal) => return Err(refusal),
-        };
-        perform(&mut self.state, &mut self.saved, &reference);
-        Ok(Done::Made)
+        let accepted = self.in_flight.accept(place, &self.state.memory);
+        if let Ok(reference) = &accepted {
+            perform(&mut self.state, &mut self.saved, reference);
+        }
+        made(&accepted)
     }
 
     /// The load in a channel, 1 to 5, writes its register: the event `Return`.
@@ -37,14 +37,13 @@ impl Machine {
         ensures named { IfErr result (λ refusal. may_refuse (Return channel) refusal ≡ true) }
         ensures reached { GoesOn self.old (Return channel ∷ []) (result ∷ []) self.new }
     {
-        let arrival = match self.in_flight.return_load(channel) {
-            Ok(arrival) => arrival,
-            Err(refusal) => return Err(refusal),
-        };
-        self.state
-            .registers
-            .set(Reg::X(arrival.channel), arrival.word);
-        Ok(Done::Made)
+        let returned = self.in_flight.return_load(channel);
+        if let Ok(arrival) = &returned {
+            self.state
+                .registers
+                .set(Reg::X(arrival.channel), arrival.word);
+        }
+        made(&returned)
     }
 
     /// A bank, 0 to 31, is free again: the event `BankFree`.
@@ -57,9 +56,6 @@ impl Machine {
         ensures named { IfErr result (λ refusal. may_refuse (BankFree bank) refusal ≡ true) }
         ensures reached { GoesOn self.old (BankFree bank ∷ []) (result ∷ []) self.new }
     {
-        if let Err(refusal) = self.in_flight.bank_free(bank) {
-            return Err(refusal);
-        }
-        Ok(Done::Made)
+        made(&self.in_flight.bank_free(bank))
     }
 }

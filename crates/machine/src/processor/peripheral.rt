@@ -1,11 +1,7 @@
-ghost use Rattle.std.specs.Prelude.{◌≡◌, ◌≤◌, ◌<◌, ◌⊎◌, true, None, Some, [], ◌∷◌, IfErr, Ok, OnOk, MatchResult};
-ghost use Rattle.std.specs.Prelude.{slice_index_or};
-ghost use Rattle.instructions.specs.declared.refusal.Refusal.TheVariants.{OutOfMemory};
-ghost use Rattle.in_flight.specs.Tests.{refusal_of};
+ghost use Rattle.std.specs.Prelude.{◌≡◌, true, [], ◌∷◌, IfErr, Ok, slice_index_or};
 ghost use Rattle.program_order.specs.declared.event.Done.{Done as SomeDone};
 ghost use Rattle.program_order.specs.declared.event.Done.TheVariants.{Word};
 ghost use Rattle.program_order.specs.declared.event.Event.TheVariants.{PpRead, PpWrite};
-ghost use Rattle.program_order.specs.Peripheral.{access_tests};
 ghost use Rattle.program_order.specs.Processor.{completed};
 ghost use Rattle.program_order.specs.Reached.{GoesOn};
 ghost use Rattle.program_order.specs.Refusals.{may_refuse};
@@ -14,43 +10,14 @@ ghost use Rattle.program_order.specs.Run.{IsAnswer, settled};
 use crate::changing::perform;
 use crate::{Answer, Done, Machine};
 use hopper::Reference;
-use in_flight::InFlight;
 use instruction_table::Refusal;
 use judging::judge_access;
 use relocation::Access;
-use sequential::Log;
 use word60::Word60;
 
 /// The entries for which an access makes room in the log: its own, and those of an instruction, an exchange and an
 /// instruction, so that issues and exchanges take no memory.
 const ACCESS_ROOM: u32 = 4;
-
-/// Judges a peripheral access, and makes room in the log for it and what may follow.
-///
-/// # Errors
-/// `Budget`, `PeripheralWait`, `PeripheralRange`, `OutOfMemory`: the first that applies.
-fn admit_access(
-    accessed: u32,
-    in_flight: &InFlight,
-    size: u32,
-    log: &mut Log,
-    at: u32,
-) -> Result<(), Refusal>
-    ensures answer { MatchResult result
-        (λ _. refusal_of (access_tests accessed in_flight.now.pending size at) ≡ None)
-        (λ refusal. (refusal_of (access_tests accessed in_flight.now.pending size at) ≡ Some refusal)
-        ⊎ ((refusal_of (access_tests accessed in_flight.now.pending size at) ≡ None) × (refusal ≡ OutOfMemory))) }
-    ensures bound { OnOk result (accessed < 1000000) }
-    ensures within { OnOk result (at < size) }
-    ensures room { OnOk result (4 ≤ log.new.room) }
-    ensures steps { log.new.steps ≡ log.old.steps }
-    ensures kept { log.old.room ≤ log.new.room }
-{
-    if let Err(refusal) = judge_access(accessed, in_flight, size, at) {
-        return Err(refusal);
-    }
-    log.reserve(ACCESS_ROOM)
-}
 
 impl Machine {
     /// A peripheral processor reads the word at an absolute address: the event `PpRead`. Room is made in the log for
@@ -69,9 +36,9 @@ impl Machine {
             → done ≡ Word (slice_index_or (completed self.new).memory at 0) }
     {
         let size = self.state.memory.size();
-        let admitted = admit_access(self.accessed, &self.in_flight, size, &mut self.log, at);
-        if let Err(refusal) = admitted {
-            return Err(refusal);
+        judge_access(self.accessed, &self.in_flight, size, at)?;
+        if self.log.reserve(ACCESS_ROOM).is_err() {
+            return Err(Refusal::OutOfMemory);
         }
         let word = self.state.memory.load(at);
         self.log.read_at(at);
@@ -91,9 +58,9 @@ impl Machine {
         ensures reached { GoesOn self.old (PpWrite at word ∷ []) (result ∷ []) self.new }
     {
         let size = self.state.memory.size();
-        let admitted = admit_access(self.accessed, &self.in_flight, size, &mut self.log, at);
-        if let Err(refusal) = admitted {
-            return Err(refusal);
+        judge_access(self.accessed, &self.in_flight, size, at)?;
+        if self.log.reserve(ACCESS_ROOM).is_err() {
+            return Err(Refusal::OutOfMemory);
         }
         let reference = Reference {
             address: at,

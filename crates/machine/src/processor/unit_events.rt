@@ -6,7 +6,8 @@ ghost use Rattle.in_flight.specs.Tests.{refusal_in};
 ghost use Rattle.machine.specs.Tokens.{Seating, IsValueIn, slot, unread_in, reading_in, rest_after};
 ghost use Rattle.program_order.specs.Events.{allowed, after};
 
-use crate::{Answer, Done, Machine};
+use crate::processor::made;
+use crate::{Answer, Machine};
 use in_flight::{Outstanding, Pending, faults};
 use instruction_table::{Refusal, Unit};
 use judging::{judge_finish, judge_store};
@@ -25,11 +26,7 @@ impl Machine {
             → reading_in seat (slot self.new unit)
             ≡ Some (record { seat = seat; number = read.0.number; instr = read.0.instr; operands = read.1 })) }
     {
-        let (pending, operands) = match self.in_flight.read(unit, &self.state.registers) {
-            Ok(read) => read,
-            Err(refusal) => return Err(refusal),
-        };
-        Ok((pending, operands))
+        self.in_flight.read(unit, &self.state.registers)
     }
 
     /// A unit reads its operands.
@@ -37,10 +34,7 @@ impl Machine {
         ensures answer { result ≡ answer_of self.old (Read unit) }
         ensures after { self.new ≡ settled self.old (Read unit) result }
     {
-        match self.read_operands(unit) {
-            Ok(_) => Ok(Done::Made),
-            Err(refusal) => Err(refusal),
-        }
+        made(&self.read_operands(unit))
     }
 
     /// A unit has its value.
@@ -48,13 +42,11 @@ impl Machine {
         ensures answer { result ≡ answer_of self.old (Finish unit) }
         ensures after { self.new ≡ settled self.old (Finish unit) result }
     {
-        match judge_finish(&self.in_flight, unit) {
-            Err(refusal) => Err(refusal),
-            Ok((pending, operands)) => {
-                self.put_value(unit, value(&pending.instr, &operands));
-                Ok(Done::Made)
-            }
+        let judged = judge_finish(&self.in_flight, unit);
+        if let Ok((pending, operands)) = &judged {
+            self.put_value(unit, value(&pending.instr, operands));
         }
+        made(&judged)
     }
 
     /// A unit has the value of what it has read.
@@ -90,9 +82,6 @@ impl Machine {
         ensures answer { result ≡ answer_of self.old (Store unit) }
         ensures after { self.new ≡ settled self.old (Store unit) result }
     {
-        match self.store_result(unit) {
-            Ok(_) => Ok(Done::Made),
-            Err(refusal) => Err(refusal),
-        }
+        made(&self.store_result(unit))
     }
 }

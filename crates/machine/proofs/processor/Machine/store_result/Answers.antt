@@ -1,4 +1,4 @@
-use Rattle.std.proofs.Common.{◌≡◌, ◌≤◌, ◌∙◌, ℕ, List, ap, refl, sym, subst}
+use Rattle.std.proofs.Common.{◌≡◌, ◌≤◌, ◌∙◌, ℕ, List, ap, sym, subst}
 use Rattle.std.specs.Prelude.{None}
 use Rattle.program_order.specs.declared.event.Event.TheVariants.{Store as StoreResult}
 use Rattle.in_flight.specs.Tests.{refusal_in}
