@@ -2,10 +2,10 @@
 //! instructions in flight. Nothing is changed here; `machine` makes the events.
 //!
 //! Callers rely on each judgement: it gives exactly the first refusal that applies, in the order of the refusals'
-//! numbers. `issuing` judges an issue, `units` the events of a unit, `exchanging` a request and its exchange, `accessing`
-//! a peripheral access; `working` names the next event that works on what is pending. The memory events are judged where
-//! they are made, in `in_flight`. Its tests are those of the machine, in `crates/machine_tests/src/event_tests.rt`. Begin
-//! with `judge_store` in `units`.
+//! numbers. `issuing` judges an issue, `units` a finish, `exchanging` a request and its exchange, `accessing` a
+//! peripheral access; `working` names the next event that works on what is pending. Reads, stores and the memory events
+//! are judged in `in_flight`. Its tests are those of the machine, in `crates/machine_tests/src/event_tests.rt`. Begin
+//! with `judge_issue` in `issuing`.
 #![tactic(auto)]
 
 mod accessing;
@@ -17,5 +17,5 @@ mod working;
 pub use accessing::judge_access;
 pub use exchanging::{judge_ask, judge_exchange};
 pub use issuing::judge_issue;
-pub use units::{StoreEvent, judge_finish, judge_store};
+pub use units::judge_finish;
 pub use working::next_work;

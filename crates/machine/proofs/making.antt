@@ -6,3 +6,4 @@ pub mod Leaving
 pub mod Answering
 pub mod Made
 pub mod Reading
+pub mod Storing

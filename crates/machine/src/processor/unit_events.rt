@@ -8,9 +8,10 @@ ghost use Rattle.program_order.specs.Events.{allowed, after};
 
 use crate::processor::made;
 use crate::{Answer, Machine};
-use in_flight::{Outstanding, Pending, faults};
+use in_flight::{Located, Outstanding, Pending, Relocated, Stage, faults};
 use instruction_table::{Refusal, Unit};
-use judging::{judge_finish, judge_store};
+use judging::judge_finish;
+use sequential::Work;
 use unit_ops::{Operands, UnitValue, value};
 
 impl Machine {
@@ -66,15 +67,19 @@ impl Machine {
             (λ refusal. self.new ≡ self.old) }
         ensures rest { IfOk result (λ rest. rest ≡ rest_after self.old (slot self.old unit)) }
     {
-        let area = self.state.area;
-        let size = self.state.memory.size();
-        let event = match judge_store(&self.in_flight, &area, size, unit) {
-            Ok(event) => event,
-            Err(refusal) => return Err(refusal),
+        let Some(Located { pending, answer }) = self.in_flight.find(unit) else {
+            return Err(Refusal::Nothing);
         };
-        let faults = faults(&area, &event.reference);
-        self.state.write_and_jump(&event.work, faults);
-        Ok(self.in_flight.leave(unit, &event.reference))
+        let Stage::Finished(value) = answer else {
+            return Err(Refusal::Nothing);
+        };
+        let area = self.state.area;
+        let work = Work::of(&pending.instr, &value);
+        let reference = Relocated::of(&area, self.state.memory.size(), &work.reference);
+        self.in_flight.may_store(unit, &reference)?;
+        self.state
+            .write_and_jump(&work, faults(&area, &reference));
+        Ok(self.in_flight.leave(unit, &reference))
     }
 
     /// A unit stores its result, jumps or makes its reference, and is released.
