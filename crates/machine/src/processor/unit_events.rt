@@ -15,27 +15,12 @@ use sequential::Work;
 use unit_ops::{Operands, UnitValue, value};
 
 impl Machine {
-    /// A unit reads all its operands in this step. It answers the instruction that waited, and what it
-    /// has read.
-    pub(crate) fn read_operands(&mut self, unit: Unit) -> Result<(Pending, Operands), Refusal>
-        ensures answer { allowed self.old (Read unit) ≡ refusal_in result }
-        ensures after { MatchResult result (λ read. self.new ≡ after self.old (Read unit))
-            (λ refusal. self.new ≡ self.old) }
-        ensures unit { IfOk result (λ read. IsSome (uses read.0.instr).unit) }
-        ensures number { IfOk result (λ read. unread_in read.0.number (slot self.old unit) ≡ true) }
-        ensures read { IfOk result (λ read. (seat : Seating)
-            → reading_in seat (slot self.new unit)
-            ≡ Some (record { seat = seat; number = read.0.number; instr = read.0.instr; operands = read.1 })) }
-    {
-        self.in_flight.read(unit, &self.state.registers)
-    }
-
-    /// A unit reads its operands.
+    /// A unit reads all its operands in this step.
     pub(crate) fn read_unit(&mut self, unit: Unit) -> Answer
         ensures answer { result ≡ answer_of self.old (Read unit) }
         ensures after { self.new ≡ settled self.old (Read unit) result }
     {
-        made(&self.read_operands(unit))
+        made(&self.in_flight.read(unit, &self.state.registers))
     }
 
     /// A unit has its value.
