@@ -1,7 +1,7 @@
 -- Which of the four places is free, and how many are taken: as many as there are that wait.
 use Rattle.std.proofs.Common.{◌≡◌, ◌≢◌, ◌<◌, ◌≤◌, ◌+◌, ℕ, zero, suc, Bool, true, false, cond, List, [], ◌∷◌, Option}
 use Rattle.std.proofs.Common.{Some, None, refl, sym, ap, ◌∙◌, subst, eqb, length, arith}
-use Rattle.std.specs.Prelude.{◌||◌, is_none}
+use Rattle.std.specs.Prelude.{◌||◌, is_none, MatchOption}
 use Rattle.std.proofs.lemmas.Bool.{eqb-false, ne_eqb}
 use Rattle.instructions.specs.Each.{Each, Pairs}
 use Rattle.instructions.proofs.Lists.{any_of_each, each_of_any}
@@ -35,6 +35,39 @@ place_free es p h =
     let r = first_free (is_taken es) (λ q. q < 4) (0 ∷ 1 ∷ 2 ∷ 3 ∷ []) p
     (omega arith, (omega arith, (omega arith, (omega arith, tt)))) h in
     (r.0, each_of_any (stands_at p) (λ e. e.place ≢ p) (λ e. eqb-false e.place p) es r.1)
+
+taken_first : (f : ℕ → Bool) (p : ℕ) (ps : List ℕ) → f p ≡ true → first_place f (p ∷ ps) ≡ first_place f ps
+unfolding first_place
+taken_first f p ps h = ap (λ b. cond b (first_place f ps) (Some p)) h
+
+free_first : (f : ℕ → Bool) (p : ℕ) (ps : List ℕ) → f p ≡ false → first_place f (p ∷ ps) ≡ Some p
+unfolding first_place
+free_first f p ps h = ap (λ b. cond b (first_place f ps) (Some p)) h
+
+-- what a search of the four places found, or that it found none
+abbrev pub FindsFree : (ℕ → Bool) → Option ℕ → Type 0
+FindsFree f r = MatchOption r ((k : ℕ) → 0 ≤ k → k < 4 → f k ≡ true)
+    (λ p. (0 ≤ p) × (p < 4) × (f p ≡ false) × ((k : ℕ) → 0 ≤ k → k < p → f k ≡ true))
+
+-- the place that a search found is the lowest-numbered free one
+pub found_is : (f : ℕ → Bool) (r : Option ℕ) → FindsFree f r → r ≡ free_place f
+unfolding free_place first_place
+found_is f None h = sym
+    (taken_first f 0 (1 ∷ 2 ∷ 3 ∷ []) (h 0 (omega arith) (omega arith))
+    ∙ taken_first f 1 (2 ∷ 3 ∷ []) (h 1 (omega arith) (omega arith))
+    ∙ taken_first f 2 (3 ∷ []) (h 2 (omega arith) (omega arith))
+    ∙ taken_first f 3 [] (h 3 (omega arith) (omega arith)))
+found_is f (Some zero) h = sym (free_first f 0 (1 ∷ 2 ∷ 3 ∷ []) h.2)
+found_is f (Some (suc zero)) h = sym
+    (taken_first f 0 (1 ∷ 2 ∷ 3 ∷ []) (h.3 0 (omega arith) (omega arith)) ∙ free_first f 1 (2 ∷ 3 ∷ []) h.2)
+found_is f (Some (suc (suc zero))) h = sym
+    (taken_first f 0 (1 ∷ 2 ∷ 3 ∷ []) (h.3 0 (omega arith) (omega arith))
+    ∙ taken_first f 1 (2 ∷ 3 ∷ []) (h.3 1 (omega arith) (omega arith)) ∙ free_first f 2 (3 ∷ []) h.2)
+found_is f (Some (suc (suc (suc zero)))) h = sym
+    (taken_first f 0 (1 ∷ 2 ∷ 3 ∷ []) (h.3 0 (omega arith) (omega arith))
+    ∙ taken_first f 1 (2 ∷ 3 ∷ []) (h.3 1 (omega arith) (omega arith))
+    ∙ taken_first f 2 (3 ∷ []) (h.3 2 (omega arith) (omega arith)) ∙ free_first f 3 [] h.2)
+found_is f (Some (suc (suc (suc (suc n))))) h = absurd (omega (arith, h.1))
 
 -- ---- how many are taken ----
 

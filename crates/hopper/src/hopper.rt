@@ -33,33 +33,6 @@ impl Model for Hopper {
     ghost invariant = { λ h. IsRight h.entered.items h.busy };
 }
 
-/// The lowest-numbered place in which nothing stands.
-#[tactic(auto, unfolding(crate::proofs::Opened::places_in_order))]
-fn free_place(entered: &[Entered]) -> Option<u8>
-    ensures { result ≡ place_for entered.now }
-{
-    let is_taken = |place: u8|
-        ensures { result ≡ is_taken entered.entry.now place }
-    {
-        entered.iter().any(
-            |waiting|
-                ensures { result ≡ stands_at place waiting.now }
-            { waiting.place == place },
-        )
-    };
-    if !is_taken(0) {
-        Some(0)
-    } else if !is_taken(1) {
-        Some(1)
-    } else if !is_taken(2) {
-        Some(2)
-    } else if !is_taken(3) {
-        Some(3)
-    } else {
-        None
-    }
-}
-
 impl Hopper {
     /// A hopper in which nothing waits, with no bank busy.
     pub fn new() -> Hopper
@@ -83,6 +56,7 @@ impl Hopper {
     ///
     /// # Errors
     /// `HopperFull` where all four places are taken; then nothing changes.
+    #[tactic(auto, unfolding(crate::proofs::Opened::places_taken))]
     pub fn enter(&mut self, reference: Reference) -> Result<u8, Refusal>
         ensures answer { result ≡ enter_answer (place_for self.old.entered) }
         ensures after { MatchResult result
@@ -91,7 +65,17 @@ impl Hopper {
             })
             (λ refusal. self.new ≡ self.old) }
     {
-        let Some(place) = free_place(self.entered.as_slice()) else {
+        let entered = self.entered.as_slice();
+        let is_taken = |place: u8|
+            ensures { result ≡ is_taken entered.entry.now place }
+        {
+            entered.iter().any(
+                |waiting|
+                    ensures { result ≡ stands_at place waiting.now }
+                { waiting.place == place },
+            )
+        };
+        let Some(place) = (0..PLACES as u8).find(|place| !is_taken(*place)) else {
             return Err(Refusal::HopperFull);
         };
         self.entered.push(Entered { place, reference });

@@ -210,12 +210,6 @@ open_at_count es i n l h =
     let r = ends_at es i (Count n) l h in
     ap ends_open r.1 ∙ opened_by_count r.0 n
 
-pub closed_at_single : (x : LogStep) (e : Entry) → IsSingle x e → (es : List Entry) (i : ℕ) → length es ≡ suc i
-    → slice_get es i ≡ Some e → ends_open es ≡ false
-closed_at_single x e s es i l h =
-    let r = ends_at es i e l h in
-    ap ends_open r.1 ∙ open-push r.0 e ∙ s.closed
-
 -- no last element
 pub none_last : (es : List Entry) → slice_get es (length es - 1) ≡ None → ends_open es ≡ false
 unfolding ends_open
@@ -238,6 +232,20 @@ read_within (x ∷ es) (suc i) e h = let k : i < length es = read_within es i e 
 -- the last position of a list with an element there
 pub last_place : (es : List Entry) (e : Entry) → slice_get es (length es - 1) ≡ Some e → length es ≡ suc (length es - 1)
 last_place es e h = let k = read_within es (length es - 1) e h in omega (arith, k)
+
+closed_alone : (e : Entry) → ((n : ℕ) → e ≡ Count n → ⊥) → ends_open (e ∷ []) ≡ false
+unfolding ends_open
+closed_alone (Count n) h = absurd (h n refl)
+closed_alone (Exchange n) h = refl
+closed_alone (PpRead a) h = refl
+closed_alone (PpWrite a w) h = refl
+
+-- a last entry that is no count
+pub closed_at_last : (es : List Entry) (e : Entry) → slice_get es (length es - 1) ≡ Some e
+    → ((n : ℕ) → e ≡ Count n → ⊥) → ends_open es ≡ false
+closed_at_last es e h other =
+    let r = ends_at es (length es - 1) e (last_place es e h) h in
+    ap ends_open r.1 ∙ open-push r.0 e ∙ closed_alone e other
 
 -- ---- the shortest entries ----
 

@@ -1,8 +1,7 @@
 ghost use Rattle.std.specs.Prelude.{◌≡◌, ◌<◌, ◌≤◌, ◌+◌, ◌++◌, ◌^◌, [], ◌∷◌, true, false, MatchResult, if◌then◌else◌};
-ghost use Rattle.std.specs.Prelude.{◌-◌, length, min, slice_get, Some, is_some, IfSome, replicate};
+ghost use Rattle.std.specs.Prelude.{◌-◌, min, replicate};
 ghost use Rattle.instructions.specs.declared.refusal.Refusal.TheVariants.{OutOfMemory};
 ghost use Rattle.sequential.specs.Log.{issued, last_run, steps_of, entries_of, more_after, ends_open, ends_issuing};
-ghost use Rattle.sequential.specs.declared.log.Entry.TheVariants.{Issued as Count};
 ghost use Rattle.std.specs.Vec.{vec_len, vec_capacity};
 ghost use Rattle.sequential.specs.Replay.{Issued, Exchanged, ReadAt, Wrote};
 
@@ -24,34 +23,6 @@ pub enum Entry {
     PpWrite(u32, Word60),
 }
 
-/// The count that the last entry is, if it is one.
-fn last_count(entries: &[Entry]) -> Option<u64>
-    ensures open { ends_open entries.now ≡ is_some result }
-    ensures count { IfSome result (λ n. slice_get entries.now (length entries.now - 1) ≡ Some (Count n)) }
-    ensures bound { IfSome result (λ n. n ≤ last_run (steps_of entries.now)) }
-{
-    match entries.last() {
-        Some(Entry::Issued(count)) => Some(*count),
-        Some(Entry::Exchange(_)) => None,
-        Some(Entry::PpRead(_)) => None,
-        Some(Entry::PpWrite(_, _)) => None,
-        None => None,
-    }
-}
-
-/// Raises the count that the last entry is.
-fn raise_last(entries: &mut [Entry], count: u64, more: u64)
-    requires last { slice_get entries.old (length entries.old - 1) ≡ Some (Count count) }
-    requires bound { count + more < 2 ^ 64 }
-    ensures steps { steps_of entries.new ≡ steps_of entries.old ++ replicate more Issued }
-    ensures open { ends_open entries.new ≡ true }
-    ensures len { length entries.new ≡ length entries.old }
-    ensures entries { entries.new ≡ more_after more entries.old }
-{
-    let position = entries.len() - 1;
-    entries[position] = Entry::Issued(count + more);
-}
-
 /// Adds instructions: so many more to the last count, or else an entry of their own.
 fn add(entries: &mut Vec<Entry>, more: u64)
     requires room { ends_open entries.old.items ≡ false → vec_len entries.old < vec_capacity entries.old }
@@ -62,10 +33,14 @@ fn add(entries: &mut Vec<Entry>, more: u64)
     ensures capacity { vec_capacity entries.new ≡ vec_capacity entries.old }
     ensures entries { entries.new.items ≡ more_after more entries.old.items }
 {
-    match last_count(entries.as_slice()) {
-        Some(count) => raise_last(entries.as_mut_slice(), count, more),
-        None => entries.push_reserved(Entry::Issued(more)),
+    if let Some(last) = entries.last() {
+        if let Entry::Issued(count) = *last {
+            let position = entries.len() - 1;
+            entries[position] = Entry::Issued(count + more);
+            return;
+        }
     }
+    entries.push_reserved(Entry::Issued(more));
 }
 
 /// What a machine did, in order: instructions, exchanges and peripheral accesses.

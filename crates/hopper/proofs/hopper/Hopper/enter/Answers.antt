@@ -1,27 +1,38 @@
 -- A reference enters: it takes the lowest-numbered free place, and is the last of those that wait.
-use Rattle.std.proofs.Common.{sym, ap, ◌∙◌, subst, arith}
-use Rattle.hopper.specs.Queue.{Queue, place_for, enter_answer}
+use Rattle.std.proofs.Common.{◌≡◌, true, false, rules, tests, sym, ap, ◌∙◌, subst, arith}
+use Rattle.std.proofs.lemmas.Iterator.{first_from_Range}
+use Rattle.hopper.specs.Queue.{Queue, is_taken, place_for, enter_answer}
 use Rattle.hopper.specs.inner.View.{IsRight}
 use Rattle.hopper.proofs.Laws.{entered_right}
-use Rattle.hopper.proofs.Standing.{room_for_one}
+use Rattle.hopper.proofs.Standing.{room_for_one, found_is}
 use Rattle.hopper.proofs.hopper.Hopper.enter.Goals as goal
+use Rattle.hopper.proofs.hopper.Hopper.enter.Goals.{After-find}
+
+-- the place that is found
+found : (c : After-find) → c.find.result ≡ place_for c.self.inside.entered.items
+unfolding place_for
+found c = found_is (is_taken c.as_slice-entered.result.now) c.find.result
+    (first_from_Range _ _ _ _ (λ p. is_taken c.as_slice-entered.result.now p ≡ false)
+    (λ p. is_taken c.as_slice-entered.result.now p ≡ true) c.find.ensures.ran (λ x q k. search (rules, tests))
+    (λ x q k. search (rules, tests)))
+    ∙ ap place_for c.as_slice-entered.ensures.value
 
 pub returns-in_default-clause-answer : goal.returns-in_default-clause-answer
 unfolding enter_answer
 returns-in_default-clause-answer c =
-    ap enter_answer (sym c.in_default.is ∙ c.free_place.ensures ∙ ap place_for c.as_slice.ensures.value)
+    ap enter_answer (sym c.in_default.is ∙ found ((goal.at.returns-in_default-clause-answer c).After-find))
     ∙ ap (λ (q : Queue). enter_answer (place_for q.entered)) c.self.view_is
 
 pub push-requires : goal.push-requires
 push-requires c =
-    let free = sym (ap place_for c.as_slice.ensures.value) ∙ sym c.free_place.ensures ∙ c.in-Some.is in
+    let free = sym (found ((goal.at.push-requires c).After-find)) ∙ c.in-Some.is in
     let room = room_for_one c.self.inside.entered.items c.in-Some.place c.self.invariant.placed
     c.self.invariant.apart free in
     (omega arith, room)
 
 pub invariant_of-self : goal.invariant_of-self
 invariant_of-self c =
-    let free = sym (ap place_for c.as_slice.ensures.value) ∙ sym c.free_place.ensures ∙ c.in-Some.is in
+    let free = sym (found ((goal.at.invariant_of-self c).After-find)) ∙ c.in-Some.is in
     subst (λ es. IsRight es c.self.inside.busy) (sym c.push.ensures.items)
     (entered_right c.self.inside.entered.items c.self.inside.busy c.in-Some.place c.args.reference c.self.invariant
     free)
@@ -29,5 +40,5 @@ invariant_of-self c =
 pub returns-clause-answer : goal.returns-clause-answer
 unfolding enter_answer
 returns-clause-answer c =
-    ap enter_answer (sym c.in-Some.is ∙ c.free_place.ensures ∙ ap place_for c.as_slice.ensures.value)
+    ap enter_answer (sym c.in-Some.is ∙ found ((goal.at.returns-clause-answer c).After-find))
     ∙ ap (λ (q : Queue). enter_answer (place_for q.entered)) c.self.view_is
