@@ -13,7 +13,6 @@ ghost use Rattle.scoreboard.specs.Answers.{turn_answer, reserve_answer, reserved
 
 use crate::fields::{
     any_reference, any_turn, first_produced, first_unit, forget_in_taken, free_unit, is_to_be_read,
-    put_left,
 };
 use crate::issued::channel;
 use crate::{Issued, Occupancy, Reservation, Writer, Writers, unit_number};
@@ -271,7 +270,11 @@ impl Board {
             return;
         };
         self.units[index] = None;
-        put_left(&mut self.channels, &issued);
+        if let Some(n) = channel(&issued.reservation.instr) {
+            let mut load = issued;
+            load.reservation.occupancy = Occupancy::Left { returning: Some(n) };
+            self.channels[usize::from(n.get())] = Some(load);
+        }
         // The unit is entered as the writer of this register alone.
         self.writers.set(issued.reservation.instr.sets(), None);
         // Nobody was issued after the last one, so nobody waits for it.

@@ -1,21 +1,18 @@
 //! Questions to the fields of a board, and how an issue and a store event change the fields. A slot is the field of one
 //! unit.
 
-ghost use Rattle.std.specs.Prelude.{IfSome, ◌≡◌, ◌≤◌, ◌<◌, ◌||◌, length};
+ghost use Rattle.std.specs.Prelude.{◌≡◌, ◌≤◌, ◌||◌, length};
 ghost use Rattle.std.specs.List.{list_any};
 ghost use Rattle.instructions.specs.declared.instr.Unit.TheVariants.{Branch};
 ghost use Rattle.instructions.specs.Operands.{uses};
 ghost use Rattle.scoreboard.specs.Units.{first_unit};
 ghost use Rattle.scoreboard.specs.Reservations.{has_turn};
 ghost use Rattle.scoreboard.specs.inner.Fields.{slot_at, in_increment, is_taken, slot_is, slot_reads};
-ghost use Rattle.scoreboard.specs.inner.Fields.{slot_has_turn, free_for, channels_with, forget_in_taken};
-ghost use Rattle.instructions.specs.Shape.{shape_of};
-ghost use Rattle.scoreboard.specs.Issued.{channel_of};
+ghost use Rattle.scoreboard.specs.inner.Fields.{slot_has_turn, free_for, forget_in_taken};
 ghost use Rattle.scoreboard.specs.inner.View.{first_produced};
 
-use crate::issued::channel;
 use crate::writer::forget_in;
-use crate::{Issued, Occupancy, Writer};
+use crate::{Issued, Writer};
 use instructions::{Instr, Reg, Unit, UnitKind, unit_kind};
 
 /// The first of the registers that somebody is to write; the producers are in the registers' order.
@@ -116,21 +113,6 @@ pub(crate) fn first_unit(instr: &Instr) -> Unit
         Some(UnitKind::LongAdd) => Unit::LongAdd,
         Some(UnitKind::Divide) => Unit::Divide,
         Some(UnitKind::Increment) => Unit::Increment1,
-    }
-}
-
-/// An instruction that leaves its unit: its load, if it is one, goes to its channel.
-#[tactic(auto, unfolding(crate::proofs::Opened::channels_after))]
-pub(crate) fn put_left(channels: &mut [Option<Issued>], issued: &Issued)
-    requires { length channels.old ≡ 8 }
-    ensures value { channels.new ≡ channels_with channels.old issued.now
-        (channel_of (shape_of issued.now.reservation.instr)) }
-    ensures channel { IfSome (channel_of (shape_of issued.now.reservation.instr)) (λ n. n < 8) }
-{
-    if let Some(n) = channel(&issued.reservation.instr) {
-        let mut load = *issued;
-        load.reservation.occupancy = Occupancy::Left { returning: Some(n) };
-        channels[usize::from(n.get())] = Some(load);
     }
 }
 
