@@ -7,12 +7,12 @@ ghost use Rattle.instructions.specs.Operands.{uses};
 ghost use Rattle.scoreboard.specs.Reservations.{is_branch, has_turn, has_store_turn};
 ghost use Rattle.scoreboard.specs.Issued.{reservation_of};
 ghost use Rattle.scoreboard.specs.Conflicts.{unit_for};
-ghost use Rattle.scoreboard.specs.inner.Fields.{slot_is};
+ghost use Rattle.scoreboard.specs.inner.Fields.{slot_is, slot_reads};
 ghost use Rattle.scoreboard.specs.Answers.{held_in, returning_by, read_answer, store_answer, return_answer};
 ghost use Rattle.scoreboard.specs.Answers.{turn_answer, reserve_answer, reserved, read, left, gone, with_issued};
 
 use crate::fields::{
-    any_reference, any_turn, first_produced, first_unit, forget_in_taken, free_unit, is_to_be_read,
+    any_reference, any_turn, first_produced, first_unit, forget_in_taken, free_unit,
 };
 use crate::issued::channel;
 use crate::{Issued, Occupancy, Reservation, Writer, Writers, unit_number};
@@ -155,6 +155,7 @@ impl Board {
     ///
     /// # Errors
     /// `ResultHeld` with the first of these registers that an earlier instruction has still to read.
+    #[tactic(auto, unfolding(crate::specs::inner::Fields::slot_reads))]
     pub fn may_store(&self, unit: Unit) -> Result<(), Refusal>
         ensures { result ≡ store_answer (seek (held_in unit) self.now.issued) }
     {
@@ -163,11 +164,25 @@ impl Board {
         let Some(issued) = slot else {
             return Ok(());
         };
-        match issued.reservation.instr.sets() {
-            Some(register) if is_to_be_read(&self.units, issued.number, &register) => {
-                Err(Refusal::ResultHeld(register))
-            }
-            _ => Ok(()),
+        let Some(register) = issued.reservation.instr.sets() else {
+            return Ok(());
+        };
+        let number = issued.number;
+        let is_held = self.units.iter().any(
+            |slot|
+                ensures { result ≡ slot_reads number register slot.now }
+            {
+                match slot {
+                    Some(other) => other.number < number
+                        && other.reservation.has_to_read(&register),
+                    None => false,
+                }
+            },
+        );
+        if is_held {
+            Err(Refusal::ResultHeld(register))
+        } else {
+            Ok(())
         }
     }
 
@@ -176,6 +191,7 @@ impl Board {
     ///
     /// # Errors
     /// `ResultHeld` with that register, where an earlier instruction has still to read it.
+    #[tactic(auto, unfolding(crate::specs::inner::Fields::slot_reads))]
     pub fn may_return(&self, channel: u8) -> Result<(), Refusal>
         requires { channel < 8 }
         ensures { result ≡ return_answer channel (seek (returning_by channel) self.now.issued) }
@@ -185,7 +201,19 @@ impl Board {
             return Ok(());
         };
         let register = Reg::X(digit(channel));
-        if is_to_be_read(&self.units, issued.number, &register) {
+        let number = issued.number;
+        let is_read = self.units.iter().any(
+            |slot|
+                ensures { result ≡ slot_reads number register slot.now }
+            {
+                match slot {
+                    Some(other) => other.number < number
+                        && other.reservation.has_to_read(&register),
+                    None => false,
+                }
+            },
+        );
+        if is_read {
             Err(Refusal::ResultHeld(register))
         } else {
             Ok(())

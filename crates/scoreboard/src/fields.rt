@@ -2,12 +2,11 @@
 //! unit.
 
 ghost use Rattle.std.specs.Prelude.{◌≡◌, ◌≤◌, ◌||◌, length};
-ghost use Rattle.std.specs.List.{list_any};
 ghost use Rattle.instructions.specs.declared.instr.Unit.TheVariants.{Branch};
 ghost use Rattle.instructions.specs.Operands.{uses};
 ghost use Rattle.scoreboard.specs.Units.{first_unit};
 ghost use Rattle.scoreboard.specs.Reservations.{has_turn};
-ghost use Rattle.scoreboard.specs.inner.Fields.{slot_at, in_increment, is_taken, slot_is, slot_reads};
+ghost use Rattle.scoreboard.specs.inner.Fields.{slot_at, in_increment, is_taken, slot_is};
 ghost use Rattle.scoreboard.specs.inner.Fields.{slot_has_turn, free_for, forget_in_taken};
 ghost use Rattle.scoreboard.specs.inner.View.{first_produced};
 
@@ -26,23 +25,6 @@ pub(crate) fn first_produced(registers: &[Reg], producers: &[Option<Writer>]) ->
         }
     }
     None
-}
-
-/// Whether an instruction of a lower number has still to read the register.
-#[tactic(auto, unfolding(crate::specs::inner::Fields::slot_reads))]
-pub(crate) fn is_to_be_read(slots: &[Option<Issued>], number: u64, register: &Reg) -> bool
-    ensures { result ≡ list_any (slot_reads number register.now) slots.now }
-{
-    slots.iter().any(
-        |slot|
-            ensures { result ≡ slot_reads number register.entry.now slot.now }
-        {
-            match slot {
-                Some(issued) => issued.number < number && issued.reservation.has_to_read(register),
-                None => false,
-            }
-        },
-    )
 }
 
 /// Whether an instruction of a lower number has a reference that hasn't come to its store event. No unit but Branch
