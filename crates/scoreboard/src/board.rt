@@ -7,13 +7,11 @@ ghost use Rattle.instructions.specs.Operands.{uses};
 ghost use Rattle.scoreboard.specs.Reservations.{is_branch, has_turn, has_store_turn};
 ghost use Rattle.scoreboard.specs.Issued.{reservation_of};
 ghost use Rattle.scoreboard.specs.Conflicts.{unit_for};
-ghost use Rattle.scoreboard.specs.inner.Fields.{slot_is, slot_reads};
+ghost use Rattle.scoreboard.specs.inner.Fields.{slot_is, slot_reads, slot_has_turn};
 ghost use Rattle.scoreboard.specs.Answers.{held_in, returning_by, read_answer, store_answer, return_answer};
 ghost use Rattle.scoreboard.specs.Answers.{turn_answer, reserve_answer, reserved, read, left, gone, with_issued};
 
-use crate::fields::{
-    any_reference, any_turn, first_produced, first_unit, forget_in_taken, free_unit,
-};
+use crate::fields::{any_reference, first_produced, first_unit, forget_in_taken, free_unit};
 use crate::issued::channel;
 use crate::{Issued, Occupancy, Reservation, Writer, Writers, unit_number};
 use instructions::{Digit, Instr, Refusal, Reg, Unit, results, sources};
@@ -225,6 +223,7 @@ impl Board {
     ///
     /// # Errors
     /// `OutOfTurn`.
+    #[tactic(auto, unfolding(crate::specs::inner::Fields::slot_has_turn))]
     pub fn in_turn(&self, unit: Unit) -> Result<(), Refusal>
         ensures { result ≡ turn_answer (seek (held_in unit) self.now.issued) }
     {
@@ -233,7 +232,21 @@ impl Board {
         let Some(issued) = slot else {
             return Ok(());
         };
-        if issued.reservation.instr.has_reference() && any_turn(&self.units, issued.number) {
+        if !issued.reservation.instr.has_reference() {
+            return Ok(());
+        }
+        let number = issued.number;
+        let waits = self.units.iter().any(
+            |slot|
+                ensures { result ≡ slot_has_turn number slot.now }
+            {
+                match slot {
+                    Some(other) => other.number < number && other.reservation.has_turn(),
+                    None => false,
+                }
+            },
+        );
+        if waits {
             Err(Refusal::OutOfTurn)
         } else {
             Ok(())

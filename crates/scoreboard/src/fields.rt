@@ -7,7 +7,7 @@ ghost use Rattle.instructions.specs.Operands.{uses};
 ghost use Rattle.scoreboard.specs.Units.{first_unit};
 ghost use Rattle.scoreboard.specs.Reservations.{has_turn};
 ghost use Rattle.scoreboard.specs.inner.Fields.{slot_at, in_increment, is_taken, slot_is};
-ghost use Rattle.scoreboard.specs.inner.Fields.{slot_has_turn, free_for, forget_in_taken};
+ghost use Rattle.scoreboard.specs.inner.Fields.{free_for, forget_in_taken};
 ghost use Rattle.scoreboard.specs.inner.View.{first_produced};
 
 use crate::writer::forget_in;
@@ -25,23 +25,6 @@ pub(crate) fn first_produced(registers: &[Reg], producers: &[Option<Writer>]) ->
         }
     }
     None
-}
-
-/// Whether an instruction of a lower number has a reference that hasn't come to its store event. No unit but Branch
-/// and the Increment units takes such instructions.
-#[tactic(auto, unfolding(crate::specs::inner::Fields::slot_has_turn))]
-pub(crate) fn any_turn(units: &[Option<Issued>], number: u64) -> bool
-    requires { length units.now ≡ 10 }
-    ensures { result ≡ (slot_has_turn number (slot_at units.now Branch)
-        || in_increment (slot_has_turn number) units.now) }
-{
-    let is_earlier = |slot: &Option<Issued>| match slot {
-        Some(issued) => issued.number < number && issued.reservation.has_turn(),
-        None => false,
-    };
-    is_earlier(&units[Unit::Branch as usize])
-        || is_earlier(&units[Unit::Increment1 as usize])
-        || is_earlier(&units[Unit::Increment2 as usize])
 }
 
 /// Whether an instruction has a reference that hasn't come to its store event. Only Branch and the Increment units take
