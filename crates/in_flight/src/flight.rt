@@ -139,18 +139,17 @@ impl InFlight {
         ensures after { MatchResult result (λ reserved. self.new ≡ reserved_in self.old instr.now at)
             (λ refusal. self.new ≡ self.old) }
     {
-        let (unit, number) = match self.board.try_reserve(instr) {
-            Ok(reserved) => reserved,
-            Err(refusal) => return Err(refusal),
-        };
-        self.slots.push(Pending {
-            instr: *instr,
-            at,
-            number,
-            unit,
-            phase: Phase::Before(Stage::Unread),
-        });
-        Ok((unit, number))
+        let reserved = self.board.try_reserve(instr);
+        if let Ok((unit, number)) = reserved {
+            self.slots.push(Pending {
+                instr: *instr,
+                at,
+                number,
+                unit,
+                phase: Phase::Before(Stage::Unread),
+            });
+        }
+        reserved
     }
 
     /// Second order: the unit's instruction reads its operands. It answers the instruction as it waited, and what
@@ -180,9 +179,7 @@ impl InFlight {
         let Stage::Unread = found.answer else {
             return Err(Refusal::Nothing);
         };
-        if let Err(refusal) = self.board.may_read(unit) {
-            return Err(refusal);
-        }
+        self.board.may_read(unit)?;
         let read = reading(&found.pending, registers);
         self.slots.set_stage(unit, Stage::Read(read.1));
         self.board.mark_read(unit);
@@ -208,9 +205,7 @@ impl InFlight {
             → refusal_of (store_conflicts self.now.pending f.earlier f.item.instr (enters (outstanding_of 0 rest.now)))
             ≡ refusal_in result }
     {
-        if let Err(refusal) = self.board.may_store(unit) {
-            return Err(refusal);
-        }
+        self.board.may_store(unit)?;
         match rest {
             Some(reference) if reference.address.is_some() && self.hopper.is_full() => {
                 Err(Refusal::HopperFull)
@@ -278,16 +273,15 @@ impl InFlight {
             })
             (λ refusal. self.new ≡ self.old) }
     {
-        let reference = match self.hopper.accept(place) {
-            Ok(reference) => reference,
-            Err(refusal) => return Err(refusal),
-        };
-        let left = match &reference.access {
-            Access::Load(n) => Some(Outstanding::Accepted(*n, memory.load(reference.address))),
-            Access::Store(_) => None,
-        };
-        self.slots.accept(place, &left);
-        Ok(reference)
+        let accepted = self.hopper.accept(place);
+        if let Ok(reference) = &accepted {
+            let left = match &reference.access {
+                Access::Load(n) => Some(Outstanding::Accepted(*n, memory.load(reference.address))),
+                Access::Store(_) => None,
+            };
+            self.slots.accept(place, &left);
+        }
+        accepted
     }
 
     /// Third order: the load in a channel returns. It answers the word and its register's number.
@@ -308,9 +302,7 @@ impl InFlight {
         let Some(found) = self.slots.find_arrival(channel) else {
             return Err(Refusal::Nothing);
         };
-        if let Err(refusal) = self.board.may_return(channel) {
-            return Err(refusal);
-        }
+        self.board.may_return(channel)?;
         self.slots.returned(channel);
         self.board.returned(channel);
         Ok(found.answer)

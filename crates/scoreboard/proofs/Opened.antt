@@ -2,8 +2,7 @@
 use Rattle.scoreboard.specs.Conflicts.{first_free}
 use Rattle.scoreboard.specs.Units.{first_unit, head_unit, units_of, same_unit}
 use Rattle.scoreboard.specs.Writers.{same_writer, is_expected, writer_at, writer_if}
-use Rattle.scoreboard.specs.Answers.{in_occupancy}
-use Rattle.scoreboard.specs.inner.Fields.{free_for, channels_with}
+use Rattle.scoreboard.specs.inner.Fields.{free_for}
 
 -- the first of the units of a kind
 unfoldable pub first_of_kind : Unit {0}
@@ -24,8 +23,3 @@ writer_of_one = tt
 unfoldable pub expecting : Unit {0}
 unfolding is_expected same_writer same_unit
 expecting = tt
-
--- the channels after a store event
-unfoldable pub channels_after : Unit {0}
-unfolding channels_with in_occupancy
-channels_after = tt

@@ -7,14 +7,11 @@ ghost use Rattle.instructions.specs.Operands.{uses};
 ghost use Rattle.scoreboard.specs.Reservations.{is_branch, has_turn, has_store_turn};
 ghost use Rattle.scoreboard.specs.Issued.{reservation_of};
 ghost use Rattle.scoreboard.specs.Conflicts.{unit_for};
-ghost use Rattle.scoreboard.specs.inner.Fields.{slot_is};
+ghost use Rattle.scoreboard.specs.inner.Fields.{slot_is, slot_reads, slot_has_turn};
 ghost use Rattle.scoreboard.specs.Answers.{held_in, returning_by, read_answer, store_answer, return_answer};
 ghost use Rattle.scoreboard.specs.Answers.{turn_answer, reserve_answer, reserved, read, left, gone, with_issued};
 
-use crate::fields::{
-    any_reference, any_turn, first_produced, first_unit, forget_in_taken, free_unit, is_to_be_read,
-    put_left,
-};
+use crate::fields::{any_reference, first_produced, first_unit, forget_in_taken, free_unit};
 use crate::issued::channel;
 use crate::{Issued, Occupancy, Reservation, Writer, Writers, unit_number};
 use instructions::{Digit, Instr, Refusal, Reg, Unit, results, sources};
@@ -156,6 +153,7 @@ impl Board {
     ///
     /// # Errors
     /// `ResultHeld` with the first of these registers that an earlier instruction has still to read.
+    #[tactic(auto, unfolding(crate::specs::inner::Fields::slot_reads))]
     pub fn may_store(&self, unit: Unit) -> Result<(), Refusal>
         ensures { result ≡ store_answer (seek (held_in unit) self.now.issued) }
     {
@@ -164,11 +162,25 @@ impl Board {
         let Some(issued) = slot else {
             return Ok(());
         };
-        match issued.reservation.instr.sets() {
-            Some(register) if is_to_be_read(&self.units, issued.number, &register) => {
-                Err(Refusal::ResultHeld(register))
-            }
-            _ => Ok(()),
+        let Some(register) = issued.reservation.instr.sets() else {
+            return Ok(());
+        };
+        let number = issued.number;
+        let is_held = self.units.iter().any(
+            |slot|
+                ensures { result ≡ slot_reads number register slot.now }
+            {
+                match slot {
+                    Some(other) => other.number < number
+                        && other.reservation.has_to_read(&register),
+                    None => false,
+                }
+            },
+        );
+        if is_held {
+            Err(Refusal::ResultHeld(register))
+        } else {
+            Ok(())
         }
     }
 
@@ -177,6 +189,7 @@ impl Board {
     ///
     /// # Errors
     /// `ResultHeld` with that register, where an earlier instruction has still to read it.
+    #[tactic(auto, unfolding(crate::specs::inner::Fields::slot_reads))]
     pub fn may_return(&self, channel: u8) -> Result<(), Refusal>
         requires { channel < 8 }
         ensures { result ≡ return_answer channel (seek (returning_by channel) self.now.issued) }
@@ -186,7 +199,19 @@ impl Board {
             return Ok(());
         };
         let register = Reg::X(digit(channel));
-        if is_to_be_read(&self.units, issued.number, &register) {
+        let number = issued.number;
+        let is_read = self.units.iter().any(
+            |slot|
+                ensures { result ≡ slot_reads number register slot.now }
+            {
+                match slot {
+                    Some(other) => other.number < number
+                        && other.reservation.has_to_read(&register),
+                    None => false,
+                }
+            },
+        );
+        if is_read {
             Err(Refusal::ResultHeld(register))
         } else {
             Ok(())
@@ -198,6 +223,7 @@ impl Board {
     ///
     /// # Errors
     /// `OutOfTurn`.
+    #[tactic(auto, unfolding(crate::specs::inner::Fields::slot_has_turn))]
     pub fn in_turn(&self, unit: Unit) -> Result<(), Refusal>
         ensures { result ≡ turn_answer (seek (held_in unit) self.now.issued) }
     {
@@ -206,7 +232,21 @@ impl Board {
         let Some(issued) = slot else {
             return Ok(());
         };
-        if issued.reservation.instr.has_reference() && any_turn(&self.units, issued.number) {
+        if !issued.reservation.instr.has_reference() {
+            return Ok(());
+        }
+        let number = issued.number;
+        let waits = self.units.iter().any(
+            |slot|
+                ensures { result ≡ slot_has_turn number slot.now }
+            {
+                match slot {
+                    Some(other) => other.number < number && other.reservation.has_turn(),
+                    None => false,
+                }
+            },
+        );
+        if waits {
             Err(Refusal::OutOfTurn)
         } else {
             Ok(())
@@ -271,7 +311,11 @@ impl Board {
             return;
         };
         self.units[index] = None;
-        put_left(&mut self.channels, &issued);
+        if let Some(n) = channel(&issued.reservation.instr) {
+            let mut load = issued;
+            load.reservation.occupancy = Occupancy::Left { returning: Some(n) };
+            self.channels[usize::from(n.get())] = Some(load);
+        }
         // The unit is entered as the writer of this register alone.
         self.writers.set(issued.reservation.instr.sets(), None);
         // Nobody was issued after the last one, so nobody waits for it.

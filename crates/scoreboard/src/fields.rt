@@ -1,21 +1,17 @@
 //! Questions to the fields of a board, and how an issue and a store event change the fields. A slot is the field of one
 //! unit.
 
-ghost use Rattle.std.specs.Prelude.{IfSome, ◌≡◌, ◌≤◌, ◌<◌, ◌||◌, length};
-ghost use Rattle.std.specs.List.{list_any};
+ghost use Rattle.std.specs.Prelude.{◌≡◌, ◌≤◌, ◌||◌, length};
 ghost use Rattle.instructions.specs.declared.instr.Unit.TheVariants.{Branch};
 ghost use Rattle.instructions.specs.Operands.{uses};
 ghost use Rattle.scoreboard.specs.Units.{first_unit};
 ghost use Rattle.scoreboard.specs.Reservations.{has_turn};
-ghost use Rattle.scoreboard.specs.inner.Fields.{slot_at, in_increment, is_taken, slot_is, slot_reads};
-ghost use Rattle.scoreboard.specs.inner.Fields.{slot_has_turn, free_for, channels_with, forget_in_taken};
-ghost use Rattle.instructions.specs.Shape.{shape_of};
-ghost use Rattle.scoreboard.specs.Issued.{channel_of};
+ghost use Rattle.scoreboard.specs.inner.Fields.{slot_at, in_increment, is_taken, slot_is};
+ghost use Rattle.scoreboard.specs.inner.Fields.{free_for, forget_in_taken};
 ghost use Rattle.scoreboard.specs.inner.View.{first_produced};
 
-use crate::issued::channel;
 use crate::writer::forget_in;
-use crate::{Issued, Occupancy, Writer};
+use crate::{Issued, Writer};
 use instructions::{Instr, Reg, Unit, UnitKind, unit_kind};
 
 /// The first of the registers that somebody is to write; the producers are in the registers' order.
@@ -29,40 +25,6 @@ pub(crate) fn first_produced(registers: &[Reg], producers: &[Option<Writer>]) ->
         }
     }
     None
-}
-
-/// Whether an instruction of a lower number has still to read the register.
-#[tactic(auto, unfolding(crate::specs::inner::Fields::slot_reads))]
-pub(crate) fn is_to_be_read(slots: &[Option<Issued>], number: u64, register: &Reg) -> bool
-    ensures { result ≡ list_any (slot_reads number register.now) slots.now }
-{
-    slots.iter().any(
-        |slot|
-            ensures { result ≡ slot_reads number register.entry.now slot.now }
-        {
-            match slot {
-                Some(issued) => issued.number < number && issued.reservation.has_to_read(register),
-                None => false,
-            }
-        },
-    )
-}
-
-/// Whether an instruction of a lower number has a reference that hasn't come to its store event. No unit but Branch
-/// and the Increment units takes such instructions.
-#[tactic(auto, unfolding(crate::specs::inner::Fields::slot_has_turn))]
-pub(crate) fn any_turn(units: &[Option<Issued>], number: u64) -> bool
-    requires { length units.now ≡ 10 }
-    ensures { result ≡ (slot_has_turn number (slot_at units.now Branch)
-        || in_increment (slot_has_turn number) units.now) }
-{
-    let is_earlier = |slot: &Option<Issued>| match slot {
-        Some(issued) => issued.number < number && issued.reservation.has_turn(),
-        None => false,
-    };
-    is_earlier(&units[Unit::Branch as usize])
-        || is_earlier(&units[Unit::Increment1 as usize])
-        || is_earlier(&units[Unit::Increment2 as usize])
 }
 
 /// Whether an instruction has a reference that hasn't come to its store event. Only Branch and the Increment units take
@@ -116,21 +78,6 @@ pub(crate) fn first_unit(instr: &Instr) -> Unit
         Some(UnitKind::LongAdd) => Unit::LongAdd,
         Some(UnitKind::Divide) => Unit::Divide,
         Some(UnitKind::Increment) => Unit::Increment1,
-    }
-}
-
-/// An instruction that leaves its unit: its load, if it is one, goes to its channel.
-#[tactic(auto, unfolding(crate::proofs::Opened::channels_after))]
-pub(crate) fn put_left(channels: &mut [Option<Issued>], issued: &Issued)
-    requires { length channels.old ≡ 8 }
-    ensures value { channels.new ≡ channels_with channels.old issued.now
-        (channel_of (shape_of issued.now.reservation.instr)) }
-    ensures channel { IfSome (channel_of (shape_of issued.now.reservation.instr)) (λ n. n < 8) }
-{
-    if let Some(n) = channel(&issued.reservation.instr) {
-        let mut load = *issued;
-        load.reservation.occupancy = Occupancy::Left { returning: Some(n) };
-        channels[usize::from(n.get())] = Some(load);
     }
 }
 

@@ -87,6 +87,10 @@ unfolding located refusal_of tests_found nothing
 nothing_there None g h = refl
 nothing_there (Some f) g h = cc
 
+pub error_there : {T E : Type 0} (r : Result T E) → ((x : T) → r ≡ Ok x → ⊥) → (y : E) × (r ≡ Err y)
+error_there (Ok x) h = absurd (h x refl)
+error_there (Err y) h = (y, refl)
+
 pub some_from : {K : Type 0} (o : Option (Found Pending K)) (s : Option (Located K)) (b : Bool) → s ≡ located o
     → is_some s ≡ not b → b ≡ false → (f : Found Pending K) × (o ≡ Some f)
 unfolding located

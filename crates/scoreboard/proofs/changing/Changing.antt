@@ -13,7 +13,6 @@ use Rattle.scoreboard.specs.declared.writer.Writer.{Writer}
 use Rattle.scoreboard.specs.declared.writers.Writers.{Writers}
 use Rattle.scoreboard.specs.Answers.{Standing, held_in, returning_by, in_occupancy, read, left, left_with, gone}
 use Rattle.scoreboard.specs.Answers.{with_issued}
-use Rattle.scoreboard.specs.inner.Fields.{channels_with}
 use Rattle.scoreboard.specs.Issued.{number_of, channel_of}
 use Rattle.instructions.specs.Order.{sort_by, somes}
 use Rattle.scoreboard.specs.inner.View.{standing_of, in_slots, slot_of, IsRight}
@@ -22,7 +21,7 @@ use Rattle.scoreboard.proofs.in_slots.InSlots.{set_back, own_keys, stands_reserv
 use Rattle.scoreboard.proofs.in_slots.Standing.{changed, nobody_changed, nobody_held, nobody_returns, unit_slot}
 use Rattle.scoreboard.proofs.in_slots.Standing.{channel_slot, others_free, here_held, others_not_returning}
 use Rattle.scoreboard.proofs.in_slots.Standing.{here_returns}
-use Rattle.scoreboard.proofs.changing.Right.{channel_empty}
+use Rattle.scoreboard.proofs.changing.Right.{channel_empty, channels_with}
 
 with_same : (s : Standing) (xs : List Issued) → xs ≡ s.issued → with_issued s xs ≡ s
 unfolding with_issued
@@ -83,6 +82,17 @@ marked_view units channels producers ws last u i x right e h =
 
     room : i < length (set os i None)
     room = let b = within os i x here in let q = length-set os i None in omega (arith, b, q)
+
+pub load_in : (channels : List (Option Issued)) (x : Issued) (n k : ℕ) (o : Option ℕ) → k ≡ n → Some n ≡ o
+    → set channels k (Some (in_occupancy x (Left (Some n)))) ≡ channels_with channels x o
+unfolding channels_with
+load_in channels x n k o e h =
+    ap (λ k. set channels k (Some (in_occupancy x (Left (Some n))))) e ∙ ap (channels_with channels x) h
+
+pub no_load_in : (channels : List (Option Issued)) (x : Issued) (o : Option ℕ) → None ≡ o
+    → channels ≡ channels_with channels x o
+unfolding channels_with
+no_load_in channels x o h = ap (channels_with channels x) h
 
 pub released_view : (units channels : List (Option Issued)) (producers : List (List (Option Writer))) (ws : Writers)
     (last : ℕ) (u : FunctionalUnit) (i : ℕ) (x : Issued) → IsRight units channels producers ws last → i ≡ unit_number u

@@ -57,7 +57,7 @@ use Rattle.scoreboard.specs.Units.{unit_number, same_unit, units_of, may_take}
 use Rattle.scoreboard.specs.inner.View.{in_slots, slot_in, slot_of, IsOfKind, IsRight}
 use Rattle.scoreboard.proofs.changing.Reserving.{held_taken}
 use Rattle.scoreboard.proofs.in_slots.InSlots.{own_keys}
-use Rattle.scoreboard.proofs.in_slots.Standing.{none_any, unit_slot, earlier_any, here_held, others_free}
+use Rattle.scoreboard.proofs.in_slots.Standing.{units_any, none_any, unit_slot, earlier_any, here_held, others_free}
 
 -- ---- the kind of unit that an instruction takes, by its name ----
 
@@ -441,35 +441,29 @@ reference_found units channels producers ws last right =
     ∙ ap (λ b. slot_is has_turn (slot_at units Branch) || b)
     (in_increments t (slot_is has_turn) refl (λ y. refl) units channels right.all_units))
 
--- and one of a lower number
-pub turn_found : (n : ℕ) (units channels : List (Option Issued)) → length units ≡ 10
-    → IsInSlots slot_of 0 (units ++ channels) → Each IsOfKind (somes (units ++ channels))
-    → (slot_has_turn n (slot_at units Branch) || in_increment (slot_has_turn n) units)
+-- a unit with a lower number has one where an earlier instruction has one
+turn_found : (n : ℕ) (units channels : List (Option Issued)) → length units ≡ 10
+    → IsInSlots slot_of 0 (units ++ channels)
+    → list_any (slot_has_turn n) units
     ≡ list_any (λ y. ltb y.number n && has_turn y.reservation) (somes (units ++ channels))
-unfolding slot_has_turn
-turn_found n units channels l s k =
-    let t : Issued → Bool = λ y. ltb y.number n && has_turn y.reservation in
-    sym (slots_any t (slot_has_turn n) refl (λ y. refl)
-    (unit_number Branch ∷ unit_number Increment1 ∷ unit_number Increment2 ∷ []) IsOfKind (units ++ channels) s k
-    (λ y q d. ap (λ b. ltb y.number n && b) (turn_silent y q d.0 d.1.0 d.1.1.0) ∙ and_right (ltb y.number n) false refl)
-    ∙ ap (λ o. slot_has_turn n o || list_any (λ i. slot_has_turn n (get_or (units ++ channels) i None))
-    (unit_number Increment1 ∷ unit_number Increment2 ∷ [])) (slot_same units channels Branch l)
-    ∙ ap (λ b. slot_has_turn n (slot_at units Branch) || b)
-    (in_increments t (slot_has_turn n) refl (λ y. refl) units channels l))
+unfolding slot_has_turn has_turn
+turn_found n units channels l s =
+    units_any (λ y. ltb y.number n && has_turn y.reservation) (slot_has_turn n) refl (λ y. refl)
+    (λ y k. ap (λ b. ltb y.number n && (b && has_reference (shape_of y.reservation.instr))) k
+    ∙ and_right (ltb y.number n) false refl) units channels l s
 
 pub turn_answered : (units channels : List (Option Issued)) (producers : List (List (Option Writer))) (ws : Writers)
     (last : ℕ) (u : FunctionalUnit) (i : ℕ) (x : Issued) (b : Bool) → IsRight units channels producers ws last
     → i ≡ unit_number u → get_or units i None ≡ Some x
     → b ≡ (has_reference (shape_of x.reservation.instr)
-    && (slot_has_turn x.number (slot_at units Branch)
-    || in_increment (slot_has_turn x.number) units)) → unless b OutOfTurn ≡ turn_answer (seek (held_in u) (sort_by
-    number_of (in_slots units channels)))
+    && list_any (slot_has_turn x.number) units)
+    → unless b OutOfTurn ≡ turn_answer (seek (held_in u) (sort_by number_of (in_slots units channels)))
 unfolding in_slots turn_answer number_of reservation_of
 turn_answered units channels producers ws last u i x b right e h eb =
     let os : List (Option Issued) = units ++ channels in
     let here = unit_slot units channels u i (Some x) right.all_units e h in
     ap (λ q. unless q OutOfTurn) (eb ∙ ap (λ q. has_reference (shape_of x.reservation.instr) && q)
-    (turn_found x.number units channels right.all_units right.stands right.kinds
+    (turn_found x.number units channels right.all_units right.stands
     ∙ earlier_any (λ y. has_turn y.reservation) os i x here right.apart))
     ∙ ap turn_answer (sym (found_there number_of (held_in u) os i x x.reservation.instr here (own_keys (somes os)
     right.apart)

@@ -20,7 +20,7 @@ use Rattle.scoreboard.specs.declared.writer.Writer.TheVariants.{OfUnit, OfChanne
 use Rattle.scoreboard.specs.declared.writers.Writers.{Writers}
 use Rattle.scoreboard.specs.Answers.{in_occupancy}
 use Rattle.instructions.specs.Each.{Each, Pairs}
-use Rattle.scoreboard.specs.inner.Fields.{channels_with, forget_in_taken}
+use Rattle.scoreboard.specs.inner.Fields.{forget_in_taken}
 use Rattle.scoreboard.specs.Issued.{number_of, channel_of, written_by_channel, written_in, written_by, or_else}
 use Rattle.scoreboard.specs.Issued.{first_some, if_earlier, writer_of, writer_before}
 use Rattle.instructions.specs.Order.{somes, IsInSlots}
@@ -444,6 +444,11 @@ returned_others units channels producers ws last n right =
     all_forgotten (OfChannel n) units channels units producers ws last right (λ j z k. k)
 
 -- ---- a unit is released ----
+
+-- the channels after a store event: a load is in its own
+unfoldable pub channels_with : List (Option Issued) → Issued → Option ℕ → List (Option Issued)
+channels_with channels x None = channels
+channels_with channels x (Some n) = set channels n (Some (in_occupancy x (Left (Some n))))
 
 field_left_in : (u v : FunctionalUnit) (r : Reg) (s : Shape) (has_read : Bool) (rest : Option Writer)
     → same_unit v u ≡ true → forget (OfUnit u) rest ≡ rest

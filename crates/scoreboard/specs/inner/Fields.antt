@@ -2,15 +2,13 @@
 -- one unit or of one load channel.
 -- Source: Thornton, scoreboard; docs/scoreboard.md sets the fields beside his.
 use Rattle.std.specs.Prelude.{ℕ, Bool, false, ◌&&◌, ◌||◌, nat_lt, List, [], ◌∷◌, Option, Some, None, is_some, map}
-use Rattle.std.specs.Prelude.{slice_index_or, slice_set}
+use Rattle.std.specs.Prelude.{slice_index_or}
 use Rattle.instructions.specs.declared.instr.Unit.TheVariants.{Increment1, Increment2}
 use Rattle.instructions.specs.declared.instr.UnitKind.{UnitKind}
-use Rattle.scoreboard.specs.declared.reservation.Occupancy.TheVariants.{Left}
 use Rattle.scoreboard.specs.declared.reservation.Reservation.{Reservation}
 use Rattle.scoreboard.specs.Conflicts.{first_free}
 use Rattle.scoreboard.specs.Units.{units_of, unit_number}
 use Rattle.scoreboard.specs.declared.writer.Writer.{Writer}
-use Rattle.scoreboard.specs.Answers.{in_occupancy}
 use Rattle.scoreboard.specs.Writers.{forget}
 use Rattle.instructions.specs.declared.instr.Reg.{Reg}
 use Rattle.instructions.specs.declared.instr.Unit.{Unit as FunctionalUnit}
@@ -48,11 +46,6 @@ in_increment test units = test (slot_at units Increment1) || test (slot_at units
 unfoldable pub free_for : (FunctionalUnit → Bool) → Option UnitKind → Option FunctionalUnit
 free_for taken None = None
 free_for taken (Some kind) = first_free taken (units_of kind)
-
--- the channels after a store event: a load is in its own
-unfoldable pub channels_with : List (Option Issued) → Issued → Option ℕ → List (Option Issued)
-channels_with channels x None = channels
-channels_with channels x (Some n) = slice_set channels n (Some (in_occupancy x (Left (Some n))))
 
 -- the producers without that writer, where the unit is taken
 unfoldable pub forget_in_taken : Writer → List (Option Issued) → List (List (Option Writer))

@@ -1,8 +1,9 @@
 use Rattle.std.proofs.Common.{◌≡◌, ◌<◌, sym, ap, ◌∙◌, subst, length, Some}
+use Rattle.std.proofs.lemmas.Result.{MatchResult-at_ok}
 use Rattle.std.specs.Prelude.{IfSome}
 use Rattle.instructions.specs.Each.{Pairs}
 use Rattle.hopper.specs.declared.reference.Reference.{Reference}
-use Rattle.in_flight.specs.Tests.{refusal_in, refusal_of, tests_found, accept_tests}
+use Rattle.in_flight.specs.Tests.{refusal_of, tests_found, accept_tests}
 use Rattle.in_flight.specs.declared.pending.Outstanding.TheVariants.{Accepted}
 use Rattle.in_flight.specs.Flight.{Flight, left_by}
 use Rattle.in_flight.specs.inner.OwnSlots.{HasOwnSlots}
@@ -14,36 +15,39 @@ use Rattle.in_flight.proofs.answering.Referring.{room_for_word, accept_tied, acc
 use Rattle.in_flight.proofs.flight.InFlight.accept.Goals.{in-Load, in-Store}
 use Rattle.in_flight.proofs.flight.InFlight.accept.Goals as goal
 
-pub returns-in-Err-clause-answer : goal.returns-in-Err-clause-answer
-returns-in-Err-clause-answer c =
+pub returns-in_default-clause-answer : goal.returns-in_default-clause-answer
+returns-in_default-clause-answer c =
     sym (ap (λ (x : Flight). refusal_of
     (tests_found (seek (entry_at c.args.place) x.pending)
     (λ f. accept_tests x.busy f.earlier f.answer))) c.self.view_is)
-    ∙ accept_answered c.args.place c.self.inside.slots c.self.inside.hopper c.accept.result c.self.invariant.entered
-    c.accept.ensures.answer
-    ∙ ap refusal_in c.in-Err.is
+    ∙ accept_answered c.args.place c.self.inside.slots c.self.inside.hopper c.accept-accepted.result
+    c.self.invariant.entered
+    c.accept-accepted.ensures.answer
 
 pub load-requires : goal.load-requires
 load-requires c =
-    let p = (accept_found c.args.place c.self.inside.slots c.self.inside.hopper c.accept.result c.in-Ok.reference
-    c.self.invariant.entered c.accept.ensures.answer c.in-Ok.is) in
+    let p = (accept_found c.args.place c.self.inside.slots c.self.inside.hopper c.accept-accepted.result
+    c.in-Ok.reference
+    c.self.invariant.entered c.accept-accepted.ensures.answer c.in-Ok.is) in
     subst (λ (r : Reference). r.address < length c.args.memory.now) p.2
     (entry_placed (length c.args.memory.now) c.args.place c.self.inside.slots p.0
     (subst (λ (x : Flight). HasOwnSlots (length c.args.memory.now) x.pending) (sym c.self.view_is)
     c.requires.own_slots) p.1).1
 
-pub accept-requires-2-clause-place : goal.accept-requires-2-clause-place
-accept-requires-2-clause-place c =
-    let p = (accept_found c.args.place c.self.inside.slots c.self.inside.hopper c.accept.result c.in-Ok.reference
-    c.self.invariant.entered c.accept.ensures.answer c.in-Ok.is) in
+pub accept-requires-clause-place : goal.accept-requires-clause-place
+accept-requires-clause-place c =
+    let p = (accept_found c.args.place c.self.inside.slots c.self.inside.hopper c.accept-accepted.result
+    c.in-Ok.reference
+    c.self.invariant.entered c.accept-accepted.ensures.answer c.in-Ok.is) in
     (entry_placed (length c.args.memory.now) c.args.place c.self.inside.slots p.0
     (subst (λ (x : Flight). HasOwnSlots (length c.args.memory.now) x.pending) (sym c.self.view_is)
     c.requires.own_slots) p.1).0
 
-pub accept-requires-2-clause-room : goal.accept-requires-2-clause-room
-accept-requires-2-clause-room c =
-    let p = (accept_found c.args.place c.self.inside.slots c.self.inside.hopper c.accept.result c.in-Ok.reference
-    c.self.invariant.entered c.accept.ensures.answer c.in-Ok.is) in
+pub accept-requires-clause-room : goal.accept-requires-clause-room
+accept-requires-clause-room c =
+    let p = (accept_found c.args.place c.self.inside.slots c.self.inside.hopper c.accept-accepted.result
+    c.in-Ok.reference
+    c.self.invariant.entered c.accept-accepted.ensures.answer c.in-Ok.is) in
     let left : c.match-reference.left ≡ left_by c.args.memory.now c.in-Ok.reference.address c.in-Ok.reference.access =
     elim c.match-reference.branch [
       | in-Load w ↦ w.left-is ∙ ap (λ word. Some (Accepted w.in-Load.n word)) w.load.ensures
@@ -55,47 +59,52 @@ accept-requires-2-clause-room c =
     (subst (λ (x : Flight). HasOwnSlots (length c.args.memory.now) x.pending) (sym c.self.view_is)
     c.requires.own_slots) p.1 p.2 left
 
-pub invariant_of-self-2 : goal.invariant_of-self-2
-invariant_of-self-2 c =
-    let p = (accept_found c.args.place c.self.inside.slots c.self.inside.hopper c.accept.result c.in-Ok.reference
-    c.self.invariant.entered c.accept.ensures.answer c.in-Ok.is) in
+pub invariant_of-self : goal.invariant_of-self
+invariant_of-self c =
+    let p = (accept_found c.args.place c.self.inside.slots c.self.inside.hopper c.accept-accepted.result
+    c.in-Ok.reference
+    c.self.invariant.entered c.accept-accepted.ensures.answer c.in-Ok.is) in
     let left : c.match-reference.left ≡ left_by c.args.memory.now c.in-Ok.reference.address c.in-Ok.reference.access =
     elim c.match-reference.branch [
       | in-Load w ↦ w.left-is ∙ ap (λ word. Some (Accepted w.in-Load.n word)) w.load.ensures
           ∙ sym (ap (left_by c.args.memory.now c.in-Ok.reference.address) w.in-Load.is)
       | in-Store w ↦ w.left-is ∙ sym (ap (left_by c.args.memory.now c.in-Ok.reference.address) w.in-Store.is)
     ] in
-    accept_tied c.args.memory.now c.args.place c.self.inside.slots c.accept-2.new.self c.self.inside.hopper
-    c.accept.new.self c.self.inside.board p.0 c.in-Ok.reference c.match-reference.left c.self.invariant p.1 p.2
-    left c.accept-2.ensures c.in-Ok.ensures.after
+    accept_tied c.args.memory.now c.args.place c.self.inside.slots c.accept.new.self c.self.inside.hopper
+    c.accept-accepted.new.self c.self.inside.board p.0 c.in-Ok.reference c.match-reference.left c.self.invariant p.1 p.2
+    left c.accept.ensures (MatchResult-at_ok _ _ c.in-Ok.reference c.in-Ok.is c.accept-accepted.ensures.after)
 
-pub returns-clause-answer : goal.returns-clause-answer
-returns-clause-answer c =
+pub returns-after-reference-clause-answer : goal.returns-after-reference-clause-answer
+returns-after-reference-clause-answer c =
     sym (ap (λ (x : Flight). refusal_of
     (tests_found (seek (entry_at c.args.place) x.pending)
     (λ f. accept_tests x.busy f.earlier f.answer))) c.self.view_is)
-    ∙ accept_answered c.args.place c.self.inside.slots c.self.inside.hopper c.accept.result c.self.invariant.entered
-    c.accept.ensures.answer
-    ∙ ap refusal_in c.in-Ok.is
+    ∙ accept_answered c.args.place c.self.inside.slots c.self.inside.hopper c.accept-accepted.result
+    c.self.invariant.entered
+    c.accept-accepted.ensures.answer
 
-pub returns-clause-entry : goal.returns-clause-entry
-returns-clause-entry c =
-    let p = (accept_found c.args.place c.self.inside.slots c.self.inside.hopper c.accept.result c.in-Ok.reference
-    c.self.invariant.entered c.accept.ensures.answer c.in-Ok.is) in
-    subst (λ (x : Flight). IfSome (seek (entry_at c.args.place) x.pending)
+pub returns-after-reference-clause-entry : goal.returns-after-reference-clause-entry
+returns-after-reference-clause-entry c =
+    let p = (accept_found c.args.place c.self.inside.slots c.self.inside.hopper c.accept-accepted.result
+    c.in-Ok.reference
+    c.self.invariant.entered c.accept-accepted.ensures.answer c.in-Ok.is) in
+    rw c.in-Ok.is (subst (λ (x : Flight). IfSome (seek (entry_at c.args.place) x.pending)
     (λ f. f.answer ≡ record { address = c.in-Ok.reference.address; access = c.in-Ok.reference.access })) c.self.view_is
-    (entry_answered c.args.place c.self.inside.slots p.0 c.in-Ok.reference p.1 p.2)
+    (entry_answered c.args.place c.self.inside.slots p.0 c.in-Ok.reference p.1 p.2))
 
-pub returns-clause-after : goal.returns-clause-after
-returns-clause-after c =
-    let p = (accept_found c.args.place c.self.inside.slots c.self.inside.hopper c.accept.result c.in-Ok.reference
-    c.self.invariant.entered c.accept.ensures.answer c.in-Ok.is) in
+pub returns-after-reference-clause-after : goal.returns-after-reference-clause-after
+returns-after-reference-clause-after c =
+    let p = (accept_found c.args.place c.self.inside.slots c.self.inside.hopper c.accept-accepted.result
+    c.in-Ok.reference
+    c.self.invariant.entered c.accept-accepted.ensures.answer c.in-Ok.is) in
     let left : c.match-reference.left ≡ left_by c.args.memory.now c.in-Ok.reference.address c.in-Ok.reference.access =
     elim c.match-reference.branch [
       | in-Load w ↦ w.left-is ∙ ap (λ word. Some (Accepted w.in-Load.n word)) w.load.ensures
           ∙ sym (ap (left_by c.args.memory.now c.in-Ok.reference.address) w.in-Load.is)
       | in-Store w ↦ w.left-is ∙ sym (ap (left_by c.args.memory.now c.in-Ok.reference.address) w.in-Store.is)
     ] in
-    accept_flight c.args.memory.now c.args.place c.self.inside.slots c.accept-2.new.self c.self.inside.hopper
-    c.accept.new.self c.self.inside.board p.0 c.in-Ok.reference c.match-reference.left c.args.self.now
-    c.self.view_is c.self.invariant p.1 p.2 left c.accept-2.ensures c.in-Ok.ensures.after
+    rw c.in-Ok.is (accept_flight c.args.memory.now c.args.place c.self.inside.slots c.accept.new.self
+    c.self.inside.hopper
+    c.accept-accepted.new.self c.self.inside.board p.0 c.in-Ok.reference c.match-reference.left c.args.self.now
+    c.self.view_is c.self.invariant p.1 p.2 left c.accept.ensures (MatchResult-at_ok _ _ c.in-Ok.reference c.in-Ok.is
+    c.accept-accepted.ensures.after))

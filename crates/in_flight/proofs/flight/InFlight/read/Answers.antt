@@ -1,8 +1,10 @@
-use Rattle.std.proofs.Common.{[], ◌∷◌, refl, sym, ap, ◌∙◌}
+use Rattle.std.proofs.Common.{[], ◌∷◌, refl, sym, ap, ◌∙◌, Some}
+use Rattle.std.proofs.lemmas.Result.{err_from_is_err_and}
 use Rattle.scoreboard.specs.Answers.{held_in, read as board_read}
 use Rattle.in_flight.specs.declared.pending.Phase.TheVariants.{Before}
 use Rattle.in_flight.specs.declared.pending.Stage.TheVariants.{Read}
 use Rattle.in_flight.specs.Flight.{Flight}
+use Rattle.in_flight.specs.Tests.{refusal_in}
 use Rattle.instructions.specs.Finding.{replaced, seek}
 use Rattle.in_flight.specs.Lookup.{stage_at, in_phase}
 use Rattle.in_flight.proofs.answering.Beside.{nothing_there, not_waiting, read_answered, read_refused, read_tied}
@@ -24,12 +26,14 @@ returns-in_default-answer c = record {
   after = refl;
 }
 
-pub returns-in-Err-clause-answer : goal.returns-in-Err-clause-answer
-returns-in-Err-clause-answer c =
+pub returns-in_err-may_read-clause-answer : goal.returns-in_err-may_read-clause-answer
+returns-in_err-may_read-clause-answer c =
+    let p = err_from_is_err_and c.from_residual.result c.from_residual.ensures.1 in
     sym (ap (λ (f : Flight). read_refused (seek (stage_at c.args.unit) f.pending)) c.self.view_is)
     ∙ read_answered c.args.unit c.self.inside.slots c.self.inside.board.issued c.in-Some.found _
     c.self.invariant.boarded (sym c.find_stage.ensures ∙ c.in-Some.is) c.in-Unread.is
-    (sym c.in-Err.is ∙ c.may_read.ensures)
+    (sym c.in_err-may_read.was ∙ c.may_read.ensures)
+    ∙ sym (ap refusal_in p.1 ∙ ap Some p.2)
 
 pub invariant_of-self : goal.invariant_of-self
 invariant_of-self c =
@@ -42,7 +46,7 @@ returns-clause-answer c =
     sym (ap (λ (f : Flight). read_refused (seek (stage_at c.args.unit) f.pending)) c.self.view_is)
     ∙ read_answered c.args.unit c.self.inside.slots c.self.inside.board.issued c.in-Some.found _
     c.self.invariant.boarded (sym c.find_stage.ensures ∙ c.in-Some.is) c.in-Unread.is
-    (sym c.in_default-may_read.is ∙ c.may_read.ensures)
+    (sym c.in_ok-may_read.was ∙ c.may_read.ensures)
 
 pub returns-clause-after : goal.returns-clause-after
 returns-clause-after c =

@@ -1,15 +1,15 @@
--- The turn of references: Branch and the Increment units with a lower number, as the list says it.
-use Rattle.std.proofs.Common.{ap, sym, ◌∙◌, get_or, true, false, arith}
-use Rattle.std.specs.Prelude.{◌&&◌, ◌||◌}
-use Rattle.instructions.specs.declared.instr.Unit.TheVariants.{Branch}
+-- The turn of references: the units with a lower number, as the list says it.
+use Rattle.std.proofs.Common.{◌≡◌, rules, tests, ap, sym, ◌∙◌, get_or, true, false, arith}
+use Rattle.std.specs.Prelude.{◌&&◌}
+use Rattle.std.specs.List.{list_any}
+use Rattle.std.proofs.lemmas.Iterator.{YieldsList-from_slice}
+use Rattle.std.proofs.lemmas.Iterator.Search.{any_from_yields_List}
 use Rattle.instructions.specs.Finding.{seek}
 use Rattle.instructions.proofs.Slots.{slot_any}
 use Rattle.scoreboard.specs.Answers.{Standing, turn_answer, held_in}
-use Rattle.scoreboard.specs.inner.Fields.{slot_at, slot_has_turn, in_increment}
+use Rattle.scoreboard.specs.inner.Fields.{slot_has_turn}
 use Rattle.scoreboard.proofs.in_slots.Standing.{nobody_answers, no_slot}
 use Rattle.scoreboard.proofs.changing.OfKind.{turn_answered}
-use Rattle.scoreboard.proofs.board.Board.in_turn.Goals.{else-has_reference-via-then-has_reference+else-any_turn}
-use Rattle.scoreboard.proofs.board.Board.in_turn.Goals.{else-has_reference-via-else-has_reference}
 use Rattle.scoreboard.proofs.board.Board.in_turn.Goals as goal
 
 pub returns-in_default : goal.returns-in_default
@@ -24,35 +24,41 @@ returns-in_default c =
     c.in_default.not-Some)))
     ∙ ap (λ (s : Standing). turn_answer (seek (held_in c.args.unit) s.issued)) c.self.view_is
 
-pub returns-then-any_turn : goal.returns-then-any_turn
-returns-then-any_turn c =
-    turn_answered c.self.inside.units c.self.inside.channels c.self.inside.producers c.self.inside.writers
-    c.self.inside.last c.args.unit c.unit_number-index.result c.in-Some.issued true c.self.invariant
-    c.unit_number-index.ensures.value
-    (slot_any c.self.inside.units c.unit_number-index.result c.index-self-index.result
-    (omega (arith, c.unit_number-index.ensures.range, c.self.invariant.all_units)) ∙ c.in-Some.is)
-    (sym (ap (λ b. b && (slot_has_turn c.in-Some.issued.number (slot_at c.self.inside.units Branch)
-    || in_increment (slot_has_turn c.in-Some.issued.number)
-    c.self.inside.units)) (sym c.has_reference.ensures ∙ c.if-has_reference.true) ∙ (sym c.any_turn.ensures
-    ∙ c.if-any_turn.true)))
-    ∙ ap (λ (s : Standing). turn_answer (seek (held_in c.args.unit) s.issued)) c.self.view_is
-
-pub returns-else-has_reference : goal.returns-else-has_reference
-returns-else-has_reference c =
+pub returns-then-not-has_reference : goal.returns-then-not-has_reference
+returns-then-not-has_reference c =
     turn_answered c.self.inside.units c.self.inside.channels c.self.inside.producers c.self.inside.writers
     c.self.inside.last c.args.unit c.unit_number-index.result c.in-Some.issued false c.self.invariant
     c.unit_number-index.ensures.value
     (slot_any c.self.inside.units c.unit_number-index.result c.index-self-index.result
     (omega (arith, c.unit_number-index.ensures.range, c.self.invariant.all_units)) ∙ c.in-Some.is)
-    (elim c.else-has_reference.branch [
-      | else-has_reference-via-then-has_reference+else-any_turn w ↦ sym
-          (ap (λ b. b && (slot_has_turn c.in-Some.issued.number (slot_at c.self.inside.units Branch)
-          || in_increment (slot_has_turn c.in-Some.issued.number)
-          c.self.inside.units)) (sym c.has_reference.ensures ∙ w.if-has_reference.true) ∙ (sym w.any_turn.ensures
-          ∙ w.if-any_turn.false))
-      | else-has_reference-via-else-has_reference w ↦ sym
-          (ap (λ b. b && (slot_has_turn c.in-Some.issued.number (slot_at c.self.inside.units Branch)
-          || in_increment (slot_has_turn c.in-Some.issued.number)
-          c.self.inside.units)) (sym c.has_reference.ensures ∙ w.if-has_reference.false))
-    ])
+    (sym (ap (λ b. b && list_any (slot_has_turn c.in-Some.issued.number) c.self.inside.units)
+    (sym c.has_reference.ensures ∙ c.if-not-has_reference.true)))
+    ∙ ap (λ (s : Standing). turn_answer (seek (held_in c.args.unit) s.issued)) c.self.view_is
+
+pub returns-then-waits : goal.returns-then-waits
+returns-then-waits c =
+    let h : c.any-waits.result ≡ list_any (slot_has_turn c.in-Some.issued.number) c.self.inside.units =
+    any_from_yields_List _ _ _ _ c.any-waits.ensures.ran (YieldsList-from_slice c.self.inside.units cc)
+    (λ x b q k. search (rules, tests)) in
+    turn_answered c.self.inside.units c.self.inside.channels c.self.inside.producers c.self.inside.writers
+    c.self.inside.last c.args.unit c.unit_number-index.result c.in-Some.issued true c.self.invariant
+    c.unit_number-index.ensures.value
+    (slot_any c.self.inside.units c.unit_number-index.result c.index-self-index.result
+    (omega (arith, c.unit_number-index.ensures.range, c.self.invariant.all_units)) ∙ c.in-Some.is)
+    (sym (ap (λ b. b && list_any (slot_has_turn c.in-Some.issued.number) c.self.inside.units)
+    (sym c.has_reference.ensures ∙ c.if-not-has_reference.false) ∙ (sym h ∙ c.if-waits.true)))
+    ∙ ap (λ (s : Standing). turn_answer (seek (held_in c.args.unit) s.issued)) c.self.view_is
+
+pub returns-else-waits : goal.returns-else-waits
+returns-else-waits c =
+    let h : c.any-waits.result ≡ list_any (slot_has_turn c.in-Some.issued.number) c.self.inside.units =
+    any_from_yields_List _ _ _ _ c.any-waits.ensures.ran (YieldsList-from_slice c.self.inside.units cc)
+    (λ x b q k. search (rules, tests)) in
+    turn_answered c.self.inside.units c.self.inside.channels c.self.inside.producers c.self.inside.writers
+    c.self.inside.last c.args.unit c.unit_number-index.result c.in-Some.issued false c.self.invariant
+    c.unit_number-index.ensures.value
+    (slot_any c.self.inside.units c.unit_number-index.result c.index-self-index.result
+    (omega (arith, c.unit_number-index.ensures.range, c.self.invariant.all_units)) ∙ c.in-Some.is)
+    (sym (ap (λ b. b && list_any (slot_has_turn c.in-Some.issued.number) c.self.inside.units)
+    (sym c.has_reference.ensures ∙ c.if-not-has_reference.false) ∙ (sym h ∙ c.if-waits.false)))
     ∙ ap (λ (s : Standing). turn_answer (seek (held_in c.args.unit) s.issued)) c.self.view_is

@@ -1,14 +1,14 @@
 -- Third order at a store event: the units with a lower number, as the list says it.
 use Rattle.std.specs.Prelude.{option_to_list, find}
 use Rattle.std.specs.List.{list_any}
-use Rattle.std.proofs.Common.{cond, Some, None, ap, sym, ◌∙◌, get_or, arith}
+use Rattle.std.proofs.Common.{◌≡◌, rules, tests, cond, Some, None, ap, sym, ◌∙◌, get_or, arith}
+use Rattle.std.proofs.lemmas.Iterator.{YieldsList-from_slice}
+use Rattle.std.proofs.lemmas.Iterator.Search.{any_from_yields_List}
 use Rattle.scoreboard.specs.inner.Fields.{slot_reads}
 use Rattle.instructions.specs.Finding.{seek}
 use Rattle.scoreboard.specs.Answers.{Standing, store_answer, held_in}
 use Rattle.instructions.proofs.Slots.{slot_any}
 use Rattle.scoreboard.proofs.in_slots.Standing.{nobody_answers, store_answered, from_found, no_slot}
-use Rattle.scoreboard.proofs.board.Board.may_store.Goals.{in_default-sets-via-in-Some-sets+else-is_to_be_read}
-use Rattle.scoreboard.proofs.board.Board.may_store.Goals.{in_default-sets-via-in_default-sets}
 use Rattle.scoreboard.proofs.board.Board.may_store.Goals as goal
 
 pub returns-in_default : goal.returns-in_default
@@ -23,20 +23,6 @@ returns-in_default c =
     c.in_default.not-Some)))
     ∙ ap (λ (s : Standing). store_answer (seek (held_in c.args.unit) s.issued)) c.self.view_is
 
-pub returns-in-Some-sets : goal.returns-in-Some-sets
-unfolding from_found
-returns-in-Some-sets c =
-    store_answered c.self.inside.units c.self.inside.channels c.self.inside.producers c.self.inside.writers
-    c.self.inside.last c.args.unit c.unit_number-index.result c.in-Some.issued (option_to_list c.sets.result)
-    (Some c.in-Some-sets.register) c.self.invariant c.unit_number-index.ensures.value
-    (slot_any c.self.inside.units c.unit_number-index.result c.index-self-index.result
-    (omega (arith, c.unit_number-index.ensures.range, c.self.invariant.all_units))
-    ∙ c.in-Some.is) (sym c.sets.ensures)
-    (ap (λ b. cond b (Some c.in-Some-sets.register) None) (sym c.if-is_to_be_read.true ∙ c.is_to_be_read.ensures)
-    ∙ ap (λ o. find (λ r. list_any (slot_reads c.in-Some.issued.number r) c.self.inside.units) (option_to_list o))
-    (sym c.in-Some-sets.is))
-    ∙ ap (λ (s : Standing). store_answer (seek (held_in c.args.unit) s.issued)) c.self.view_is
-
 pub returns-in_default-sets : goal.returns-in_default-sets
 unfolding from_found
 returns-in_default-sets c =
@@ -46,14 +32,42 @@ returns-in_default-sets c =
     (slot_any c.self.inside.units c.unit_number-index.result c.index-self-index.result
     (omega (arith, c.unit_number-index.ensures.range, c.self.invariant.all_units))
     ∙ c.in-Some.is) (sym c.sets.ensures)
-    (elim c.in_default-sets.branch [
-      | in_default-sets-via-in-Some-sets+else-is_to_be_read w ↦
-          ap (λ b. cond b (Some w.in-Some-sets.register) None)
-          (sym w.if-is_to_be_read.false ∙ w.is_to_be_read.ensures)
-          ∙ ap (λ o. find (λ r. list_any (slot_reads c.in-Some.issued.number r) c.self.inside.units)
-          (option_to_list o)) (sym w.in-Some-sets.is)
-      | in_default-sets-via-in_default-sets w ↦
-          ap (λ o. find (λ r. list_any (slot_reads c.in-Some.issued.number r) c.self.inside.units)
-          (option_to_list o)) (sym w.in_default-sets.is)
-    ])
+    (ap (λ o. find (λ r. list_any (slot_reads c.in-Some.issued.number r) c.self.inside.units) (option_to_list o))
+    (sym c.in_default-sets.is))
+    ∙ ap (λ (s : Standing). store_answer (seek (held_in c.args.unit) s.issued)) c.self.view_is
+
+pub returns-then-is_held : goal.returns-then-is_held
+unfolding from_found
+returns-then-is_held c =
+    let h : c.any-is_held.result ≡ list_any (slot_reads c.in-Some.issued.number c.in-Some-sets.register)
+    c.self.inside.units =
+    any_from_yields_List _ _ _ _ c.any-is_held.ensures.ran (YieldsList-from_slice c.self.inside.units cc)
+    (λ x b q k. search (rules, tests)) in
+    store_answered c.self.inside.units c.self.inside.channels c.self.inside.producers c.self.inside.writers
+    c.self.inside.last c.args.unit c.unit_number-index.result c.in-Some.issued (option_to_list c.sets.result)
+    (Some c.in-Some-sets.register) c.self.invariant c.unit_number-index.ensures.value
+    (slot_any c.self.inside.units c.unit_number-index.result c.index-self-index.result
+    (omega (arith, c.unit_number-index.ensures.range, c.self.invariant.all_units))
+    ∙ c.in-Some.is) (sym c.sets.ensures)
+    (ap (λ b. cond b (Some c.in-Some-sets.register) None) (sym c.if-is_held.true ∙ h)
+    ∙ ap (λ o. find (λ r. list_any (slot_reads c.in-Some.issued.number r) c.self.inside.units) (option_to_list o))
+    (sym c.in-Some-sets.is))
+    ∙ ap (λ (s : Standing). store_answer (seek (held_in c.args.unit) s.issued)) c.self.view_is
+
+pub returns-else-is_held : goal.returns-else-is_held
+unfolding from_found
+returns-else-is_held c =
+    let h : c.any-is_held.result ≡ list_any (slot_reads c.in-Some.issued.number c.in-Some-sets.register)
+    c.self.inside.units =
+    any_from_yields_List _ _ _ _ c.any-is_held.ensures.ran (YieldsList-from_slice c.self.inside.units cc)
+    (λ x b q k. search (rules, tests)) in
+    store_answered c.self.inside.units c.self.inside.channels c.self.inside.producers c.self.inside.writers
+    c.self.inside.last c.args.unit c.unit_number-index.result c.in-Some.issued (option_to_list c.sets.result)
+    None c.self.invariant c.unit_number-index.ensures.value
+    (slot_any c.self.inside.units c.unit_number-index.result c.index-self-index.result
+    (omega (arith, c.unit_number-index.ensures.range, c.self.invariant.all_units))
+    ∙ c.in-Some.is) (sym c.sets.ensures)
+    (ap (λ b. cond b (Some c.in-Some-sets.register) None) (sym c.if-is_held.false ∙ h)
+    ∙ ap (λ o. find (λ r. list_any (slot_reads c.in-Some.issued.number r) c.self.inside.units) (option_to_list o))
+    (sym c.in-Some-sets.is))
     ∙ ap (λ (s : Standing). store_answer (seek (held_in c.args.unit) s.issued)) c.self.view_is

@@ -1,17 +1,21 @@
 -- A store event: the invariant and the list after it, and that a free unit changes nothing.
-use Rattle.std.proofs.Common.{rules, ap, sym, ◌∙◌, ◌++◌, subst, None, set, arith}
+use Rattle.std.proofs.Common.{◌≡◌, ◌<◌, List, ◌++◌, Option, None, ap, sym, ◌∙◌, subst, set, arith}
+use Rattle.std.specs.Prelude.{IfSome, option_to_list}
+use Rattle.scoreboard.specs.declared.board.Board.TheInside.{Inside}
+use Rattle.scoreboard.specs.declared.issued.Issued.{Issued}
+use Rattle.scoreboard.specs.inner.Fields.{forget_in_taken}
 use Rattle.instructions.specs.Each.{Each}
 use Rattle.instructions.specs.Shape.{shape_of}
 use Rattle.scoreboard.specs.declared.writer.Writer.TheVariants.{OfUnit}
 use Rattle.instructions.specs.Finding.{seek, replaced}
 use Rattle.instructions.proofs.Slots.{slot_any}
-use Rattle.scoreboard.specs.Answers.{Standing, held_in, with_issued, left}
-use Rattle.scoreboard.specs.inner.Fields.{channels_with}
+use Rattle.scoreboard.specs.Answers.{Standing, held_in, with_issued, left, in_occupancy}
 use Rattle.scoreboard.specs.Issued.{channel_of}
 use Rattle.scoreboard.specs.inner.View.{standing_of, IsRight}
 use Rattle.scoreboard.specs.Writers.{IsRegister, set_each}
-use Rattle.scoreboard.proofs.changing.Right.{AreForgotten, released_right, released_others, released_last}
-use Rattle.scoreboard.proofs.changing.Changing.{nobody_marked, released_view}
+use Rattle.scoreboard.proofs.changing.Right.{channels_with, AreForgotten, released_right, released_others, released_last}
+use Rattle.scoreboard.proofs.changing.Changing.{load_in, no_load_in, nobody_marked, released_view}
+use Rattle.scoreboard.proofs.board.Board.release.Goals.{in-Some-channel, in_default-channel}
 use Rattle.scoreboard.proofs.board.Board.release.Goals as goal
 
 pub returns-in_default : goal.returns-in_default
@@ -23,73 +27,137 @@ returns-in_default c =
     (omega (arith, c.unit_number-index.ensures.range, c.self.invariant.all_units)) ∙ c.in_default.is)
     ∙ ap (λ (s : Standing). with_issued s (replaced (seek (held_in c.args.unit) s.issued) s.issued left)) c.self.view_is
 
+with_channels : Inside → List (Option Issued) → List (Option Issued) → Inside
+with_channels b us cs =
+    record { units = us; producers = b.producers; channels = cs; writers = b.writers; last = b.last }
+
 pub invariant_of-self : goal.invariant_of-self
+unfolding with_channels in_occupancy
 invariant_of-self c =
-    subst (λ cs. IsRight (set c.self.inside.units c.unit_number-index.result None) cs c.forget_in_taken.new.producers
-    c.set.new.self c.self.inside.last) (sym c.put_left.ensures.value)
+    let x = c.in-Some.issued in
+    let now = with_channels c.self.inside (set c.self.inside.units c.unit_number-index.result None) in
+    let p : (c.match-channel.self-inside ≡ now (channels_with c.self.inside.channels x (channel_of (shape_of
+    x.reservation.instr)))) × IfSome (channel_of (shape_of x.reservation.instr)) (λ n. n < 8) =
+    elim c.match-channel.branch [
+      | in-Some-channel w ↦ (
+        w.self-inside-is ∙ ap now (load_in c.self.inside.channels x w.in-Some-channel.n w.from.result _
+            (w.from.ensures ∙ w.get.ensures.value) w.in-Some-channel.ensures),
+        subst (λ o. IfSome o (λ n. n < 8)) w.in-Some-channel.ensures (subst (λ n. n < 8) w.get.ensures.value
+            w.get.ensures.range),
+      )
+      | in_default-channel w ↦ (
+        w.self-inside-is ∙ ap now (no_load_in c.self.inside.channels x _ w.in_default-channel.ensures),
+        subst (λ o. IfSome o (λ n. n < 8)) w.in_default-channel.ensures tt,
+      )
+    ] in
+    subst (λ (b : Inside). IsRight b.units b.channels c.forget_in_taken.new.producers c.set.new.self b.last) (sym p.0)
     (subst (λ ws. IsRight (set c.self.inside.units c.unit_number-index.result None)
-    (channels_with c.self.inside.channels c.in-Some.issued (channel_of (shape_of c.in-Some.issued.reservation.instr)))
+    (channels_with c.self.inside.channels x (channel_of (shape_of x.reservation.instr)))
     c.forget_in_taken.new.producers ws c.self.inside.last) (sym
-    (c.set.ensures.value ∙ ap (λ rs. set_each c.self.inside.writers rs None)
-    (sym c.sets.ensures)))
+    (c.set.ensures.value ∙ ap (λ (b : Inside). set_each b.writers (option_to_list c.sets.result) None) p.0
+    ∙ ap (λ rs. set_each c.self.inside.writers rs None) (sym c.sets.ensures)))
     (released_right c.self.inside.units c.self.inside.channels c.self.inside.producers c.self.inside.writers
-    c.self.inside.last c.args.unit c.unit_number-index.result c.in-Some.issued c.self.invariant
+    c.self.inside.last c.args.unit c.unit_number-index.result x c.self.invariant
     c.unit_number-index.ensures.value
     (slot_any c.self.inside.units c.unit_number-index.result c.index-self-index.result
     (omega (arith, c.unit_number-index.ensures.range, c.self.invariant.all_units)) ∙ c.in-Some.is)
-    (subst (Each IsRegister) (sym c.sets.ensures) c.set.ensures.registers)
-    c.put_left.ensures.channel
-    c.forget_in_taken.new.producers
+    (subst (Each IsRegister) (sym c.sets.ensures) c.set.ensures.registers) p.1 c.forget_in_taken.new.producers
     (subst (AreForgotten (OfUnit c.args.unit) (c.self.inside.units ++ c.self.inside.channels)
-    (set c.self.inside.units c.unit_number-index.result None)) (sym c.forget_in_taken.ensures)
+    (set c.self.inside.units c.unit_number-index.result None)) (sym (c.forget_in_taken.ensures
+    ∙ ap (λ (b : Inside). forget_in_taken (OfUnit c.args.unit) b.units b.producers) p.0))
     (released_others c.self.inside.units c.self.inside.channels c.self.inside.producers c.self.inside.writers
-    c.self.inside.last c.args.unit c.unit_number-index.result c.in-Some.issued c.self.invariant
+    c.self.inside.last c.args.unit c.unit_number-index.result x c.self.invariant
     (slot_any c.self.inside.units c.unit_number-index.result c.index-self-index.result
     (omega (arith, c.unit_number-index.ensures.range, c.self.invariant.all_units)) ∙ c.in-Some.is)))))
 
 pub invariant_of-self-else-issued-self : goal.invariant_of-self-else-issued-self
+unfolding with_channels in_occupancy
 invariant_of-self-else-issued-self c =
-    subst (λ cs. IsRight (set c.self.inside.units c.unit_number-index.result None) cs c.self.inside.producers
-    c.set.new.self c.self.inside.last) (sym c.put_left.ensures.value)
+    let x = c.in-Some.issued in
+    let now = with_channels c.self.inside (set c.self.inside.units c.unit_number-index.result None) in
+    let p : (c.match-channel.self-inside ≡ now (channels_with c.self.inside.channels x (channel_of (shape_of
+    x.reservation.instr)))) × IfSome (channel_of (shape_of x.reservation.instr)) (λ n. n < 8) =
+    elim c.match-channel.branch [
+      | in-Some-channel w ↦ (
+        w.self-inside-is ∙ ap now (load_in c.self.inside.channels x w.in-Some-channel.n w.from.result _
+            (w.from.ensures ∙ w.get.ensures.value) w.in-Some-channel.ensures),
+        subst (λ o. IfSome o (λ n. n < 8)) w.in-Some-channel.ensures (subst (λ n. n < 8) w.get.ensures.value
+            w.get.ensures.range),
+      )
+      | in_default-channel w ↦ (
+        w.self-inside-is ∙ ap now (no_load_in c.self.inside.channels x _ w.in_default-channel.ensures),
+        subst (λ o. IfSome o (λ n. n < 8)) w.in_default-channel.ensures tt,
+      )
+    ] in
+    subst (λ (b : Inside). IsRight b.units b.channels b.producers c.set.new.self b.last) (sym p.0)
     (subst (λ ws. IsRight (set c.self.inside.units c.unit_number-index.result None)
-    (channels_with c.self.inside.channels c.in-Some.issued (channel_of (shape_of c.in-Some.issued.reservation.instr)))
+    (channels_with c.self.inside.channels x (channel_of (shape_of x.reservation.instr)))
     c.self.inside.producers ws c.self.inside.last) (sym
-    (c.set.ensures.value ∙ ap (λ rs. set_each c.self.inside.writers rs None)
-    (sym c.sets.ensures)))
+    (c.set.ensures.value ∙ ap (λ (b : Inside). set_each b.writers (option_to_list c.sets.result) None) p.0
+    ∙ ap (λ rs. set_each c.self.inside.writers rs None) (sym c.sets.ensures)))
     (released_right c.self.inside.units c.self.inside.channels c.self.inside.producers c.self.inside.writers
-    c.self.inside.last c.args.unit c.unit_number-index.result c.in-Some.issued c.self.invariant
+    c.self.inside.last c.args.unit c.unit_number-index.result x c.self.invariant
     c.unit_number-index.ensures.value
     (slot_any c.self.inside.units c.unit_number-index.result c.index-self-index.result
     (omega (arith, c.unit_number-index.ensures.range, c.self.invariant.all_units)) ∙ c.in-Some.is)
-    (subst (Each IsRegister) (sym c.sets.ensures) c.set.ensures.registers)
-    c.put_left.ensures.channel
-    c.self.inside.producers
+    (subst (Each IsRegister) (sym c.sets.ensures) c.set.ensures.registers) p.1 c.self.inside.producers
     (released_last c.self.inside.units c.self.inside.channels c.self.inside.producers c.self.inside.writers
-    c.self.inside.last c.args.unit c.unit_number-index.result c.in-Some.issued c.self.invariant
+    c.self.inside.last c.args.unit c.unit_number-index.result x c.self.invariant
     c.unit_number-index.ensures.value
     (slot_any c.self.inside.units c.unit_number-index.result c.index-self-index.result
-    (omega (arith, c.unit_number-index.ensures.range, c.self.invariant.all_units)) ∙ c.in-Some.is) (search rules))))
+    (omega (arith, c.unit_number-index.ensures.range, c.self.invariant.all_units)) ∙ c.in-Some.is)
+    (c.if-issued-self.false ∙ ap (λ (b : Inside). b.last) p.0))))
 
 pub returns-then-issued-self : goal.returns-then-issued-self
+unfolding with_channels in_occupancy
 returns-then-issued-self c =
-    ap (λ cs. standing_of (set c.self.inside.units c.unit_number-index.result None) cs c.self.inside.last)
-    c.put_left.ensures.value
+    let x = c.in-Some.issued in
+    let now = with_channels c.self.inside (set c.self.inside.units c.unit_number-index.result None) in
+    let p : (c.match-channel.self-inside ≡ now (channels_with c.self.inside.channels x (channel_of (shape_of
+    x.reservation.instr)))) × IfSome (channel_of (shape_of x.reservation.instr)) (λ n. n < 8) =
+    elim c.match-channel.branch [
+      | in-Some-channel w ↦ (
+        w.self-inside-is ∙ ap now (load_in c.self.inside.channels x w.in-Some-channel.n w.from.result _
+            (w.from.ensures ∙ w.get.ensures.value) w.in-Some-channel.ensures),
+        subst (λ o. IfSome o (λ n. n < 8)) w.in-Some-channel.ensures (subst (λ n. n < 8) w.get.ensures.value
+            w.get.ensures.range),
+      )
+      | in_default-channel w ↦ (
+        w.self-inside-is ∙ ap now (no_load_in c.self.inside.channels x _ w.in_default-channel.ensures),
+        subst (λ o. IfSome o (λ n. n < 8)) w.in_default-channel.ensures tt,
+      )
+    ] in
+    ap (λ (b : Inside). standing_of b.units b.channels b.last) p.0
     ∙ released_view c.self.inside.units c.self.inside.channels c.self.inside.producers c.self.inside.writers
-    c.self.inside.last c.args.unit c.unit_number-index.result c.in-Some.issued c.self.invariant
+    c.self.inside.last c.args.unit c.unit_number-index.result x c.self.invariant
     c.unit_number-index.ensures.value
     (slot_any c.self.inside.units c.unit_number-index.result c.index-self-index.result
-    (omega (arith, c.unit_number-index.ensures.range, c.self.invariant.all_units))
-    ∙ c.in-Some.is) c.put_left.ensures.channel
+    (omega (arith, c.unit_number-index.ensures.range, c.self.invariant.all_units)) ∙ c.in-Some.is) p.1
     ∙ ap (λ (s : Standing). with_issued s (replaced (seek (held_in c.args.unit) s.issued) s.issued left)) c.self.view_is
 
 pub returns-else-issued-self : goal.returns-else-issued-self
+unfolding with_channels in_occupancy
 returns-else-issued-self c =
-    ap (λ cs. standing_of (set c.self.inside.units c.unit_number-index.result None) cs c.self.inside.last)
-    c.put_left.ensures.value
+    let x = c.in-Some.issued in
+    let now = with_channels c.self.inside (set c.self.inside.units c.unit_number-index.result None) in
+    let p : (c.match-channel.self-inside ≡ now (channels_with c.self.inside.channels x (channel_of (shape_of
+    x.reservation.instr)))) × IfSome (channel_of (shape_of x.reservation.instr)) (λ n. n < 8) =
+    elim c.match-channel.branch [
+      | in-Some-channel w ↦ (
+        w.self-inside-is ∙ ap now (load_in c.self.inside.channels x w.in-Some-channel.n w.from.result _
+            (w.from.ensures ∙ w.get.ensures.value) w.in-Some-channel.ensures),
+        subst (λ o. IfSome o (λ n. n < 8)) w.in-Some-channel.ensures (subst (λ n. n < 8) w.get.ensures.value
+            w.get.ensures.range),
+      )
+      | in_default-channel w ↦ (
+        w.self-inside-is ∙ ap now (no_load_in c.self.inside.channels x _ w.in_default-channel.ensures),
+        subst (λ o. IfSome o (λ n. n < 8)) w.in_default-channel.ensures tt,
+      )
+    ] in
+    ap (λ (b : Inside). standing_of b.units b.channels b.last) p.0
     ∙ released_view c.self.inside.units c.self.inside.channels c.self.inside.producers c.self.inside.writers
-    c.self.inside.last c.args.unit c.unit_number-index.result c.in-Some.issued c.self.invariant
+    c.self.inside.last c.args.unit c.unit_number-index.result x c.self.invariant
     c.unit_number-index.ensures.value
     (slot_any c.self.inside.units c.unit_number-index.result c.index-self-index.result
-    (omega (arith, c.unit_number-index.ensures.range, c.self.invariant.all_units))
-    ∙ c.in-Some.is) c.put_left.ensures.channel
+    (omega (arith, c.unit_number-index.ensures.range, c.self.invariant.all_units)) ∙ c.in-Some.is) p.1
     ∙ ap (λ (s : Standing). with_issued s (replaced (seek (held_in c.args.unit) s.issued) s.issued left)) c.self.view_is
