@@ -1,9 +1,8 @@
 use Rattle.std.proofs.Common.{◌≡◌, ◌∙◌, inl, ap, refl, rules}
 use Rattle.std.proofs.lemmas.Result.{err_from_is_err_and}
 use Rattle.std.specs.Prelude.{Ok}
-use Rattle.progress_word.specs.CallerKnowledge.{note_in}
 use Rattle.machine_lock.specs.Held.{Kept}
-use Rattle.machine_lock.proofs.Laws.{issue_logged, issue_made, issue_told, issue_why}
+use Rattle.machine_lock.proofs.Laws.{issue_logged, issue_made, issue_told, issue_why, note_in}
 use Rattle.machine_lock.proofs.locked_machine.LockedMachine.issue.Goals as goal
 use Rattle.machine_lock.proofs.locked_machine.LockedMachine.issue.Goals.{in-Issued, in-Word}
 

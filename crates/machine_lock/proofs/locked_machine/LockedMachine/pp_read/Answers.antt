@@ -1,8 +1,7 @@
 use Rattle.std.proofs.Common.{◌≡◌, ◌∙◌, refl, rules}
 use Rattle.std.specs.Prelude.{Ok}
 use Rattle.program_order.specs.declared.event.Event.TheVariants.{PpRead}
-use Rattle.progress_word.specs.CallerKnowledge.{word_in}
-use Rattle.machine_lock.proofs.Laws.{access_logged, access_made, word_of}
+use Rattle.machine_lock.proofs.Laws.{access_logged, access_made, word_in, word_of}
 use Rattle.machine_lock.proofs.locked_machine.LockedMachine.pp_read.Goals as goal
 use Rattle.machine_lock.proofs.locked_machine.LockedMachine.pp_read.Goals.{in-Issued, in-Word}
 
