@@ -3,7 +3,7 @@ ghost use Rattle.embedding.specs.Keeping.{Boots, BootsWithin, HasBooted};
 ghost use Rattle.deck.specs.Deck.{deck};
 ghost use Rattle.std.specs.Prelude.{◌≡◌, None};
 
-use crate::commands::{fault_in_memory, refuse_budget};
+use crate::commands::{hand_over_refusal, refuse_budget};
 use crate::input_bytes::InputBytes;
 use crate::machine_handle::MachineHandle;
 use crate::outcome::{Outcome, hand_over};
@@ -63,7 +63,7 @@ fn boot_within(
             machine.put(booted);
             hand_over(Ok(Status::Stopped), &[], &mut [], line)
         }
-        Err(refusal) => hand_over(Err(fault_in_memory(refusal)), &[], &mut [], line),
+        Err(refusal) => hand_over_refusal(refusal, &[], &mut [], line),
     }
 }
 

@@ -1,4 +1,4 @@
-ghost use Rattle.std.specs.Prelude.{◌≡◌, [], Ok};
+ghost use Rattle.std.specs.Prelude.{◌≡◌, [], Ok, Err};
 ghost use Rattle.embedding.specs.Embedding.{IsListed, Ran, HasRun, Replayed, IsReplayed, Performed, IsSession};
 ghost use Rattle.embedding.specs.Embedding.{HandsOver, fault_in_memory};
 ghost use Rattle.operator_terms.specs.declared.status.Status.TheVariants.{Usage};
@@ -11,14 +11,21 @@ use operator_terms::{Budget, ProgramFault, Status, end_status};
 use sequential_job::run_to;
 use std::alloc::Global;
 
-/// Why a command ends where this is refused. It writes to memory, so a write fails where memory runs out.
-pub fn fault_in_memory(refusal: Refusal) -> ProgramFault
-    ensures { result ≡ fault_in_memory refusal }
+/// Hands over what a command has printed until this was refused. It writes to memory, so a write fails where memory
+/// runs out.
+pub fn hand_over_refusal(
+    refusal: Refusal,
+    text: &[u8],
+    output: &mut [u8],
+    line: &mut [u8],
+) -> Outcome
+    ensures { HandsOver result (Err (fault_in_memory refusal)) text.now output.old output.new }
 {
-    match refusal {
+    let fault = match refusal {
         Refusal::Write => ProgramFault::Refused(Refusal::OutOfMemory),
         other => ProgramFault::from(other),
-    }
+    };
+    hand_over(Err(fault), text, output, line)
 }
 
 /// Hands over that the command line is refused, because no budget has so many instructions.
@@ -38,11 +45,10 @@ pub fn list_bytes(alloc: Global, input: &[u8], output: &mut [u8], line: &mut [u8
     let result = list_to(alloc, &mut bytes, &mut writer, &mut LineBuffer::new());
     // No effect at run time. The proof reads what the text holds from this use.
     let _ = &*writer.into_inner();
-    let ended = match result {
-        Ok(()) => Ok(Status::Stopped),
-        Err(refusal) => Err(fault_in_memory(refusal)),
-    };
-    hand_over(ended, text.as_slice(), output, line)
+    match result {
+        Ok(()) => hand_over(Ok(Status::Stopped), text.as_slice(), output, line),
+        Err(refusal) => hand_over_refusal(refusal, text.as_slice(), output, line),
+    }
 }
 
 /// Runs the deck that these bytes are, one instruction at a time.
@@ -66,11 +72,10 @@ fn run_within(
         budget.get(),
     );
     let _ = &*writer.into_inner();
-    let ended = match result {
-        Ok(state) => Ok(end_status(&state)),
-        Err(refusal) => Err(fault_in_memory(refusal)),
-    };
-    hand_over(ended, text.as_slice(), output, line)
+    match result {
+        Ok(state) => hand_over(Ok(end_status(&state)), text.as_slice(), output, line),
+        Err(refusal) => hand_over_refusal(refusal, text.as_slice(), output, line),
+    }
 }
 
 /// The same with a budget of so many instructions, if that may be one.
@@ -104,12 +109,11 @@ fn replay_text(
     let mut writer = CheckedWriter::new(&mut text);
     let result = replay_to(alloc, &mut bytes, &mut writer, &mut LineBuffer::new(), log);
     let _ = &*writer.into_inner();
-    let ended = match result {
-        Ok(Some(state)) => Ok(end_status(&state)),
-        Ok(None) => Err(ProgramFault::BadLog),
-        Err(refusal) => Err(fault_in_memory(refusal)),
-    };
-    hand_over(ended, text.as_slice(), output, line)
+    match result {
+        Ok(Some(state)) => hand_over(Ok(end_status(&state)), text.as_slice(), output, line),
+        Ok(None) => hand_over(Err(ProgramFault::BadLog), text.as_slice(), output, line),
+        Err(refusal) => hand_over_refusal(refusal, text.as_slice(), output, line),
+    }
 }
 
 /// Replays the log that these bytes are, if they are a text.
@@ -149,11 +153,10 @@ fn session(
         budget.get(),
     );
     let _ = &*writer.into_inner();
-    let ended = match result {
-        Ok(()) => Ok(Status::Stopped),
-        Err(refusal) => Err(fault_in_memory(refusal)),
-    };
-    hand_over(ended, text.as_slice(), output, line)
+    match result {
+        Ok(()) => hand_over(Ok(Status::Stopped), text.as_slice(), output, line),
+        Err(refusal) => hand_over_refusal(refusal, text.as_slice(), output, line),
+    }
 }
 
 /// The same with a budget of so many instructions, if that may be one.

@@ -28,12 +28,26 @@ use Rattle.program_order.proofs.keeping.Telling.{exchange_asked}
 use Rattle.program_order.proofs.theorem.Headline.{Books, books_after}
 use Rattle.program_order.proofs.theorem.Theorem.{made_allowed}
 use Rattle.atomic_table.specs.Table.{Me}
-use Rattle.progress_word.specs.CallerKnowledge.{Known, known, StartsWith, IsMade, Learnt, note_in, word_in, IsNoteOf}
+use Rattle.progress_word.specs.CallerKnowledge.{Known, known, StartsWith, IsMade, Learnt, IsNoteOf}
 use Rattle.progress_word.specs.CallerKnowledge.{IsWhyOf}
 use Rattle.progress_word.specs.CallerKnowledge.{Booted, booted_by, booted_with, HasReplay, IsWordOf}
 use Rattle.machine_lock.specs.Held.{IsCurrent, Kept, with_processor}
 use Rattle.machine_lock.specs.inner.LockInvariant.{IsLogged, last_step}
 use Rattle.progress_word.specs.inner.Rules.{History, Knowing, history, past, keeper, caller, Continues}
+
+-- ---- what an answer has ----
+
+-- the reservation that an issue answered, if it did
+abbrev pub note_in : Done → Option Note
+note_in (DoneIssue note) = note
+note_in (Word _) = None
+note_in DoneMade = None
+
+-- the word that a peripheral processor read, +0 where the answer has none
+abbrev pub word_in : Done → ℕ
+word_in (DoneIssue _) = 0
+word_in (Word word) = word
+word_in DoneMade = 0
 
 -- ---- what an event leaves ----
 

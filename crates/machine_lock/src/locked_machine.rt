@@ -18,7 +18,6 @@ ghost use Rattle.program_order.specs.Run.{IsAnswer, settled};
 ghost use Rattle.machine.specs.Tokens.{can_claim, finished_in, one_more, read_of, reading_in, refusal_to, refused};
 ghost use Rattle.machine.specs.Tokens.{rest_after, slot, unread_in};
 ghost use Rattle.progress_word.specs.CallerKnowledge.{IsMade, Learnt, HasReplay, IsNoteOf, IsWhyOf, IsWordOf};
-ghost use Rattle.progress_word.specs.CallerKnowledge.{note_in, word_in};
 ghost use Rattle.machine_lock.specs.Held.{IsAskedNext, IsCurrent, made_or_refused, answered, with_processor};
 ghost use Rattle.program_order.specs.Invariant.{IsReplay, IsWithinBudget};
 ghost use Rattle.machine_lock.specs.inner.LockInvariant.{IsLogged, last_step};
@@ -106,28 +105,6 @@ fn record_or_compare<K: Naming>(
     }
 }
 
-/// The reservation in the answer of an issue, if there is one.
-fn note_in(done: &Done) -> Option<Note>
-    ensures { result ≡ note_in done.now }
-{
-    match done {
-        Done::Issued(note) => *note,
-        Done::Word(_) => None,
-        Done::Made => None,
-    }
-}
-
-/// The word in the answer of a peripheral read, +0 in any other answer.
-fn word_in(done: &Done) -> Word60
-    ensures { result ≡ word_in done.now }
-{
-    match done {
-        Done::Word(word) => *word,
-        Done::Issued(_) => Word60::default(),
-        Done::Made => Word60::default(),
-    }
-}
-
 impl<K: Naming> LockedMachine<K> {
     /// A machine whose users weren't told to end, with the pass that knows its log and the word that counts it.
     pub(crate) fn new(machine: Machine, pass: Pass, word: Arc<Word<K>, Global>) -> LockedMachine<K>
@@ -167,7 +144,10 @@ impl<K: Naming> LockedMachine<K> {
     {
         let answer = self.machine.issue();
         record_or_compare(&self.word, &mut self.pass, seen, &self.machine, &answer);
-        Ok(note_in(&answer?))
+        match answer? {
+            Done::Issued(note) => Ok(note),
+            Done::Word(_) | Done::Made => Ok(None),
+        }
     }
 
     /// Asks for an exchange with the package at an absolute address, as `Shared::ask`.
@@ -261,7 +241,10 @@ impl<K: Naming> LockedMachine<K> {
     {
         let answer = self.machine.pp_read(at);
         record_or_compare(&self.word, &mut self.pass, seen, &self.machine, &answer);
-        Ok(word_in(&answer?))
+        match answer? {
+            Done::Word(word) => Ok(word),
+            Done::Issued(_) | Done::Made => Ok(Word60::default()),
+        }
     }
 
     /// A peripheral processor writes a word to an absolute address, as `Shared::pp_write`.

@@ -347,10 +347,7 @@ impl<K: Naming> Shared<K> {
         let stored = machine.store(token);
         machine.leave_to_memory();
         self.release(machine);
-        match stored {
-            Ok((seat, _)) => Ok(seat),
-            Err(back) => Err(back),
-        }
+        stored.map(|(seat, _)| seat)
     }
 
     /// Memory takes the reference in a place of the hopper, 0 to 3: the event `Accept`.

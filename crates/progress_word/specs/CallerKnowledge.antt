@@ -1,5 +1,5 @@
 -- What a caller has seen of a machine under its lock, and which steps of the log are the caller's. Source: ours.
-use Rattle.std.specs.Prelude.{◌≡◌, ◌≢◌, ◌==◌, ◌||◌, ℕ, suc, Bool, true, false, List, [], ◌∷◌, ◌++◌, Option, Some, None}
+use Rattle.std.specs.Prelude.{◌≡◌, ◌≢◌, ◌==◌, ◌||◌, ℕ, suc, Bool, true, false, List, [], ◌∷◌, ◌++◌, Option, Some}
 use Rattle.std.specs.Prelude.{length, slice_index_or, take}
 use Rattle.instructions.specs.declared.refusal.Refusal.{Refusal}
 use Rattle.instructions.specs.declared.refusal.Refusal.TheVariants.{Budget}
@@ -8,8 +8,6 @@ use Rattle.sequential.specs.declared.state.State.{State}
 use Rattle.sequential.specs.Replay.{LogStep, Issued, boot, replay}
 use Rattle.sequential.specs.UnitIssues.{taken}
 use Rattle.program_order.specs.Processor.{Processor}
-use Rattle.program_order.specs.declared.event.Done.{Done}
-use Rattle.program_order.specs.declared.event.Done.TheVariants.{Issued as DoneIssue, Word, Made}
 use Rattle.program_order.specs.declared.event.Note.{Note}
 use Rattle.program_order.specs.Telling.{IsNoted, IsWhy}
 
@@ -61,18 +59,6 @@ Learnt old new = StartsWith new.log old.log × (new ≡ known old.booted new.log
 -- the log explains a state: that to which its steps lead from boot, each of them made
 abbrev pub HasReplay : Known → Type 0
 HasReplay k = (s : State) × (replay (boot k.booted.memory) k.log ≡ Some s)
-
--- the reservation that an issue answered, if it did
-abbrev pub note_in : Done → Option Note
-note_in (DoneIssue note) = note
-note_in (Word _) = None
-note_in Made = None
-
--- the word that a peripheral processor read, +0 where the answer has none
-abbrev pub word_in : Done → ℕ
-word_in (DoneIssue _) = 0
-word_in (Word word) = word
-word_in Made = 0
 
 -- the last step is an issue, and this is its answer: a reservation exactly where the instruction to which the steps
 -- before lead goes to a unit, of a unit of its kind, and numbered along the log

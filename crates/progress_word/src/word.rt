@@ -78,15 +78,6 @@ impl<K: Naming> Word<K> {
         self.table.shared.join_seat::<TakesIn>(pass, given);
     }
 
-    /// What was taken in goes out again.
-    fn hand_back(&self, pass: &mut Pass) -> Pass
-        requires pass { (pass.old.table_id ≡ K.table) × (pass.old.me.1 ≡ []) }
-        ensures pass { (pass.new.table_id ≡ K.table) × (pass.new.me ≡ (kept_back pass.old.me.0, [])) }
-        ensures back { (result.table_id ≡ K.table) × (result.me ≡ (handed_back pass.old.me.0, [])) }
-    {
-        self.table.shared.split_seat::<HandsBack>(pass)
-    }
-
     // ---- what the machine and its callers do ----
 
     /// Adds a step that a caller made to what the machine's pass knows. The caller then knows it all, and the step is
@@ -104,7 +95,7 @@ impl<K: Naming> Word<K> {
         let _ = from;
         self.take_in(pass, me);
         self.table.shared.fetch_add::<Adds<J>>(pass, 0, 1);
-        *me = self.hand_back(pass);
+        *me = self.table.shared.split_seat::<HandsBack>(pass);
     }
 
     /// The caller knows all that the machine's pass knows.
@@ -117,7 +108,7 @@ impl<K: Naming> Word<K> {
     {
         self.take_in(pass, me);
         self.look(pass);
-        *me = self.hand_back(pass);
+        *me = self.table.shared.split_seat::<HandsBack>(pass);
     }
 
     /// Two callers tell each other what they know: both then know all steps so far. No step is the own of both.
@@ -132,7 +123,7 @@ impl<K: Naming> Word<K> {
     {
         self.take_in(one, other);
         self.look(one);
-        *other = self.hand_back(one);
+        *other = self.table.shared.split_seat::<HandsBack>(one);
     }
 
     // ---- the start ----

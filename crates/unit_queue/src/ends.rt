@@ -62,16 +62,6 @@ impl Model for SendPass {
         × (s.closed ≡ is_closed s.pass.me.0.client.sent) × IsOrderly s.pass.me.0.client.sent };
 }
 
-impl SendPass {
-    /// Whether `Closed` was sent.
-    fn is_closed(&self) -> bool
-        ensures closed { result ≡ is_closed self.now.sent }
-        ensures order { IsOrderly self.now.sent }
-    {
-        self.closed
-    }
-}
-
 /// The right to take from one lane, of which there is one. A contract sees which lane, and what was taken from it from
 /// the beginning.
 #[derive(Drop)]
@@ -158,7 +148,7 @@ impl Lane {
         ensures stays { OnErr result (pass.new ≡ pass.old) }
         ensures order { IsOrderly pass.new.sent }
     {
-        if pass.is_closed() {
+        if pass.closed {
             return Err(note);
         }
         if self.push(rt, pass, Item::Work(note)) {
@@ -180,7 +170,7 @@ impl Lane {
         ensures refused { result ≡ false → (pass.new ≡ pass.old) × IsFull pass.old }
         ensures order { IsOrderly pass.new.sent }
     {
-        pass.is_closed() || self.push(rt, pass, Item::Closed)
+        pass.closed || self.push(rt, pass, Item::Closed)
     }
 
     /// Takes the oldest item that waits. `None` only if none waited at a moment since the last one was taken, and always

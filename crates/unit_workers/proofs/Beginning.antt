@@ -24,7 +24,7 @@ use Rattle.program_order.specs.Run.{IsAnswer, answer_of, settled}
 use Rattle.program_order.specs.SnapshotView.{Snapped}
 use Rattle.program_order.proofs.keeping.Naming.{answered_err}
 use Rattle.progress_word.specs.CallerKnowledge.{StartsWith, Booted, booted_by, booted_with, known}
-use Rattle.unit_workers.specs.Beginning.{IsAtRest, IsAskedFirst, IsExchangedFirst, Begins}
+use Rattle.unit_workers.specs.Beginning.{IsAtRest, Begins}
 use Rattle.unit_workers.specs.Ending.{is_at_end}
 use Rattle.unit_workers.specs.Onward.{EndsFrom}
 use Rattle.unit_workers.proofs.Onward.{longer}
@@ -46,7 +46,7 @@ third_fails false false true h = refl
 third_fails false false false h = cc
 
 -- a request is refused as busy only where another one waits
-pub busy_waits : (w : Processor) (n : ℕ) (a : Result Done Refusal) → IsAnswer w (Ask n) a → a ≡ Err ExchangeBusy
+busy_waits : (w : Processor) (n : ℕ) (a : Result Done Refusal) → IsAnswer w (Ask n) a → a ≡ Err ExchangeBusy
     → is_some w.request ≡ true
 unfolding answer_of allowed tests_of ask_tests refusal_of
 busy_waits w n a (inl h) e =
@@ -55,7 +55,7 @@ busy_waits w n a (inl h) e =
 busy_waits w n a (inr r) e = let o = sym e ∙ r.want in absurd (cc)
 
 -- an exchange is refused as in mid word only where the machine isn't halted
-pub mid_runs : (w : Processor) (a : Result Done Refusal) → a ≡ answer_of w Exchange → a ≡ Err MidWord
+mid_runs : (w : Processor) (a : Result Done Refusal) → a ≡ answer_of w Exchange → a ≡ Err MidWord
     → is_none w.state.halt ≡ true
 unfolding answer_of allowed tests_of exchange_tests refusal_of
 mid_runs w a h e =
@@ -75,23 +75,30 @@ waits_or_not (Some x) h k = cc
 same_log : (w v : Processor) → v.log ≡ w.log → StartsWith v.log w.log
 same_log w v e = ([], e ∙ sym (append-nil w.log))
 
-pub begins_later : (n : ℕ) (w v : Processor) → IsAskedFirst false n w v → Begins false n w v
-begins_later n w v h = record {
-  booted = ap booted_by h.0;
-  log = same_log w v (ap (λ (x : Processor). x.log) h.0);
-  first = λ r. absurd (waits_or_not w.request r.request h.1);
-  whole = λ r l. absurd (waits_or_not w.request r.request h.1);
-}
-
-pub begins_in_mid_word : (n : ℕ) (w u v : Processor) → IsAskedFirst true n w u → IsExchangedFirst false u v
-    → Begins false n w v
-unfolding after
-begins_in_mid_word n w u v a e =
-    let s : v ≡ after w (Ask n) = e.0 ∙ a in
-    let runs : is_none w.state.halt ≡ true = sym (ap (λ (x : Processor). is_none x.state.halt) a) ∙ e.1 in
+pub begins_later : (n : ℕ) (w u : Processor) (a : Result Done Refusal) → IsAnswer w (Ask n) a → u ≡ settled w (Ask n) a
+    → a ≡ Err ExchangeBusy → Begins false n w u
+unfolding settled
+begins_later n w u a h s e =
+    let same : u ≡ w = s ∙ ap (settled w (Ask n)) e in
+    let waits : is_some w.request ≡ true = busy_waits w n a h e in
     record {
-      booted = ap booted_by s;
-      log = same_log w v (ap (λ (x : Processor). x.log) s);
+      booted = ap booted_by same;
+      log = same_log w u (ap (λ (x : Processor). x.log) same);
+      first = λ r. absurd (waits_or_not w.request r.request waits);
+      whole = λ r l. absurd (waits_or_not w.request r.request waits);
+    }
+
+pub begins_in_mid_word : (n : ℕ) (w u v : Processor) (d : Done) (a b : Result Done Refusal) → u ≡ settled w (Ask n) a
+    → a ≡ Ok d → b ≡ answer_of u Exchange → v ≡ settled u Exchange b → b ≡ Err MidWord → Begins false n w v
+unfolding settled after
+begins_in_mid_word n w u v d a b s e h t f =
+    let asked : u ≡ after w (Ask n) = s ∙ ap (settled w (Ask n)) e in
+    let same : v ≡ after w (Ask n) = t ∙ ap (settled u Exchange) f ∙ asked in
+    let runs : is_none w.state.halt ≡ true =
+    sym (ap (λ (x : Processor). is_none x.state.halt) asked) ∙ mid_runs u b h f in
+    record {
+      booted = ap booted_by same;
+      log = same_log w v (ap (λ (x : Processor). x.log) same);
       first = λ r. absurd (runs_or_rests w.state.halt r.halted runs);
       whole = λ r l. absurd (runs_or_rests w.state.halt r.halted runs);
     }
@@ -102,38 +109,43 @@ pub new_log : (entries : List Entry) (log : List LogStep) (is_new : Bool) → en
 unfolding entries_of
 new_log entries log is_new e n l = n ∙ ap (λ x. nat_eq (length x) 0) (e ∙ ap entries_of l)
 
-pub begins_at_once : (is_new : Bool) (n : ℕ) (w u v : Processor) → (w.log ≡ [] → is_new ≡ true)
-    → IsAskedFirst true n w u → IsExchangedFirst true u v → Begins is_new n w v
-unfolding after after_exchange
-begins_at_once is_new n w u v new a e =
-    let s : v ≡ after (after w (Ask n)) Exchange = e ∙ ap (λ (x : Processor). after x Exchange) a in
+pub begins_at_once : (is_new : Bool) (n : ℕ) (w u v : Processor) (d f : Done) (a b : Result Done Refusal)
+    → (w.log ≡ [] → is_new ≡ true) → u ≡ settled w (Ask n) a → a ≡ Ok d → v ≡ settled u Exchange b → b ≡ Ok f
+    → Begins is_new n w v
+unfolding settled after after_exchange
+begins_at_once is_new n w u v d f a b new s e t g =
+    let asked : u ≡ after w (Ask n) = s ∙ ap (settled w (Ask n)) e in
+    let made : v ≡ after (after w (Ask n)) Exchange =
+    t ∙ ap (settled u Exchange) g ∙ ap (λ (x : Processor). after x Exchange) asked in
     record {
-      booted = ap booted_by s;
-      log = (Exchanged n ∷ [], ap (λ (x : Processor). x.log) s);
-      first = λ r. ap (λ (x : Processor). x.log) s;
+      booted = ap booted_by made;
+      log = (Exchanged n ∷ [], ap (λ (x : Processor). x.log) made);
+      first = λ r. ap (λ (x : Processor). x.log) made;
       whole = λ r l. new l;
     }
 
-pub begins_on : (b : Bool) (n : ℕ) (w u v : Processor) → Begins b n w u → booted_by v ≡ booted_by u → v.log ≡ u.log
-    → Begins b n w v
-begins_on b n w u v h m l = record {
-  booted = m ∙ h.booted;
-  log = (h.log.0, l ∙ h.log.1);
-  first = λ r. l ∙ h.first r;
-  whole = h.whole;
-}
-
 -- a request changes neither the log nor what the machine was booted with
-pub asked_log : (w v : Processor) (n : ℕ) (a : Result Done Refusal) → v ≡ settled w (Ask n) a → v.log ≡ w.log
+asked_log : (w v : Processor) (n : ℕ) (a : Result Done Refusal) → v ≡ settled w (Ask n) a → v.log ≡ w.log
 unfolding settled after
 asked_log w v n (Ok d) h = ap (λ (x : Processor). x.log) h
 asked_log w v n (Err k) h = ap (λ (x : Processor). x.log) h
 
-pub asked_booted : (w v : Processor) (n : ℕ) (a : Result Done Refusal) → v ≡ settled w (Ask n) a
+asked_booted : (w v : Processor) (n : ℕ) (a : Result Done Refusal) → v ≡ settled w (Ask n) a
     → booted_by v ≡ booted_by w
 unfolding settled after
 asked_booted w v n (Ok d) h = ap booted_by h
 asked_booted w v n (Err k) h = ap booted_by h
+
+pub begins_on : (b : Bool) (n m : ℕ) (w u v : Processor) (a : Result Done Refusal) → Begins b n w u
+    → v ≡ settled u (Ask m) a → Begins b n w v
+begins_on b n m w u v a h s =
+    let log : v.log ≡ u.log = asked_log u v m a s in
+    record {
+      booted = asked_booted u v m a s ∙ h.booted;
+      log = (h.log.0, log ∙ h.log.1);
+      first = λ r. log ∙ h.first r;
+      whole = h.whole;
+    }
 
 -- ---- what was drained before ----
 

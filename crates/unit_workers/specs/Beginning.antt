@@ -1,8 +1,6 @@
 -- How a run begins: the exchange for its first package, before its threads have the machine. Source: ours.
-use Rattle.std.specs.Prelude.{◌≡◌, ℕ, Bool, true, false, [], ◌∷◌, ◌++◌, None, is_some, is_none}
+use Rattle.std.specs.Prelude.{◌≡◌, ℕ, Bool, true, [], ◌∷◌, ◌++◌, None, is_some}
 use Rattle.sequential.specs.Replay.{Exchanged}
-use Rattle.program_order.specs.declared.event.Event.TheVariants.{Ask, Exchange}
-use Rattle.program_order.specs.Events.{after}
 use Rattle.program_order.specs.Processor.{Processor}
 use Rattle.progress_word.specs.CallerKnowledge.{StartsWith, booted_by}
 
@@ -11,16 +9,6 @@ pub record IsAtRest (w : Processor) : Type 0 where
   pub pending : w.pending ≡ []
   pub request : w.request ≡ None
   pub halted : is_some w.state.halt ≡ true
-
--- the request for the package was made, or another one waits
-abbrev pub IsAskedFirst : Bool → ℕ → Processor → Processor → Type 0
-IsAskedFirst true n w v = v ≡ after w (Ask n)
-IsAskedFirst false n w v = (v ≡ w) × (is_some w.request ≡ true)
-
--- the exchange was made, or the machine runs in the middle of a word
-abbrev pub IsExchangedFirst : Bool → Processor → Processor → Type 0
-IsExchangedFirst true w v = v ≡ after w Exchange
-IsExchangedFirst false w v = (v ≡ w) × (is_none w.state.halt ≡ true)
 
 -- the machine has gone on from there; if it was at rest, just by the exchange for the package; and whether its log
 -- begins with that exchange, which it does where the machine was just booted

@@ -46,9 +46,8 @@ fn ask_in_turn<K: Naming, R: Wait>(
     for _ in rt.forever() {
         let count = exchanges.count();
         match shared.ask(rt, seen, at) {
-            Ok(()) => return Ok(true),
             Err(Refusal::ExchangeBusy) => {}
-            Err(refusal) => return Err(refusal),
+            asked => return asked.map(|()| true),
         }
         if shared.ended(rt) {
             return Ok(false);
@@ -107,8 +106,5 @@ pub fn ask_all<K: Naming, R: Wait>(
     free.left.store(0, Ordering::SeqCst);
     shared.signals().issuing.raise();
     wait_for_end(rt, shared);
-    match asked {
-        Ok(()) => Ok(seen),
-        Err(refusal) => Err(refusal),
-    }
+    asked.and(Ok(seen))
 }

@@ -1,15 +1,14 @@
 //! What the issuing thread does: it makes the requests for exchanges that are due, issues, sends each reservation on
 //! the lane of its unit, and makes the exchanges.
 ghost use Rattle.std.specs.Prelude.{◌≡◌, IfOk};
-ghost use Rattle.progress_word.specs.CallerKnowledge.{booted_by};
-ghost use Rattle.unit_workers.specs.Beginning.{Begins, IsAskedFirst, IsExchangedFirst};
+ghost use Rattle.unit_workers.specs.Beginning.{Begins};
 ghost use Rattle.unit_workers.specs.Ending.{is_end};
 ghost use Rattle.unit_workers.specs.Onward.{GoesOnFrom};
 
 use crate::asking::FreeRequests;
 use crate::worker_lanes::WorkerLanes;
 use arrayvec::ArrayVec;
-use exchange_requests::{Ask, Requests};
+use exchange_requests::Requests;
 use instruction_table::Refusal;
 use machine::{Machine, Note};
 use machine_lock::{LockedMachine, Naming, Seen, Shared};
@@ -83,19 +82,11 @@ fn ask_due<K: Naming>(
         return Ok(());
     };
     match machine.ask(seen, at) {
-        Ok(()) => {
-            let _ = pending.requests.take_due();
-            Ok(())
-        }
-        Err(Refusal::ExchangeBusy) => Ok(()),
-        Err(refusal) => Err(refusal),
+        Err(Refusal::ExchangeBusy) => return Ok(()),
+        asked => asked?,
     }
-}
-
-/// The absolute address of a request's package.
-fn package(request: Option<Ask>) -> Option<u32> {
-    let (at, _) = request?;
-    Some(at)
+    let _ = pending.requests.take_due();
+    Ok(())
 }
 
 /// Makes the exchange that waits, as soon as the machine is drained, and asks for the one that follows it, so that no
@@ -113,18 +104,15 @@ fn exchange<K: Naming, R: Wait>(
 ) -> Result<Next, Refusal>
     ensures onward { GoesOnFrom seen.old seen.new }
 {
-    let following = package(pending.requests.next_due());
+    let following = pending.requests.next_due().map(|(at, _)| at);
     match shared.exchange_and_ask(rt, seen, following) {
-        Ok(Ok(())) => {
-            pending.requests.exchanged();
-            let _ = pending.requests.take_due();
-            Ok(Next::GoesOn)
-        }
-        Ok(Err(refusal)) => Err(refusal),
-        Err(Refusal::NotDrained) => Ok(Next::Waits),
-        Err(Refusal::MidWord) => Ok(Next::Ends),
-        Err(refusal) => Err(refusal),
+        Err(Refusal::NotDrained) => return Ok(Next::Waits),
+        Err(Refusal::MidWord) => return Ok(Next::Ends),
+        made => made??,
     }
+    pending.requests.exchanged();
+    let _ = pending.requests.take_due();
+    Ok(Next::GoesOn)
 }
 
 /// Where no more is issued: makes the exchange that waits. The run ends where none waits or is still to be asked for,
@@ -231,56 +219,6 @@ fn step<K: Naming, R: Wait>(
     }
 }
 
-/// Asks for the exchange with the first package, and answers whether no other request waited.
-///
-/// # Errors
-/// What else was refused.
-#[tactic(auto, unfolding(program_order::specs::Run::settled), using(crate::proofs::Beginning::busy_waits))]
-fn ask_first(machine: &mut Machine, start: u32) -> Result<bool, Refusal>
-    ensures { IfOk result (λ asked. IsAskedFirst asked start machine.old machine.new) }
-{
-    match machine.ask(start) {
-        Ok(_) => Ok(true),
-        Err(Refusal::ExchangeBusy) => Ok(false),
-        Err(refusal) => Err(refusal),
-    }
-}
-
-/// Makes the exchange with the first package, and answers whether the machine wasn't in the middle of a word.
-///
-/// # Errors
-/// What else was refused.
-#[tactic(auto, unfolding(program_order::specs::Run::settled), using(crate::proofs::Beginning::mid_runs))]
-fn exchange_first(machine: &mut Machine) -> Result<bool, Refusal>
-    ensures { IfOk result (λ made. IsExchangedFirst made machine.old machine.new) }
-{
-    match machine.exchange() {
-        Ok(_) => Ok(true),
-        Err(Refusal::MidWord) => Ok(false),
-        Err(refusal) => Err(refusal),
-    }
-}
-
-/// Asks for the exchange that follows the first one, if one is due.
-///
-/// # Errors
-/// What was refused.
-fn ask_following(machine: &mut Machine, requests: &mut Requests) -> Result<(), Refusal>
-    ensures booted { booted_by machine.new ≡ booted_by machine.old }
-    ensures log { machine.new.log ≡ machine.old.log }
-{
-    let Some((at, _)) = requests.due() else {
-        return Ok(());
-    };
-    match machine.ask(at) {
-        Ok(_) => {
-            let _ = requests.take_due();
-            Ok(())
-        }
-        Err(refusal) => Err(refusal),
-    }
-}
-
 /// Asks for the first exchange, makes it, and asks for the exchange that follows it, before any thread has the machine.
 /// Answers whether the machine's log begins with it. If another request waits, or the machine is in the middle of a
 /// word, the first exchange is left to `conduct`.
@@ -291,22 +229,21 @@ pub fn begin(machine: &mut Machine, start: u32, requests: &mut Requests) -> Resu
     ensures { IfOk result (λ is_whole. Begins is_whole start machine.old machine.new) }
 {
     let is_new = machine.log().entries().is_empty();
-    match ask_first(machine, start) {
-        Ok(true) => {}
-        Ok(false) => return Ok(false),
-        Err(refusal) => return Err(refusal),
-    }
+    match machine.ask(start) {
+        Err(Refusal::ExchangeBusy) => return Ok(false),
+        asked => asked?,
+    };
     let _ = requests.take_due();
-    match exchange_first(machine) {
-        Ok(true) => {}
-        Ok(false) => return Ok(false),
-        Err(refusal) => return Err(refusal),
-    }
+    match machine.exchange() {
+        Err(Refusal::MidWord) => return Ok(false),
+        made => made?,
+    };
     requests.exchanged();
-    match ask_following(machine, requests) {
-        Ok(()) => Ok(is_new),
-        Err(refusal) => Err(refusal),
+    if let Some((at, _)) = requests.due() {
+        machine.ask(at)?;
+        let _ = requests.take_due();
     }
+    Ok(is_new)
 }
 
 /// Issues and makes exchanges up to the run's end. If nothing can be done it waits for the events of others.

@@ -1,27 +1,30 @@
-use Rattle.std.proofs.Common.{Bool, subst, rules}
-use Rattle.unit_workers.specs.Beginning.{IsAskedFirst, IsExchangedFirst}
-use Rattle.unit_workers.proofs.Beginning.{begins_at_once, begins_in_mid_word, begins_on, new_log}
+use Rattle.std.proofs.Common.{◌∙◌, sym, subst, rules}
+use Rattle.unit_workers.specs.Beginning.{Begins}
+use Rattle.unit_workers.proofs.Beginning.{begins_at_once, begins_in_mid_word, begins_later, begins_on, new_log}
 use Rattle.unit_workers.proofs.issuing.begin.Goals as goal
+use Rattle.unit_workers.proofs.issuing.begin.Goals.{in-Some+in_ok-ask, in_default-due}
 
-pub returns-in-Ok-false-exchange_first : goal.returns-in-Ok-false-exchange_first
-returns-in-Ok-false-exchange_first c =
-    let w = c.args.machine.now in
-    let u = c.ask_first.new.machine in
-    let v = c.exchange_first.new.machine in
-    begins_in_mid_word c.args.start w u v
-    (subst (λ (b : Bool). IsAskedFirst b c.args.start w u) c.in-Ok-true.field-0-test c.in-Ok-true.ensures)
-    (subst (λ (b : Bool). IsExchangedFirst b u v) c.in-Ok-false-exchange_first.field-0-test
-    c.in-Ok-false-exchange_first.ensures)
+pub returns-in-Err-ExchangeBusy : goal.returns-in-Err-ExchangeBusy
+returns-in-Err-ExchangeBusy c =
+    begins_later c.args.start c.args.machine.now c.ask.new.self c.ask.result c.ask.ensures.answer c.ask.ensures.after
+    (search rules)
 
-pub returns-in-Ok : goal.returns-in-Ok
-returns-in-Ok c =
+pub returns-in-Err-MidWord : goal.returns-in-Err-MidWord
+returns-in-Err-MidWord c =
+    begins_in_mid_word c.args.start c.args.machine.now c.ask.new.self c.exchange.new.self c.in_ok-asked-in_default.field-0
+    c.ask.result c.exchange.result c.ask.ensures.after (search rules) c.exchange.ensures.answer
+    c.exchange.ensures.after (search rules)
+
+pub returns : goal.returns
+returns c =
     let w = c.args.machine.now in
-    let u = c.ask_first.new.machine in
-    let v = c.exchange_first.new.machine in
-    begins_on c.is_empty-is_new.result c.args.start w v c.ask_following.new.machine
-    (begins_at_once c.is_empty-is_new.result c.args.start w u v
+    let begun : Begins c.is_empty-is_new.result c.args.start w c.exchange.new.self =
+    begins_at_once c.is_empty-is_new.result c.args.start w c.ask.new.self c.exchange.new.self
+    c.in_ok-asked-in_default.field-0 c.in_ok-made-in_default-exchange.field-0 c.ask.result c.exchange.result
     (new_log c.entries.result.now w.log c.is_empty-is_new.result (search rules) (search rules))
-    (subst (λ (b : Bool). IsAskedFirst b c.args.start w u) c.in-Ok-true.field-0-test c.in-Ok-true.ensures)
-    (subst (λ (b : Bool). IsExchangedFirst b u v) c.in-Ok-true-exchange_first.field-0-test
-    c.in-Ok-true-exchange_first.ensures))
-    c.ask_following.ensures.booted c.ask_following.ensures.log
+    c.ask.ensures.after (search rules) c.exchange.ensures.after (search rules) in
+    elim c.match-due.branch [
+      | in-Some+in_ok-ask h ↦ begins_on c.is_empty-is_new.result c.args.start h.in-Some.at w c.exchange.new.self
+      c.match-due.machine h.ask-in-Some.result begun (h.machine-is ∙ h.ask-in-Some.ensures.after)
+      | in_default-due h ↦ subst (Begins c.is_empty-is_new.result c.args.start w) (sym h.machine-is) begun
+    ]

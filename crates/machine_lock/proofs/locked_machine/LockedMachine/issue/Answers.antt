@@ -1,8 +1,10 @@
-use Rattle.std.proofs.Common.{inl, ap}
+use Rattle.std.proofs.Common.{◌≡◌, ◌∙◌, inl, ap, refl, rules}
 use Rattle.std.proofs.lemmas.Result.{err_from_is_err_and}
+use Rattle.std.specs.Prelude.{Ok}
 use Rattle.machine_lock.specs.Held.{Kept}
-use Rattle.machine_lock.proofs.Laws.{issue_logged, issue_made, issue_told, issue_why}
+use Rattle.machine_lock.proofs.Laws.{issue_logged, issue_made, issue_told, issue_why, note_in}
 use Rattle.machine_lock.proofs.locked_machine.LockedMachine.issue.Goals as goal
+use Rattle.machine_lock.proofs.locked_machine.LockedMachine.issue.Goals.{in-Issued, in-Word}
 
 pub record_or_compare-requires-clause-logged : goal.record_or_compare-requires-clause-logged
 record_or_compare-requires-clause-logged g c =
@@ -11,23 +13,33 @@ record_or_compare-requires-clause-logged g c =
 
 pub returns-clause-seen : goal.returns-clause-seen
 returns-clause-seen g c =
-    issue_made c.self.inside.machine c.issue-answer.new.self c.issue-answer.result c.in_ok-answer.field-0 c.note_in.result
+    let note = note_in c.in_ok-note.field-0 in
+    let p : c.match-branch-2.result ≡ Ok note = elim c.match-branch-2.branch [
+      | in-Issued w ↦ w.result-is ∙ search rules
+      | in-Word w ↦ w.result-is ∙ search rules
+    ] in
+    rw p (issue_made c.self.inside.machine c.issue-answer.new.self c.issue-answer.result c.in_ok-note.field-0 note
     c.args.seen.now c.record_or_compare.new.seen c.self.invariant.replay (inl c.issue-answer.ensures.answer)
     c.issue-answer.ensures.after
     c.issue-answer.ensures.noted c.issue-answer.ensures.why c.record_or_compare.ensures.within
-    c.record_or_compare.ensures.current c.record_or_compare.ensures.seen c.in_ok-answer.was c.note_in.ensures
+    c.record_or_compare.ensures.current c.record_or_compare.ensures.seen c.in_ok-note.was refl)
 
 pub returns-clause-answer : goal.returns-clause-answer
 returns-clause-answer g c =
-    issue_told c.args.self.now.processor c.self.inside.machine c.issue-answer.result c.in_ok-answer.field-0
-    c.note_in.result (inl c.issue-answer.ensures.answer) c.in_ok-answer.was c.note_in.ensures
-    (ap (λ (k : Kept). k.processor) c.self.view_is)
+    let note = note_in c.in_ok-note.field-0 in
+    let p : c.match-branch-2.result ≡ Ok note = elim c.match-branch-2.branch [
+      | in-Issued w ↦ w.result-is ∙ search rules
+      | in-Word w ↦ w.result-is ∙ search rules
+    ] in
+    rw p (issue_told c.args.self.now.processor c.self.inside.machine c.issue-answer.result c.in_ok-note.field-0
+    note (inl c.issue-answer.ensures.answer) c.in_ok-note.was refl
+    (ap (λ (k : Kept). k.processor) c.self.view_is))
 
-pub returns-in_err-answer-clause-seen : goal.returns-in_err-answer-clause-seen
-returns-in_err-answer-clause-seen g c =
+pub returns-in_err-note-clause-seen : goal.returns-in_err-note-clause-seen
+returns-in_err-note-clause-seen g c =
     let p = err_from_is_err_and c.from_residual.result c.from_residual.ensures.1 in
     rw (p.1, p.2) (issue_why c.self.inside.machine c.issue-answer.new.self c.issue-answer.result
-    c.in_err-answer.field-0.0 c.args.seen.now c.record_or_compare.new.seen c.self.invariant.replay
+    c.in_err-note.field-0.0 c.args.seen.now c.record_or_compare.new.seen c.self.invariant.replay
     (inl c.issue-answer.ensures.answer) c.issue-answer.ensures.after c.issue-answer.ensures.noted
     c.issue-answer.ensures.why c.record_or_compare.ensures.within c.record_or_compare.ensures.current
-    c.record_or_compare.ensures.seen c.in_err-answer.was)
+    c.record_or_compare.ensures.seen c.in_err-note.was)
