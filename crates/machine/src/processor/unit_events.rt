@@ -1,18 +1,17 @@
-ghost use Rattle.std.specs.Prelude.{◌≡◌, true, IfOk, IsSome, Some, None, MatchResult};
+ghost use Rattle.std.specs.Prelude.{◌≡◌, IfOk, MatchResult};
 ghost use Rattle.program_order.specs.declared.event.Event.TheVariants.{Read, Finish, Store};
 ghost use Rattle.program_order.specs.Run.{answer_of, settled};
-ghost use Rattle.instructions.specs.Operands.{uses};
 ghost use Rattle.in_flight.specs.Tests.{refusal_in};
-ghost use Rattle.machine.specs.Tokens.{Seating, IsValueIn, slot, unread_in, reading_in, rest_after};
+ghost use Rattle.machine.specs.Tokens.{slot, rest_after};
 ghost use Rattle.program_order.specs.Events.{allowed, after};
 
 use crate::processor::made;
 use crate::{Answer, Machine};
-use in_flight::{Located, Outstanding, Pending, Relocated, Stage, faults};
+use in_flight::{Located, Outstanding, Relocated, Stage, faults};
 use instruction_table::{Refusal, Unit};
 use judging::judge_finish;
 use sequential::Work;
-use unit_ops::{Operands, UnitValue, value};
+use unit_ops::value;
 
 impl Machine {
     /// A unit reads all its operands in this step.
@@ -30,18 +29,10 @@ impl Machine {
     {
         let judged = judge_finish(&self.in_flight, unit);
         if let Ok((pending, operands)) = &judged {
-            self.put_value(unit, value(&pending.instr, operands));
+            self.in_flight
+                .finish(unit, value(&pending.instr, operands));
         }
         made(&judged)
-    }
-
-    /// A unit has the value of what it has read.
-    pub(crate) fn put_value(&mut self, unit: Unit, value: UnitValue)
-        requires { IsValueIn value (slot self.old unit) }
-        ensures after { self.new ≡ after self.old (Finish unit) }
-        ensures allowed { allowed self.old (Finish unit) ≡ None }
-    {
-        self.in_flight.finish(unit, value);
     }
 
     /// A unit stores its result, jumps or makes its reference, and is released. Returns what is left of the instruction:
