@@ -1,9 +1,8 @@
 ghost use Rattle.std.specs.Prelude.{◌≡◌, ◌<◌, ◌≤◌, ◌+◌, [], Some, None};
 ghost use Rattle.std.specs.List.{list_any};
 ghost use Rattle.arrayvec.specs.ArrayVec.{array_vec_len};
-ghost use Rattle.std.specs.Prelude.{option_to_list};
-ghost use Rattle.instructions.specs.Shape.{shape_of, loads_of, results as results_of_shape};
-ghost use Rattle.instructions.specs.Operands.{uses, stored, with_source, sources_of, base_reg, pair_reg, reg_eq};
+ghost use Rattle.instructions.specs.Shape.{shape_of, results as results_of_shape};
+ghost use Rattle.instructions.specs.Operands.{uses, with_source, sources_of, base_reg, pair_reg, reg_eq};
 
 use crate::{Addends, Base, Digit, Instr, MemoryUse, Pair, Reg, Target, UnitKind};
 use arrayvec::ArrayVec;
@@ -41,20 +40,6 @@ pub fn unit_kind(instr: &Instr) -> Option<UnitKind>
     }
 }
 
-/// The X register that a load writes at its return, if the instruction is one.
-#[tactic(auto, unfolding(crate::specs::Shape::shape_of, crate::specs::Shape::loads_of))]
-fn loaded(instr: &Instr) -> Option<Reg>
-    ensures { loads_of (shape_of instr.now) ≡ option_to_list result }
-{
-    match *instr {
-        Instr::Increment { target, i, .. } => match target.memory(i) {
-            Some(MemoryUse::Loads(_)) => Some(Reg::X(i)),
-            _ => None,
-        },
-        _ => None,
-    }
-}
-
 /// The registers that an instruction sets: at most two, A before X, and never B0.
 pub fn results(instr: &Instr) -> ArrayVec<Reg, 2>
     ensures uses { result.items ≡ (uses instr.now).results }
@@ -64,7 +49,15 @@ pub fn results(instr: &Instr) -> ArrayVec<Reg, 2>
     if let Some(register) = instr.sets() {
         results.push(register);
     }
-    if let Some(register) = loaded(instr) {
+    // A load, SA1 to SA5, writes Xi at its return.
+    let loaded = match *instr {
+        Instr::Increment { target, i, .. } => match target.memory(i) {
+            Some(MemoryUse::Loads(_)) => Some(Reg::X(i)),
+            _ => None,
+        },
+        _ => None,
+    };
+    if let Some(register) = loaded {
         results.push(register);
     }
     results
@@ -131,20 +124,6 @@ pub struct OperandRegisters {
     pub outgoing: Option<Reg>,
 }
 
-/// The X register that SA6 and SA7 store.
-#[inline(always)]
-fn stored(instr: &Instr) -> Option<Reg>
-    ensures { result ≡ (uses instr.now).outgoing }
-{
-    match *instr {
-        Instr::Increment { target, i, .. } => match target.memory(i) {
-            Some(MemoryUse::Stores(_)) => Some(Reg::X(i)),
-            _ => None,
-        },
-        _ => None,
-    }
-}
-
 /// The registers that the operands of an instruction come from.
 #[inline(always)]
 pub fn operand_registers(instr: &Instr) -> OperandRegisters
@@ -169,10 +148,18 @@ pub fn operand_registers(instr: &Instr) -> OperandRegisters
             Addends::Registers { pair, j, k } => (Some(pair.register(j)), Some(Reg::B(k))),
         },
     };
+    // A store, SA6 or SA7, sends Xi.
+    let outgoing = match *instr {
+        Instr::Increment { target, i, .. } => match target.memory(i) {
+            Some(MemoryUse::Stores(_)) => Some(Reg::X(i)),
+            _ => None,
+        },
+        _ => None,
+    };
     OperandRegisters {
         first,
         second,
-        outgoing: stored(instr),
+        outgoing,
     }
 }
 

@@ -78,8 +78,9 @@ pub fn replay(state: &mut State, log: &Log) -> Result<(), Refusal>
     ensures refused { IfErr result (λ refusal. IsRefusedAt state.old log.now.steps state.new refusal) }
 {
     for entry in log.entries() {
-        if let Err(refusal) = replay_entry(state, entry) {
-            return Err(refusal);
+        let answer = replay_entry(state, entry);
+        if answer.is_err() {
+            return answer;
         }
     }
     Ok(())

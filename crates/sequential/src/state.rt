@@ -88,9 +88,8 @@ impl State {
         ensures after { MatchResult result (λ _. self.new ≡ swap at self.old) (λ _. self.new ≡ self.old) }
     {
         let outgoing = self.to_package();
-        let incoming = match Package::swap(&mut self.memory, at, &outgoing) {
-            Ok(incoming) => incoming,
-            Err(refusal) => return Err(refusal),
+        let Ok(incoming) = Package::swap(&mut self.memory, at, &outgoing) else {
+            return Err(Refusal::PackageRange);
         };
         self.registers = incoming.registers;
         self.position = ProgramPosition::at(incoming.p);

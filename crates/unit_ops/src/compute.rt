@@ -1,7 +1,7 @@
 ghost use Rattle.std.specs.Prelude.{◌≡◌, ◌+◌, ◌%◌, ◌==◌, IsSome};
 ghost use Rattle.instructions.specs.Operands.{uses};
 ghost use Rattle.unit_ops.specs.Values.{x_holds, is_zero, is_out_of_range, is_indefinite, b_holds, rank, logic};
-ghost use Rattle.unit_ops.specs.Values.{is_negative, magnitude, shifted_out, shifted_nominally, shifted, added};
+ghost use Rattle.unit_ops.specs.Values.{is_negative, magnitude, shifted_out, shifted_nominally, shifted};
 ghost use Rattle.unit_ops.specs.Values.{pair_value, addends_value, increment_value, branch_to, value_of, destination};
 ghost use Rattle.unit_ops.specs.Values.{branch_of};
 ghost use Rattle.word60.specs.Words.{bit};
@@ -160,17 +160,6 @@ fn shifted(direction: Direction, x: Word60, count: SixBits) -> Word60
     }
 }
 
-/// The sum or the difference of two words.
-#[inline(always)]
-fn added(op: Addition, x: Word60, y: Word60) -> Word60
-    ensures { result ≡ added op x y }
-{
-    match op {
-        Addition::Sum => x.add(y),
-        Addition::Difference => x.sub(y),
-    }
-}
-
 /// The 18 bits of two registers that are added or subtracted.
 #[inline(always)]
 fn pair_value(pair: Pair, x: Word60, y: Word60) -> Word18
@@ -249,7 +238,10 @@ pub fn value(instr: &Instr, operands: &Operands) -> UnitValue
             x.low18(),
             y,
         )),
-        Instr::LongAdd { op, .. } => UnitValue::Word(added(op, x, y)),
+        Instr::LongAdd { op, .. } => UnitValue::Word(match op {
+            Addition::Sum => x.add(y),
+            Addition::Difference => x.sub(y),
+        }),
         Instr::Mask { count, .. } => UnitValue::Word(Word60::mask(u32::from(count.get()))),
         Instr::CountOnes { .. } => UnitValue::Word(Word60::from_bits(u64::from(x.ones()))),
         Instr::Increment { target, i, addends } => {
