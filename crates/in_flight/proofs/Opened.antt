@@ -3,8 +3,7 @@ use Rattle.instructions.specs.Finding.{seek}
 use Rattle.scoreboard.specs.Reservations as board
 use Rattle.scoreboard.specs.Reservations.{returning_to}
 use Rattle.in_flight.specs.Flight.{entering, outstanding_of}
-use Rattle.in_flight.specs.inner.Slots.{places_with, channels_with}
-use Rattle.in_flight.specs.Lookup.{enters, in_phase, located}
+use Rattle.in_flight.specs.Lookup.{enters, located}
 use Rattle.in_flight.specs.Pending.{occupancy_of, reservation_of, returning, to_come}
 use Rattle.in_flight.proofs.asking.PendingReservations.{comes}
 
@@ -17,8 +16,3 @@ leaving = tt
 unfoldable pub coming : Unit {0}
 unfolding comes board.comes to_come board.to_come reservation_of board.to_come_in occupancy_of returning returning_to
 coming = tt
-
--- the slots when what is left of an instruction has come to its own
-unfoldable pub rest_in_slot : Unit {0}
-unfolding places_with channels_with in_phase
-rest_in_slot = tt

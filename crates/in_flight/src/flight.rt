@@ -15,7 +15,6 @@ ghost use Rattle.in_flight.specs.Tests.{refusal_in, store_conflicts, refusal_of,
 ghost use Rattle.in_flight.specs.Tests.{reservation_tests, read_tests};
 ghost use Rattle.in_flight.specs.Tests.{accept_tests, return_tests, free_tests};
 ghost use Rattle.in_flight.specs.Flight.{left_by, outstanding_of, IsRestOf, unit_taken, reserved_in, with_pending};
-ghost use Rattle.in_flight.specs.inner.Board.{queue_with};
 ghost use Rattle.in_flight.specs.Pending.{has_read, is_branch, delays_fetch, delays_access};
 ghost use Rattle.in_flight.specs.Lookup.{first_of, located, stage_at, entry_at, arrival_at, in_phase, kept, enters};
 ghost use Rattle.in_flight.specs.Lookup.{place_for, is_pending};

@@ -5,7 +5,7 @@ ghost use Rattle.in_flight.specs.declared.pending.Phase.TheVariants.{Before, Aft
 ghost use Rattle.in_flight.specs.declared.pending.Stage.TheVariants.{Unread};
 ghost use Rattle.instructions.specs.Finding.{seek, replaced};
 ghost use Rattle.in_flight.specs.Lookup.{stage_at, entry_at, arrival_at, in_phase, kept, located, first_of};
-ghost use Rattle.in_flight.specs.inner.Slots.{HasRoom, places_with, channels_with, has_none, lower_of, lowest_of};
+ghost use Rattle.in_flight.specs.inner.Slots.{HasRoom, has_none, lower_of, lowest_of};
 
 use crate::{Arrival, Outstanding, Pending, Phase, Stage};
 use instruction_table::Unit;
@@ -39,37 +39,6 @@ impl Model for Slots {
     ghost view = { λ p. in_order (slots p.units p.places p.channels) };
 
     ghost invariant = { λ p. IsRight p.units p.places p.channels };
-}
-
-/// What is left of an instruction goes to its place or its channel.
-#[tactic(auto, unfolding(crate::proofs::Opened::rest_in_slot))]
-fn put_rest(
-    places: &mut [Option<Pending>],
-    channels: &mut [Option<Pending>],
-    pending: &Pending,
-    later: &Option<Outstanding>,
-)
-    requires places { length places.old ≡ 4 }
-    requires channels { length channels.old ≡ 8 }
-    requires room { HasRoom later.now [] }
-    ensures places { places.new ≡ places_with places.old pending.now later.now }
-    ensures channels { channels.new ≡ channels_with channels.old pending.now later.now }
-{
-    match *later {
-        None => {}
-        Some(Outstanding::Entered(place, address, access)) => {
-            places[usize::from(place)] = Some(Pending {
-                phase: Phase::After(Outstanding::Entered(place, address, access)),
-                ..*pending
-            });
-        }
-        Some(Outstanding::Accepted(n, word)) => {
-            channels[usize::from(n.get())] = Some(Pending {
-                phase: Phase::After(Outstanding::Accepted(n, word)),
-                ..*pending
-            });
-        }
-    }
 }
 
 /// What the slot holds, None if there is no such slot.
@@ -187,11 +156,18 @@ impl Slots {
     {
         let index = unit_number(unit);
         let slot = self.units[index];
-        let Some(pending) = slot else {
+        let Some(mut pending) = slot else {
             return;
         };
         self.units[index] = None;
-        put_rest(&mut self.places, &mut self.channels, &pending, later);
+        let Some(left) = later else {
+            return;
+        };
+        pending.phase = Phase::After(*left);
+        match left {
+            Outstanding::Entered(place, ..) => self.places[usize::from(*place)] = Some(pending),
+            Outstanding::Accepted(n, _) => self.channels[usize::from(n.get())] = Some(pending),
+        }
     }
 
     /// The instruction in the place leaves it; what is left of it goes to its channel.
@@ -202,11 +178,18 @@ impl Slots {
     {
         let index = usize::from(place);
         let slot = self.places[index];
-        let Some(pending) = slot else {
+        let Some(mut pending) = slot else {
             return;
         };
         self.places[index] = None;
-        put_rest(&mut self.places, &mut self.channels, &pending, later);
+        let Some(left) = later else {
+            return;
+        };
+        pending.phase = Phase::After(*left);
+        match left {
+            Outstanding::Entered(place, ..) => self.places[usize::from(*place)] = Some(pending),
+            Outstanding::Accepted(n, _) => self.channels[usize::from(n.get())] = Some(pending),
+        }
     }
 
     /// The instruction that waits in a channel, with its word.

@@ -11,7 +11,7 @@ ghost use Rattle.scoreboard.specs.inner.Fields.{slot_is, slot_reads, slot_has_tu
 ghost use Rattle.scoreboard.specs.Answers.{held_in, returning_by, read_answer, store_answer, return_answer};
 ghost use Rattle.scoreboard.specs.Answers.{turn_answer, reserve_answer, reserved, read, left, gone, with_issued};
 
-use crate::fields::{any_reference, first_produced, first_unit, forget_in_taken, free_unit};
+use crate::fields::{any_reference, first_unit, forget_in_taken, free_unit};
 use crate::issued::channel;
 use crate::{Issued, Occupancy, Reservation, Writer, Writers, unit_number};
 use instructions::{Digit, Instr, Refusal, Reg, Unit, results, sources};
@@ -93,8 +93,9 @@ impl Board {
         };
         let results = results(instr);
         let taken = self.writers.of(results.as_slice());
-        if let Some(register) = first_produced(results.as_slice(), &taken) {
-            return Err(Refusal::ResultReserved(register));
+        let mut pairs = results.as_slice().iter().zip(taken.iter());
+        if let Some((register, _)) = pairs.find(|(_, writer)| writer.is_some()) {
+            return Err(Refusal::ResultReserved(*register));
         }
         let index = unit_number(unit);
         let sources = sources(instr);
@@ -142,8 +143,13 @@ impl Board {
         }
         // Only a refusal has to know which sources they are.
         let sources = sources(&issued.reservation.instr);
-        match first_produced(sources.as_slice(), awaited) {
-            Some(register) => Err(Refusal::OperandAwaited(register)),
+        match sources
+            .as_slice()
+            .iter()
+            .zip(awaited)
+            .find(|(_, producer)| producer.is_some())
+        {
+            Some((register, _)) => Err(Refusal::OperandAwaited(*register)),
             None => Ok(()),
         }
     }

@@ -8,24 +8,10 @@ ghost use Rattle.scoreboard.specs.Units.{first_unit};
 ghost use Rattle.scoreboard.specs.Reservations.{has_turn};
 ghost use Rattle.scoreboard.specs.inner.Fields.{slot_at, in_increment, is_taken, slot_is};
 ghost use Rattle.scoreboard.specs.inner.Fields.{free_for, forget_in_taken};
-ghost use Rattle.scoreboard.specs.inner.View.{first_produced};
 
 use crate::writer::forget_in;
 use crate::{Issued, Writer};
-use instructions::{Instr, Reg, Unit, UnitKind, unit_kind};
-
-/// The first of the registers that somebody is to write; the producers are in the registers' order.
-pub(crate) fn first_produced(registers: &[Reg], producers: &[Option<Writer>]) -> Option<Reg>
-    requires { length registers.now ≤ length producers.now }
-    ensures { result ≡ first_produced registers.now producers.now }
-{
-    for index in 0..registers.len() {
-        if producers[index].is_some() {
-            return Some(registers[index]);
-        }
-    }
-    None
-}
+use instructions::{Instr, Unit, UnitKind, unit_kind};
 
 /// Whether an instruction has a reference that hasn't come to its store event. Only Branch and the Increment units take
 /// such instructions.

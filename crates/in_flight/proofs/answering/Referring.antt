@@ -45,7 +45,6 @@ use Rattle.in_flight.specs.Pending.{left_to_return}
 use Rattle.in_flight.specs.Tests.{refusal_in, refusal_of, nothing, tests_found, accept_tests}
 use Rattle.in_flight.specs.Flight.{left_by, Flight, flight_of, IsRestOf, entering, outstanding_of}
 use Rattle.in_flight.specs.inner.Board.{IsTied}
-use Rattle.in_flight.specs.inner.Board.{queue_with}
 use Rattle.in_flight.specs.Flight.{with_pending}
 use Rattle.in_flight.specs.Lookup.{waiting_in, waiting}
 use Rattle.in_flight.specs.Pending.{reservation_of, occupancy_of, returning, to_come, has_turn, is_entered, entered_in}
@@ -528,6 +527,11 @@ enters_in_range r = by_parts r.address r.access
 pub none_enters : enters (outstanding_of 0 None) ≡ false
 unfolding enters outstanding_of
 none_enters = refl
+
+-- the hopper when what is left of an instruction has come to wait in it, if it is a reference
+pub queue_with : Queue → Option Outstanding → Queue
+queue_with queue None = queue
+queue_with queue (Some l) = record queue { entered = queue.entered ++ waiting_in (After l) }
 
 -- what is left of an instruction, by its reference, has come to wait in the hopper; the others are as they were
 pub record HasCome (i j : Inside) (rest : Option Relocated) (l : Option Outstanding) : Type 0 where

@@ -18,6 +18,7 @@ use Rattle.instructions.proofs.Slots.{each_taken}
 use Rattle.scoreboard.proofs.in_slots.InSlots.{get_back, set_back, unit_below}
 use Rattle.in_flight.specs.declared.pending.Arrival.{Arrival}
 use Rattle.hopper.specs.declared.reference.Reference.{Reference}
+use Rattle.relocation.specs.declared.area.Access.{Access}
 use Rattle.in_flight.specs.declared.pending.Outstanding.{Outstanding}
 use Rattle.in_flight.specs.declared.pending.Outstanding.TheVariants.{Entered, Accepted}
 use Rattle.in_flight.specs.declared.pending.Pending.{Pending}
@@ -28,7 +29,7 @@ use Rattle.instructions.specs.Finding.{seek, put_back, replaced}
 use Rattle.in_flight.specs.Lookup.{stage_in, stage_at, entry_in, entry_at, arrival_in, arrival_at, in_phase, kept}
 use Rattle.in_flight.specs.Lookup.{located}
 use Rattle.in_flight.specs.inner.Slots.{number_of, slot_in, slot_of, slots, in_order, IsRight, AreElsewhere, HasRoom}
-use Rattle.in_flight.specs.inner.Slots.{places_with, channels_with, has_none}
+use Rattle.in_flight.specs.inner.Slots.{has_none}
 use Rattle.instructions.proofs.Sorted.{each_sorted}
 
 -- ---- in order ----
@@ -229,6 +230,53 @@ nobody_replaced g units places channels u i right e h =
 
 -- ---- moved to its place or its channel ----
 
+-- the places of the hopper when what is left of an instruction has come to its own
+unfoldable pub places_with : List (Option Pending) → Pending → Option Outstanding → List (Option Pending)
+places_with places m None = places
+places_with places m (Some (Entered place a access)) =
+    set places place (Some (in_phase m (After (Entered place a access))))
+places_with places m (Some (Accepted n word)) = places
+
+-- the channels when what is left of an instruction has come to its own
+unfoldable pub channels_with : List (Option Pending) → Pending → Option Outstanding → List (Option Pending)
+channels_with channels m None = channels
+channels_with channels m (Some (Entered place a access)) = channels
+channels_with channels m (Some (Accepted n word)) = set channels n (Some (in_phase m (After (Accepted n word))))
+
+-- what is left of an instruction has come to its own, and the others are as they were
+abbrev pub HasRest : (places channels : List (Option Pending)) → Pending → Option Outstanding
+    → (ps cs : List (Option Pending)) → Type 0
+HasRest places channels m l ps cs = (ps ≡ places_with places m l) × (cs ≡ channels_with channels m l)
+
+pub rest_over : (p q channels ps cs : List (Option Pending)) (m : Pending) (l : Option Outstanding) → p ≡ q
+    → HasRest p channels m l ps cs → HasRest q channels m l ps cs
+rest_over p q channels ps cs m l e r = subst (λ x. HasRest x channels m l ps cs) e r
+
+pub no_rest : (places channels : List (Option Pending)) (m : Pending) (l : Option Outstanding) → l ≡ None
+    → HasRest places channels m l places channels
+unfolding places_with channels_with
+no_rest places channels m l e = (sym (ap (places_with places m) e), sym (ap (channels_with channels m) e))
+
+pub rest_in_place : (places channels : List (Option Pending)) (m : Pending) (l : Option Outstanding) (o : Outstanding)
+    (k p a : ℕ) (x : Access) → l ≡ Some o → o ≡ Entered p a x → k ≡ p
+    → HasRest places channels m l (set places k (Some (in_phase m (After o)))) channels
+unfolding places_with channels_with
+rest_in_place places channels m l o k p a x e h q = (
+  ap (λ k. set places k (Some (in_phase m (After o)))) q
+      ∙ ap (λ o. set places p (Some (in_phase m (After o)))) h ∙ sym (ap (places_with places m) (e ∙ ap Some h)),
+  sym (ap (channels_with channels m) (e ∙ ap Some h)),
+)
+
+pub rest_in_channel : (places channels : List (Option Pending)) (m : Pending) (l : Option Outstanding)
+    (o : Outstanding) (k n : ℕ) (w : ℕ) → l ≡ Some o → o ≡ Accepted n w → k ≡ n
+    → HasRest places channels m l places (set channels k (Some (in_phase m (After o))))
+unfolding places_with channels_with
+rest_in_channel places channels m l o k n w e h q = (
+  sym (ap (places_with places m) (e ∙ ap Some h)),
+  ap (λ k. set channels k (Some (in_phase m (After o)))) q
+      ∙ ap (λ o. set channels n (Some (in_phase m (After o)))) h ∙ sym (ap (channels_with channels m) (e ∙ ap Some h)),
+)
+
 abbrev later_slot : Outstanding → ℕ
 later_slot (Entered place a access) = 10 + place
 later_slot (Accepted n word) = 14 + n
@@ -344,24 +392,28 @@ units_without : (units places channels : List (Option Pending)) (i : ℕ) → i 
 unfolding slots
 units_without units places channels i l = set-append_left units (places ++ channels) i None l
 
-pub left_right : (units places channels : List (Option Pending)) (i : ℕ) (m : Pending) (l : Option Outstanding)
+pub left_right : (units places channels ps cs : List (Option Pending)) (i : ℕ) (m : Pending) (l : Option Outstanding)
     → IsRight units places channels → get_or units i None ≡ Some m → HasRoom l (in_order (slots units places channels))
-    → IsRight (set units i None) (places_with places m l) (channels_with channels m l)
-left_right units places channels i m l right h room =
-    moved_right (slots units places channels) (set units i None) places channels i m l right.stands right.own
+    → HasRest places channels m l ps cs → IsRight (set units i None) ps cs
+left_right units places channels ps cs i m l right h room rest =
+    subst (λ q. IsRight (set units i None) q cs) (sym rest.0)
+    (subst (IsRight (set units i None) (places_with places m l)) (sym rest.1)
+    (moved_right (slots units places channels) (set units i None) places channels i m l right.stands right.own
     (all_slots units places channels right) (unit_slot units places channels i (Some m) (within units i m h) h)
     (units_without units places channels i (within units i m h)) (length-set units i None ∙ right.all_units)
-    right.all_places right.all_channels room
+    right.all_places right.all_channels room))
 
-pub left_view : (units places channels : List (Option Pending)) (u : FunctionalUnit) (i : ℕ) (m : Pending)
+pub left_view : (units places channels ps cs : List (Option Pending)) (u : FunctionalUnit) (i : ℕ) (m : Pending)
     (l : Option Outstanding) → IsRight units places channels → i ≡ unit_number u → get_or units i None ≡ Some m
     → HasRoom l (in_order (slots units places channels))
-    → in_order (slots (set units i None) (places_with places m l) (channels_with channels m l))
+    → HasRest places channels m l ps cs → in_order (slots (set units i None) ps cs)
     ≡ replaced (seek (stage_at u) (in_order (slots units places channels)))
     (in_order (slots units places channels)) (λ x. kept x l)
 unfolding replaced put_back
-left_view units places channels u i m l right e h room =
-    moved_order (slots units places channels) (set units i None) places channels i m l right.stands right.own
+left_view units places channels ps cs u i m l right e h room rest =
+    ap (λ q. in_order (slots (set units i None) q cs)) rest.0
+    ∙ ap (λ q. in_order (slots (set units i None) (places_with places m l) q)) rest.1
+    ∙ moved_order (slots units places channels) (set units i None) places channels i m l right.stands right.own
     (all_slots units places channels right) (unit_slot units places channels i (Some m) (within units i m h) h)
     (units_without units places channels i (within units i m h)) (length-set units i None ∙ right.all_units)
     right.all_places room
@@ -468,26 +520,31 @@ pub entry_must : (units places channels : List (Option Pending)) (p : ℕ) (m : 
 entry_must units places channels p m right b h k =
     let f = entry_found units places channels p m right b h in let q : None ≡ Some f.0 = sym k ∙ f.1 in cc
 
-pub accepted_right : (units places channels : List (Option Pending)) (p : ℕ) (m : Pending) (l : Option Outstanding)
+pub accepted_right : (units places channels ps cs : List (Option Pending)) (p : ℕ) (m : Pending) (l : Option
+    Outstanding)
     → IsRight units places channels → get_or places p None ≡ Some m
     → HasRoom l (in_order (slots units places channels))
-    → IsRight units (places_with (set places p None) m l) (channels_with channels m l)
-accepted_right units places channels p m l right h room =
-    moved_right (slots units places channels) units (set places p None) channels (10 + p) m l right.stands right.own
+    → HasRest (set places p None) channels m l ps cs → IsRight units ps cs
+accepted_right units places channels ps cs p m l right h room rest =
+    subst (λ q. IsRight units q cs) (sym rest.0)
+    (subst (IsRight units (places_with (set places p None) m l)) (sym rest.1)
+    (moved_right (slots units places channels) units (set places p None) channels (10 + p) m l right.stands right.own
     (all_slots units places channels right)
     (place_slot units places channels p (Some m) right.all_units (within places p m h) h)
     (places_without units places channels p right.all_units (within places p m h)) right.all_units
-    (length-set places p None ∙ right.all_places) right.all_channels room
+    (length-set places p None ∙ right.all_places) right.all_channels room))
 
-pub accepted_view : (units places channels : List (Option Pending)) (p : ℕ) (m : Pending) (l : Option Outstanding)
+pub accepted_view : (units places channels ps cs : List (Option Pending)) (p : ℕ) (m : Pending) (l : Option Outstanding)
     → IsRight units places channels → p < 4 → get_or places p None ≡ Some m
     → HasRoom l (in_order (slots units places channels))
-    → in_order (slots units (places_with (set places p None) m l) (channels_with channels m l))
+    → HasRest (set places p None) channels m l ps cs → in_order (slots units ps cs)
     ≡ replaced (seek (entry_at p) (in_order (slots units places channels)))
     (in_order (slots units places channels)) (λ x. kept x l)
 unfolding replaced put_back
-accepted_view units places channels p m l right b h room =
-    moved_order (slots units places channels) units (set places p None) channels (10 + p) m l right.stands right.own
+accepted_view units places channels ps cs p m l right b h room rest =
+    ap (λ q. in_order (slots units q cs)) rest.0
+    ∙ ap (λ q. in_order (slots units (places_with (set places p None) m l) q)) rest.1
+    ∙ moved_order (slots units places channels) units (set places p None) channels (10 + p) m l right.stands right.own
     (all_slots units places channels right)
     (place_slot units places channels p (Some m) right.all_units (within places p m h) h)
     (places_without units places channels p right.all_units (within places p m h)) right.all_units

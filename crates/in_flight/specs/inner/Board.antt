@@ -1,16 +1,14 @@
 -- What the board and the hopper have of the pending instructions. Source: ours.
-use Rattle.std.specs.Prelude.{◌≡◌, ◌≤◌, List, [], ◌∷◌, ◌++◌, Option, Some, None}
+use Rattle.std.specs.Prelude.{◌≡◌, ◌≤◌, List, [], ◌∷◌, Some, None}
 use Rattle.instructions.specs.Each.{Each}
 use Rattle.scoreboard.specs.Answers.{Standing}
 use Rattle.hopper.specs.Queue.{Queue}
 use Rattle.scoreboard.specs.declared.reservation.Occupancy.{Occupancy}
 use Rattle.scoreboard.specs.declared.reservation.Occupancy.TheVariants.{Reserved, Left}
 use Rattle.scoreboard.specs.declared.issued.Issued.{Issued}
-use Rattle.in_flight.specs.declared.pending.Outstanding.{Outstanding}
 use Rattle.in_flight.specs.declared.pending.Pending.{Pending}
-use Rattle.in_flight.specs.declared.pending.Phase.TheVariants.{After}
 use Rattle.in_flight.specs.Pending.{reservation_of}
-use Rattle.in_flight.specs.Lookup.{waiting_in, waiting}
+use Rattle.in_flight.specs.Lookup.{waiting}
 
 -- what the board has of an instruction: the number of its reservation, and its reservation
 unfoldable pub issued_of : Pending → Issued
@@ -26,11 +24,6 @@ kept_on (Left None) rest x = rest
 unfoldable pub on_board : List Pending → List Issued
 on_board [] = []
 on_board (m ∷ ms) = kept_on (reservation_of m).occupancy (on_board ms) (issued_of m)
-
--- the hopper when what is left of an instruction has come to wait in it, if it is a reference
-unfoldable pub queue_with : Queue → Option Outstanding → Queue
-queue_with queue None = queue
-queue_with queue (Some l) = record queue { entered = queue.entered ++ waiting_in (After l) }
 
 -- the board and the hopper answer for just these
 pub record IsTied (ms : List Pending) (queue : Queue) (standing : Standing) : Type 0 where

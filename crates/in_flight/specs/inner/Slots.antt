@@ -1,6 +1,6 @@
 -- Pending instructions in slots, and the list that they stand for. Source: ours.
 use Rattle.std.specs.Prelude.{◌≡◌, ◌≢◌, ◌<◌, ◌+◌, ℕ, Bool, true, false, nat_lt, if◌then◌else◌, List, [], ◌∷◌, ◌++◌}
-use Rattle.std.specs.Prelude.{Option, Some, None, length, slice_set}
+use Rattle.std.specs.Prelude.{Option, Some, None, length}
 use Rattle.instructions.specs.declared.instr.Unit.{Unit as FunctionalUnit}
 use Rattle.scoreboard.specs.Units.{unit_number}
 use Rattle.instructions.specs.Each.{Each, Pairs}
@@ -10,7 +10,6 @@ use Rattle.in_flight.specs.declared.pending.Outstanding.TheVariants.{Entered, Ac
 use Rattle.in_flight.specs.declared.pending.Phase.{Phase}
 use Rattle.in_flight.specs.declared.pending.Phase.TheVariants.{Before, After}
 use Rattle.in_flight.specs.declared.pending.Pending.{Pending}
-use Rattle.in_flight.specs.Lookup.{in_phase}
 
 -- the number of its reservation
 unfoldable pub number_of : Pending → ℕ
@@ -53,19 +52,6 @@ abbrev pub HasRoom : Option Outstanding → List Pending → Type 0
 HasRoom None ms = Unit {0}
 HasRoom (Some (Entered place a access)) ms = (place < 4) × AreElsewhere (10 + place) ms
 HasRoom (Some (Accepted n word)) ms = (n < 8) × AreElsewhere (14 + n) ms
-
--- the places of the hopper when what is left of an instruction has come to its own
-unfoldable pub places_with : List (Option Pending) → Pending → Option Outstanding → List (Option Pending)
-places_with places m None = places
-places_with places m (Some (Entered place a access)) =
-    slice_set places place (Some (in_phase m (After (Entered place a access))))
-places_with places m (Some (Accepted n word)) = places
-
--- the channels when what is left of an instruction has come to its own
-unfoldable pub channels_with : List (Option Pending) → Pending → Option Outstanding → List (Option Pending)
-channels_with channels m None = channels
-channels_with channels m (Some (Entered place a access)) = channels
-channels_with channels m (Some (Accepted n word)) = slice_set channels n (Some (in_phase m (After (Accepted n word))))
 
 -- nothing is pending
 unfoldable pub has_none : List Pending → Bool

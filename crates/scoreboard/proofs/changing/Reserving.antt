@@ -31,8 +31,9 @@ use Rattle.scoreboard.specs.Issued.{reservation_of, number_of, channel_of, writt
 use Rattle.scoreboard.specs.Issued.{or_else}
 use Rattle.scoreboard.specs.Issued.{first_some, if_earlier, writer_of, writer_before}
 use Rattle.instructions.specs.Order.{sort_by, somes, IsInSlots}
+use Rattle.scoreboard.proofs.in_slots.Small.{first_produced}
 use Rattle.scoreboard.specs.inner.View.{standing_of, in_slots, slot_in, slot_of, IsOther, IsOfKind, AreProducers}
-use Rattle.scoreboard.specs.inner.View.{first_produced, IsRight}
+use Rattle.scoreboard.specs.inner.View.{IsRight}
 use Rattle.scoreboard.specs.Writers.{IsRegister, writer_at, set_writer, set_each}
 use Rattle.instructions.proofs.Lists.{each_map, any_same}
 use Rattle.instructions.proofs.Slots.{within, in_slots_fill, sort_new}

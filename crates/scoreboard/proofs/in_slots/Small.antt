@@ -1,7 +1,7 @@
 -- Lists of registers and of writers, one element at a time.
 use Rattle.std.proofs.Common.{◌≡◌, ◌<◌, ◌≤◌, ◌+◌, ℕ, zero, suc, true, false, cond, List, [], ◌∷◌, ◌++◌}
 use Rattle.std.proofs.Common.{Option, Some, None, length, get_or, set, map, take, drop, refl, sym, ap, ◌∙◌, arith}
-use Rattle.std.specs.Prelude.{is_some, slice_get, IfSome}
+use Rattle.std.specs.Prelude.{is_some, slice_get, IfSome, find, zip, option_map}
 use Rattle.std.specs.List.{list_any}
 use Rattle.std.proofs.lemmas.List.{set-get_or}
 use Rattle.instructions.specs.declared.instr.Reg.{Reg}
@@ -9,7 +9,7 @@ use Rattle.scoreboard.specs.declared.writer.Writer.{Writer}
 use Rattle.scoreboard.specs.declared.issued.Issued.{Issued}
 use Rattle.instructions.specs.Each.{Each}
 use Rattle.scoreboard.specs.inner.Fields.{forget_in_taken}
-use Rattle.scoreboard.specs.inner.View.{AreProducers, first_produced}
+use Rattle.scoreboard.specs.inner.View.{AreProducers}
 use Rattle.scoreboard.specs.Writers.{IsRegister, writer_if, is_expected, forget}
 
 -- ---- a change of each element, in position ----
@@ -91,45 +91,25 @@ free_more w os pss qss i o h l g t e =
 
 -- ---- the first register with a producer ----
 
-pub produced_here : (rs : List Reg) (ps : List (Option Writer)) (i : ℕ) (r : Reg) (p : Option Writer) → i < length rs
-    → r ≡ get_or rs i r → i < length ps → p ≡ get_or ps i p → is_some p ≡ true
-    → Some r ≡ first_produced (drop i rs) (drop i ps)
-unfolding first_produced
-produced_here [] ps i r p h e k g t = absurd (omega arith)
-produced_here (x ∷ rs) [] i r p h e k g t = absurd (omega arith)
-produced_here (x ∷ rs) (None ∷ ps) zero r p h e k g t = let q : is_some p ≡ false = ap is_some g in cc
-produced_here (x ∷ rs) (Some w ∷ ps) zero r p h e k g t = ap Some e
-produced_here (x ∷ rs) (o ∷ ps) (suc i) r p h e k g t = produced_here rs ps i r p (omega arith) e (omega arith) g t
+-- the first of the registers with a producer
+unfoldable pub first_produced : List Reg → List (Option Writer) → Option Reg
+first_produced [] ps = None
+first_produced (r ∷ rs) [] = None
+first_produced (r ∷ rs) (None ∷ ps) = first_produced rs ps
+first_produced (r ∷ rs) (Some w ∷ ps) = Some r
 
-pub produced_after : (rs : List Reg) (ps : List (Option Writer)) (i j : ℕ) (p : Option Writer) → j ≡ i + 1
-    → i < length rs → i < length ps → p ≡ get_or ps i p → is_some p ≡ false
-    → first_produced (drop j rs) (drop j ps) ≡ first_produced (drop i rs) (drop i ps)
+-- it is found among the pairs of a register and its producer
+pub produced_in_zip : (rs : List Reg) (ps : List (Option Writer)) (o : Option (Reg × Option Writer))
+    → o ≡ find (λ p. is_some p.1) (zip rs ps) → option_map (λ p. p.0) o ≡ first_produced rs ps
 unfolding first_produced
-produced_after rs ps i j p e h k g t =
-    let s : j ≡ suc i = omega arith in
-    ap (λ n. first_produced (drop n rs) (drop n ps)) s ∙ step rs ps i p h k g t
+produced_in_zip rs ps o e = ap (option_map (λ p. p.0)) e ∙ by_pairs rs ps
   where
-    step : (rs : List Reg) (ps : List (Option Writer)) (i : ℕ) (p : Option Writer) → i < length rs → i < length ps
-        → p ≡ get_or ps i p → is_some p ≡ false
-        → first_produced (drop (suc i) rs) (drop (suc i) ps) ≡ first_produced (drop i rs) (drop i ps)
-    step [] ps i p h k g t = absurd (omega arith)
-    step (x ∷ rs) [] i p h k g t = absurd (omega arith)
-    step (x ∷ rs) (None ∷ ps) zero p h k g t = refl
-    step (x ∷ rs) (Some w ∷ ps) zero p h k g t = let q : is_some p ≡ true = ap is_some g in cc
-    step (x ∷ rs) (o ∷ ps) (suc i) p h k g t = step rs ps i p (omega arith) (omega arith) g t
-
-pub produced_nowhere : (rs : List Reg) (ps : List (Option Writer)) (i : ℕ) → length rs ≤ i
-    → None ≡ first_produced (drop i rs) (drop i ps)
-unfolding first_produced
-produced_nowhere [] ps zero h = refl
-produced_nowhere [] ps (suc i) h = refl
-produced_nowhere (x ∷ rs) ps zero h = absurd (omega arith)
-produced_nowhere (x ∷ rs) [] (suc i) h = nobody (drop i rs)
-  where
-    nobody : (rs : List Reg) → None ≡ first_produced rs []
-    nobody [] = refl
-    nobody (r ∷ rs) = refl
-produced_nowhere (x ∷ rs) (p ∷ ps) (suc i) h = produced_nowhere rs ps i (omega arith)
+    by_pairs : (rs : List Reg) (ps : List (Option Writer))
+        → option_map (λ p. p.0) (find (λ p. is_some p.1) (zip rs ps)) ≡ first_produced rs ps
+    by_pairs [] ps = refl
+    by_pairs (r ∷ rs) [] = refl
+    by_pairs (r ∷ rs) (None ∷ ps) = by_pairs rs ps
+    by_pairs (r ∷ rs) (Some w ∷ ps) = refl
 
 -- where there is no writer there is no first
 pub none_produced : (rs : List Reg) (ps : List (Option Writer)) → list_any is_some ps ≡ false

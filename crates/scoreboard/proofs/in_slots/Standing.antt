@@ -29,7 +29,8 @@ use Rattle.instructions.specs.Each.{Each, Pairs}
 use Rattle.scoreboard.specs.inner.Fields.{slot_reads}
 use Rattle.scoreboard.specs.Issued.{reservation_of, number_of, written_by, if_earlier, writer_before}
 use Rattle.instructions.specs.Order.{sort_by, somes, IsInSlots}
-use Rattle.scoreboard.specs.inner.View.{in_slots, IsOther, slot_in, slot_of, AreProducers, first_produced, IsRight}
+use Rattle.scoreboard.proofs.in_slots.Small.{first_produced}
+use Rattle.scoreboard.specs.inner.View.{in_slots, IsOther, slot_in, slot_of, AreProducers, IsRight}
 use Rattle.instructions.proofs.Lists.{each_map, or_false, any_same}
 use Rattle.instructions.proofs.Sorted.{any_sort, any_earlier, any_somes, IsIncreasing, sort_increasing, sort_each}
 use Rattle.instructions.proofs.Slots.{taken_with, in_slots_others, in_slots_nobody, in_slots_here, before_slot}

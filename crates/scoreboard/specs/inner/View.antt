@@ -51,13 +51,6 @@ AreProducers f [] ps = Unit {0}
 AreProducers f (r ∷ rs) [] = ⊥
 AreProducers f (r ∷ rs) (p ∷ ps) = (p ≡ f r) × AreProducers f rs ps
 
--- the first of the registers with a producer
-unfoldable pub first_produced : List Reg → List (Option Writer) → Option Reg
-first_produced [] ps = None
-first_produced (r ∷ rs) [] = None
-first_produced (r ∷ rs) (None ∷ ps) = first_produced rs ps
-first_produced (r ∷ rs) (Some w ∷ ps) = Some r
-
 -- what always holds of the fields of a board
 pub record IsRight (units channels : List (Option Issued)) (producers : List (List (Option Writer)))
     (writers : Writers) (last : ℕ) : Type 0 where

@@ -1,6 +1,10 @@
 -- An issue: both refusals, the new reservation, and the invariant and the list after it.
-use Rattle.std.proofs.Common.{◌≡◌, ◌<◌, ◌+◌, ap, refl, sym, ◌∙◌, subst, Some, None, arith}
+use Rattle.std.proofs.Common.{◌≡◌, ◌<◌, ◌+◌, rules, tests, ap, refl, sym, ◌∙◌, subst, Some, None, arith}
 use Rattle.std.specs.Prelude.{Ok, Err, IfSome}
+use Rattle.std.specs.Prelude.{is_some, option_map}
+use Rattle.std.proofs.lemmas.Iterator.{YieldsList-from_slice, YieldsList-from_zip}
+use Rattle.std.proofs.lemmas.Iterator.Search.{find_from_yields_List}
+use Rattle.scoreboard.proofs.in_slots.Small.{produced_in_zip}
 use Rattle.instructions.specs.Each.{Each}
 use Rattle.scoreboard.specs.Writers.{IsRegister}
 use Rattle.instructions.specs.declared.refusal.Refusal.TheVariants.{UnitBusy}
@@ -29,25 +33,32 @@ returns-in_default-clause-answer c =
 pub returns-in_default-clause-after : goal.returns-in_default-clause-after
 returns-in_default-clause-after c = refused_after c.args.self.now c.args.instr.now _
 
-pub returns-in-Some-first_produced-clause-answer : goal.returns-in-Some-first_produced-clause-answer
-returns-in-Some-first_produced-clause-answer c =
+pub returns-in-Some-find-clause-answer : goal.returns-in-Some-find-clause-answer
+returns-in-Some-find-clause-answer c =
+    let found = find_from_yields_List (λ p. is_some p.1) c.find.new.self _ _ c.find.ensures.ran
+    (YieldsList-from_zip (YieldsList-from_slice c.as_slice-2.result.now cc)
+    (YieldsList-from_slice c.of-taken.result cc)) (λ x b q k. search (rules, tests)) in
     taken_answer (standing_of c.self.inside.units c.self.inside.channels c.self.inside.last) c.args.instr.now _
-    c.in-Some.unit c.first_produced.result c.in-Some-first_produced.register
+    c.in-Some.unit (Some c.in-Some-find.register.now) c.in-Some-find.register.now
     (unit_found c.self.inside.units c.self.inside.channels c.self.inside.producers c.self.inside.writers
     c.self.inside.last (uses c.args.instr.now).unit c.free_unit.result (Some c.in-Some.unit) c.self.invariant
     c.free_unit.ensures c.in-Some.is)
     (first_found c.self.inside.units c.self.inside.channels c.self.inside.producers c.self.inside.writers
     c.self.inside.last c.args.instr.now c.as_slice.result.now c.as_slice-2.result.now c.of-taken.result
-    c.first_produced.result c.self.invariant c.of-taken.ensures.writers c.of-taken.ensures.registers
+    (Some c.in-Some-find.register.now) c.self.invariant c.of-taken.ensures.writers c.of-taken.ensures.registers
     (c.as_slice.ensures.value ∙ c.results-results.ensures.shape)
-    (c.as_slice-2.ensures.value ∙ c.results-results.ensures.shape) c.first_produced.ensures)
-    c.in-Some-first_produced.is
+    (c.as_slice-2.ensures.value ∙ c.results-results.ensures.shape) (produced_in_zip c.as_slice-2.result.now
+    c.of-taken.result
+    (Some (c.in-Some-find.register.now, c.in-Some-find.field-0-1.now)) (◌∙◌ {b = option_map (λ p. (p.0.now, p.1.now))
+    c.find.result}
+    (sym (ap (option_map (λ p. (p.0.now, p.1.now))) c.in-Some-find.is)) found)))
+    refl
     ∙ ap (λ (s : Standing). reserve_answer s c.args.instr.now (unit_for reservation_of s.issued (uses
     c.args.instr.now).unit))
     c.self.view_is
 
-pub returns-in-Some-first_produced-clause-after : goal.returns-in-Some-first_produced-clause-after
-returns-in-Some-first_produced-clause-after c = refused_after c.args.self.now c.args.instr.now _
+pub returns-in-Some-find-clause-after : goal.returns-in-Some-find-clause-after
+returns-in-Some-find-clause-after c = refused_after c.args.self.now c.args.instr.now _
 
 pub overflow_add-number : goal.overflow_add-number
 overflow_add-number c = let e = ap (λ (s : Standing). s.last) c.self.view_is in omega (arith, e, c.requires)
@@ -55,6 +66,9 @@ overflow_add-number c = let e = ap (λ (s : Standing). s.last) c.self.view_is in
 pub invariant_of-self : goal.invariant_of-self
 unfolding new_issued
 invariant_of-self c =
+    let found = find_from_yields_List (λ p. is_some p.1) c.find.new.self _ _ c.find.ensures.ran
+    (YieldsList-from_zip (YieldsList-from_slice c.as_slice-2.result.now cc)
+    (YieldsList-from_slice c.of-taken.result cc)) (λ x b q k. search (rules, tests)) in
     let below : IfSome c.channel.result (λ n. n < 8) = elim c.match-channel.branch [
       | in-Some-channel w ↦ subst (λ o. IfSome o (λ n. n < 8)) (sym w.in-Some-channel.is) w.set.ensures.registers.0
       | in_default-channel w ↦ subst (λ o. IfSome o (λ n. n < 8)) (sym w.in_default-channel.is) tt
@@ -69,24 +83,31 @@ invariant_of-self c =
     c.args.instr.now c.sets.result c.channel.result c.sets.ensures c.channel.ensures middle c.set-2.ensures.value in
     new_right c.self.inside.units c.self.inside.channels c.self.inside.producers c.self.inside.writers
     c.set-2.new.self c.self.inside.last (c.self.inside.last + 1) c.in-Some.unit c.unit_number-index.result
-    c.args.instr.now c.as_slice-3.result.now c.of.result (new_issued c.args.instr.now c.in-Some.unit (c.self.inside.last + 1)) c.self.invariant (omega arith)
+    c.args.instr.now c.as_slice-3.result.now c.of.result (new_issued c.args.instr.now c.in-Some.unit
+    (c.self.inside.last + 1)) c.self.invariant (omega arith)
     c.unit_number-index.ensures.value
     (slot_found c.self.inside.units (uses c.args.instr.now).unit c.free_unit.result c.in-Some.unit
     c.unit_number-index.result c.free_unit.ensures c.in-Some.is c.unit_number-index.ensures.value)
     (c.as_slice-3.ensures.value ∙ c.sources-sources.ensures) c.of.ensures.writers c.of.ensures.registers
-    (subst (Each IsRegister) (sym c.sets.ensures) c.set-2.ensures.registers) (subst (λ o. IfSome o (λ n. n < 8)) c.channel.ensures below)
+    (subst (Each IsRegister) (sym c.sets.ensures) c.set-2.ensures.registers) (subst (λ o. IfSome o (λ n. n < 8))
+    c.channel.ensures below)
     (sym (first_found c.self.inside.units c.self.inside.channels c.self.inside.producers c.self.inside.writers
     c.self.inside.last c.args.instr.now c.as_slice.result.now c.as_slice-2.result.now c.of-taken.result
-    c.first_produced.result c.self.invariant c.of-taken.ensures.writers c.of-taken.ensures.registers
+    None c.self.invariant c.of-taken.ensures.writers c.of-taken.ensures.registers
     (c.as_slice.ensures.value ∙ c.results-results.ensures.shape)
     (c.as_slice-2.ensures.value ∙ c.results-results.ensures.shape)
-    c.first_produced.ensures) ∙ c.in_default-first_produced.is)
+    (produced_in_zip c.as_slice-2.result.now c.of-taken.result
+    None (◌∙◌ {b = option_map (λ p. (p.0.now, p.1.now)) c.find.result}
+    (sym (ap (option_map (λ p. (p.0.now, p.1.now))) c.in_default-find.is)) found))))
     (kind_found c.self.inside.units (uses c.args.instr.now).unit c.free_unit.result c.in-Some.unit
     c.free_unit.ensures c.in-Some.is)
     refl entered
 
 pub returns-clause-answer : goal.returns-clause-answer
 returns-clause-answer c =
+    let found = find_from_yields_List (λ p. is_some p.1) c.find.new.self _ _ c.find.ensures.ran
+    (YieldsList-from_zip (YieldsList-from_slice c.as_slice-2.result.now cc)
+    (YieldsList-from_slice c.of-taken.result cc)) (λ x b q k. search (rules, tests)) in
     reserved_answer (standing_of c.self.inside.units c.self.inside.channels c.self.inside.last) c.args.instr.now _
     c.in-Some.unit (c.self.inside.last + 1)
     (unit_found c.self.inside.units c.self.inside.channels c.self.inside.producers c.self.inside.writers
@@ -94,10 +115,12 @@ returns-clause-answer c =
     c.free_unit.ensures c.in-Some.is)
     (sym (first_found c.self.inside.units c.self.inside.channels c.self.inside.producers c.self.inside.writers
     c.self.inside.last c.args.instr.now c.as_slice.result.now c.as_slice-2.result.now c.of-taken.result
-    c.first_produced.result c.self.invariant c.of-taken.ensures.writers c.of-taken.ensures.registers
+    None c.self.invariant c.of-taken.ensures.writers c.of-taken.ensures.registers
     (c.as_slice.ensures.value ∙ c.results-results.ensures.shape)
     (c.as_slice-2.ensures.value ∙ c.results-results.ensures.shape)
-    c.first_produced.ensures) ∙ c.in_default-first_produced.is)
+    (produced_in_zip c.as_slice-2.result.now c.of-taken.result
+    None (◌∙◌ {b = option_map (λ p. (p.0.now, p.1.now)) c.find.result}
+    (sym (ap (option_map (λ p. (p.0.now, p.1.now))) c.in_default-find.is)) found))))
     (omega arith)
     ∙ ap (λ (s : Standing). reserve_answer s c.args.instr.now (unit_for reservation_of s.issued (uses
     c.args.instr.now).unit))
@@ -108,7 +131,8 @@ unfolding new_issued
 returns-clause-after c =
     new_view c.self.inside.units c.self.inside.channels c.self.inside.producers c.self.inside.writers
     c.self.inside.last (c.self.inside.last + 1) c.in-Some.unit c.unit_number-index.result c.args.instr.now
-    (new_issued c.args.instr.now c.in-Some.unit (c.self.inside.last + 1)) c.self.invariant (omega arith) c.unit_number-index.ensures.value
+    (new_issued c.args.instr.now c.in-Some.unit (c.self.inside.last + 1)) c.self.invariant (omega arith)
+    c.unit_number-index.ensures.value
     (slot_found c.self.inside.units (uses c.args.instr.now).unit c.free_unit.result c.in-Some.unit
     c.unit_number-index.result c.free_unit.ensures c.in-Some.is c.unit_number-index.ensures.value) refl
     ∙ ap (λ (s : Standing). reserved s c.args.instr.now (Ok (c.in-Some.unit, c.self.inside.last + 1))) c.self.view_is
