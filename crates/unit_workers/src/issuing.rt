@@ -174,31 +174,8 @@ fn issue_on<K: Naming>(
     Ok(None)
 }
 
-/// Issues until an issue is refused, while the lock is held once, and then sends each reservation on the lane of its
-/// unit.
-///
-/// # Errors
-/// What was refused to a request.
-fn issue_and_send<K: Naming, R: Wait>(
-    rt: &R,
-    shared: &Shared<K>,
-    seen: &mut Seen<K>,
-    pending: &mut PendingRequests<'_>,
-    lanes: &mut WorkerLanes<'_>,
-) -> Result<Option<Refusal>, Refusal>
-    ensures onward { GoesOnFrom seen.old seen.new }
-{
-    let mut notes = Notes::new();
-    let mut machine = shared.lock(rt);
-    let refused = issue_on(&mut machine, seen, pending, &mut notes);
-    let is_refused = matches!(&refused, Ok(Some(_)));
-    shared.signals().issuing.await_change(is_refused);
-    shared.release(machine);
-    lanes.send_all(rt, shared.signals(), notes.as_slice());
-    refused
-}
-
-/// Issues as much as can be issued, and then, where an exchange waits or no more is issued, makes the exchange.
+/// Issues until an issue is refused, while the lock is held once, and sends each reservation on the lane of its unit.
+/// Then, where an exchange waits or no more is issued, it makes the exchange.
 ///
 /// # Errors
 /// What was refused, except what the events of others can help against.
@@ -211,7 +188,14 @@ fn step<K: Naming, R: Wait>(
 ) -> Result<Next, Refusal>
     ensures onward { GoesOnFrom seen.old seen.new }
 {
-    match issue_and_send(rt, shared, seen, pending, lanes)? {
+    let mut notes = Notes::new();
+    let mut machine = shared.lock(rt);
+    let refused = issue_on(&mut machine, seen, pending, &mut notes);
+    let is_refused = matches!(&refused, Ok(Some(_)));
+    shared.signals().issuing.await_change(is_refused);
+    shared.release(machine);
+    lanes.send_all(rt, shared.signals(), notes.as_slice());
+    match refused? {
         None => Ok(Next::GoesOn),
         Some(Refusal::ExchangeWaiting) => exchange(rt, shared, seen, pending),
         Some(refusal) if ends_run(&refusal) => finish(rt, shared, seen, pending),

@@ -1,5 +1,5 @@
 -- One item more was taken.
-use Rattle.std.proofs.Common.{◌≡◌, ◌≤◌, ℕ, suc, ◌+◌, List, [], ◌∷◌, ◌++◌, ap, ◌∙◌}
+use Rattle.std.proofs.Common.{◌≡◌, ℕ, suc, ◌+◌, List, [], ◌∷◌, ◌++◌, ap, ◌∙◌}
 use Rattle.std.proofs.Common.{arith, append_assoc}
 use Rattle.unit_queue.specs.declared.item.Item.{Item}
 use Rattle.unit_queue.specs.declared.item.Item.TheVariants.{Work}
@@ -15,10 +15,9 @@ pub more : (before at now taken : List Item) (x : Item) → at ≡ before ++ tak
     ++ (taken ++ x ∷ [])
 more before at now taken x e f = f ∙ ap (λ l. l ++ x ∷ []) e ∙ append_assoc before taken (x ∷ [])
 
--- the items taken since the worker began, whose notes are those that its seat has stored and the strange ones
-abbrev pub Counted : List Item → List Item → ℕ → ℕ → ℕ → Type 0
-Counted first at before stored strange =
-    (taken : List Item) × (at ≡ first ++ taken) × (stored + strange ≡ before + notes_in taken) × (before ≤ stored)
+-- the items taken since the worker began, each note of which was stored or strange
+abbrev pub Counted : List Item → List Item → ℕ → ℕ → Type 0
+Counted first at stored strange = (taken : List Item) × (at ≡ first ++ taken) × (stored + strange ≡ notes_in taken)
 
 -- what serving a note does to a seat
 pub stored : (s t : Seating) (number : ℕ) → t ≡ record s { stored = suc s.stored; last = number }
@@ -26,15 +25,13 @@ pub stored : (s t : Seating) (number : ℕ) → t ≡ record s { stored = suc s.
 stored s t number e = (ap (λ (u : Seating). u.unit) e, ap (λ (u : Seating). u.stored) e ∙ omega arith)
 
 -- one note more was taken, and was stored or strange
-pub note_counted : (first at now : List Item) (note : Note) (before stored strange stored' strange' : ℕ)
-    → Counted first at before stored strange → now ≡ at ++ Work note ∷ []
-    → stored' + strange' ≡ stored + strange + 1 → stored ≤ stored' → Counted first now before stored' strange'
-note_counted first at now note before stored strange stored' strange' n got one up =
+pub note_counted : (first at now : List Item) (note : Note) (stored strange stored' strange' : ℕ)
+    → Counted first at stored strange → now ≡ at ++ Work note ∷ []
+    → stored' + strange' ≡ stored + strange + 1 → Counted first now stored' strange'
+note_counted first at now note stored strange stored' strange' n got one =
     let longer = notes_in-push n.0 (Work note) in
-    let sum = n.2 in
-    let least = n.3 in (
+    let sum = n.2 in (
       n.0 ++ Work note ∷ [],
       more first at now n.0 (Work note) n.1 got,
       (omega (arith, longer, sum, one)),
-      (omega (arith, least, up)),
     )

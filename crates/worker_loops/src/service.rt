@@ -51,13 +51,6 @@ fn load<K: Naming, R: Wait>(
     unreachable!()
 }
 
-/// Returns the load of the oldest pending instruction, if its word has come.
-fn return_oldest<K: Naming>(machine: &mut LockedMachine<K>) {
-    if let Some(Event::Return(channel)) = machine.next_work() {
-        let _ = machine.return_load(channel);
-    }
-}
-
 /// Takes the reference that a unit has just made through memory, if no earlier instruction was pending at its store:
 /// then it is the oldest one, and nothing is in its way. Otherwise the storage worker is woken.
 fn refer<K: Naming>(machine: &mut LockedMachine<K>, rest: Outstanding, was_oldest: bool) {
@@ -65,23 +58,14 @@ fn refer<K: Naming>(machine: &mut LockedMachine<K>, rest: Outstanding, was_oldes
         machine.leave_to_memory();
         return;
     }
-    match rest {
-        Outstanding::Entered(place, _, Access::Store(_)) => {
-            let _ = accept(machine, place);
-        }
-        Outstanding::Entered(place, _, Access::Load(_)) => {
-            let _ = accept(machine, place);
-            return_oldest(machine);
-        }
-        Outstanding::Accepted(_, _) => return_oldest(machine),
+    if let Outstanding::Entered(place, _, _) = &rest {
+        let _ = accept(machine, *place);
     }
-}
-
-/// Whether the oldest pending instruction is in this unit, and may be stored.
-fn is_oldest<K: Naming>(machine: &LockedMachine<K>, unit: Unit) -> bool {
-    match machine.next_work() {
-        Some(Event::Store(oldest)) => oldest == unit,
-        _ => false,
+    if matches!(rest, Outstanding::Entered(_, _, Access::Store(_))) {
+        return;
+    }
+    if let Some(Event::Return(channel)) = machine.next_work() {
+        let _ = machine.return_load(channel);
     }
 }
 
@@ -111,7 +95,7 @@ fn store<K: Naming, R: Wait>(
     };
     for _ in rt.forever() {
         let count = signal.count();
-        let was_oldest = has_reference && is_oldest(&machine, unit);
+        let was_oldest = has_reference && machine.next_work() == Some(Event::Store(unit));
         match machine.store(token) {
             Ok((seat, rest)) => {
                 if let Some(rest) = rest {

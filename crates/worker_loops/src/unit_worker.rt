@@ -40,23 +40,24 @@ pub fn worker<K: Naming, G: Gate, R: Wait>(
     ensures counted { result.left.value.stored ≡ seat.stored + result.stored }
 {
     let unit = seat.unit();
-    let before = seat.stored();
     let signal = shared.signals().worker(unit);
     let mut wait = shared.signals().waiting();
-    let (mut at, mut from, mut strange) = (seat, pass, 0);
+    let (mut at, mut from, mut stored, mut strange) = (seat, pass, 0, 0);
     for _ in rt.forever() {
         let count = signal.count();
         match lane.take(rt, &mut from) {
             Some(Item::Work(note)) => {
                 let (back, is_stored) = serve_with(rt, shared, note, at, gate, &mut wait);
                 at = back;
-                if !is_stored {
+                if is_stored {
+                    stored = one_more(rt, stored);
+                } else {
                     strange = one_more(rt, strange);
                 }
             }
             Some(Item::Closed) => {
                 let left = GhostCopy::of(&at);
-                let stored = at.leave() - before;
+                let _ = at.leave();
                 return Tally {
                     unit,
                     stored,

@@ -26,7 +26,7 @@ use Rattle.in_flight.specs.declared.slots.Located.{Located}
 use Rattle.in_flight.specs.Flight.{Flight, with_pending}
 use Rattle.in_flight.specs.Lookup.{located, in_phase, stage_at, stage_in}
 use Rattle.instructions.specs.Finding.{replaced, Found, put_back, seek}
-use Rattle.machine.specs.Tokens.{Computation, Reading, ServedReservation, Seating, IsValueAt, IsValueIn, finished_in}
+use Rattle.machine.specs.Tokens.{Computation, Reading, ServedReservation, Seating, finished_in}
 use Rattle.machine.specs.Tokens.{read_of}
 use Rattle.machine.specs.Tokens.{reading_at, reading_in, slot, unread_in}
 use Rattle.program_order.specs.Processor.{Processor}
@@ -128,6 +128,17 @@ loaded_as w v t k m os pending b ek em eb et h i =
     (one_number m.number k.number (slot w k.unit) h
     (ap (λ l. unread_in k.number (seek (stage_at k.unit) l)) (sym em) ∙ sym eb ∙ et)
     ∙ ap (λ (x : Note). x.number) ek)
+
+-- it is the value of what was read
+abbrev pub IsValueAt : UnitValue → Instr → Stage → Type 0
+IsValueAt value instr Unread = ⊥
+IsValueAt value instr (HasRead operands) = value ≡ value_of instr operands
+IsValueAt value instr (Finished old) = ⊥
+
+-- it is the value of what was read by the reservation in the slot
+abbrev pub IsValueIn : UnitValue → Option (Found Pending Stage) → Type 0
+IsValueIn value None = ⊥
+IsValueIn value (Some f) = IsValueAt value f.item.instr f.answer
 
 -- the value of what was read is the value that the slot is to have
 pub value_in : (o : Option (Found Pending Stage)) (seat : Seating) (r : Reading) (v : UnitValue)

@@ -1,4 +1,4 @@
-use Rattle.std.proofs.Common.{◌≡◌}
+use Rattle.std.proofs.Common.{◌≡◌, ◌+◌}
 use Rattle.worker_loops.proofs.NotesTaken.{Counted}
 use Rattle.worker_loops.proofs.unit_worker.worker.Given as goal
 
@@ -7,6 +7,6 @@ abbrev pub invariant-loop : goal.invariant-loop
 invariant-loop g l = record {
   lane : l.from.id ≡ l.lane.id;
   unit : l.at.unit ≡ l.fn.seat.unit;
-  before : l.before ≡ l.fn.seat.stored;
-  notes : Counted l.fn.pass.got l.from.got l.before l.at.stored l.strange;
+  counted : l.at.stored ≡ l.fn.seat.stored + l.stored;
+  notes : Counted l.fn.pass.got l.from.got l.stored l.strange;
 }
