@@ -1,7 +1,7 @@
 -- The instructions in flight: the pending instructions beside the board and the hopper that answer for them.
 -- Source: ours.
 use Rattle.std.specs.Prelude.{◌≡◌, ℕ, suc, Bool, true, List, [], ◌∷◌, ◌++◌, Option, Some, None, unwrap_or}
-use Rattle.std.specs.Prelude.{◌&&◌, false, is_none, slice_index_or}
+use Rattle.std.specs.Prelude.{slice_index_or}
 use Rattle.instructions.specs.declared.instr.Instr.{Instr}
 use Rattle.instructions.specs.declared.instr.Unit.{Unit as FunctionalUnit}
 use Rattle.instructions.specs.declared.instr.Unit.TheVariants.{Branch}
@@ -13,7 +13,7 @@ use Rattle.scoreboard.specs.Answers.{Standing}
 use Rattle.scoreboard.specs.Issued.{channel_of}
 use Rattle.hopper.specs.Queue.{Queue}
 use Rattle.sequential.specs.declared.work.ProgramReference.{ProgramReference}
-use Rattle.sequential.specs.State.{Bounds, absolute, stops_at_fault}
+use Rattle.sequential.specs.State.{Bounds, absolute}
 use Rattle.in_flight.specs.declared.referring.Relocated.{Relocated}
 use Rattle.in_flight.specs.declared.pending.Outstanding.{Outstanding}
 use Rattle.in_flight.specs.declared.pending.Outstanding.TheVariants.{Entered, Accepted}
@@ -49,11 +49,6 @@ entering place None (Store word) = None
 unfoldable pub relocated : Bounds → Option ProgramReference → Option Relocated
 relocated b None = None
 relocated b (Some r) = Some (record { address = absolute b r.address; access = r.access })
-
--- it sets the fault flag: it is out of range, and the exit mode says so
-unfoldable pub faults_at : Bounds → Option Relocated → Bool
-faults_at b None = false
-faults_at b (Some r) = stops_at_fault b && is_none r.address
 
 -- what is left of an instruction, by its reference, if it makes one
 unfoldable pub outstanding_of : ℕ → Option Relocated → Option Outstanding

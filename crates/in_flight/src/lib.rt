@@ -15,5 +15,5 @@ mod slots;
 
 pub use flight::InFlight;
 pub use pending::{Arrival, Outstanding, Pending, Phase, Stage};
-pub use referring::{Relocated, faults};
+pub use referring::Relocated;
 pub use slots::Located;

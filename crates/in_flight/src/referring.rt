@@ -1,8 +1,8 @@
-ghost use Rattle.std.specs.Prelude.{◌≡◌, ℕ};
-ghost use Rattle.in_flight.specs.Flight.{faults_at, relocated};
+ghost use Rattle.std.specs.Prelude.{◌≡◌};
+ghost use Rattle.in_flight.specs.Flight.{relocated};
 
-use relocation::{Access, Area};
-use sequential::{ProgramReference, stops_at_fault};
+use relocation::{Access, Area, relocate};
+use sequential::ProgramReference;
 
 /// A reference by absolute address, before it has its place.
 #[derive(Clone, Copy, Debug, Drop, PartialEq, Eq)]
@@ -15,27 +15,16 @@ pub struct Relocated {
 
 impl Relocated {
     /// A reference by its absolute address in a memory of `size` words, if there is one.
-    #[tactic(auto, unfolding(crate::specs::Flight::relocated))]
+    #[tactic(auto, unfolding(crate::specs::Flight::relocated, sequential::specs::State::absolute))]
     pub fn of(area: &Area, size: u32, reference: &Option<ProgramReference>) -> Option<Relocated>
         ensures { result ≡ relocated (record { area = area.now; size = size }) reference.now }
     {
         match reference {
             None => None,
             Some(reference) => Some(Relocated {
-                address: reference.absolute(area, size),
+                address: relocate(reference.address, area.ra, area.fl, size),
                 access: reference.access,
             }),
         }
-    }
-}
-
-/// Whether the reference sets the fault flag: it is out of range, and the exit mode says so.
-#[tactic(auto, unfolding(crate::specs::Flight::faults_at))]
-pub fn faults(area: &Area, reference: &Option<Relocated>) -> bool
-    ensures { (size : ℕ) → result ≡ faults_at (record { area = area.now; size = size }) reference.now }
-{
-    match reference {
-        None => false,
-        Some(reference) => stops_at_fault(area) && reference.address.is_none(),
     }
 }

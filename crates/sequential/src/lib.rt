@@ -23,4 +23,4 @@ pub use position::ProgramPosition;
 pub use replaying::replay;
 pub use state::State;
 pub use stepping::step;
-pub use work::{ProgramReference, Work, faults, operands, stops_at_fault};
+pub use work::{ProgramReference, Work, operands};

@@ -4,12 +4,13 @@ ghost use Rattle.unit_ops.specs.Values.{value_of};
 ghost use Rattle.sequential.specs.State.{bounds_of};
 ghost use Rattle.instruction_table.specs.Decoding.{digits_at, reading_at};
 ghost use Rattle.sequential.specs.Step.{do_fetched, do_instruction, fetched_by, step};
-ghost use Rattle.sequential.specs.Work.{refer_at, refer, written};
+ghost use Rattle.sequential.specs.Work.{fault_of, refer_at, refer, written};
 
 use crate::fetching::fetched_by;
-use crate::{Fetched, ProgramPosition, ProgramReference, State, Work, faults, operands};
+use crate::work::faults;
+use crate::{Fetched, ProgramPosition, ProgramReference, State, Work, operands};
 use instruction_table::{Halt, Instr, Reg, decode_as, first_digits};
-use relocation::Access;
+use relocation::{Access, relocate};
 use unit_ops::{Operands, UnitValue, value};
 use word60::{Word18, Word60};
 
@@ -53,24 +54,33 @@ impl State {
     }
 
     /// Makes a reference, if there is one.
-    #[tactic(auto, unfolding(crate::specs::Work::refer, crate::specs::State::bounds_of))]
+    #[tactic(
+        auto,
+        unfolding(
+            crate::specs::Work::refer,
+            crate::specs::State::bounds_of,
+            crate::specs::State::absolute
+        )
+    )]
     #[inline(always)]
     fn refer(&mut self, reference: &Option<ProgramReference>)
         ensures { self.new ≡ refer (bounds_of self.old) self.old reference.now }
     {
         if let Some(reference) = reference {
-            let address = reference.absolute(&self.area, self.memory.size());
+            let size = self.memory.size();
+            let address = relocate(reference.address, self.area.ra, self.area.fl, size);
             self.refer_at(address, &reference.access);
         }
     }
 
-    /// Writes the result of an instruction and jumps. `faults` says whether its reference sets the fault flag, which
-    /// stays once it is set. The reference itself is still to be made.
-    #[tactic(auto, unfolding(crate::specs::Work::put_any))]
+    /// Writes the result of an instruction, jumps, and sets the fault flag if its reference is out of range and the exit
+    /// mode says so. The flag stays once it is set. The reference itself is still to be made.
+    #[tactic(auto, unfolding(crate::specs::Work::put_any, crate::specs::State::bounds_of))]
     #[inline(always)]
-    pub fn write_and_jump(&mut self, work: &Work, faults: bool)
-        ensures { self.new ≡ written self.old work.now faults }
+    pub fn write_and_jump(&mut self, work: &Work)
+        ensures { self.new ≡ written self.old work.now (fault_of (bounds_of self.old) work.now.reference) }
     {
+        let faults = faults(&self.area, self.memory.size(), &work.reference);
         if let Some(register) = work.register {
             self.registers.set(register, work.number);
         }
@@ -85,8 +95,7 @@ impl State {
     {
         let value = computed(instr, &operands(instr, at, &self.registers));
         let work = Work::of(instr, &value);
-        let faults = faults(&self.area, self.memory.size(), &work.reference);
-        self.write_and_jump(&work, faults);
+        self.write_and_jump(&work);
         self.refer(&work.reference);
     }
 

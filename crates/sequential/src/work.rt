@@ -1,5 +1,4 @@
-ghost use Rattle.std.specs.Prelude.{◌≡◌, ◌<◌, ℕ, IfSome};
-ghost use Rattle.sequential.specs.State.{absolute, stops_at_fault};
+ghost use Rattle.std.specs.Prelude.{◌≡◌};
 ghost use Rattle.instructions.specs.Shape.{shape_of};
 ghost use Rattle.sequential.specs.Work.{IsWorkOf, operand_at, operands, link_word};
 ghost use Rattle.sequential.specs.Work.{fault_of};
@@ -108,35 +107,25 @@ impl Work {
     }
 }
 
-impl ProgramReference {
-    /// The absolute address in a memory of `size` words, None where it is out of range.
-    #[tactic(auto, unfolding(crate::specs::State::absolute))]
-    #[inline(always)]
-    pub fn absolute(&self, area: &Area, size: u32) -> Option<u32>
-        ensures value { result ≡ absolute (record { area = area.now; size = size }) self.now.address }
-        ensures range { IfSome result (λ address. address < size) }
-    {
-        relocate(self.address, area.ra, area.fl, size)
-    }
-}
-
-/// Whether the exit mode sets the fault flag at an address out of range: it has bit 010000 (octal).
-#[tactic(auto, unfolding(crate::specs::State::stops_at_fault))]
+/// Whether a reference sets the fault flag: it is out of range, and the exit mode sets the flag then, as it has bit
+/// 010000 (octal).
+#[tactic(
+    auto,
+    unfolding(
+        crate::specs::Work::fault_of,
+        crate::specs::State::stops_at_fault,
+        crate::specs::State::absolute
+    )
+)]
 #[inline(always)]
-pub fn stops_at_fault(area: &Area) -> bool
-    ensures { (size : ℕ) → result ≡ stops_at_fault (record { area = area.now; size = size }) }
-{
-    (area.mode.get() >> 12) % 2 == 1
-}
-
-/// Whether a reference sets the fault flag: it is out of range, and the exit mode says so.
-#[tactic(auto, unfolding(crate::specs::Work::fault_of))]
-#[inline(always)]
-pub fn faults(area: &Area, size: u32, reference: &Option<ProgramReference>) -> bool
+pub(crate) fn faults(area: &Area, size: u32, reference: &Option<ProgramReference>) -> bool
     ensures { result ≡ fault_of (record { area = area.now; size = size }) reference.now }
 {
     match *reference {
         None => false,
-        Some(reference) => stops_at_fault(area) && reference.absolute(area, size).is_none(),
+        Some(reference) => {
+            (area.mode.get() >> 12) % 2 == 1
+                && relocate(reference.address, area.ra, area.fl, size).is_none()
+        }
     }
 }

@@ -54,7 +54,7 @@ use Rattle.instructions.specs.Finding.{replaced, Found, seek, put_back}
 use Rattle.machine.specs.inner.View.{owed, IsKept, processor_of}
 use Rattle.machine.specs.Tokens.{rest_after, rest_at}
 use Rattle.program_order.specs.Processor.{Processor, boot_processor, completed, replayed}
-use Rattle.in_flight.specs.Flight.{relocated, faults_at}
+use Rattle.in_flight.specs.Flight.{relocated}
 use Rattle.program_order.specs.Units.{finish_tests, store_tests, rest_of, stage_after_read, stage_after_finish}
 use Rattle.program_order.specs.Units.{after_read, after_finish, after_work, after_store}
 use Rattle.program_order.specs.Exchange.{ask_tests, exchange_tests, after_exchange}
@@ -521,31 +521,24 @@ pub bounds_at : (w : Processor) (size : ℕ) → size ≡ length w.state.memory
 unfolding bounds_of
 bounds_at w size e = ap (λ n. record { area = w.state.area; size = n }) e
 
--- a reference sets the fault flag, by its absolute address
-pub relocated_fault : (b : Bounds) (q : Option ProgramReference) → faults_at b (relocated b q) ≡ fault_of b q
-unfolding relocated faults_at fault_of
-relocated_fault b None = refl
-relocated_fault b (Some r) = refl
-
 pub store_parts : (w : Processor) (u : FunctionalUnit) (size : ℕ) (m : Pending) (v : UnitValue) (work : DoneWork)
-    (s : State) (faults : Bool) (rest : Option Relocated) (g : Flight)
+    (s : State) (rest : Option Relocated) (g : Flight)
     → located (seek (stage_at u) w.pending) ≡ Some (record { pending = m; answer = Finished v })
     → size ≡ length w.state.memory
     → IsWorkOf (shape_of m.instr) v work
     → rest ≡ relocated (record { area = w.state.area; size = size }) (reference_for (shape_of m.instr) v)
-    → faults ≡ faults_at (record { area = w.state.area; size = size }) rest
-    → s ≡ written w.state work faults
+    → s ≡ written w.state work (fault_of (bounds_of w.state) work.reference)
     → g ≡ with_pending (flight w)
     (replaced (seek (stage_at u) w.pending) w.pending
     (λ x. kept x (outstanding_of (unwrap_or (place_for w.pending) 0) rest)))
     → with_flight (record w { state = s }) g ≡ after w (StoreResult u)
-store_parts w u size m v work s faults rest g p ez is el ef es em =
+store_parts w u size m v work s rest g p ez is el es em =
     let b : Bounds = record { area = w.state.area; size = size } in
     let q : Option ProgramReference = reference_for (shape_of m.instr) v in
     let free : ℕ = unwrap_or (place_for w.pending) 0 in
     store_made w u m v s (outstanding_of free rest) g p
-    (es ∙ written_by (bounds_of w.state) w.state (shape_of m.instr) v work faults is
-    (ef ∙ ap (faults_at b) el ∙ relocated_fault b q ∙ ap (λ x. fault_of x q) (bounds_at w size ez)))
+    (es ∙ written_by (bounds_of w.state) w.state (shape_of m.instr) v work
+    (fault_of (bounds_of w.state) work.reference) is (ap (fault_of (bounds_of w.state)) is.reference))
     (ap (outstanding_of free) el ∙ ap (λ x. rest_of x free q) (bounds_at w size ez))
     em
 

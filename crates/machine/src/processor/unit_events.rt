@@ -7,7 +7,7 @@ ghost use Rattle.program_order.specs.Events.{allowed, after};
 
 use crate::processor::made;
 use crate::{Answer, Machine};
-use in_flight::{Located, Outstanding, Relocated, Stage, faults};
+use in_flight::{Located, Outstanding, Relocated, Stage};
 use instruction_table::{Refusal, Unit};
 use judging::judge_finish;
 use sequential::Work;
@@ -49,12 +49,11 @@ impl Machine {
         let Stage::Finished(value) = answer else {
             return Err(Refusal::Nothing);
         };
-        let area = self.state.area;
         let work = Work::of(&pending.instr, &value);
-        let reference = Relocated::of(&area, self.state.memory.size(), &work.reference);
+        let size = self.state.memory.size();
+        let reference = Relocated::of(&self.state.area, size, &work.reference);
         self.in_flight.may_store(unit, &reference)?;
-        self.state
-            .write_and_jump(&work, faults(&area, &reference));
+        self.state.write_and_jump(&work);
         Ok(self.in_flight.leave(unit, &reference))
     }
 

@@ -42,10 +42,10 @@ made c =
     let e = reference_made _ c.of-reference.result c.of-work.result c.in-Some.field-0.pending c.in-Finished.value
     c.of-reference.ensures c.of-work.ensures in
     boot_same c
-    ∙ store_parts (the_view c.self.inside) c.args.unit c.size.result c.in-Some.field-0.pending c.in-Finished.value
-    c.of-work.result c.write_and_jump.new.self c.faults.result c.of-reference.result
-    c.leave.new.self f c.size.ensures.value c.of-work.ensures e
-    (c.faults.ensures c.size.result) c.write_and_jump.ensures c.leave.ensures.after
+    ∙ store_parts (the_view c.self.inside) c.args.unit c.size-size.result c.in-Some.field-0.pending c.in-Finished.value
+    c.of-work.result c.write_and_jump.new.self c.of-reference.result
+    c.leave.new.self f c.size-size.ensures.value c.of-work.ensures e
+    c.write_and_jump.ensures c.leave.ensures.after
 
 pub returns-in_default-clause-answer : goal.returns-in_default-clause-answer
 returns-in_default-clause-answer c = ap (λ x. allowed x (StoreResult c.args.unit)) (sym c.self.view_is)
@@ -72,8 +72,8 @@ returns-in_err-may_store-clause-answer c =
     c.of-reference.ensures c.of-work.ensures in
     rw (p.1, p.2)
     (ap (λ x. allowed x (StoreResult c.args.unit)) (sym c.self.view_is)
-    ∙ store_asked (the_view c.self.inside) c.args.unit c.size.result c.in-Some.field-0.pending
-    c.in-Finished.value c.of-reference.result (refusal_in c.may_store.result) _ f c.size.ensures.value e
+    ∙ store_asked (the_view c.self.inside) c.args.unit c.size-size.result c.in-Some.field-0.pending
+    c.in-Finished.value c.of-reference.result (refusal_in c.may_store.result) _ f c.size-size.ensures.value e
     c.may_store.ensures (ap refusal_in c.in_err-may_store.was))
 
 pub leave-requires-clause-rest : goal.leave-requires-clause-rest
@@ -89,10 +89,10 @@ leave-requires-clause-room c =
     let f = found_finished _ _ c.in-Some.field-0 c.in-Finished.value c.find.ensures c.in-Some.is c.in-Finished.is in
     let e = reference_made _ c.of-reference.result c.of-work.result c.in-Some.field-0.pending c.in-Finished.value
     c.of-reference.ensures c.of-work.ensures in
-    store_room (the_view c.self.inside) c.args.unit c.size.result c.in-Some.field-0.pending c.in-Finished.value
-    c.of-reference.result (store_asked (the_view c.self.inside) c.args.unit c.size.result c.in-Some.field-0.pending
-    c.in-Finished.value c.of-reference.result (refusal_in c.may_store.result) _ f c.size.ensures.value e
-    c.may_store.ensures (ap refusal_in c.in_ok-may_store.was)) f c.size.ensures.value
+    store_room (the_view c.self.inside) c.args.unit c.size-size.result c.in-Some.field-0.pending c.in-Finished.value
+    c.of-reference.result (store_asked (the_view c.self.inside) c.args.unit c.size-size.result c.in-Some.field-0.pending
+    c.in-Finished.value c.of-reference.result (refusal_in c.may_store.result) _ f c.size-size.ensures.value e
+    c.may_store.ensures (ap refusal_in c.in_ok-may_store.was)) f c.size-size.ensures.value
     e
 
 pub invariant_of-self : goal.invariant_of-self
@@ -101,8 +101,8 @@ invariant_of-self c =
     let e = reference_made _ c.of-reference.result c.of-work.result c.in-Some.field-0.pending c.in-Finished.value
     c.of-reference.ensures c.of-work.ensures in
     still_kept (the_view c.self.inside) _ (StoreResult c.args.unit) c.self.inside.log
-    c.self.inside.log (store_asked (the_view c.self.inside) c.args.unit c.size.result c.in-Some.field-0.pending
-    c.in-Finished.value c.of-reference.result (refusal_in c.may_store.result) _ f c.size.ensures.value e
+    c.self.inside.log (store_asked (the_view c.self.inside) c.args.unit c.size-size.result c.in-Some.field-0.pending
+    c.in-Finished.value c.of-reference.result (refusal_in c.may_store.result) _ f c.size-size.ensures.value e
     c.may_store.ensures (ap refusal_in c.in_ok-may_store.was)) (made c) c.self.invariant
     c.self.invariant.room
     (subst (λ n. n ≤ issued c.self.inside.log.steps) (sym (ap (λ (f : Flight). f.last) c.leave.ensures.after))
@@ -114,8 +114,8 @@ returns-clause-answer c =
     let e = reference_made _ c.of-reference.result c.of-work.result c.in-Some.field-0.pending c.in-Finished.value
     c.of-reference.ensures c.of-work.ensures in
     ap (λ x. allowed x (StoreResult c.args.unit)) (sym c.self.view_is)
-    ∙ store_asked (the_view c.self.inside) c.args.unit c.size.result c.in-Some.field-0.pending
-    c.in-Finished.value c.of-reference.result (refusal_in c.may_store.result) _ f c.size.ensures.value e
+    ∙ store_asked (the_view c.self.inside) c.args.unit c.size-size.result c.in-Some.field-0.pending
+    c.in-Finished.value c.of-reference.result (refusal_in c.may_store.result) _ f c.size-size.ensures.value e
     c.may_store.ensures (ap refusal_in c.in_ok-may_store.was)
 
 pub returns-clause-after : goal.returns-clause-after
@@ -126,6 +126,6 @@ returns-clause-rest c =
     let f = found_finished _ _ c.in-Some.field-0 c.in-Finished.value c.find.ensures c.in-Some.is c.in-Finished.is in
     let e = reference_made _ c.of-reference.result c.of-work.result c.in-Some.field-0.pending c.in-Finished.value
     c.of-reference.ensures c.of-work.ensures in
-    rest_left (the_view c.self.inside) c.args.unit c.size.result c.in-Some.field-0.pending c.in-Finished.value
-    c.of-reference.result c.leave.result f c.size.ensures.value e c.leave.ensures.left
+    rest_left (the_view c.self.inside) c.args.unit c.size-size.result c.in-Some.field-0.pending c.in-Finished.value
+    c.of-reference.result c.leave.result f c.size-size.ensures.value e c.leave.ensures.left
     ∙ ap (λ (x : Processor). rest_after x (slot x c.args.unit)) c.self.view_is
