@@ -19,7 +19,7 @@ use Rattle.sequential_run.specs.Turns.{Moment, Turn, Exchanges, Asks, AsksFree, 
 use Rattle.sequential_run.specs.Turns.{is_going, is_in_mid_word, issue_or_end, first_due, turn_by, next_turn, take_turn}
 use Rattle.sequential_run.specs.Turns.{turns, begun}
 use Rattle.sequential_run.specs.inner.Course.{IsKept, IsBegun, Goes, Went, IsWhyRefused, left_at, moment_of}
-use Rattle.sequential_run.specs.Run.{EndsAt, IsRefusedAfter, IsRun, IsSequentialRun, IsWhyNoRun, is_over}
+use Rattle.sequential_run.specs.Run.{EndsAt, IsUnfit, IsRun, IsSequentialRun, IsWhyNoRun, is_over}
 use Rattle.sequential_run.proofs.Turning.{more_turns}
 
 -- ---- the log leads to the state ----
@@ -159,6 +159,12 @@ pub led_off : (budget : ℕ) (on : Bool) (m n o : Moment) → on ≡ false → L
     → EndsAt budget m o
 led_off budget true m n o e l w = cc
 led_off budget false m n o e l w = led_to_end budget m n o l w
+
+-- why a run from this moment has no end: memory ran out, or E19, package range
+abbrev pub IsRefusedAfter : ℕ → Moment → Refusal → Type 0
+IsRefusedAfter budget first OutOfMemory = Unit {0}
+IsRefusedAfter budget first PackageRange = IsUnfit budget first
+IsRefusedAfter budget first other = ⊥
 
 pub led_to_refusal : (budget : ℕ) (m n : Moment) (r : Refusal) → Led budget m n → IsWhyRefused budget n r
     → IsRefusedAfter budget m r

@@ -45,12 +45,6 @@ pub record IsUnfit (budget : ℕ) (first : Moment) : Type 0 where
   pub exchanges : next_turn budget last ≡ Exchanges at
   pub unfit : package_fits at (length last.state.memory) ≡ false
 
--- why a run from this moment has no end: memory ran out, or E19, package range
-abbrev pub IsRefusedAfter : ℕ → Moment → Refusal → Type 0
-IsRefusedAfter budget first OutOfMemory = Unit {0}
-IsRefusedAfter budget first PackageRange = IsUnfit budget first
-IsRefusedAfter budget first other = ⊥
-
 -- a run of a memory, a first package, requests after so many instructions and at any time, and a budget ends with this
 -- log in this state
 pub record IsSequentialRun (memory : List ℕ) (start : ℕ) (after : List (ℕ × ℕ)) (free : List ℕ) (budget : ℕ)

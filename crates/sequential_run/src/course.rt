@@ -29,28 +29,6 @@ pub struct Course {
 }
 
 impl Course {
-    /// Makes the exchange of the request that waits, with the package at `at`.
-    ///
-    /// # Errors
-    /// `OutOfMemory`, and `PackageRange` if the sixteen words of the package don't all lie in memory.
-    fn exchange(&mut self, budget: u64, at: u32) -> Result<(), Refusal>
-        requires kept { IsKept budget self.old }
-        requires waits { self.old.waiting ≡ Some at }
-        ensures gone { is_in_mid_word self.old.state ≡ false
-            → MatchResult result (λ _. Goes budget (moment_of self.old) (moment_of self.new))
-            (λ refusal. IsWhyRefused budget (moment_of self.old) refusal) }
-        ensures kept { MatchResult result (λ _. IsKept budget self.new) (λ _. true ≡ true) }
-    {
-        if self.log.reserve(1).is_err() {
-            return Err(Refusal::OutOfMemory);
-        }
-        self.state.exchange(at)?;
-        self.log.exchanged(at);
-        self.requests.exchanged();
-        self.waiting = None;
-        Ok(())
-    }
-
     /// Makes the next request that is due, or if none is, the next one that may be made at any time. False if there is
     /// neither.
     fn ask(&mut self, budget: u64) -> bool
@@ -141,22 +119,22 @@ impl Course {
             (λ refusal. IsWhyRefused budget (moment_of self.old) refusal) }
         ensures kept { MatchResult result (λ _. IsKept budget self.new) (λ _. true ≡ true) }
     {
-        match self.waiting {
-            Some(at) => {
-                if is_in_mid_word(&self.state) {
-                    return self.issue(budget);
-                }
-                match self.exchange(budget, at) {
-                    Ok(()) => Ok(true),
-                    Err(refusal) => Err(refusal),
-                }
+        let Some(at) = self.waiting else {
+            if self.ask(budget) {
+                return Ok(true);
             }
-            None => {
-                if self.ask(budget) {
-                    return Ok(true);
-                }
-                self.issue(budget)
-            }
+            return self.issue(budget);
+        };
+        if is_in_mid_word(&self.state) {
+            return self.issue(budget);
         }
+        if self.log.reserve(1).is_err() {
+            return Err(Refusal::OutOfMemory);
+        }
+        self.state.exchange(at)?;
+        self.log.exchanged(at);
+        self.requests.exchanged();
+        self.waiting = None;
+        Ok(true)
     }
 }

@@ -1,8 +1,7 @@
 //! A run from its boot to its end.
-ghost use Rattle.std.specs.Prelude.{◌≡◌, ◌≤◌, IfOk, MatchResult, true};
-ghost use Rattle.sequential.specs.Log.{issued};
-ghost use Rattle.sequential_run.specs.inner.Course.{IsKept, IsBegun, moment_of};
-ghost use Rattle.sequential_run.specs.Run.{IsRun, IsSequentialRun, IsWhyNoRun, EndsAt, IsRefusedAfter};
+ghost use Rattle.std.specs.Prelude.{IfOk, MatchResult};
+ghost use Rattle.sequential_run.specs.inner.Course.{IsBegun};
+ghost use Rattle.sequential_run.specs.Run.{IsRun, IsSequentialRun, IsWhyNoRun};
 
 use crate::course::Course;
 use exchange_requests::{Ask, Requests};
@@ -45,25 +44,6 @@ fn begin(
     })
 }
 
-/// Takes turns until the run has ended.
-///
-/// # Errors
-/// As `Course::turn`.
-fn finish(course: &mut Course, budget: u64) -> Result<(), Refusal>
-    requires kept { IsKept budget course.old }
-    ensures ended { MatchResult result (λ _. EndsAt budget (moment_of course.old) (moment_of course.new))
-        (λ refusal. IsRefusedAfter budget (moment_of course.old) refusal) }
-    ensures within { MatchResult result (λ _. issued course.new.log.steps ≤ budget) (λ _. true ≡ true) }
-{
-    loop {
-        match course.turn(budget) {
-            Ok(true) => {}
-            Ok(false) => return Ok(()),
-            Err(refusal) => return Err(refusal),
-        }
-    }
-}
-
 /// Runs a program to its end, one instruction at a time. The machine is booted with `memory`, its first exchange is
 /// with the package at the absolute address `start`, and at most `budget` instructions are done. The requests of
 /// `after` are made after as many instructions as they name, those of `free`, absolute addresses of packages, at the
@@ -89,7 +69,7 @@ pub fn run(
     let Ok(mut course) = begin(alloc, memory, start, after, free) else {
         return Err(Refusal::OutOfMemory);
     };
-    finish(&mut course, budget)?;
+    while course.turn(budget)? {}
     Ok(CompletedRun {
         state: course.state,
         log: course.log,

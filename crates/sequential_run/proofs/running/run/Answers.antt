@@ -1,18 +1,29 @@
 use Rattle.std.proofs.Common.{refl}
+use Rattle.sequential_run.specs.inner.Course.{moment_of}
 use Rattle.sequential_run.proofs.Beginning.{run_begins}
 use Rattle.sequential_run.proofs.Fulfilling.{run_fulfils}
-use Rattle.sequential_run.proofs.Ending.{kept_begun, run_ended, run_on, run_over, run_replays}
+use Rattle.sequential_run.proofs.Ending.{kept_begun, led_begun, led_off, led_on, run_ended, run_on, run_over, run_replays}
 use Rattle.sequential_run.proofs.running.run.Goals as goal
 
-pub finish-requires : goal.finish-requires
-finish-requires c = record {
+pub loop-course-init : goal.loop-course-init
+loop-course-init c = record {
+  led = led_begun c.args.budget _;
   kept = kept_begun c.args.memory c.args.start c.args.after.now c.args.free.now c.args.budget c.in-Ok.course
       c.in-Ok.ensures.begun;
 }
 
+pub loop-course-preserved : goal.loop-course-preserved
+loop-course-preserved c = record {
+  led = led_on c.args.budget c.in_ok-turn.field-0 _ (moment_of c.loop-course.course) _ c.if-branch.true
+      c.loop-course.invariant.led c.in_ok-turn.ensures.gone;
+  kept = c.in_ok-turn.ensures.kept;
+}
+
 pub returns-clause-run : goal.returns-clause-run
 returns-clause-run c = run_ended c.args.memory c.args.start c.args.after.now c.args.free.now c.args.budget
-    c.in-Ok.course c.finish.new.course c.in-Ok.ensures.begun c.in_ok-finish.ensures.ended
+    c.in-Ok.course c.turn.new.self c.in-Ok.ensures.begun
+    (led_off c.args.budget c.in_ok-turn.field-0 _ (moment_of c.loop-course.course) _ c.if-branch.false
+    c.loop-course.invariant.led c.in_ok-turn.ensures.gone)
 
 pub returns-clause-promised : goal.returns-clause-promised
 returns-clause-promised c =
@@ -20,7 +31,7 @@ returns-clause-promised c =
     (run_begins c.args.memory c.args.start c.args.after.now c.args.free.now c.args.budget _ _
     (returns-clause-run c))
     (run_fulfils c.args.memory c.args.start c.args.after.now c.args.free.now c.args.budget _ _
-    (returns-clause-run c)) c.in_ok-finish.ensures.within
+    (returns-clause-run c)) c.in_ok-turn.ensures.kept.within
     (run_over c.args.memory c.args.start c.args.after.now c.args.free.now c.args.budget _ _
     (returns-clause-run c))
     (run_replays c.args.memory c.args.start c.args.after.now c.args.free.now c.args.budget _ _
