@@ -3,7 +3,6 @@ ghost use Rattle.in_flight.specs.Lookup.{stage_at, arrival_at};
 
 use instruction_table::{Digit, Instr, Unit};
 use relocation::Access;
-use scoreboard::is_same_unit;
 use unit_ops::{Operands, UnitValue};
 use word60::{Word18, Word60};
 

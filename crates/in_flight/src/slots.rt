@@ -9,7 +9,6 @@ ghost use Rattle.in_flight.specs.inner.Slots.{HasRoom, has_none, lower_of, lowes
 
 use crate::{Arrival, Outstanding, Pending, Phase, Stage};
 use instruction_table::Unit;
-use scoreboard::unit_number;
 use std::marker::Model;
 
 /// A pending instruction that was located, with its answer to what was asked.
@@ -126,7 +125,7 @@ impl Slots {
     pub fn find_stage(&self, unit: Unit) -> Option<Located<Stage>>
         ensures { result ≡ located (seek (stage_at unit) self.now) }
     {
-        let index = unit_number(unit);
+        let index = unit as usize;
         let slot = self.units[index];
         let Some(pending) = slot else {
             return None;
@@ -143,7 +142,7 @@ impl Slots {
     pub fn set_stage(&mut self, unit: Unit, stage: Stage)
         ensures { self.new ≡ replaced (seek (stage_at unit) self.old) self.old (λ m. in_phase m (Before stage) ∷ []) }
     {
-        let index = unit_number(unit);
+        let index = unit as usize;
         if let Some(pending) = &mut self.units[index] {
             pending.phase = Phase::Before(stage);
         }
@@ -154,7 +153,7 @@ impl Slots {
         requires { HasRoom later.now self.old }
         ensures { self.new ≡ replaced (seek (stage_at unit) self.old) self.old (λ m. kept m later.now) }
     {
-        let index = unit_number(unit);
+        let index = unit as usize;
         let slot = self.units[index];
         let Some(mut pending) = slot else {
             return;
@@ -227,7 +226,7 @@ impl Slots {
         requires last { Each (λ m. m.number < pending.number) self.old }
         ensures { self.new ≡ self.old ++ pending ∷ [] }
     {
-        let index = unit_number(pending.unit);
+        let index = pending.unit as usize;
         self.units[index] = Some(pending);
     }
 }

@@ -2,37 +2,18 @@ ghost use Rattle.std.specs.Prelude.{◌≡◌, ◌<◌, IfOk, MatchResult, OnOk,
 ghost use Rattle.sequential.specs.State.{bounds_of};
 ghost use Rattle.sequential.specs.Step.{fetch};
 ghost use Rattle.in_flight.specs.Tests.{refusal_of, reservation_tests};
-ghost use Rattle.program_order.specs.Issue.{fetch_waits, issue_tests};
+ghost use Rattle.program_order.specs.Issue.{issue_tests};
 
 use in_flight::InFlight;
 use instruction_table::Refusal;
 use relocation::relocate;
 use sequential::{Fetched, State};
 
-/// Whether the fetch waits: no word is held, P is in range, and a store may still change the word.
-#[tactic(auto, unfolding(crate::proofs::Opened::waiting_fetch))]
-fn fetch_waits(state: &State, in_flight: &InFlight) -> bool
-    ensures { result ≡ fetch_waits (bounds_of state.now) state.now.position in_flight.now.pending }
-{
-    if state.position.held.is_some() {
-        return false;
-    }
-    match relocate(
-        state.position.p,
-        state.area.ra,
-        state.area.fl,
-        state.memory.size(),
-    ) {
-        Some(address) => in_flight.delays_fetch(address),
-        None => false,
-    }
-}
-
 /// Whether the next word or parcel may be taken, with what it does; first order is still to be judged.
 ///
 /// # Errors
 /// `Halted`, `Faulted`, `Budget`, `BranchPending`, `ExchangeWaiting`, `FetchWait`.
-#[tactic(auto, unfolding(in_flight::specs::Tests::refusal_of, program_order::specs::Issue::issue_tests))]
+#[tactic(auto, unfolding(crate::proofs::Opened::waiting_fetch, in_flight::specs::Tests::refusal_of, program_order::specs::Issue::issue_tests))]
 pub fn judge_issue(
     state: &State,
     in_flight: &InFlight,
@@ -60,11 +41,18 @@ pub fn judge_issue(
     if in_flight.is_branch_held() {
         return Err(Refusal::BranchPending);
     }
-    if request.is_some() && state.position.held.is_none() {
+    if state.position.held.is_some() {
+        // No word is fetched.
+        return Ok(state.fetch());
+    }
+    if request.is_some() {
         return Err(Refusal::ExchangeWaiting);
     }
-    if fetch_waits(state, in_flight) {
-        return Err(Refusal::FetchWait);
+    let size = state.memory.size();
+    if let Some(address) = relocate(state.position.p, state.area.ra, state.area.fl, size) {
+        if in_flight.delays_fetch(address) {
+            return Err(Refusal::FetchWait);
+        }
     }
     Ok(state.fetch())
 }

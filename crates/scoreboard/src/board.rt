@@ -13,7 +13,7 @@ ghost use Rattle.scoreboard.specs.Answers.{turn_answer, reserve_answer, reserved
 
 use crate::fields::{any_reference, first_unit, forget_in_taken, free_unit};
 use crate::issued::channel;
-use crate::{Issued, Occupancy, Reservation, Writer, Writers, unit_number};
+use crate::{Issued, Occupancy, Reservation, Writer, Writers};
 use instructions::{Digit, Instr, Refusal, Reg, Unit, results, sources};
 use std::marker::Model;
 
@@ -97,7 +97,7 @@ impl Board {
         if let Some((register, _)) = pairs.find(|(_, writer)| writer.is_some()) {
             return Err(Refusal::ResultReserved(*register));
         }
-        let index = unit_number(unit);
+        let index = unit as usize;
         let sources = sources(instr);
         let number = self.last + 1;
         self.producers[index] = self.writers.of(sources.as_slice());
@@ -127,7 +127,7 @@ impl Board {
     pub fn may_read(&self, unit: Unit) -> Result<(), Refusal>
         ensures { result ≡ read_answer (seek (held_in unit) self.now.issued) }
     {
-        let index = unit_number(unit);
+        let index = unit as usize;
         let slot = self.units[index];
         let Some(issued) = slot else {
             return Ok(());
@@ -163,7 +163,7 @@ impl Board {
     pub fn may_store(&self, unit: Unit) -> Result<(), Refusal>
         ensures { result ≡ store_answer (seek (held_in unit) self.now.issued) }
     {
-        let index = unit_number(unit);
+        let index = unit as usize;
         let slot = self.units[index];
         let Some(issued) = slot else {
             return Ok(());
@@ -233,7 +233,7 @@ impl Board {
     pub fn in_turn(&self, unit: Unit) -> Result<(), Refusal>
         ensures { result ≡ turn_answer (seek (held_in unit) self.now.issued) }
     {
-        let index = unit_number(unit);
+        let index = unit as usize;
         let slot = self.units[index];
         let Some(issued) = slot else {
             return Ok(());
@@ -299,7 +299,7 @@ impl Board {
         ensures { self.new ≡ with_issued self.old
             (replaced (seek (held_in unit) self.old.issued) self.old.issued read) }
     {
-        let index = unit_number(unit);
+        let index = unit as usize;
         if let Some(issued) = &mut self.units[index] {
             issued.reservation.occupancy = Occupancy::Reserved { has_read: true };
         }
@@ -311,7 +311,7 @@ impl Board {
         ensures { self.new ≡ with_issued self.old
             (replaced (seek (held_in unit) self.old.issued) self.old.issued left) }
     {
-        let index = unit_number(unit);
+        let index = unit as usize;
         let slot = self.units[index];
         let Some(issued) = slot else {
             return;

@@ -4,7 +4,6 @@ ghost use Rattle.scoreboard.specs.Reservations.{is_branch, has_turn, has_store_t
 ghost use Rattle.instructions.specs.Operands.{reg_eq};
 ghost use Rattle.instructions.specs.RegisterLists.{is_in};
 
-use crate::is_same_unit;
 use arrayvec::ArrayVec;
 use instructions::{Digit, Instr, Reg, Unit, results, sources};
 
@@ -110,11 +109,11 @@ impl Reservation {
     }
 
     /// Whether it holds the unit.
-    #[tactic(auto, unfolding(crate::specs::Reservations::holds))]
+    #[tactic(auto, unfolding(crate::specs::Reservations::holds, crate::specs::Units::same_unit))]
     pub fn holds(&self, unit: Unit) -> bool
         ensures { result ≡ holds unit self.now }
     {
-        is_same_unit(self.unit, unit) && self.is_reserved()
+        self.unit == unit && self.is_reserved()
     }
 
     /// Whether it is a branch that holds its unit.

@@ -16,5 +16,5 @@ pub fn unit_number(unit: Unit) -> usize
 pub fn is_same_unit(unit: Unit, other: Unit) -> bool
     ensures { result ≡ same_unit unit other }
 {
-    unit_number(unit) == unit_number(other)
+    unit == other
 }

@@ -4,6 +4,12 @@ use Rattle.std.proofs.Common.{Option, Some, None, length, get_or, set, map, take
 use Rattle.std.specs.Prelude.{is_some, slice_get, IfSome, find, zip, option_map}
 use Rattle.std.specs.List.{list_any}
 use Rattle.std.proofs.lemmas.List.{set-get_or}
+use denote.Enum.Declared.{tag_of}
+use Rattle.instructions.specs.contracts.instr.Unit.{the_type}
+use Rattle.instructions.specs.declared.instr.Unit.{Unit as FunctionalUnit}
+use Rattle.instructions.specs.declared.instr.Unit.TheVariants.{Branch, Boolean, Shift, Add, LongAdd, Multiply1}
+use Rattle.instructions.specs.declared.instr.Unit.TheVariants.{Multiply2, Divide, Increment1, Increment2}
+use Rattle.scoreboard.specs.Units.{unit_number}
 use Rattle.instructions.specs.declared.instr.Reg.{Reg}
 use Rattle.scoreboard.specs.declared.writer.Writer.{Writer}
 use Rattle.scoreboard.specs.declared.issued.Issued.{Issued}
@@ -139,3 +145,33 @@ three_registers (r ∷ []) h e g k = (e, tt)
 three_registers (r ∷ s ∷ []) h e g k = (e, (g, tt))
 three_registers (r ∷ s ∷ t ∷ []) h e g k = (e, (g, (k, tt)))
 three_registers (r ∷ s ∷ t ∷ u ∷ rs) h e g k = absurd (omega arith)
+
+-- ---- the index of a unit ----
+
+-- the unit as an index, which is its number
+abbrev pub index_of : FunctionalUnit → ℕ
+index_of u = tag_of the_type u
+
+pub index_is : (u : FunctionalUnit) → index_of u ≡ unit_number u
+index_is Branch = refl
+index_is Boolean = refl
+index_is Shift = refl
+index_is Add = refl
+index_is LongAdd = refl
+index_is Multiply1 = refl
+index_is Multiply2 = refl
+index_is Divide = refl
+index_is Increment1 = refl
+index_is Increment2 = refl
+
+pub index_below : (u : FunctionalUnit) → index_of u < 10
+index_below Branch = omega arith
+index_below Boolean = omega arith
+index_below Shift = omega arith
+index_below Add = omega arith
+index_below LongAdd = omega arith
+index_below Multiply1 = omega arith
+index_below Multiply2 = omega arith
+index_below Divide = omega arith
+index_below Increment1 = omega arith
+index_below Increment2 = omega arith

@@ -1,3 +1,4 @@
+use Rattle.scoreboard.proofs.in_slots.Small.{index_of, index_is, index_below}
 use Rattle.std.proofs.Common.{ap, sym, ◌∙◌, subst, arith}
 use Rattle.instructions.specs.Finding.{seek, replaced}
 use Rattle.instructions.proofs.Slots.{slot_any}
@@ -10,18 +11,18 @@ pub returns-in_default : goal.returns-in_default
 returns-in_default c =
     sym c.self.view_is
     ∙ nobody_replaced (λ m. kept m c.args.later.now) c.self.inside.units c.self.inside.places c.self.inside.channels
-    c.args.unit c.unit_number-index.result c.self.invariant c.unit_number-index.ensures.value
-    (slot_any c.self.inside.units c.unit_number-index.result c.index-self-index.result
-    (omega (arith, c.unit_number-index.ensures.range, c.self.invariant.all_units)) ∙ c.in_default.is)
+    c.args.unit (index_of c.args.unit) c.self.invariant (index_is c.args.unit)
+    (slot_any c.self.inside.units (index_of c.args.unit) c.index-self-index.result
+    (omega (arith, index_below c.args.unit, c.self.invariant.all_units)) ∙ c.in_default.is)
     ∙ ap (λ ms. replaced (seek (stage_at c.args.unit) ms) ms (λ m. kept m c.args.later.now)) c.self.view_is
 
 pub invariant_of-self : goal.invariant_of-self
 unfolding in_phase
 invariant_of-self c =
-    left_right c.self.inside.units c.self.inside.places c.self.inside.channels _ _ c.unit_number-index.result
+    left_right c.self.inside.units c.self.inside.places c.self.inside.channels _ _ (index_of c.args.unit)
     c.in-Some.pending c.args.later.now c.self.invariant
-    (slot_any c.self.inside.units c.unit_number-index.result c.index-self-index.result
-    (omega (arith, c.unit_number-index.ensures.range, c.self.invariant.all_units))
+    (slot_any c.self.inside.units (index_of c.args.unit) c.index-self-index.result
+    (omega (arith, index_below c.args.unit, c.self.invariant.all_units))
     ∙ c.in-Some.is) (subst (HasRoom c.args.later.now) (sym c.self.view_is) c.requires)
     (no_rest c.self.inside.places c.self.inside.channels c.in-Some.pending c.args.later.now
     c.in_default-later.is)
@@ -30,9 +31,9 @@ pub returns-in_default-later : goal.returns-in_default-later
 unfolding in_phase
 returns-in_default-later c =
     left_view c.self.inside.units c.self.inside.places c.self.inside.channels _ _ c.args.unit
-    c.unit_number-index.result c.in-Some.pending c.args.later.now c.self.invariant c.unit_number-index.ensures.value
-    (slot_any c.self.inside.units c.unit_number-index.result c.index-self-index.result
-    (omega (arith, c.unit_number-index.ensures.range, c.self.invariant.all_units))
+    (index_of c.args.unit) c.in-Some.pending c.args.later.now c.self.invariant (index_is c.args.unit)
+    (slot_any c.self.inside.units (index_of c.args.unit) c.index-self-index.result
+    (omega (arith, index_below c.args.unit, c.self.invariant.all_units))
     ∙ c.in-Some.is) (subst (HasRoom c.args.later.now) (sym c.self.view_is) c.requires)
     (no_rest c.self.inside.places c.self.inside.channels c.in-Some.pending c.args.later.now
     c.in_default-later.is)
@@ -41,10 +42,10 @@ returns-in_default-later c =
 pub invariant_of-self-in-Entered : goal.invariant_of-self-in-Entered
 unfolding in_phase
 invariant_of-self-in-Entered c =
-    left_right c.self.inside.units c.self.inside.places c.self.inside.channels _ _ c.unit_number-index.result
+    left_right c.self.inside.units c.self.inside.places c.self.inside.channels _ _ (index_of c.args.unit)
     c.in-Some.pending c.args.later.now c.self.invariant
-    (slot_any c.self.inside.units c.unit_number-index.result c.index-self-index.result
-    (omega (arith, c.unit_number-index.ensures.range, c.self.invariant.all_units))
+    (slot_any c.self.inside.units (index_of c.args.unit) c.index-self-index.result
+    (omega (arith, index_below c.args.unit, c.self.invariant.all_units))
     ∙ c.in-Some.is) (subst (HasRoom c.args.later.now) (sym c.self.view_is) c.requires)
     (rest_in_place c.self.inside.places c.self.inside.channels c.in-Some.pending c.args.later.now
     c.in-Some-later.left c.from.result c.in-Entered.place c.in-Entered.field-1 c.in-Entered.field-2 c.in-Some-later.is
@@ -54,9 +55,9 @@ pub returns-in-Entered : goal.returns-in-Entered
 unfolding in_phase
 returns-in-Entered c =
     left_view c.self.inside.units c.self.inside.places c.self.inside.channels _ _ c.args.unit
-    c.unit_number-index.result c.in-Some.pending c.args.later.now c.self.invariant c.unit_number-index.ensures.value
-    (slot_any c.self.inside.units c.unit_number-index.result c.index-self-index.result
-    (omega (arith, c.unit_number-index.ensures.range, c.self.invariant.all_units))
+    (index_of c.args.unit) c.in-Some.pending c.args.later.now c.self.invariant (index_is c.args.unit)
+    (slot_any c.self.inside.units (index_of c.args.unit) c.index-self-index.result
+    (omega (arith, index_below c.args.unit, c.self.invariant.all_units))
     ∙ c.in-Some.is) (subst (HasRoom c.args.later.now) (sym c.self.view_is) c.requires)
     (rest_in_place c.self.inside.places c.self.inside.channels c.in-Some.pending c.args.later.now
     c.in-Some-later.left c.from.result c.in-Entered.place c.in-Entered.field-1 c.in-Entered.field-2 c.in-Some-later.is
@@ -66,10 +67,10 @@ returns-in-Entered c =
 pub invariant_of-self-in-Accepted : goal.invariant_of-self-in-Accepted
 unfolding in_phase
 invariant_of-self-in-Accepted c =
-    left_right c.self.inside.units c.self.inside.places c.self.inside.channels _ _ c.unit_number-index.result
+    left_right c.self.inside.units c.self.inside.places c.self.inside.channels _ _ (index_of c.args.unit)
     c.in-Some.pending c.args.later.now c.self.invariant
-    (slot_any c.self.inside.units c.unit_number-index.result c.index-self-index.result
-    (omega (arith, c.unit_number-index.ensures.range, c.self.invariant.all_units))
+    (slot_any c.self.inside.units (index_of c.args.unit) c.index-self-index.result
+    (omega (arith, index_below c.args.unit, c.self.invariant.all_units))
     ∙ c.in-Some.is) (subst (HasRoom c.args.later.now) (sym c.self.view_is) c.requires)
     (rest_in_channel c.self.inside.places c.self.inside.channels c.in-Some.pending c.args.later.now
     c.in-Some-later.left c.from-in-Accepted.result c.in-Accepted.n c.in-Accepted.field-1 c.in-Some-later.is
@@ -80,9 +81,9 @@ pub returns-in-Accepted : goal.returns-in-Accepted
 unfolding in_phase
 returns-in-Accepted c =
     left_view c.self.inside.units c.self.inside.places c.self.inside.channels _ _ c.args.unit
-    c.unit_number-index.result c.in-Some.pending c.args.later.now c.self.invariant c.unit_number-index.ensures.value
-    (slot_any c.self.inside.units c.unit_number-index.result c.index-self-index.result
-    (omega (arith, c.unit_number-index.ensures.range, c.self.invariant.all_units))
+    (index_of c.args.unit) c.in-Some.pending c.args.later.now c.self.invariant (index_is c.args.unit)
+    (slot_any c.self.inside.units (index_of c.args.unit) c.index-self-index.result
+    (omega (arith, index_below c.args.unit, c.self.invariant.all_units))
     ∙ c.in-Some.is) (subst (HasRoom c.args.later.now) (sym c.self.view_is) c.requires)
     (rest_in_channel c.self.inside.places c.self.inside.channels c.in-Some.pending c.args.later.now
     c.in-Some-later.left c.from-in-Accepted.result c.in-Accepted.n c.in-Accepted.field-1 c.in-Some-later.is

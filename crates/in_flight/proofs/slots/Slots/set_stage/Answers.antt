@@ -1,3 +1,4 @@
+use Rattle.scoreboard.proofs.in_slots.Small.{index_of, index_is, index_below}
 use Rattle.std.proofs.Common.{ap, sym, ◌∙◌, subst, [], ◌∷◌, arith}
 use Rattle.std.proofs.lemmas.List.{set-get_or}
 use Rattle.in_flight.specs.declared.pending.Phase.TheVariants.{Before}
@@ -17,13 +18,13 @@ invariant_of-self c =
       | in-Some w ↦
           subst (λ (x : Inside). IsRight x.units x.places x.channels) (sym w.self-inside-is)
           (staged_right c.self.inside.units c.self.inside.places c.self.inside.channels c.args.unit
-          c.unit_number-index.result w.in-Some.pending c.args.stage c.self.invariant c.unit_number-index.ensures.value
-          (slot_any c.self.inside.units c.unit_number-index.result c.index-self-index.result
-          (omega (arith, c.unit_number-index.ensures.range, c.self.invariant.all_units)) ∙ w.in-Some.is))
+          (index_of c.args.unit) w.in-Some.pending c.args.stage c.self.invariant (index_is c.args.unit)
+          (slot_any c.self.inside.units (index_of c.args.unit) c.index-self-index.result
+          (omega (arith, index_below c.args.unit, c.self.invariant.all_units)) ∙ w.in-Some.is))
       | in_default w ↦
           subst (λ (x : Inside). IsRight x.units x.places x.channels) (sym w.self-inside-is)
           (subst (λ us. IsRight us c.self.inside.places c.self.inside.channels)
-          (sym (set-get_or c.self.inside.units c.unit_number-index.result c.index-self-index.result)) c.self.invariant)
+          (sym (set-get_or c.self.inside.units (index_of c.args.unit) c.index-self-index.result)) c.self.invariant)
     ]
 
 pub returns : goal.returns
@@ -33,20 +34,20 @@ returns c =
       | in-Some w ↦
           ap (λ (x : Inside). in_order (slots x.units x.places x.channels)) w.self-inside-is
           ∙ staged_view c.self.inside.units c.self.inside.places c.self.inside.channels c.args.unit
-          c.unit_number-index.result w.in-Some.pending c.args.stage c.self.invariant c.unit_number-index.ensures.value
-          (slot_any c.self.inside.units c.unit_number-index.result c.index-self-index.result
-          (omega (arith, c.unit_number-index.ensures.range, c.self.invariant.all_units)) ∙ w.in-Some.is)
+          (index_of c.args.unit) w.in-Some.pending c.args.stage c.self.invariant (index_is c.args.unit)
+          (slot_any c.self.inside.units (index_of c.args.unit) c.index-self-index.result
+          (omega (arith, index_below c.args.unit, c.self.invariant.all_units)) ∙ w.in-Some.is)
           ∙ ap (λ ms. replaced (seek (stage_at c.args.unit) ms) ms (λ m. in_phase m (Before c.args.stage) ∷ []))
           c.self.view_is
       | in_default w ↦
           ap (λ (x : Inside). in_order (slots x.units x.places x.channels)) w.self-inside-is
           ∙ ap (λ us. in_order (slots us c.self.inside.places c.self.inside.channels))
-          (set-get_or c.self.inside.units c.unit_number-index.result c.index-self-index.result)
+          (set-get_or c.self.inside.units (index_of c.args.unit) c.index-self-index.result)
           ∙ nobody_replaced (λ m. in_phase m (Before c.args.stage) ∷ []) c.self.inside.units c.self.inside.places
-          c.self.inside.channels c.args.unit c.unit_number-index.result c.self.invariant
-          c.unit_number-index.ensures.value
-          (slot_any c.self.inside.units c.unit_number-index.result c.index-self-index.result
-          (omega (arith, c.unit_number-index.ensures.range, c.self.invariant.all_units)) ∙ w.in_default.is)
+          c.self.inside.channels c.args.unit (index_of c.args.unit) c.self.invariant
+          (index_is c.args.unit)
+          (slot_any c.self.inside.units (index_of c.args.unit) c.index-self-index.result
+          (omega (arith, index_below c.args.unit, c.self.invariant.all_units)) ∙ w.in_default.is)
           ∙ ap (λ ms. replaced (seek (stage_at c.args.unit) ms) ms (λ m. in_phase m (Before c.args.stage) ∷ []))
           c.self.view_is
     ]

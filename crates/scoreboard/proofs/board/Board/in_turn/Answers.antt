@@ -1,4 +1,5 @@
 -- The turn of references: the units with a lower number, as the list says it.
+use Rattle.scoreboard.proofs.in_slots.Small.{index_of, index_is, index_below}
 use Rattle.std.proofs.Common.{◌≡◌, rules, tests, ap, sym, ◌∙◌, get_or, true, false, arith}
 use Rattle.std.specs.Prelude.{◌&&◌}
 use Rattle.std.specs.List.{list_any}
@@ -16,21 +17,21 @@ pub returns-in_default : goal.returns-in_default
 unfolding turn_answer
 returns-in_default c =
     ap turn_answer (sym (nobody_answers c.self.inside.units c.self.inside.channels c.self.inside.producers
-    c.self.inside.writers c.self.inside.last c.args.unit c.unit_number-index.result c.self.invariant
-    c.unit_number-index.ensures.value
-    (slot_any c.self.inside.units c.unit_number-index.result c.index-self-index.result
-    (omega (arith, c.unit_number-index.ensures.range, c.self.invariant.all_units))
-    ∙ no_slot (get_or c.self.inside.units c.unit_number-index.result c.index-self-index.result)
+    c.self.inside.writers c.self.inside.last c.args.unit (index_of c.args.unit) c.self.invariant
+    (index_is c.args.unit)
+    (slot_any c.self.inside.units (index_of c.args.unit) c.index-self-index.result
+    (omega (arith, index_below c.args.unit, c.self.invariant.all_units))
+    ∙ no_slot (get_or c.self.inside.units (index_of c.args.unit) c.index-self-index.result)
     c.in_default.not-Some)))
     ∙ ap (λ (s : Standing). turn_answer (seek (held_in c.args.unit) s.issued)) c.self.view_is
 
 pub returns-then-not-has_reference : goal.returns-then-not-has_reference
 returns-then-not-has_reference c =
     turn_answered c.self.inside.units c.self.inside.channels c.self.inside.producers c.self.inside.writers
-    c.self.inside.last c.args.unit c.unit_number-index.result c.in-Some.issued false c.self.invariant
-    c.unit_number-index.ensures.value
-    (slot_any c.self.inside.units c.unit_number-index.result c.index-self-index.result
-    (omega (arith, c.unit_number-index.ensures.range, c.self.invariant.all_units)) ∙ c.in-Some.is)
+    c.self.inside.last c.args.unit (index_of c.args.unit) c.in-Some.issued false c.self.invariant
+    (index_is c.args.unit)
+    (slot_any c.self.inside.units (index_of c.args.unit) c.index-self-index.result
+    (omega (arith, index_below c.args.unit, c.self.invariant.all_units)) ∙ c.in-Some.is)
     (sym (ap (λ b. b && list_any (slot_has_turn c.in-Some.issued.number) c.self.inside.units)
     (sym c.has_reference.ensures ∙ c.if-not-has_reference.true)))
     ∙ ap (λ (s : Standing). turn_answer (seek (held_in c.args.unit) s.issued)) c.self.view_is
@@ -41,10 +42,10 @@ returns-then-waits c =
     any_from_yields_List _ _ _ _ c.any-waits.ensures.ran (YieldsList-from_slice c.self.inside.units cc)
     (λ x b q k. search (rules, tests)) in
     turn_answered c.self.inside.units c.self.inside.channels c.self.inside.producers c.self.inside.writers
-    c.self.inside.last c.args.unit c.unit_number-index.result c.in-Some.issued true c.self.invariant
-    c.unit_number-index.ensures.value
-    (slot_any c.self.inside.units c.unit_number-index.result c.index-self-index.result
-    (omega (arith, c.unit_number-index.ensures.range, c.self.invariant.all_units)) ∙ c.in-Some.is)
+    c.self.inside.last c.args.unit (index_of c.args.unit) c.in-Some.issued true c.self.invariant
+    (index_is c.args.unit)
+    (slot_any c.self.inside.units (index_of c.args.unit) c.index-self-index.result
+    (omega (arith, index_below c.args.unit, c.self.invariant.all_units)) ∙ c.in-Some.is)
     (sym (ap (λ b. b && list_any (slot_has_turn c.in-Some.issued.number) c.self.inside.units)
     (sym c.has_reference.ensures ∙ c.if-not-has_reference.false) ∙ (sym h ∙ c.if-waits.true)))
     ∙ ap (λ (s : Standing). turn_answer (seek (held_in c.args.unit) s.issued)) c.self.view_is
@@ -55,10 +56,10 @@ returns-else-waits c =
     any_from_yields_List _ _ _ _ c.any-waits.ensures.ran (YieldsList-from_slice c.self.inside.units cc)
     (λ x b q k. search (rules, tests)) in
     turn_answered c.self.inside.units c.self.inside.channels c.self.inside.producers c.self.inside.writers
-    c.self.inside.last c.args.unit c.unit_number-index.result c.in-Some.issued false c.self.invariant
-    c.unit_number-index.ensures.value
-    (slot_any c.self.inside.units c.unit_number-index.result c.index-self-index.result
-    (omega (arith, c.unit_number-index.ensures.range, c.self.invariant.all_units)) ∙ c.in-Some.is)
+    c.self.inside.last c.args.unit (index_of c.args.unit) c.in-Some.issued false c.self.invariant
+    (index_is c.args.unit)
+    (slot_any c.self.inside.units (index_of c.args.unit) c.index-self-index.result
+    (omega (arith, index_below c.args.unit, c.self.invariant.all_units)) ∙ c.in-Some.is)
     (sym (ap (λ b. b && list_any (slot_has_turn c.in-Some.issued.number) c.self.inside.units)
     (sym c.has_reference.ensures ∙ c.if-not-has_reference.false) ∙ (sym h ∙ c.if-waits.false)))
     ∙ ap (λ (s : Standing). turn_answer (seek (held_in c.args.unit) s.issued)) c.self.view_is

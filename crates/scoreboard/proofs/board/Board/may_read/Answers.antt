@@ -1,4 +1,5 @@
 -- Second order: the producers of the unit, as the list says it.
+use Rattle.scoreboard.proofs.in_slots.Small.{index_of, index_is, index_below}
 use Rattle.std.proofs.Common.{◌≡◌, rules, tests, ap, refl, sym, ◌∙◌, Some, None, get_or, arith}
 use Rattle.std.specs.Prelude.{is_some, option_map}
 use Rattle.std.specs.List.{list_any}
@@ -16,11 +17,11 @@ pub returns-in_default : goal.returns-in_default
 unfolding read_answer
 returns-in_default c =
     ap read_answer (sym (nobody_answers c.self.inside.units c.self.inside.channels c.self.inside.producers
-    c.self.inside.writers c.self.inside.last c.args.unit c.unit_number-index.result c.self.invariant
-    c.unit_number-index.ensures.value
-    (slot_any c.self.inside.units c.unit_number-index.result c.index-self-index.result
-    (omega (arith, c.unit_number-index.ensures.range, c.self.invariant.all_units))
-    ∙ no_slot (get_or c.self.inside.units c.unit_number-index.result c.index-self-index.result)
+    c.self.inside.writers c.self.inside.last c.args.unit (index_of c.args.unit) c.self.invariant
+    (index_is c.args.unit)
+    (slot_any c.self.inside.units (index_of c.args.unit) c.index-self-index.result
+    (omega (arith, index_below c.args.unit, c.self.invariant.all_units))
+    ∙ no_slot (get_or c.self.inside.units (index_of c.args.unit) c.index-self-index.result)
     c.in_default.not-Some)))
     ∙ ap (λ (s : Standing). read_answer (seek (held_in c.args.unit) s.issued)) c.self.view_is
 
@@ -31,13 +32,13 @@ returns-then-not-any c =
     any_from_yields_List _ _ _ _ c.any.ensures.ran (YieldsList-from_slice c.index-producers-index.result cc)
     (λ x b q k. search (rules, tests)) in
     read_answered c.self.inside.units c.self.inside.channels c.self.inside.producers c.self.inside.writers
-    c.self.inside.last c.args.unit c.unit_number-index.result c.in-Some.issued (sources_of
+    c.self.inside.last c.args.unit (index_of c.args.unit) c.in-Some.issued (sources_of
     c.in-Some.issued.reservation.instr)
-    c.index-producers-index.result None c.self.invariant c.unit_number-index.ensures.value
-    (slot_any c.self.inside.units c.unit_number-index.result c.index-self-index.result
-    (omega (arith, c.unit_number-index.ensures.range, c.self.invariant.all_units))
-    ∙ c.in-Some.is) refl (list_read c.self.inside.producers c.unit_number-index.result c.index-producers-index.result
-    (omega (arith, c.unit_number-index.ensures.range, c.self.invariant.all_producers)) c.index-producers-index.is)
+    c.index-producers-index.result None c.self.invariant (index_is c.args.unit)
+    (slot_any c.self.inside.units (index_of c.args.unit) c.index-self-index.result
+    (omega (arith, index_below c.args.unit, c.self.invariant.all_units))
+    ∙ c.in-Some.is) refl (list_read c.self.inside.producers (index_of c.args.unit) c.index-producers-index.result
+    (omega (arith, index_below c.args.unit, c.self.invariant.all_producers)) c.index-producers-index.is)
     (none_produced (sources_of c.in-Some.issued.reservation.instr) c.index-producers-index.result
     (sym h ∙ c.if-not-any.true))
     ∙ ap (λ (s : Standing). read_answer (seek (held_in c.args.unit) s.issued)) c.self.view_is
@@ -49,13 +50,13 @@ returns-in-Some-find c =
     (YieldsList-from_zip (YieldsList-from_slice c.as_slice.result.now cc)
     (YieldsList-from_slice c.index-producers-index.result cc)) (λ x b q k. search (rules, tests)) in
     read_answered c.self.inside.units c.self.inside.channels c.self.inside.producers c.self.inside.writers
-    c.self.inside.last c.args.unit c.unit_number-index.result c.in-Some.issued c.as_slice.result.now
-    c.index-producers-index.result (Some c.in-Some-find.register.now) c.self.invariant c.unit_number-index.ensures.value
-    (slot_any c.self.inside.units c.unit_number-index.result c.index-self-index.result
-    (omega (arith, c.unit_number-index.ensures.range, c.self.invariant.all_units))
+    c.self.inside.last c.args.unit (index_of c.args.unit) c.in-Some.issued c.as_slice.result.now
+    c.index-producers-index.result (Some c.in-Some-find.register.now) c.self.invariant (index_is c.args.unit)
+    (slot_any c.self.inside.units (index_of c.args.unit) c.index-self-index.result
+    (omega (arith, index_below c.args.unit, c.self.invariant.all_units))
     ∙ c.in-Some.is) (c.as_slice.ensures.value
-    ∙ c.sources-sources.ensures) (list_read c.self.inside.producers c.unit_number-index.result
-    c.index-producers-index.result (omega (arith, c.unit_number-index.ensures.range, c.self.invariant.all_producers))
+    ∙ c.sources-sources.ensures) (list_read c.self.inside.producers (index_of c.args.unit)
+    c.index-producers-index.result (omega (arith, index_below c.args.unit, c.self.invariant.all_producers))
     c.index-producers-index.is) (produced_in_zip c.as_slice.result.now c.index-producers-index.result
     (Some (c.in-Some-find.register.now, c.in-Some-find.field-0-1.now))
     (sym (ap (option_map (λ p. (p.0.now, p.1.now))) c.in-Some-find.is) ∙ found))
@@ -68,13 +69,13 @@ returns-in-None c =
     (YieldsList-from_zip (YieldsList-from_slice c.as_slice.result.now cc)
     (YieldsList-from_slice c.index-producers-index.result cc)) (λ x b q k. search (rules, tests)) in
     read_answered c.self.inside.units c.self.inside.channels c.self.inside.producers c.self.inside.writers
-    c.self.inside.last c.args.unit c.unit_number-index.result c.in-Some.issued c.as_slice.result.now
-    c.index-producers-index.result None c.self.invariant c.unit_number-index.ensures.value
-    (slot_any c.self.inside.units c.unit_number-index.result c.index-self-index.result
-    (omega (arith, c.unit_number-index.ensures.range, c.self.invariant.all_units))
+    c.self.inside.last c.args.unit (index_of c.args.unit) c.in-Some.issued c.as_slice.result.now
+    c.index-producers-index.result None c.self.invariant (index_is c.args.unit)
+    (slot_any c.self.inside.units (index_of c.args.unit) c.index-self-index.result
+    (omega (arith, index_below c.args.unit, c.self.invariant.all_units))
     ∙ c.in-Some.is) (c.as_slice.ensures.value
-    ∙ c.sources-sources.ensures) (list_read c.self.inside.producers c.unit_number-index.result
-    c.index-producers-index.result (omega (arith, c.unit_number-index.ensures.range, c.self.invariant.all_producers))
+    ∙ c.sources-sources.ensures) (list_read c.self.inside.producers (index_of c.args.unit)
+    c.index-producers-index.result (omega (arith, index_below c.args.unit, c.self.invariant.all_producers))
     c.index-producers-index.is) (produced_in_zip c.as_slice.result.now c.index-producers-index.result None
     (sym (ap (option_map (λ p. (p.0.now, p.1.now))) c.in-None.is) ∙ found))
     ∙ ap (λ (s : Standing). read_answer (seek (held_in c.args.unit) s.issued)) c.self.view_is

@@ -1,4 +1,5 @@
 -- Third order at a store event: the units with a lower number, as the list says it.
+use Rattle.scoreboard.proofs.in_slots.Small.{index_of, index_is, index_below}
 use Rattle.std.specs.Prelude.{option_to_list, find}
 use Rattle.std.specs.List.{list_any}
 use Rattle.std.proofs.Common.{◌≡◌, rules, tests, cond, Some, None, ap, sym, ◌∙◌, get_or, arith}
@@ -15,11 +16,11 @@ pub returns-in_default : goal.returns-in_default
 unfolding store_answer
 returns-in_default c =
     ap store_answer (sym (nobody_answers c.self.inside.units c.self.inside.channels c.self.inside.producers
-    c.self.inside.writers c.self.inside.last c.args.unit c.unit_number-index.result c.self.invariant
-    c.unit_number-index.ensures.value
-    (slot_any c.self.inside.units c.unit_number-index.result c.index-self-index.result
-    (omega (arith, c.unit_number-index.ensures.range, c.self.invariant.all_units))
-    ∙ no_slot (get_or c.self.inside.units c.unit_number-index.result c.index-self-index.result)
+    c.self.inside.writers c.self.inside.last c.args.unit (index_of c.args.unit) c.self.invariant
+    (index_is c.args.unit)
+    (slot_any c.self.inside.units (index_of c.args.unit) c.index-self-index.result
+    (omega (arith, index_below c.args.unit, c.self.invariant.all_units))
+    ∙ no_slot (get_or c.self.inside.units (index_of c.args.unit) c.index-self-index.result)
     c.in_default.not-Some)))
     ∙ ap (λ (s : Standing). store_answer (seek (held_in c.args.unit) s.issued)) c.self.view_is
 
@@ -27,10 +28,10 @@ pub returns-in_default-sets : goal.returns-in_default-sets
 unfolding from_found
 returns-in_default-sets c =
     store_answered c.self.inside.units c.self.inside.channels c.self.inside.producers c.self.inside.writers
-    c.self.inside.last c.args.unit c.unit_number-index.result c.in-Some.issued (option_to_list c.sets.result)
-    None c.self.invariant c.unit_number-index.ensures.value
-    (slot_any c.self.inside.units c.unit_number-index.result c.index-self-index.result
-    (omega (arith, c.unit_number-index.ensures.range, c.self.invariant.all_units))
+    c.self.inside.last c.args.unit (index_of c.args.unit) c.in-Some.issued (option_to_list c.sets.result)
+    None c.self.invariant (index_is c.args.unit)
+    (slot_any c.self.inside.units (index_of c.args.unit) c.index-self-index.result
+    (omega (arith, index_below c.args.unit, c.self.invariant.all_units))
     ∙ c.in-Some.is) (sym c.sets.ensures)
     (ap (λ o. find (λ r. list_any (slot_reads c.in-Some.issued.number r) c.self.inside.units) (option_to_list o))
     (sym c.in_default-sets.is))
@@ -44,10 +45,10 @@ returns-then-is_held c =
     any_from_yields_List _ _ _ _ c.any-is_held.ensures.ran (YieldsList-from_slice c.self.inside.units cc)
     (λ x b q k. search (rules, tests)) in
     store_answered c.self.inside.units c.self.inside.channels c.self.inside.producers c.self.inside.writers
-    c.self.inside.last c.args.unit c.unit_number-index.result c.in-Some.issued (option_to_list c.sets.result)
-    (Some c.in-Some-sets.register) c.self.invariant c.unit_number-index.ensures.value
-    (slot_any c.self.inside.units c.unit_number-index.result c.index-self-index.result
-    (omega (arith, c.unit_number-index.ensures.range, c.self.invariant.all_units))
+    c.self.inside.last c.args.unit (index_of c.args.unit) c.in-Some.issued (option_to_list c.sets.result)
+    (Some c.in-Some-sets.register) c.self.invariant (index_is c.args.unit)
+    (slot_any c.self.inside.units (index_of c.args.unit) c.index-self-index.result
+    (omega (arith, index_below c.args.unit, c.self.invariant.all_units))
     ∙ c.in-Some.is) (sym c.sets.ensures)
     (ap (λ b. cond b (Some c.in-Some-sets.register) None) (sym c.if-is_held.true ∙ h)
     ∙ ap (λ o. find (λ r. list_any (slot_reads c.in-Some.issued.number r) c.self.inside.units) (option_to_list o))
@@ -62,10 +63,10 @@ returns-else-is_held c =
     any_from_yields_List _ _ _ _ c.any-is_held.ensures.ran (YieldsList-from_slice c.self.inside.units cc)
     (λ x b q k. search (rules, tests)) in
     store_answered c.self.inside.units c.self.inside.channels c.self.inside.producers c.self.inside.writers
-    c.self.inside.last c.args.unit c.unit_number-index.result c.in-Some.issued (option_to_list c.sets.result)
-    None c.self.invariant c.unit_number-index.ensures.value
-    (slot_any c.self.inside.units c.unit_number-index.result c.index-self-index.result
-    (omega (arith, c.unit_number-index.ensures.range, c.self.invariant.all_units))
+    c.self.inside.last c.args.unit (index_of c.args.unit) c.in-Some.issued (option_to_list c.sets.result)
+    None c.self.invariant (index_is c.args.unit)
+    (slot_any c.self.inside.units (index_of c.args.unit) c.index-self-index.result
+    (omega (arith, index_below c.args.unit, c.self.invariant.all_units))
     ∙ c.in-Some.is) (sym c.sets.ensures)
     (ap (λ b. cond b (Some c.in-Some-sets.register) None) (sym c.if-is_held.false ∙ h)
     ∙ ap (λ o. find (λ r. list_any (slot_reads c.in-Some.issued.number r) c.self.inside.units) (option_to_list o))

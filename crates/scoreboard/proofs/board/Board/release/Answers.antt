@@ -1,4 +1,5 @@
 -- A store event: the invariant and the list after it, and that a free unit changes nothing.
+use Rattle.scoreboard.proofs.in_slots.Small.{index_of, index_is, index_below}
 use Rattle.std.proofs.Common.{◌≡◌, ◌<◌, List, ◌++◌, Option, None, ap, sym, ◌∙◌, subst, set, arith}
 use Rattle.std.specs.Prelude.{IfSome, option_to_list}
 use Rattle.scoreboard.specs.declared.board.Board.TheInside.{Inside}
@@ -22,9 +23,9 @@ pub returns-in_default : goal.returns-in_default
 returns-in_default c =
     sym c.self.view_is
     ∙ nobody_marked left c.self.inside.units c.self.inside.channels c.self.inside.producers c.self.inside.writers
-    c.self.inside.last c.args.unit c.unit_number-index.result c.self.invariant c.unit_number-index.ensures.value
-    (slot_any c.self.inside.units c.unit_number-index.result c.index-self-index.result
-    (omega (arith, c.unit_number-index.ensures.range, c.self.invariant.all_units)) ∙ c.in_default.is)
+    c.self.inside.last c.args.unit (index_of c.args.unit) c.self.invariant (index_is c.args.unit)
+    (slot_any c.self.inside.units (index_of c.args.unit) c.index-self-index.result
+    (omega (arith, index_below c.args.unit, c.self.invariant.all_units)) ∙ c.in_default.is)
     ∙ ap (λ (s : Standing). with_issued s (replaced (seek (held_in c.args.unit) s.issued) s.issued left)) c.self.view_is
 
 with_channels : Inside → List (Option Issued) → List (Option Issued) → Inside
@@ -35,7 +36,7 @@ pub invariant_of-self : goal.invariant_of-self
 unfolding with_channels in_occupancy
 invariant_of-self c =
     let x = c.in-Some.issued in
-    let now = with_channels c.self.inside (set c.self.inside.units c.unit_number-index.result None) in
+    let now = with_channels c.self.inside (set c.self.inside.units (index_of c.args.unit) None) in
     let p : (c.match-channel.self-inside ≡ now (channels_with c.self.inside.channels x (channel_of (shape_of
     x.reservation.instr)))) × IfSome (channel_of (shape_of x.reservation.instr)) (λ n. n < 8) =
     elim c.match-channel.branch [
@@ -51,30 +52,30 @@ invariant_of-self c =
       )
     ] in
     subst (λ (b : Inside). IsRight b.units b.channels c.forget_in_taken.new.producers c.set.new.self b.last) (sym p.0)
-    (subst (λ ws. IsRight (set c.self.inside.units c.unit_number-index.result None)
+    (subst (λ ws. IsRight (set c.self.inside.units (index_of c.args.unit) None)
     (channels_with c.self.inside.channels x (channel_of (shape_of x.reservation.instr)))
     c.forget_in_taken.new.producers ws c.self.inside.last) (sym
     (c.set.ensures.value ∙ ap (λ (b : Inside). set_each b.writers (option_to_list c.sets.result) None) p.0
     ∙ ap (λ rs. set_each c.self.inside.writers rs None) (sym c.sets.ensures)))
     (released_right c.self.inside.units c.self.inside.channels c.self.inside.producers c.self.inside.writers
-    c.self.inside.last c.args.unit c.unit_number-index.result x c.self.invariant
-    c.unit_number-index.ensures.value
-    (slot_any c.self.inside.units c.unit_number-index.result c.index-self-index.result
-    (omega (arith, c.unit_number-index.ensures.range, c.self.invariant.all_units)) ∙ c.in-Some.is)
+    c.self.inside.last c.args.unit (index_of c.args.unit) x c.self.invariant
+    (index_is c.args.unit)
+    (slot_any c.self.inside.units (index_of c.args.unit) c.index-self-index.result
+    (omega (arith, index_below c.args.unit, c.self.invariant.all_units)) ∙ c.in-Some.is)
     (subst (Each IsRegister) (sym c.sets.ensures) c.set.ensures.registers) p.1 c.forget_in_taken.new.producers
     (subst (AreForgotten (OfUnit c.args.unit) (c.self.inside.units ++ c.self.inside.channels)
-    (set c.self.inside.units c.unit_number-index.result None)) (sym (c.forget_in_taken.ensures
+    (set c.self.inside.units (index_of c.args.unit) None)) (sym (c.forget_in_taken.ensures
     ∙ ap (λ (b : Inside). forget_in_taken (OfUnit c.args.unit) b.units b.producers) p.0))
     (released_others c.self.inside.units c.self.inside.channels c.self.inside.producers c.self.inside.writers
-    c.self.inside.last c.args.unit c.unit_number-index.result x c.self.invariant
-    (slot_any c.self.inside.units c.unit_number-index.result c.index-self-index.result
-    (omega (arith, c.unit_number-index.ensures.range, c.self.invariant.all_units)) ∙ c.in-Some.is)))))
+    c.self.inside.last c.args.unit (index_of c.args.unit) x c.self.invariant
+    (slot_any c.self.inside.units (index_of c.args.unit) c.index-self-index.result
+    (omega (arith, index_below c.args.unit, c.self.invariant.all_units)) ∙ c.in-Some.is)))))
 
 pub invariant_of-self-else-issued-self : goal.invariant_of-self-else-issued-self
 unfolding with_channels in_occupancy
 invariant_of-self-else-issued-self c =
     let x = c.in-Some.issued in
-    let now = with_channels c.self.inside (set c.self.inside.units c.unit_number-index.result None) in
+    let now = with_channels c.self.inside (set c.self.inside.units (index_of c.args.unit) None) in
     let p : (c.match-channel.self-inside ≡ now (channels_with c.self.inside.channels x (channel_of (shape_of
     x.reservation.instr)))) × IfSome (channel_of (shape_of x.reservation.instr)) (λ n. n < 8) =
     elim c.match-channel.branch [
@@ -90,29 +91,29 @@ invariant_of-self-else-issued-self c =
       )
     ] in
     subst (λ (b : Inside). IsRight b.units b.channels b.producers c.set.new.self b.last) (sym p.0)
-    (subst (λ ws. IsRight (set c.self.inside.units c.unit_number-index.result None)
+    (subst (λ ws. IsRight (set c.self.inside.units (index_of c.args.unit) None)
     (channels_with c.self.inside.channels x (channel_of (shape_of x.reservation.instr)))
     c.self.inside.producers ws c.self.inside.last) (sym
     (c.set.ensures.value ∙ ap (λ (b : Inside). set_each b.writers (option_to_list c.sets.result) None) p.0
     ∙ ap (λ rs. set_each c.self.inside.writers rs None) (sym c.sets.ensures)))
     (released_right c.self.inside.units c.self.inside.channels c.self.inside.producers c.self.inside.writers
-    c.self.inside.last c.args.unit c.unit_number-index.result x c.self.invariant
-    c.unit_number-index.ensures.value
-    (slot_any c.self.inside.units c.unit_number-index.result c.index-self-index.result
-    (omega (arith, c.unit_number-index.ensures.range, c.self.invariant.all_units)) ∙ c.in-Some.is)
+    c.self.inside.last c.args.unit (index_of c.args.unit) x c.self.invariant
+    (index_is c.args.unit)
+    (slot_any c.self.inside.units (index_of c.args.unit) c.index-self-index.result
+    (omega (arith, index_below c.args.unit, c.self.invariant.all_units)) ∙ c.in-Some.is)
     (subst (Each IsRegister) (sym c.sets.ensures) c.set.ensures.registers) p.1 c.self.inside.producers
     (released_last c.self.inside.units c.self.inside.channels c.self.inside.producers c.self.inside.writers
-    c.self.inside.last c.args.unit c.unit_number-index.result x c.self.invariant
-    c.unit_number-index.ensures.value
-    (slot_any c.self.inside.units c.unit_number-index.result c.index-self-index.result
-    (omega (arith, c.unit_number-index.ensures.range, c.self.invariant.all_units)) ∙ c.in-Some.is)
+    c.self.inside.last c.args.unit (index_of c.args.unit) x c.self.invariant
+    (index_is c.args.unit)
+    (slot_any c.self.inside.units (index_of c.args.unit) c.index-self-index.result
+    (omega (arith, index_below c.args.unit, c.self.invariant.all_units)) ∙ c.in-Some.is)
     (c.if-issued-self.false ∙ ap (λ (b : Inside). b.last) p.0))))
 
 pub returns-then-issued-self : goal.returns-then-issued-self
 unfolding with_channels in_occupancy
 returns-then-issued-self c =
     let x = c.in-Some.issued in
-    let now = with_channels c.self.inside (set c.self.inside.units c.unit_number-index.result None) in
+    let now = with_channels c.self.inside (set c.self.inside.units (index_of c.args.unit) None) in
     let p : (c.match-channel.self-inside ≡ now (channels_with c.self.inside.channels x (channel_of (shape_of
     x.reservation.instr)))) × IfSome (channel_of (shape_of x.reservation.instr)) (λ n. n < 8) =
     elim c.match-channel.branch [
@@ -129,17 +130,17 @@ returns-then-issued-self c =
     ] in
     ap (λ (b : Inside). standing_of b.units b.channels b.last) p.0
     ∙ released_view c.self.inside.units c.self.inside.channels c.self.inside.producers c.self.inside.writers
-    c.self.inside.last c.args.unit c.unit_number-index.result x c.self.invariant
-    c.unit_number-index.ensures.value
-    (slot_any c.self.inside.units c.unit_number-index.result c.index-self-index.result
-    (omega (arith, c.unit_number-index.ensures.range, c.self.invariant.all_units)) ∙ c.in-Some.is) p.1
+    c.self.inside.last c.args.unit (index_of c.args.unit) x c.self.invariant
+    (index_is c.args.unit)
+    (slot_any c.self.inside.units (index_of c.args.unit) c.index-self-index.result
+    (omega (arith, index_below c.args.unit, c.self.invariant.all_units)) ∙ c.in-Some.is) p.1
     ∙ ap (λ (s : Standing). with_issued s (replaced (seek (held_in c.args.unit) s.issued) s.issued left)) c.self.view_is
 
 pub returns-else-issued-self : goal.returns-else-issued-self
 unfolding with_channels in_occupancy
 returns-else-issued-self c =
     let x = c.in-Some.issued in
-    let now = with_channels c.self.inside (set c.self.inside.units c.unit_number-index.result None) in
+    let now = with_channels c.self.inside (set c.self.inside.units (index_of c.args.unit) None) in
     let p : (c.match-channel.self-inside ≡ now (channels_with c.self.inside.channels x (channel_of (shape_of
     x.reservation.instr)))) × IfSome (channel_of (shape_of x.reservation.instr)) (λ n. n < 8) =
     elim c.match-channel.branch [
@@ -156,8 +157,8 @@ returns-else-issued-self c =
     ] in
     ap (λ (b : Inside). standing_of b.units b.channels b.last) p.0
     ∙ released_view c.self.inside.units c.self.inside.channels c.self.inside.producers c.self.inside.writers
-    c.self.inside.last c.args.unit c.unit_number-index.result x c.self.invariant
-    c.unit_number-index.ensures.value
-    (slot_any c.self.inside.units c.unit_number-index.result c.index-self-index.result
-    (omega (arith, c.unit_number-index.ensures.range, c.self.invariant.all_units)) ∙ c.in-Some.is) p.1
+    c.self.inside.last c.args.unit (index_of c.args.unit) x c.self.invariant
+    (index_is c.args.unit)
+    (slot_any c.self.inside.units (index_of c.args.unit) c.index-self-index.result
+    (omega (arith, index_below c.args.unit, c.self.invariant.all_units)) ∙ c.in-Some.is) p.1
     ∙ ap (λ (s : Standing). with_issued s (replaced (seek (held_in c.args.unit) s.issued) s.issued left)) c.self.view_is

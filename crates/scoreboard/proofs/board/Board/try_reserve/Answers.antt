@@ -1,4 +1,5 @@
 -- An issue: both refusals, the new reservation, and the invariant and the list after it.
+use Rattle.scoreboard.proofs.in_slots.Small.{index_of, index_is}
 use Rattle.std.proofs.Common.{◌≡◌, ◌<◌, ◌+◌, rules, tests, ap, refl, sym, ◌∙◌, subst, Some, None, arith}
 use Rattle.std.specs.Prelude.{Ok, Err, IfSome}
 use Rattle.std.specs.Prelude.{is_some, option_map}
@@ -82,12 +83,12 @@ invariant_of-self c =
     let entered = writers_entered c.self.inside.writers c.match-channel.writers c.set-2.new.self c.in-Some.unit
     c.args.instr.now c.sets.result c.channel.result c.sets.ensures c.channel.ensures middle c.set-2.ensures.value in
     new_right c.self.inside.units c.self.inside.channels c.self.inside.producers c.self.inside.writers
-    c.set-2.new.self c.self.inside.last (c.self.inside.last + 1) c.in-Some.unit c.unit_number-index.result
+    c.set-2.new.self c.self.inside.last (c.self.inside.last + 1) c.in-Some.unit (index_of c.in-Some.unit)
     c.args.instr.now c.as_slice-3.result.now c.of.result (new_issued c.args.instr.now c.in-Some.unit
     (c.self.inside.last + 1)) c.self.invariant (omega arith)
-    c.unit_number-index.ensures.value
+    (index_is c.in-Some.unit)
     (slot_found c.self.inside.units (uses c.args.instr.now).unit c.free_unit.result c.in-Some.unit
-    c.unit_number-index.result c.free_unit.ensures c.in-Some.is c.unit_number-index.ensures.value)
+    (index_of c.in-Some.unit) c.free_unit.ensures c.in-Some.is (index_is c.in-Some.unit))
     (c.as_slice-3.ensures.value ∙ c.sources-sources.ensures) c.of.ensures.writers c.of.ensures.registers
     (subst (Each IsRegister) (sym c.sets.ensures) c.set-2.ensures.registers) (subst (λ o. IfSome o (λ n. n < 8))
     c.channel.ensures below)
@@ -130,9 +131,9 @@ pub returns-clause-after : goal.returns-clause-after
 unfolding new_issued
 returns-clause-after c =
     new_view c.self.inside.units c.self.inside.channels c.self.inside.producers c.self.inside.writers
-    c.self.inside.last (c.self.inside.last + 1) c.in-Some.unit c.unit_number-index.result c.args.instr.now
+    c.self.inside.last (c.self.inside.last + 1) c.in-Some.unit (index_of c.in-Some.unit) c.args.instr.now
     (new_issued c.args.instr.now c.in-Some.unit (c.self.inside.last + 1)) c.self.invariant (omega arith)
-    c.unit_number-index.ensures.value
+    (index_is c.in-Some.unit)
     (slot_found c.self.inside.units (uses c.args.instr.now).unit c.free_unit.result c.in-Some.unit
-    c.unit_number-index.result c.free_unit.ensures c.in-Some.is c.unit_number-index.ensures.value) refl
+    (index_of c.in-Some.unit) c.free_unit.ensures c.in-Some.is (index_is c.in-Some.unit)) refl
     ∙ ap (λ (s : Standing). reserved s c.args.instr.now (Ok (c.in-Some.unit, c.self.inside.last + 1))) c.self.view_is
