@@ -57,10 +57,28 @@ impl Signals {
         self.workers.get(unit).unwrap_or(&self.workers.branch)
     }
 
+    /// The signals of the workers.
+    fn of_workers(&self) -> [&Signal; 7] {
+        let PerUnit {
+            branch,
+            boolean,
+            shift,
+            long_add,
+            divide,
+            increment1,
+            increment2,
+        } = &self.workers;
+        [
+            branch, boolean, shift, long_add, divide, increment1, increment2,
+        ]
+    }
+
     /// Wakes the threads that wait for these events.
     pub fn wake(&self, wakeups: &Wakeups) {
         if wakeups.changed || wakeups.read {
-            let _ = self.workers.each().map(|signal| signal.wake(wakeups));
+            for signal in self.of_workers() {
+                signal.wake(wakeups);
+            }
             self.issuing.wake(wakeups);
             self.memory.wake(wakeups);
         }
@@ -77,7 +95,9 @@ impl Signals {
 
     /// Wakes all threads.
     pub fn raise_all(&self) {
-        let _ = self.workers.each().map(|signal| signal.raise());
+        for signal in self.of_workers() {
+            signal.raise();
+        }
         self.issuing.raise();
         self.requests.raise();
         self.memory.raise();

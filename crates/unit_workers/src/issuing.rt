@@ -67,28 +67,6 @@ impl<'a> PendingRequests<'a> {
     }
 }
 
-/// Asks for the exchange that is due, if one is and no other waits.
-///
-/// # Errors
-/// What else was refused.
-fn ask_due<K: Naming>(
-    machine: &mut LockedMachine<K>,
-    seen: &mut Seen<K>,
-    pending: &mut PendingRequests<'_>,
-) -> Result<(), Refusal>
-    ensures onward { GoesOnFrom seen.old seen.new }
-{
-    let Some((at, _)) = pending.requests.due() else {
-        return Ok(());
-    };
-    match machine.ask(seen, at) {
-        Err(Refusal::ExchangeBusy) => return Ok(()),
-        asked => asked?,
-    }
-    let _ = pending.requests.take_due();
-    Ok(())
-}
-
 /// Makes the exchange that waits, as soon as the machine is drained, and asks for the one that follows it, so that no
 /// request at any time comes between the two. What follows is known before the exchange is made, since what is due
 /// depends only on how many instructions were issued. Where the machine runs in the middle of a word the exchange can't
@@ -143,8 +121,9 @@ fn finish<K: Naming, R: Wait>(
     }
 }
 
-/// Issues until an issue is refused, and asks before each for the exchange that is due. It answers the refusal, if one
-/// came before the notes were full or so many instructions were issued that others may want the lock.
+/// Issues until an issue is refused. Before each issue it asks for the exchange that is due, unless another one waits.
+/// Answers the refusal, if one came before the notes were full or so many instructions were issued that others may want
+/// the lock.
 ///
 /// # Errors
 /// What was refused to a request.
@@ -157,7 +136,15 @@ fn issue_on<K: Naming>(
     ensures onward { GoesOnFrom seen.old seen.new }
 {
     for _ in 0..ISSUES_OF_A_HOLD {
-        ask_due(machine, seen, pending)?;
+        if let Some((at, _)) = pending.requests.due() {
+            match machine.ask(seen, at) {
+                Err(Refusal::ExchangeBusy) => {}
+                asked => {
+                    asked?;
+                    let _ = pending.requests.take_due();
+                }
+            }
+        }
         match machine.issue(seen) {
             Ok(note) => {
                 pending.requests.issued();
