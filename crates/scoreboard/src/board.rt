@@ -171,13 +171,12 @@ impl Board {
         let Some(register) = issued.reservation.instr.sets() else {
             return Ok(());
         };
-        let number = issued.number;
         let is_held = self.units.iter().any(
             |slot|
-                ensures { result ≡ slot_reads number register slot.now }
+                ensures { result ≡ slot_reads issued.number register slot.now }
             {
                 match slot {
-                    Some(other) => other.number < number
+                    Some(other) => other.number < issued.number
                         && other.reservation.has_to_read(&register),
                     None => false,
                 }
@@ -201,17 +200,16 @@ impl Board {
         ensures { result ≡ return_answer channel (seek (returning_by channel) self.now.issued) }
     {
         let slot = self.channels[usize::from(channel)];
-        let Some(issued) = slot else {
+        let Some(load) = slot else {
             return Ok(());
         };
         let register = Reg::X(digit(channel));
-        let number = issued.number;
         let is_read = self.units.iter().any(
             |slot|
-                ensures { result ≡ slot_reads number register slot.now }
+                ensures { result ≡ slot_reads load.number register slot.now }
             {
                 match slot {
-                    Some(other) => other.number < number
+                    Some(other) => other.number < load.number
                         && other.reservation.has_to_read(&register),
                     None => false,
                 }

@@ -26,33 +26,33 @@ returns-in_default c =
 
 pub returns-then-is_read : goal.returns-then-is_read
 returns-then-is_read c =
-    let h : c.any-is_read.result ≡ list_any (slot_reads c.in-Some.issued.number (X c.digit.result))
+    let h : c.any-is_read.result ≡ list_any (slot_reads c.in-Some.load.number (X c.digit.result))
     c.self.inside.units =
     any_from_yields_List _ _ _ _ c.any-is_read.ensures.ran (YieldsList-from_slice c.self.inside.units cc)
     (λ x b q k. search (rules, tests)) in
     ap (λ k. unless true (ResultHeld (X k))) c.digit.ensures
     ∙ return_answered c.self.inside.units c.self.inside.channels c.self.inside.producers c.self.inside.writers
-    c.self.inside.last c.args.channel c.in-Some.issued true c.self.invariant c.requires
+    c.self.inside.last c.args.channel c.in-Some.load true c.self.invariant c.requires
     (ap (λ k. get_or c.self.inside.channels k None) (sym c.from.ensures)
     ∙ slot_any c.self.inside.channels c.from.result c.index-self-from.result
     (omega (arith, c.requires, c.from.ensures, c.self.invariant.all_channels))
     ∙ c.in-Some.is)
     (sym c.if-is_read.true ∙ h
-    ∙ ap (λ k. list_any (slot_reads c.in-Some.issued.number (X k)) c.self.inside.units) c.digit.ensures)
+    ∙ ap (λ k. list_any (slot_reads c.in-Some.load.number (X k)) c.self.inside.units) c.digit.ensures)
     ∙ ap (λ (s : Standing). return_answer c.args.channel (seek (returning_by c.args.channel) s.issued)) c.self.view_is
 
 pub returns-else-is_read : goal.returns-else-is_read
 returns-else-is_read c =
-    let h : c.any-is_read.result ≡ list_any (slot_reads c.in-Some.issued.number (X c.digit.result))
+    let h : c.any-is_read.result ≡ list_any (slot_reads c.in-Some.load.number (X c.digit.result))
     c.self.inside.units =
     any_from_yields_List _ _ _ _ c.any-is_read.ensures.ran (YieldsList-from_slice c.self.inside.units cc)
     (λ x b q k. search (rules, tests)) in
     return_answered c.self.inside.units c.self.inside.channels c.self.inside.producers c.self.inside.writers
-    c.self.inside.last c.args.channel c.in-Some.issued false c.self.invariant c.requires
+    c.self.inside.last c.args.channel c.in-Some.load false c.self.invariant c.requires
     (ap (λ k. get_or c.self.inside.channels k None) (sym c.from.ensures)
     ∙ slot_any c.self.inside.channels c.from.result c.index-self-from.result
     (omega (arith, c.requires, c.from.ensures, c.self.invariant.all_channels))
     ∙ c.in-Some.is)
     (sym c.if-is_read.false ∙ h
-    ∙ ap (λ k. list_any (slot_reads c.in-Some.issued.number (X k)) c.self.inside.units) c.digit.ensures)
+    ∙ ap (λ k. list_any (slot_reads c.in-Some.load.number (X k)) c.self.inside.units) c.digit.ensures)
     ∙ ap (λ (s : Standing). return_answer c.args.channel (seek (returning_by c.args.channel) s.issued)) c.self.view_is
