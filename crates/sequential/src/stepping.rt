@@ -7,10 +7,9 @@ ghost use Rattle.sequential.specs.Step.{do_fetched, do_instruction, fetched_by, 
 ghost use Rattle.sequential.specs.Work.{fault_of, refer_at, refer, written};
 
 use crate::fetching::fetched_by;
-use crate::work::faults;
 use crate::{Fetched, ProgramPosition, ProgramReference, State, Work, operands};
 use instruction_table::{Halt, Instr, Reg, decode_as, first_digits};
-use relocation::{Access, relocate};
+use relocation::{Access, Area, relocate};
 use unit_ops::{Operands, UnitValue, value};
 use word60::{Word18, Word60};
 
@@ -75,17 +74,32 @@ impl State {
 
     /// Writes the result of an instruction, jumps, and sets the fault flag if its reference is out of range and the exit
     /// mode says so. The flag stays once it is set. The reference itself is still to be made.
-    #[tactic(auto, unfolding(crate::specs::Work::put_any, crate::specs::State::bounds_of))]
+    #[tactic(
+        auto,
+        unfolding(
+            crate::specs::Work::put_any,
+            crate::specs::Work::fault_of,
+            crate::specs::State::stops_at_fault,
+            crate::specs::State::bounds_of,
+            crate::specs::State::absolute
+        )
+    )]
     #[inline(always)]
     pub fn write_and_jump(&mut self, work: &Work)
         ensures { self.new ≡ written self.old work.now (fault_of (bounds_of self.old) work.now.reference) }
     {
-        let faults = faults(&self.area, self.memory.size(), &work.reference);
         if let Some(register) = work.register {
             self.registers.set(register, work.number);
         }
         self.position = self.position.after_jump(work.jump);
-        self.fault = self.fault || faults;
+        // Bit 010000 (octal) of the exit mode: an address out of range sets the flag.
+        if let Some(reference) = work.reference
+            && (self.area.mode.get() >> 12) % 2 == 1
+        {
+            let Area { ra, fl, .. } = self.area;
+            let address = relocate(reference.address, ra, fl, self.memory.size());
+            self.fault = self.fault || address.is_none();
+        }
     }
 
     /// All that an instruction of the word at the address `at` does, its reference too.

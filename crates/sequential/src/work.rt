@@ -1,11 +1,10 @@
 ghost use Rattle.std.specs.Prelude.{◌≡◌};
 ghost use Rattle.instructions.specs.Shape.{shape_of};
 ghost use Rattle.sequential.specs.Work.{IsWorkOf, operand_at, operands, link_word};
-ghost use Rattle.sequential.specs.Work.{fault_of};
 
 use instruction_table::{Instr, MemoryUse, Reg, operand_registers};
 use registers::RegisterFile;
-use relocation::{Access, Area, relocate};
+use relocation::Access;
 use unit_ops::{Operands, UnitValue};
 use word60::{Word18, Word60};
 
@@ -103,29 +102,6 @@ impl Work {
                 _ => None,
             },
             reference,
-        }
-    }
-}
-
-/// Whether a reference sets the fault flag: it is out of range, and the exit mode sets the flag then, as it has bit
-/// 010000 (octal).
-#[tactic(
-    auto,
-    unfolding(
-        crate::specs::Work::fault_of,
-        crate::specs::State::stops_at_fault,
-        crate::specs::State::absolute
-    )
-)]
-#[inline(always)]
-pub(crate) fn faults(area: &Area, size: u32, reference: &Option<ProgramReference>) -> bool
-    ensures { result ≡ fault_of (record { area = area.now; size = size }) reference.now }
-{
-    match *reference {
-        None => false,
-        Some(reference) => {
-            (area.mode.get() >> 12) % 2 == 1
-                && relocate(reference.address, area.ra, area.fl, size).is_none()
         }
     }
 }

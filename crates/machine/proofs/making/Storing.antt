@@ -24,7 +24,7 @@ use Rattle.program_order.specs.Processor.{Processor}
 use Rattle.program_order.specs.Units.{store_tests}
 use Rattle.machine.proofs.making.Making.{store_judged}
 
--- the first refusal of a store in a unit whose instruction is sought
+-- the first refusal of a store in a unit whose instruction is searched for
 abbrev pub refused_at : Bounds → List Pending → Option (Found Pending Stage) → Option Refusal
 refused_at b ms o = refusal_of (tests_found o (λ f. store_tests b ms f.answer f.earlier f.item.instr))
 
