@@ -44,9 +44,11 @@ end
 """
 # The line of the deck whose way is counted, from 1.
 WORD_LINE = 4
-# What isn't spelled out, or carries nothing of the instruction.
+# What isn't spelled out (`thiserror` derives the texts of two of the three types of a fault), or carries nothing of the
+# instruction.
 LEFT_OUT = re.compile(
     r"Destruct|::fn::|\+Fn|(?:PartialEq|Default|Clone|Debug|From)::|\+start|^signals::|^exchange_requests::requests::"
+    r"|(?:DeckFault|ProgramFault)Display::"
     r"|Below|word18::Word18::(?:get|widen|low_bits|from_bits)$|word60::Word60::(?:get|from_bits|low18)$"
 )
 # The functions at which a way begins and ends.
