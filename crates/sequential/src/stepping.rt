@@ -53,14 +53,7 @@ impl State {
     }
 
     /// Makes a reference, if there is one.
-    #[tactic(
-        auto,
-        unfolding(
-            crate::specs::Work::refer,
-            crate::specs::State::bounds_of,
-            crate::specs::State::absolute
-        )
-    )]
+    #[tactic(auto, unfolding(crate::specs::Work::refer, crate::specs::State::bounds_of, crate::specs::State::absolute))]
     #[inline(always)]
     fn refer(&mut self, reference: &Option<ProgramReference>)
         ensures { self.new ≡ refer (bounds_of self.old) self.old reference.now }
@@ -74,16 +67,7 @@ impl State {
 
     /// Writes the result of an instruction, jumps, and sets the fault flag if its reference is out of range and the exit
     /// mode says so. The flag stays once it is set. The reference itself is still to be made.
-    #[tactic(
-        auto,
-        unfolding(
-            crate::specs::Work::put_any,
-            crate::specs::Work::fault_of,
-            crate::specs::State::stops_at_fault,
-            crate::specs::State::bounds_of,
-            crate::specs::State::absolute
-        )
-    )]
+    #[tactic(auto, unfolding(crate::specs::Work::put_any, crate::specs::Work::fault_of, crate::specs::State::stops_at_fault, crate::specs::State::bounds_of, crate::specs::State::absolute))]
     #[inline(always)]
     pub fn write_and_jump(&mut self, work: &Work)
         ensures { self.new ≡ written self.old work.now (fault_of (bounds_of self.old) work.now.reference) }

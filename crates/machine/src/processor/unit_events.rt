@@ -29,8 +29,7 @@ impl Machine {
     {
         let judged = judge_finish(&self.in_flight, unit);
         if let Ok((pending, operands)) = &judged {
-            self.in_flight
-                .finish(unit, value(&pending.instr, operands));
+            self.in_flight.finish(unit, value(&pending.instr, operands));
         }
         made(&judged)
     }

@@ -25,6 +25,6 @@ returns c =
     c.ask.ensures.after (search rules) c.exchange.ensures.after (search rules) in
     elim c.match-due.branch [
       | in-Some+in_ok-ask h ↦ begins_on c.is_empty-is_new.result c.args.start h.in-Some.at w c.exchange.new.self
-      c.match-due.machine h.ask-in-Some.result begun (h.machine-is ∙ h.ask-in-Some.ensures.after)
+          c.match-due.machine h.ask-in-Some.result begun (h.machine-is ∙ h.ask-in-Some.ensures.after)
       | in_default-due h ↦ subst (Begins c.is_empty-is_new.result c.args.start w) (sym h.machine-is) begun
     ]
