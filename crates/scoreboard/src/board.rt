@@ -236,7 +236,7 @@ impl Board {
         let Some(issued) = slot else {
             return Ok(());
         };
-        if !issued.reservation.instr.has_reference() {
+        if issued.reservation.instr.memory().is_none() {
             return Ok(());
         }
         let number = issued.number;

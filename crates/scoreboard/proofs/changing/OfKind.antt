@@ -1,7 +1,7 @@
 -- Which units take branches, references and stores: a test of all is a test of their slots.
 use Rattle.std.proofs.Common.{◌≡◌, ◌≢◌, ℕ, zero, suc, Bool, true, false, cond, List, [], ◌∷◌, ◌++◌, Option, Some, None}
 use Rattle.std.proofs.Common.{refl, sym, ap, ◌∙◌, eqb, leb, ltb, length, get_or, set, arith}
-use Rattle.std.specs.Prelude.{not, ◌&&◌, ◌||◌}
+use Rattle.std.specs.Prelude.{not, ◌&&◌, ◌||◌, is_some}
 use Rattle.std.specs.List.{list_any}
 use Rattle.std.proofs.lemmas.Bool.{eq-eqb, eqb-true, eqb-false, and_right}
 use Rattle.std.proofs.lemmas.List.{get_or-set_other}
@@ -35,12 +35,15 @@ use Rattle.instructions.specs.declared.instr.XTest.{XTest}
 use Rattle.instructions.specs.declared.instr.XTest.TheVariants.{Zero, NonZero, Positive, Negative, InRange, OutOfRange}
 use Rattle.instructions.specs.declared.instr.XTest.TheVariants.{Definite, Indefinite}
 use Rattle.instructions.specs.declared.refusal.Refusal.TheVariants.{OutOfTurn}
+use Rattle.instructions.specs.declared.shape.MemoryUse.{MemoryUse}
 use Rattle.instructions.specs.Each.{Each}
 use Rattle.instructions.specs.Finding.{seek}
 use Rattle.instructions.specs.Order.{sort_by, somes, IsInSlots}
-use Rattle.instructions.specs.Shape.{Sets, Loads, Stores, shape_of, is_branch_shape, has_reference, has_store}
+use Rattle.instructions.specs.Shape.{Shape, Sets, Loads, Stores, shape_of, is_branch_shape, memory_of, has_reference}
+use Rattle.instructions.specs.Shape.{has_store}
 use Rattle.instructions.specs.Operands.{uses}
 use Rattle.instructions.proofs.Lists.{each_map, each_both, or_false, any_same}
+use Rattle.instructions.proofs.MemoryUses.{reference_used}
 use Rattle.instructions.proofs.Slots.{in_slots_others, in_slots_empty, found_there}
 use Rattle.instructions.proofs.Sorted.{any_sort}
 use Rattle.scoreboard.specs.declared.issued.Issued.{Issued}
@@ -451,6 +454,11 @@ turn_found n units channels l s =
     units_any (λ y. ltb y.number n && has_turn y.reservation) (slot_has_turn n) refl (λ y. refl)
     (λ y k. ap (λ b. ltb y.number n && (b && has_reference (shape_of y.reservation.instr))) k
     ∙ and_right (ltb y.number n) false refl) units channels l s
+
+-- an instruction makes a reference where it uses memory
+pub used_refers : (s : Shape) (o : Option MemoryUse) (b c : Bool) → o ≡ memory_of s → is_some o ≡ not b → b ≡ c
+    → has_reference s ≡ not c
+used_refers s o b c e n k = sym (reference_used s) ∙ ap is_some (sym e) ∙ n ∙ ap not k
 
 pub turn_answered : (units channels : List (Option Issued)) (producers : List (List (Option Writer))) (ws : Writers)
     (last : ℕ) (u : FunctionalUnit) (i : ℕ) (x : Issued) (b : Bool) → IsRight units channels producers ws last

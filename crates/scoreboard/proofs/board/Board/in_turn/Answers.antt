@@ -10,7 +10,7 @@ use Rattle.instructions.proofs.Slots.{slot_any}
 use Rattle.scoreboard.specs.Answers.{Standing, turn_answer, held_in}
 use Rattle.scoreboard.specs.inner.Fields.{slot_has_turn}
 use Rattle.scoreboard.proofs.in_slots.Standing.{nobody_answers, no_slot}
-use Rattle.scoreboard.proofs.changing.OfKind.{turn_answered}
+use Rattle.scoreboard.proofs.changing.OfKind.{turn_answered, used_refers}
 use Rattle.scoreboard.proofs.board.Board.in_turn.Goals as goal
 
 pub returns-in_default : goal.returns-in_default
@@ -25,15 +25,15 @@ returns-in_default c =
     c.in_default.not-Some)))
     ∙ ap (λ (s : Standing). turn_answer (seek (held_in c.args.unit) s.issued)) c.self.view_is
 
-pub returns-then-not-has_reference : goal.returns-then-not-has_reference
-returns-then-not-has_reference c =
+pub returns-then-is_none : goal.returns-then-is_none
+returns-then-is_none c =
     turn_answered c.self.inside.units c.self.inside.channels c.self.inside.producers c.self.inside.writers
     c.self.inside.last c.args.unit (index_of c.args.unit) c.in-Some.issued false c.self.invariant
     (index_is c.args.unit)
     (slot_any c.self.inside.units (index_of c.args.unit) c.index-self-index.result
     (omega (arith, index_below c.args.unit, c.self.invariant.all_units)) ∙ c.in-Some.is)
     (sym (ap (λ b. b && list_any (slot_has_turn c.in-Some.issued.number) c.self.inside.units)
-    (sym c.has_reference.ensures ∙ c.if-not-has_reference.true)))
+    (used_refers _ _ _ true c.memory.ensures c.is_none.ensures c.if-is_none.true)))
     ∙ ap (λ (s : Standing). turn_answer (seek (held_in c.args.unit) s.issued)) c.self.view_is
 
 pub returns-then-waits : goal.returns-then-waits
@@ -47,7 +47,7 @@ returns-then-waits c =
     (slot_any c.self.inside.units (index_of c.args.unit) c.index-self-index.result
     (omega (arith, index_below c.args.unit, c.self.invariant.all_units)) ∙ c.in-Some.is)
     (sym (ap (λ b. b && list_any (slot_has_turn c.in-Some.issued.number) c.self.inside.units)
-    (sym c.has_reference.ensures ∙ c.if-not-has_reference.false) ∙ (sym h ∙ c.if-waits.true)))
+    (used_refers _ _ _ false c.memory.ensures c.is_none.ensures c.if-is_none.false) ∙ (sym h ∙ c.if-waits.true)))
     ∙ ap (λ (s : Standing). turn_answer (seek (held_in c.args.unit) s.issued)) c.self.view_is
 
 pub returns-else-waits : goal.returns-else-waits
@@ -61,5 +61,5 @@ returns-else-waits c =
     (slot_any c.self.inside.units (index_of c.args.unit) c.index-self-index.result
     (omega (arith, index_below c.args.unit, c.self.invariant.all_units)) ∙ c.in-Some.is)
     (sym (ap (λ b. b && list_any (slot_has_turn c.in-Some.issued.number) c.self.inside.units)
-    (sym c.has_reference.ensures ∙ c.if-not-has_reference.false) ∙ (sym h ∙ c.if-waits.false)))
+    (used_refers _ _ _ false c.memory.ensures c.is_none.ensures c.if-is_none.false) ∙ (sym h ∙ c.if-waits.false)))
     ∙ ap (λ (s : Standing). turn_answer (seek (held_in c.args.unit) s.issued)) c.self.view_is
