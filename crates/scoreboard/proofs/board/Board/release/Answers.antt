@@ -1,6 +1,6 @@
 -- A store event: the invariant and the list after it, and that a free unit changes nothing.
 use Rattle.scoreboard.proofs.in_slots.Small.{index_of, index_is, index_below}
-use Rattle.std.proofs.Common.{◌≡◌, ◌<◌, List, ◌++◌, Option, None, ap, sym, ◌∙◌, subst, set, arith}
+use Rattle.std.proofs.Common.{rules, ◌≡◌, ◌<◌, List, ◌++◌, Option, Some, None, ap, sym, ◌∙◌, subst, set, arith}
 use Rattle.std.specs.Prelude.{IfSome, option_to_list}
 use Rattle.scoreboard.specs.declared.board.Board.TheInside.{Inside}
 use Rattle.scoreboard.specs.declared.issued.Issued.{Issued}
@@ -16,7 +16,10 @@ use Rattle.scoreboard.specs.inner.View.{standing_of, IsRight}
 use Rattle.scoreboard.specs.Writers.{IsRegister, set_each}
 use Rattle.scoreboard.proofs.changing.Right.{channels_with, AreForgotten, released_right, released_others, released_last}
 use Rattle.scoreboard.proofs.changing.Changing.{load_in, no_load_in, nobody_marked, released_view}
-use Rattle.scoreboard.proofs.board.Board.release.Goals.{in-Some-channel, in_default-channel}
+use Rattle.scoreboard.proofs.board.Board.release.Goals.{in-Increment+in-Some-Loads, in_default}
+use Rattle.scoreboard.proofs.board.Board.release.Goals.{in_default-via-in-Stop-1}
+use Rattle.scoreboard.proofs.board.Board.release.Goals.{in_default-via-in-Increment+in-None-1}
+use Rattle.scoreboard.proofs.board.Board.release.Goals.{in_default-via-in-Increment+in-Some+in-Stores-1}
 use Rattle.scoreboard.proofs.board.Board.release.Goals as goal
 
 pub returns-in_default : goal.returns-in_default
@@ -33,22 +36,29 @@ with_channels b us cs =
     record { units = us; producers = b.producers; channels = cs; writers = b.writers; last = b.last }
 
 pub invariant_of-self : goal.invariant_of-self
-unfolding with_channels in_occupancy
+unfolding with_channels in_occupancy shape_of channel_of
 invariant_of-self c =
     let x = c.in-Some.issued in
     let now = with_channels c.self.inside (set c.self.inside.units (index_of c.args.unit) None) in
-    let p : (c.match-channel.self-inside ≡ now (channels_with c.self.inside.channels x (channel_of (shape_of
+    let p : (c.match-instr.self-inside ≡ now (channels_with c.self.inside.channels x (channel_of (shape_of
     x.reservation.instr)))) × IfSome (channel_of (shape_of x.reservation.instr)) (λ n. n < 8) =
-    elim c.match-channel.branch [
-      | in-Some-channel w ↦ (
-        w.self-inside-is ∙ ap now (load_in c.self.inside.channels x w.in-Some-channel.n w.from.result _
-            (w.from.ensures ∙ w.get.ensures.value) w.in-Some-channel.ensures),
-        subst (λ o. IfSome o (λ n. n < 8)) w.in-Some-channel.ensures (subst (λ n. n < 8) w.get.ensures.value
-            w.get.ensures.range),
+    elim c.match-instr.branch [
+      | in-Increment+in-Some-Loads w ↦
+        let loads : Some w.in-Increment.i ≡ channel_of (shape_of x.reservation.instr) = search rules in
+        (
+        w.self-inside-is ∙ ap now (load_in c.self.inside.channels x w.in-Increment.i w.from.result _
+            (w.from.ensures ∙ w.get.ensures.value) loads),
+        subst (λ o. IfSome o (λ n. n < 8)) loads (subst (λ n. n < 8) w.get.ensures.value w.get.ensures.range),
       )
-      | in_default-channel w ↦ (
-        w.self-inside-is ∙ ap now (no_load_in c.self.inside.channels x _ w.in_default-channel.ensures),
-        subst (λ o. IfSome o (λ n. n < 8)) w.in_default-channel.ensures tt,
+      | in_default w ↦
+        let none : None ≡ channel_of (shape_of x.reservation.instr) = elim w.in_default.branch [
+          | in_default-via-in-Stop-1 v ↦ search rules
+          | in_default-via-in-Increment+in-None-1 v ↦ search rules
+          | in_default-via-in-Increment+in-Some+in-Stores-1 v ↦ search rules
+        ] in
+        (
+        w.self-inside-is ∙ ap now (no_load_in c.self.inside.channels x _ none),
+        subst (λ o. IfSome o (λ n. n < 8)) none tt,
       )
     ] in
     subst (λ (b : Inside). IsRight b.units b.channels c.forget_in_taken.new.producers c.set.new.self b.last) (sym p.0)
@@ -72,22 +82,29 @@ invariant_of-self c =
     (omega (arith, index_below c.args.unit, c.self.invariant.all_units)) ∙ c.in-Some.is)))))
 
 pub invariant_of-self-else-issued-self : goal.invariant_of-self-else-issued-self
-unfolding with_channels in_occupancy
+unfolding with_channels in_occupancy shape_of channel_of
 invariant_of-self-else-issued-self c =
     let x = c.in-Some.issued in
     let now = with_channels c.self.inside (set c.self.inside.units (index_of c.args.unit) None) in
-    let p : (c.match-channel.self-inside ≡ now (channels_with c.self.inside.channels x (channel_of (shape_of
+    let p : (c.match-instr.self-inside ≡ now (channels_with c.self.inside.channels x (channel_of (shape_of
     x.reservation.instr)))) × IfSome (channel_of (shape_of x.reservation.instr)) (λ n. n < 8) =
-    elim c.match-channel.branch [
-      | in-Some-channel w ↦ (
-        w.self-inside-is ∙ ap now (load_in c.self.inside.channels x w.in-Some-channel.n w.from.result _
-            (w.from.ensures ∙ w.get.ensures.value) w.in-Some-channel.ensures),
-        subst (λ o. IfSome o (λ n. n < 8)) w.in-Some-channel.ensures (subst (λ n. n < 8) w.get.ensures.value
-            w.get.ensures.range),
+    elim c.match-instr.branch [
+      | in-Increment+in-Some-Loads w ↦
+        let loads : Some w.in-Increment.i ≡ channel_of (shape_of x.reservation.instr) = search rules in
+        (
+        w.self-inside-is ∙ ap now (load_in c.self.inside.channels x w.in-Increment.i w.from.result _
+            (w.from.ensures ∙ w.get.ensures.value) loads),
+        subst (λ o. IfSome o (λ n. n < 8)) loads (subst (λ n. n < 8) w.get.ensures.value w.get.ensures.range),
       )
-      | in_default-channel w ↦ (
-        w.self-inside-is ∙ ap now (no_load_in c.self.inside.channels x _ w.in_default-channel.ensures),
-        subst (λ o. IfSome o (λ n. n < 8)) w.in_default-channel.ensures tt,
+      | in_default w ↦
+        let none : None ≡ channel_of (shape_of x.reservation.instr) = elim w.in_default.branch [
+          | in_default-via-in-Stop-1 v ↦ search rules
+          | in_default-via-in-Increment+in-None-1 v ↦ search rules
+          | in_default-via-in-Increment+in-Some+in-Stores-1 v ↦ search rules
+        ] in
+        (
+        w.self-inside-is ∙ ap now (no_load_in c.self.inside.channels x _ none),
+        subst (λ o. IfSome o (λ n. n < 8)) none tt,
       )
     ] in
     subst (λ (b : Inside). IsRight b.units b.channels b.producers c.set.new.self b.last) (sym p.0)
@@ -110,22 +127,29 @@ invariant_of-self-else-issued-self c =
     (c.if-issued-self.false ∙ ap (λ (b : Inside). b.last) p.0))))
 
 pub returns-then-issued-self : goal.returns-then-issued-self
-unfolding with_channels in_occupancy
+unfolding with_channels in_occupancy shape_of channel_of
 returns-then-issued-self c =
     let x = c.in-Some.issued in
     let now = with_channels c.self.inside (set c.self.inside.units (index_of c.args.unit) None) in
-    let p : (c.match-channel.self-inside ≡ now (channels_with c.self.inside.channels x (channel_of (shape_of
+    let p : (c.match-instr.self-inside ≡ now (channels_with c.self.inside.channels x (channel_of (shape_of
     x.reservation.instr)))) × IfSome (channel_of (shape_of x.reservation.instr)) (λ n. n < 8) =
-    elim c.match-channel.branch [
-      | in-Some-channel w ↦ (
-        w.self-inside-is ∙ ap now (load_in c.self.inside.channels x w.in-Some-channel.n w.from.result _
-            (w.from.ensures ∙ w.get.ensures.value) w.in-Some-channel.ensures),
-        subst (λ o. IfSome o (λ n. n < 8)) w.in-Some-channel.ensures (subst (λ n. n < 8) w.get.ensures.value
-            w.get.ensures.range),
+    elim c.match-instr.branch [
+      | in-Increment+in-Some-Loads w ↦
+        let loads : Some w.in-Increment.i ≡ channel_of (shape_of x.reservation.instr) = search rules in
+        (
+        w.self-inside-is ∙ ap now (load_in c.self.inside.channels x w.in-Increment.i w.from.result _
+            (w.from.ensures ∙ w.get.ensures.value) loads),
+        subst (λ o. IfSome o (λ n. n < 8)) loads (subst (λ n. n < 8) w.get.ensures.value w.get.ensures.range),
       )
-      | in_default-channel w ↦ (
-        w.self-inside-is ∙ ap now (no_load_in c.self.inside.channels x _ w.in_default-channel.ensures),
-        subst (λ o. IfSome o (λ n. n < 8)) w.in_default-channel.ensures tt,
+      | in_default w ↦
+        let none : None ≡ channel_of (shape_of x.reservation.instr) = elim w.in_default.branch [
+          | in_default-via-in-Stop-1 v ↦ search rules
+          | in_default-via-in-Increment+in-None-1 v ↦ search rules
+          | in_default-via-in-Increment+in-Some+in-Stores-1 v ↦ search rules
+        ] in
+        (
+        w.self-inside-is ∙ ap now (no_load_in c.self.inside.channels x _ none),
+        subst (λ o. IfSome o (λ n. n < 8)) none tt,
       )
     ] in
     ap (λ (b : Inside). standing_of b.units b.channels b.last) p.0
@@ -137,22 +161,29 @@ returns-then-issued-self c =
     ∙ ap (λ (s : Standing). with_issued s (replaced (seek (held_in c.args.unit) s.issued) s.issued left)) c.self.view_is
 
 pub returns-else-issued-self : goal.returns-else-issued-self
-unfolding with_channels in_occupancy
+unfolding with_channels in_occupancy shape_of channel_of
 returns-else-issued-self c =
     let x = c.in-Some.issued in
     let now = with_channels c.self.inside (set c.self.inside.units (index_of c.args.unit) None) in
-    let p : (c.match-channel.self-inside ≡ now (channels_with c.self.inside.channels x (channel_of (shape_of
+    let p : (c.match-instr.self-inside ≡ now (channels_with c.self.inside.channels x (channel_of (shape_of
     x.reservation.instr)))) × IfSome (channel_of (shape_of x.reservation.instr)) (λ n. n < 8) =
-    elim c.match-channel.branch [
-      | in-Some-channel w ↦ (
-        w.self-inside-is ∙ ap now (load_in c.self.inside.channels x w.in-Some-channel.n w.from.result _
-            (w.from.ensures ∙ w.get.ensures.value) w.in-Some-channel.ensures),
-        subst (λ o. IfSome o (λ n. n < 8)) w.in-Some-channel.ensures (subst (λ n. n < 8) w.get.ensures.value
-            w.get.ensures.range),
+    elim c.match-instr.branch [
+      | in-Increment+in-Some-Loads w ↦
+        let loads : Some w.in-Increment.i ≡ channel_of (shape_of x.reservation.instr) = search rules in
+        (
+        w.self-inside-is ∙ ap now (load_in c.self.inside.channels x w.in-Increment.i w.from.result _
+            (w.from.ensures ∙ w.get.ensures.value) loads),
+        subst (λ o. IfSome o (λ n. n < 8)) loads (subst (λ n. n < 8) w.get.ensures.value w.get.ensures.range),
       )
-      | in_default-channel w ↦ (
-        w.self-inside-is ∙ ap now (no_load_in c.self.inside.channels x _ w.in_default-channel.ensures),
-        subst (λ o. IfSome o (λ n. n < 8)) w.in_default-channel.ensures tt,
+      | in_default w ↦
+        let none : None ≡ channel_of (shape_of x.reservation.instr) = elim w.in_default.branch [
+          | in_default-via-in-Stop-1 v ↦ search rules
+          | in_default-via-in-Increment+in-None-1 v ↦ search rules
+          | in_default-via-in-Increment+in-Some+in-Stores-1 v ↦ search rules
+        ] in
+        (
+        w.self-inside-is ∙ ap now (no_load_in c.self.inside.channels x _ none),
+        subst (λ o. IfSome o (λ n. n < 8)) none tt,
       )
     ] in
     ap (λ (b : Inside). standing_of b.units b.channels b.last) p.0
