@@ -109,6 +109,7 @@ impl Board {
             },
         });
         let writers = &mut self.writers;
+        // A load, SA1 to SA5, writes Xi when its channel returns.
         if let Instr::Increment { target, i, .. } = *instr
             && let Some(MemoryUse::Loads(_)) = target.memory(i)
         {
@@ -317,6 +318,8 @@ impl Board {
         };
         self.units[index] = None;
         let instr = &issued.reservation.instr;
+        // The unit is entered as the writer of this register alone.
+        self.writers.set(instr.sets(), None);
         if let Instr::Increment { target, i, .. } = *instr
             && let Some(MemoryUse::Loads(_)) = target.memory(i)
         {
@@ -324,8 +327,6 @@ impl Board {
             load.reservation.occupancy = Occupancy::Left { returning: Some(i) };
             self.channels[usize::from(i.get())] = Some(load);
         }
-        // The unit is entered as the writer of this register alone.
-        self.writers.set(issued.reservation.instr.sets(), None);
         // Nobody was issued after the last one, so nobody waits for it.
         if issued.number != self.last {
             forget_in_taken(&self.units, &mut self.producers, &Writer::OfUnit(unit));
