@@ -102,7 +102,8 @@ invariant_of-self c =
     (c.as_slice-2.ensures.value ∙ c.results-results.ensures.shape)
     (produced_in_zip c.as_slice-2.result.now c.of-taken.result
     None (◌∙◌ {b = option_map (λ p. (p.0.now, p.1.now)) c.find.result}
-    (sym (ap (option_map (λ p. (p.0.now, p.1.now))) c.in_default-find.is)) found))))
+    (sym {a = option_map (λ p. (p.0.now, p.1.now)) c.find.result}
+    (ap (option_map (λ p. (p.0.now, p.1.now))) c.in_default-find.is)) found))))
     (kind_found c.self.inside.units (uses c.args.instr.now).unit c.free_unit.result c.in-Some.unit
     c.free_unit.ensures c.in-Some.is)
     refl entered
