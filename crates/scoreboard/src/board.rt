@@ -12,9 +12,8 @@ ghost use Rattle.scoreboard.specs.Answers.{held_in, returning_by, read_answer, s
 ghost use Rattle.scoreboard.specs.Answers.{turn_answer, reserve_answer, reserved, read, left, gone, with_issued};
 
 use crate::fields::{any_reference, first_unit, forget_in_taken, free_unit};
-use crate::issued::channel;
 use crate::{Issued, Occupancy, Reservation, Writer, Writers};
-use instructions::{Digit, Instr, Refusal, Reg, Unit, results, sources};
+use instructions::{Digit, Instr, MemoryUse, Refusal, Reg, Unit, results, sources};
 use std::marker::Model;
 
 /// Which instructions hold a unit or have a load still to return, and who will write which register (Thornton,
@@ -110,8 +109,11 @@ impl Board {
             },
         });
         let writers = &mut self.writers;
-        if let Some(n) = channel(instr) {
-            writers.set(Some(Reg::X(n)), Some(Writer::OfChannel(n)));
+        // A load, SA1 to SA5, writes Xi when its channel returns.
+        if let Instr::Increment { target, i, .. } = *instr
+            && let Some(MemoryUse::Loads(_)) = target.memory(i)
+        {
+            writers.set(Some(Reg::X(i)), Some(Writer::OfChannel(i)));
         }
         writers.set(instr.sets(), Some(Writer::OfUnit(unit)));
         self.last = number;
@@ -315,13 +317,16 @@ impl Board {
             return;
         };
         self.units[index] = None;
-        if let Some(n) = channel(&issued.reservation.instr) {
-            let mut load = issued;
-            load.reservation.occupancy = Occupancy::Left { returning: Some(n) };
-            self.channels[usize::from(n.get())] = Some(load);
-        }
+        let instr = &issued.reservation.instr;
         // The unit is entered as the writer of this register alone.
-        self.writers.set(issued.reservation.instr.sets(), None);
+        self.writers.set(instr.sets(), None);
+        if let Instr::Increment { target, i, .. } = *instr
+            && let Some(MemoryUse::Loads(_)) = target.memory(i)
+        {
+            let mut load = issued;
+            load.reservation.occupancy = Occupancy::Left { returning: Some(i) };
+            self.channels[usize::from(i.get())] = Some(load);
+        }
         // Nobody was issued after the last one, so nobody waits for it.
         if issued.number != self.last {
             forget_in_taken(&self.units, &mut self.producers, &Writer::OfUnit(unit));

@@ -83,17 +83,6 @@ marked_view units channels producers ws last u i x right e h =
     room : i < length (set os i None)
     room = let b = within os i x here in let q = length-set os i None in omega (arith, b, q)
 
-pub load_in : (channels : List (Option Issued)) (x : Issued) (n k : ℕ) (o : Option ℕ) → k ≡ n → Some n ≡ o
-    → set channels k (Some (in_occupancy x (Left (Some n)))) ≡ channels_with channels x o
-unfolding channels_with
-load_in channels x n k o e h =
-    ap (λ k. set channels k (Some (in_occupancy x (Left (Some n))))) e ∙ ap (channels_with channels x) h
-
-pub no_load_in : (channels : List (Option Issued)) (x : Issued) (o : Option ℕ) → None ≡ o
-    → channels ≡ channels_with channels x o
-unfolding channels_with
-no_load_in channels x o h = ap (channels_with channels x) h
-
 pub released_view : (units channels : List (Option Issued)) (producers : List (List (Option Writer))) (ws : Writers)
     (last : ℕ) (u : FunctionalUnit) (i : ℕ) (x : Issued) → IsRight units channels producers ws last → i ≡ unit_number u
     → get_or units i None ≡ Some x → IfSome (channel_of (shape_of x.reservation.instr)) (λ n. n < 8)

@@ -559,15 +559,15 @@ with_channel ws None = ws
 with_channel ws (Some n) = set_writer ws (X n) (Some (OfChannel n))
 
 -- the writers after an issue, entered one after the other
-pub writers_entered : (ws middle after : Writers) (u : FunctionalUnit) (i : Instr) (r : Option Reg) (c : Option ℕ)
-    → sets_of (shape_of i) ≡ option_to_list r → c ≡ channel_of (shape_of i) → middle ≡ with_channel ws c
+pub writers_entered : (ws middle after : Writers) (u : FunctionalUnit) (i : Instr) (r : Option Reg)
+    → sets_of (shape_of i) ≡ option_to_list r → middle ≡ with_channel ws (channel_of (shape_of i))
     → after ≡ set_each middle (option_to_list r) (Some (OfUnit u))
     → after ≡ writers_with ws u (sets_of (shape_of i)) (channel_of (shape_of i))
 unfolding writers_with
-writers_entered ws middle after u i r c es ec em ea =
+writers_entered ws middle after u i r es em ea =
     ea ∙ ap (λ rs. set_each middle rs (Some (OfUnit u))) (sym es)
     ∙ ap (λ w. set_each w (sets_of (shape_of i)) (Some (OfUnit u))) em
-    ∙ by_channel c ∙ ap (writers_with ws u (sets_of (shape_of i))) ec
+    ∙ by_channel (channel_of (shape_of i))
   where
     by_channel : (o : Option ℕ) → set_each (with_channel ws o) (sets_of (shape_of i)) (Some (OfUnit u))
         ≡ writers_with ws u (sets_of (shape_of i)) o

@@ -1,9 +1,10 @@
 -- A store event: the invariant and the list after it, and that a free unit changes nothing.
 use Rattle.scoreboard.proofs.in_slots.Small.{index_of, index_is, index_below}
-use Rattle.std.proofs.Common.{◌≡◌, ◌<◌, List, ◌++◌, Option, None, ap, sym, ◌∙◌, subst, set, arith}
-use Rattle.std.specs.Prelude.{IfSome, option_to_list}
+use Rattle.std.proofs.Common.{rules, ◌≡◌, ◌<◌, List, ◌++◌, Option, None, ap, sym, ◌∙◌, subst, set, arith}
+use Rattle.std.specs.Prelude.{IfSome}
 use Rattle.scoreboard.specs.declared.board.Board.TheInside.{Inside}
 use Rattle.scoreboard.specs.declared.issued.Issued.{Issued}
+use Rattle.scoreboard.specs.declared.writers.Writers.{Writers}
 use Rattle.scoreboard.specs.inner.Fields.{forget_in_taken}
 use Rattle.instructions.specs.Each.{Each}
 use Rattle.instructions.specs.Shape.{shape_of}
@@ -15,8 +16,11 @@ use Rattle.scoreboard.specs.Issued.{channel_of}
 use Rattle.scoreboard.specs.inner.View.{standing_of, IsRight}
 use Rattle.scoreboard.specs.Writers.{IsRegister, set_each}
 use Rattle.scoreboard.proofs.changing.Right.{channels_with, AreForgotten, released_right, released_others, released_last}
-use Rattle.scoreboard.proofs.changing.Changing.{load_in, no_load_in, nobody_marked, released_view}
-use Rattle.scoreboard.proofs.board.Board.release.Goals.{in-Some-channel, in_default-channel}
+use Rattle.scoreboard.proofs.changing.Changing.{nobody_marked, released_view}
+use Rattle.scoreboard.proofs.board.Board.release.Goals.{in-Increment+in-Some-Loads, in_default}
+use Rattle.scoreboard.proofs.board.Board.release.Goals.{in_default-via-in-Stop-1}
+use Rattle.scoreboard.proofs.board.Board.release.Goals.{in_default-via-in-Increment+in-None-1}
+use Rattle.scoreboard.proofs.board.Board.release.Goals.{in_default-via-in-Increment+in-Some+in-Stores-1}
 use Rattle.scoreboard.proofs.board.Board.release.Goals as goal
 
 pub returns-in_default : goal.returns-in_default
@@ -28,35 +32,29 @@ returns-in_default c =
     (omega (arith, index_below c.args.unit, c.self.invariant.all_units)) ∙ c.in_default.is)
     ∙ ap (λ (s : Standing). with_issued s (replaced (seek (held_in c.args.unit) s.issued) s.issued left)) c.self.view_is
 
-with_channels : Inside → List (Option Issued) → List (Option Issued) → Inside
-with_channels b us cs =
-    record { units = us; producers = b.producers; channels = cs; writers = b.writers; last = b.last }
+with_channels : Inside → List (Option Issued) → Writers → List (Option Issued) → Inside
+with_channels b us ws cs = record { units = us; producers = b.producers; channels = cs; writers = ws; last = b.last }
 
 pub invariant_of-self : goal.invariant_of-self
-unfolding with_channels in_occupancy
+unfolding with_channels channels_with in_occupancy shape_of channel_of
 invariant_of-self c =
     let x = c.in-Some.issued in
-    let now = with_channels c.self.inside (set c.self.inside.units (index_of c.args.unit) None) in
-    let p : (c.match-channel.self-inside ≡ now (channels_with c.self.inside.channels x (channel_of (shape_of
+    let now = with_channels c.self.inside (set c.self.inside.units (index_of c.args.unit) None) c.set.new.self in
+    let p : (c.match-instr.self-inside ≡ now (channels_with c.self.inside.channels x (channel_of (shape_of
     x.reservation.instr)))) × IfSome (channel_of (shape_of x.reservation.instr)) (λ n. n < 8) =
-    elim c.match-channel.branch [
-      | in-Some-channel w ↦ (
-        w.self-inside-is ∙ ap now (load_in c.self.inside.channels x w.in-Some-channel.n w.from.result _
-            (w.from.ensures ∙ w.get.ensures.value) w.in-Some-channel.ensures),
-        subst (λ o. IfSome o (λ n. n < 8)) w.in-Some-channel.ensures (subst (λ n. n < 8) w.get.ensures.value
-            w.get.ensures.range),
-      )
-      | in_default-channel w ↦ (
-        w.self-inside-is ∙ ap now (no_load_in c.self.inside.channels x _ w.in_default-channel.ensures),
-        subst (λ o. IfSome o (λ n. n < 8)) w.in_default-channel.ensures tt,
-      )
+    elim c.match-instr.branch [
+      | in-Increment+in-Some-Loads w ↦ (search rules, search rules)
+      | in_default w ↦ elim w.in_default.branch [
+        | in_default-via-in-Stop-1 v ↦ (search rules, search rules)
+        | in_default-via-in-Increment+in-None-1 v ↦ (search rules, search rules)
+        | in_default-via-in-Increment+in-Some+in-Stores-1 v ↦ (search rules, search rules)
+      ]
     ] in
-    subst (λ (b : Inside). IsRight b.units b.channels c.forget_in_taken.new.producers c.set.new.self b.last) (sym p.0)
+    subst (λ (b : Inside). IsRight b.units b.channels c.forget_in_taken.new.producers b.writers b.last) (sym p.0)
     (subst (λ ws. IsRight (set c.self.inside.units (index_of c.args.unit) None)
     (channels_with c.self.inside.channels x (channel_of (shape_of x.reservation.instr)))
     c.forget_in_taken.new.producers ws c.self.inside.last) (sym
-    (c.set.ensures.value ∙ ap (λ (b : Inside). set_each b.writers (option_to_list c.sets.result) None) p.0
-    ∙ ap (λ rs. set_each c.self.inside.writers rs None) (sym c.sets.ensures)))
+    (c.set.ensures.value ∙ ap (λ rs. set_each c.self.inside.writers rs None) (sym c.sets.ensures)))
     (released_right c.self.inside.units c.self.inside.channels c.self.inside.producers c.self.inside.writers
     c.self.inside.last c.args.unit (index_of c.args.unit) x c.self.invariant
     (index_is c.args.unit)
@@ -72,30 +70,25 @@ invariant_of-self c =
     (omega (arith, index_below c.args.unit, c.self.invariant.all_units)) ∙ c.in-Some.is)))))
 
 pub invariant_of-self-else-issued-self : goal.invariant_of-self-else-issued-self
-unfolding with_channels in_occupancy
+unfolding with_channels channels_with in_occupancy shape_of channel_of
 invariant_of-self-else-issued-self c =
     let x = c.in-Some.issued in
-    let now = with_channels c.self.inside (set c.self.inside.units (index_of c.args.unit) None) in
-    let p : (c.match-channel.self-inside ≡ now (channels_with c.self.inside.channels x (channel_of (shape_of
+    let now = with_channels c.self.inside (set c.self.inside.units (index_of c.args.unit) None) c.set.new.self in
+    let p : (c.match-instr.self-inside ≡ now (channels_with c.self.inside.channels x (channel_of (shape_of
     x.reservation.instr)))) × IfSome (channel_of (shape_of x.reservation.instr)) (λ n. n < 8) =
-    elim c.match-channel.branch [
-      | in-Some-channel w ↦ (
-        w.self-inside-is ∙ ap now (load_in c.self.inside.channels x w.in-Some-channel.n w.from.result _
-            (w.from.ensures ∙ w.get.ensures.value) w.in-Some-channel.ensures),
-        subst (λ o. IfSome o (λ n. n < 8)) w.in-Some-channel.ensures (subst (λ n. n < 8) w.get.ensures.value
-            w.get.ensures.range),
-      )
-      | in_default-channel w ↦ (
-        w.self-inside-is ∙ ap now (no_load_in c.self.inside.channels x _ w.in_default-channel.ensures),
-        subst (λ o. IfSome o (λ n. n < 8)) w.in_default-channel.ensures tt,
-      )
+    elim c.match-instr.branch [
+      | in-Increment+in-Some-Loads w ↦ (search rules, search rules)
+      | in_default w ↦ elim w.in_default.branch [
+        | in_default-via-in-Stop-1 v ↦ (search rules, search rules)
+        | in_default-via-in-Increment+in-None-1 v ↦ (search rules, search rules)
+        | in_default-via-in-Increment+in-Some+in-Stores-1 v ↦ (search rules, search rules)
+      ]
     ] in
-    subst (λ (b : Inside). IsRight b.units b.channels b.producers c.set.new.self b.last) (sym p.0)
+    subst (λ (b : Inside). IsRight b.units b.channels b.producers b.writers b.last) (sym p.0)
     (subst (λ ws. IsRight (set c.self.inside.units (index_of c.args.unit) None)
     (channels_with c.self.inside.channels x (channel_of (shape_of x.reservation.instr)))
     c.self.inside.producers ws c.self.inside.last) (sym
-    (c.set.ensures.value ∙ ap (λ (b : Inside). set_each b.writers (option_to_list c.sets.result) None) p.0
-    ∙ ap (λ rs. set_each c.self.inside.writers rs None) (sym c.sets.ensures)))
+    (c.set.ensures.value ∙ ap (λ rs. set_each c.self.inside.writers rs None) (sym c.sets.ensures)))
     (released_right c.self.inside.units c.self.inside.channels c.self.inside.producers c.self.inside.writers
     c.self.inside.last c.args.unit (index_of c.args.unit) x c.self.invariant
     (index_is c.args.unit)
@@ -110,23 +103,19 @@ invariant_of-self-else-issued-self c =
     (c.if-issued-self.false ∙ ap (λ (b : Inside). b.last) p.0))))
 
 pub returns-then-issued-self : goal.returns-then-issued-self
-unfolding with_channels in_occupancy
+unfolding with_channels channels_with in_occupancy shape_of channel_of
 returns-then-issued-self c =
     let x = c.in-Some.issued in
-    let now = with_channels c.self.inside (set c.self.inside.units (index_of c.args.unit) None) in
-    let p : (c.match-channel.self-inside ≡ now (channels_with c.self.inside.channels x (channel_of (shape_of
+    let now = with_channels c.self.inside (set c.self.inside.units (index_of c.args.unit) None) c.set.new.self in
+    let p : (c.match-instr.self-inside ≡ now (channels_with c.self.inside.channels x (channel_of (shape_of
     x.reservation.instr)))) × IfSome (channel_of (shape_of x.reservation.instr)) (λ n. n < 8) =
-    elim c.match-channel.branch [
-      | in-Some-channel w ↦ (
-        w.self-inside-is ∙ ap now (load_in c.self.inside.channels x w.in-Some-channel.n w.from.result _
-            (w.from.ensures ∙ w.get.ensures.value) w.in-Some-channel.ensures),
-        subst (λ o. IfSome o (λ n. n < 8)) w.in-Some-channel.ensures (subst (λ n. n < 8) w.get.ensures.value
-            w.get.ensures.range),
-      )
-      | in_default-channel w ↦ (
-        w.self-inside-is ∙ ap now (no_load_in c.self.inside.channels x _ w.in_default-channel.ensures),
-        subst (λ o. IfSome o (λ n. n < 8)) w.in_default-channel.ensures tt,
-      )
+    elim c.match-instr.branch [
+      | in-Increment+in-Some-Loads w ↦ (search rules, search rules)
+      | in_default w ↦ elim w.in_default.branch [
+        | in_default-via-in-Stop-1 v ↦ (search rules, search rules)
+        | in_default-via-in-Increment+in-None-1 v ↦ (search rules, search rules)
+        | in_default-via-in-Increment+in-Some+in-Stores-1 v ↦ (search rules, search rules)
+      ]
     ] in
     ap (λ (b : Inside). standing_of b.units b.channels b.last) p.0
     ∙ released_view c.self.inside.units c.self.inside.channels c.self.inside.producers c.self.inside.writers
@@ -137,23 +126,19 @@ returns-then-issued-self c =
     ∙ ap (λ (s : Standing). with_issued s (replaced (seek (held_in c.args.unit) s.issued) s.issued left)) c.self.view_is
 
 pub returns-else-issued-self : goal.returns-else-issued-self
-unfolding with_channels in_occupancy
+unfolding with_channels channels_with in_occupancy shape_of channel_of
 returns-else-issued-self c =
     let x = c.in-Some.issued in
-    let now = with_channels c.self.inside (set c.self.inside.units (index_of c.args.unit) None) in
-    let p : (c.match-channel.self-inside ≡ now (channels_with c.self.inside.channels x (channel_of (shape_of
+    let now = with_channels c.self.inside (set c.self.inside.units (index_of c.args.unit) None) c.set.new.self in
+    let p : (c.match-instr.self-inside ≡ now (channels_with c.self.inside.channels x (channel_of (shape_of
     x.reservation.instr)))) × IfSome (channel_of (shape_of x.reservation.instr)) (λ n. n < 8) =
-    elim c.match-channel.branch [
-      | in-Some-channel w ↦ (
-        w.self-inside-is ∙ ap now (load_in c.self.inside.channels x w.in-Some-channel.n w.from.result _
-            (w.from.ensures ∙ w.get.ensures.value) w.in-Some-channel.ensures),
-        subst (λ o. IfSome o (λ n. n < 8)) w.in-Some-channel.ensures (subst (λ n. n < 8) w.get.ensures.value
-            w.get.ensures.range),
-      )
-      | in_default-channel w ↦ (
-        w.self-inside-is ∙ ap now (no_load_in c.self.inside.channels x _ w.in_default-channel.ensures),
-        subst (λ o. IfSome o (λ n. n < 8)) w.in_default-channel.ensures tt,
-      )
+    elim c.match-instr.branch [
+      | in-Increment+in-Some-Loads w ↦ (search rules, search rules)
+      | in_default w ↦ elim w.in_default.branch [
+        | in_default-via-in-Stop-1 v ↦ (search rules, search rules)
+        | in_default-via-in-Increment+in-None-1 v ↦ (search rules, search rules)
+        | in_default-via-in-Increment+in-Some+in-Stores-1 v ↦ (search rules, search rules)
+      ]
     ] in
     ap (λ (b : Inside). standing_of b.units b.channels b.last) p.0
     ∙ released_view c.self.inside.units c.self.inside.channels c.self.inside.producers c.self.inside.writers

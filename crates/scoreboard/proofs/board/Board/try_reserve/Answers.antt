@@ -11,13 +11,17 @@ use Rattle.scoreboard.specs.Writers.{IsRegister}
 use Rattle.instructions.specs.declared.refusal.Refusal.TheVariants.{UnitBusy}
 use Rattle.instructions.specs.Operands.{uses}
 use Rattle.scoreboard.specs.Conflicts.{unit_for}
-use Rattle.scoreboard.specs.Issued.{reservation_of}
+use Rattle.scoreboard.specs.Issued.{reservation_of, channel_of}
+use Rattle.instructions.specs.Shape.{shape_of}
 use Rattle.scoreboard.specs.Answers.{Standing, reserve_answer, reserved, new_issued}
 use Rattle.scoreboard.specs.inner.View.{standing_of}
 use Rattle.scoreboard.proofs.changing.Reserving.{first_found, unit_found, slot_found, kind_found, new_right, new_view}
 use Rattle.scoreboard.proofs.changing.Reserving.{reserved_answer, taken_answer, busy_answer, refused_after}
 use Rattle.scoreboard.proofs.changing.Reserving.{with_channel, writers_entered}
-use Rattle.scoreboard.proofs.board.Board.try_reserve.Goals.{in-Some-channel, in_default-channel}
+use Rattle.scoreboard.proofs.board.Board.try_reserve.Goals.{in-Increment+in-Some-Loads, in_default}
+use Rattle.scoreboard.proofs.board.Board.try_reserve.Goals.{in_default-via-in-Stop-1}
+use Rattle.scoreboard.proofs.board.Board.try_reserve.Goals.{in_default-via-in-Increment+in-None-1}
+use Rattle.scoreboard.proofs.board.Board.try_reserve.Goals.{in_default-via-in-Increment+in-Some+in-Stores-1}
 use Rattle.scoreboard.proofs.board.Board.try_reserve.Goals as goal
 
 pub returns-in_default-clause-answer : goal.returns-in_default-clause-answer
@@ -65,23 +69,23 @@ pub overflow_add-number : goal.overflow_add-number
 overflow_add-number c = let e = ap (λ (s : Standing). s.last) c.self.view_is in omega (arith, e, c.requires)
 
 pub invariant_of-self : goal.invariant_of-self
-unfolding new_issued
+unfolding new_issued shape_of channel_of
 invariant_of-self c =
     let found = find_from_yields_List (λ p. is_some p.1) c.find.new.self _ _ c.find.ensures.ran
     (YieldsList-from_zip (YieldsList-from_slice c.as_slice-2.result.now cc)
     (YieldsList-from_slice c.of-taken.result cc)) (λ x b q k. search (rules, tests)) in
-    let below : IfSome c.channel.result (λ n. n < 8) = elim c.match-channel.branch [
-      | in-Some-channel w ↦ subst (λ o. IfSome o (λ n. n < 8)) (sym w.in-Some-channel.is) w.set.ensures.registers.0
-      | in_default-channel w ↦ subst (λ o. IfSome o (λ n. n < 8)) (sym w.in_default-channel.is) tt
+    let entering : (c.match-instr.writers ≡ with_channel c.self.inside.writers (channel_of (shape_of c.args.instr.now)))
+    × IfSome (channel_of (shape_of c.args.instr.now)) (λ n. n < 8) =
+    elim c.match-instr.branch [
+      | in-Increment+in-Some-Loads w ↦ (search rules, search rules)
+      | in_default w ↦ elim w.in_default.branch [
+        | in_default-via-in-Stop-1 v ↦ (search rules, search rules)
+        | in_default-via-in-Increment+in-None-1 v ↦ (search rules, search rules)
+        | in_default-via-in-Increment+in-Some+in-Stores-1 v ↦ (search rules, search rules)
+      ]
     ] in
-    let middle : c.match-channel.writers ≡ with_channel c.self.inside.writers c.channel.result =
-    elim c.match-channel.branch [
-      | in-Some-channel w ↦ w.writers-is ∙ w.set.ensures.value
-          ∙ sym (ap (with_channel c.self.inside.writers) w.in-Some-channel.is)
-      | in_default-channel w ↦ w.writers-is ∙ sym (ap (with_channel c.self.inside.writers) w.in_default-channel.is)
-    ] in
-    let entered = writers_entered c.self.inside.writers c.match-channel.writers c.set-2.new.self c.in-Some.unit
-    c.args.instr.now c.sets.result c.channel.result c.sets.ensures c.channel.ensures middle c.set-2.ensures.value in
+    let entered = writers_entered c.self.inside.writers c.match-instr.writers c.set-2.new.self c.in-Some.unit
+    c.args.instr.now c.sets.result c.sets.ensures entering.0 c.set-2.ensures.value in
     new_right c.self.inside.units c.self.inside.channels c.self.inside.producers c.self.inside.writers
     c.set-2.new.self c.self.inside.last (c.self.inside.last + 1) c.in-Some.unit (index_of c.in-Some.unit)
     c.args.instr.now c.as_slice-3.result.now c.of.result (new_issued c.args.instr.now c.in-Some.unit
@@ -90,8 +94,7 @@ invariant_of-self c =
     (slot_found c.self.inside.units (uses c.args.instr.now).unit c.free_unit.result c.in-Some.unit
     (index_of c.in-Some.unit) c.free_unit.ensures c.in-Some.is (index_is c.in-Some.unit))
     (c.as_slice-3.ensures.value ∙ c.sources-sources.ensures) c.of.ensures.writers c.of.ensures.registers
-    (subst (Each IsRegister) (sym c.sets.ensures) c.set-2.ensures.registers) (subst (λ o. IfSome o (λ n. n < 8))
-    c.channel.ensures below)
+    (subst (Each IsRegister) (sym c.sets.ensures) c.set-2.ensures.registers) entering.1
     (sym (first_found c.self.inside.units c.self.inside.channels c.self.inside.producers c.self.inside.writers
     c.self.inside.last c.args.instr.now c.as_slice.result.now c.as_slice-2.result.now c.of-taken.result
     None c.self.invariant c.of-taken.ensures.writers c.of-taken.ensures.registers
@@ -99,7 +102,8 @@ invariant_of-self c =
     (c.as_slice-2.ensures.value ∙ c.results-results.ensures.shape)
     (produced_in_zip c.as_slice-2.result.now c.of-taken.result
     None (◌∙◌ {b = option_map (λ p. (p.0.now, p.1.now)) c.find.result}
-    (sym (ap (option_map (λ p. (p.0.now, p.1.now))) c.in_default-find.is)) found))))
+    (sym {a = option_map (λ p. (p.0.now, p.1.now)) c.find.result}
+    (ap (option_map (λ p. (p.0.now, p.1.now))) c.in_default-find.is)) found))))
     (kind_found c.self.inside.units (uses c.args.instr.now).unit c.free_unit.result c.in-Some.unit
     c.free_unit.ensures c.in-Some.is)
     refl entered
