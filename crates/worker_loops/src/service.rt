@@ -3,7 +3,6 @@ ghost use Rattle.std.specs.Prelude.{◌≡◌, suc, IfOk, IfErr, MatchBool, Matc
 ghost use Rattle.machine.specs.Tokens.{one_more};
 
 use crate::gate::Gate;
-use crate::memory_worker::accept;
 use instruction_table::{Refusal, Unit};
 use machine::{Computed, Event, Loaded, Note, Outstanding, Seat};
 use machine_lock::{LockedMachine, Naming, Shared};
@@ -59,7 +58,10 @@ fn refer<K: Naming>(machine: &mut LockedMachine<K>, rest: Outstanding, was_oldes
         return;
     }
     if let Outstanding::Entered(place, _, _) = &rest {
-        let _ = accept(machine, *place);
+        if let Err(Refusal::BankBusy(bank)) = machine.accept(*place) {
+            let _ = machine.bank_free(bank);
+            let _ = machine.accept(*place);
+        }
     }
     if matches!(rest, Outstanding::Entered(_, _, Access::Store(_))) {
         return;
