@@ -51,7 +51,8 @@ fn load<K: Naming, R: Wait>(
 }
 
 /// Takes the reference that a unit has just made through memory, if no earlier instruction was pending at its store:
-/// then it is the oldest one, and nothing is in its way. Otherwise the storage worker is woken.
+/// then it is the oldest one, and only a busy bank can be in its way, which is freed. Otherwise the storage worker is
+/// woken.
 fn refer<K: Naming>(machine: &mut LockedMachine<K>, rest: Outstanding, was_oldest: bool) {
     if !was_oldest {
         machine.leave_to_memory();
