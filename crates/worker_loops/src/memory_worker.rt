@@ -37,24 +37,16 @@ impl Swept {
     }
 }
 
-/// Accepts the reference in a place of the hopper, 0 to 3. If its bank is busy, the bank is freed first.
-///
-/// # Errors
-/// `Nothing` if the place is empty, and `OlderAtAddress`.
-pub(crate) fn accept<K: Naming>(machine: &mut LockedMachine<K>, place: u8) -> Result<(), Refusal> {
-    match machine.accept(place) {
-        Err(Refusal::BankBusy(bank)) => {
-            let _ = machine.bank_free(bank);
-            machine.accept(place)
-        }
-        answer => answer,
-    }
-}
-
-/// Accepts the references that may be accepted.
+/// Accepts the references in the hopper that may be accepted. If the bank of a reference is busy, the bank is freed
+/// first.
 fn accept_all<K: Naming>(machine: &mut LockedMachine<K>, swept: &mut Swept) {
     for place in 0..4u8 {
-        swept.note(accept(machine, place));
+        let mut answer = machine.accept(place);
+        if let Err(Refusal::BankBusy(bank)) = answer {
+            let _ = machine.bank_free(bank);
+            answer = machine.accept(place);
+        }
+        swept.note(answer);
     }
 }
 

@@ -3,7 +3,6 @@ ghost use Rattle.std.specs.Prelude.{◌≡◌, suc, IfOk, IfErr, MatchBool, Matc
 ghost use Rattle.machine.specs.Tokens.{one_more};
 
 use crate::gate::Gate;
-use crate::memory_worker::accept;
 use instruction_table::{Refusal, Unit};
 use machine::{Computed, Event, Loaded, Note, Outstanding, Seat};
 use machine_lock::{LockedMachine, Naming, Shared};
@@ -52,14 +51,18 @@ fn load<K: Naming, R: Wait>(
 }
 
 /// Takes the reference that a unit has just made through memory, if no earlier instruction was pending at its store:
-/// then it is the oldest one, and nothing is in its way. Otherwise the storage worker is woken.
+/// then it is the oldest one, and only a busy bank can be in its way, which is freed. Otherwise the storage worker is
+/// woken.
 fn refer<K: Naming>(machine: &mut LockedMachine<K>, rest: Outstanding, was_oldest: bool) {
     if !was_oldest {
         machine.leave_to_memory();
         return;
     }
     if let Outstanding::Entered(place, _, _) = &rest {
-        let _ = accept(machine, *place);
+        if let Err(Refusal::BankBusy(bank)) = machine.accept(*place) {
+            let _ = machine.bank_free(bank);
+            let _ = machine.accept(*place);
+        }
     }
     if matches!(rest, Outstanding::Entered(_, _, Access::Store(_))) {
         return;
