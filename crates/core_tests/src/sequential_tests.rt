@@ -4,10 +4,9 @@ use crate::fixtures::{Computed, Register, Stand, digit, index, instruction, numb
 use Stand::{OutOfRange, Refused, Running, Stopped, Straddling};
 use instructions::{Halt, Instr, ParcelNumber, Refusal};
 use registers::RegisterFile;
-use relocation::{Access, Area, Storage};
+use relocation::{Access, Area, Storage, relocate};
 use sequential::{
-    Entry, Fetched, Log, ProgramPosition, ProgramReference, State, Work, faults, operands, replay,
-    step,
+    Entry, Fetched, Log, ProgramPosition, ProgramReference, State, Work, operands, replay, step,
 };
 use std::alloc::Global;
 use std::test::Fail;
@@ -483,22 +482,37 @@ const RANGES: [(&str, u32, u32, Option<u32>, bool); 3] = [
     ("FL, where the mode asks for none", 4, 0o767777, None, false),
 ];
 
-/// References are held to FL 4, and no reference never faults.
-#[test]
-fn holds_references_to_the_range(rt: HostRuntime) {
-    for (name, address, mode, absolute, fault) in RANGES.as_slice() {
-        let area = area(4, *mode);
-        let reference = ProgramReference {
-            address: index(*address),
-            access: Access::Load(digit(1)),
-        };
-        let found = (
-            reference.absolute(&area, 32),
-            faults(&area, 32, &Some(reference)),
-            faults(&area, 32, &None),
-        );
-        assert_eq!(rt; found, (*absolute, *fault, false), "{name}");
+/// Work that only makes this reference.
+fn referring(reference: Option<ProgramReference>) -> Work {
+    Work {
+        register: None,
+        number: Word60::default(),
+        jump: None,
+        reference,
     }
+}
+
+/// References are held to FL 4, and work without a reference never faults.
+#[test]
+fn holds_references_to_the_range(rt: HostRuntime) -> Result<(), Fail> {
+    let mut state = State::boot(Storage::new(rt.alloc(), 32)?);
+    for (name, address, mode, absolute, fault) in RANGES.as_slice() {
+        state.area = area(4, *mode);
+        state.fault = false;
+        let address = index(*address);
+        state.write_and_jump(&referring(None));
+        let is_untouched = !state.fault;
+        state.write_and_jump(&referring(Some(ProgramReference {
+            address,
+            access: Access::Load(digit(1)),
+        })));
+        let found = relocate(address, state.area.ra, state.area.fl, 32);
+        assert!(rt;
+            is_untouched && state.fault == *fault && found == *absolute,
+            "{name}"
+        );
+    }
+    Ok(())
 }
 
 /// What is logged.

@@ -9,7 +9,7 @@ use instruction_table::{Instr, Refusal, Reg, Unit, UnitKind, results, sources, u
 use machine::{Answer, Done, Event, MOST_ISSUES, Machine, Note, Snapshot};
 use relocation::{Access, PACKAGE_WORDS, Storage, relocate};
 use scoreboard::{Occupancy, Reservation, is_same_unit};
-use sequential::{Fetched, State, Work, faults, operands};
+use sequential::{Fetched, State, Work, operands};
 use std::alloc::Global;
 use unit_ops::{UnitValue, value};
 use word60::Word60;
@@ -441,7 +441,13 @@ impl ListMachine {
             return None;
         };
         let access = reference.access;
-        match reference.absolute(&self.state.area, self.state.memory.size()) {
+        let area = &self.state.area;
+        match relocate(
+            reference.address,
+            area.ra,
+            area.fl,
+            self.state.memory.size(),
+        ) {
             Some(address) => Some(Phase::After(Outstanding::Entered(place, address, access))),
             None => match access {
                 Access::Load(n) => Some(Phase::After(Outstanding::Accepted(n, Word60::default()))),
@@ -481,9 +487,7 @@ impl ListMachine {
 
     /// What a unit does at its store event to the registers, P and the fault flag.
     fn carry_out(&mut self, instr: &Instr, value: &UnitValue) {
-        let work = Work::of(instr, value);
-        let faults = faults(&self.state.area, self.state.memory.size(), &work.reference);
-        self.state.write_and_jump(&work, faults);
+        self.state.write_and_jump(&Work::of(instr, value));
     }
 
     fn store(&mut self, unit: Unit) -> Answer {
