@@ -42,12 +42,12 @@ class State:
 
     @property
     def pending(self):
-        """The reservations that have an effect still to come, oldest first."""
+        """The reservations that have an effect still to come, for E18, oldest first."""
         return sorted({*self.units.values(), *self.places.values(), *self.channels.values()})
 
     @property
     def free_place(self):
-        """The lowest place of the hopper that is empty, or none."""
+        """The lowest place of the hopper that is empty, or none, for E11."""
         return next((place for place in range(PLACES) if place not in self.places), None)
 
     def after(self, following, n):

@@ -167,6 +167,7 @@ class Exploration:
         judge, state = self.judge_of(node), node.state
         for event in self.candidates(state):
             refusal = judge.refusal(event)
+            # E3, which a state alone doesn't have.
             if not refusal and event == "issue" and state.issued == self.program.budget:
                 continue
             yield event, refusal
