@@ -157,7 +157,7 @@ class Judge:
         if not row:
             yield Refusal("E15")
         it = self.rows[row]
-        bank = it.address % BANKS
+        bank = it.address % BANKS  # E13
         if bank in self.state.banks:
             yield Refusal("E13", str(bank), (self.state.banks[bank],))
         older = [other for other in self.state.places.values() if other < row]
