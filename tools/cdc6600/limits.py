@@ -3,7 +3,8 @@
 The program has them in its own sources. `tools/check limits` compares those that the sources have as a number.
 """
 
-# The words of a memory, the words of an exchange package, and the banks over which a memory's words are spread.
+# The words of a memory (E24), the words of an exchange package (E19), and the banks over which a memory's words are
+# spread (E13).
 LEAST_WORDS, MOST_WORDS = 32, 131_072
 PACKAGE_WORDS = 16
 BANKS = 32
@@ -17,6 +18,6 @@ READ_OF_A_LINE = 201
 # The instructions of a run, of an entry of a log and of an `ask` line, and those of a run without a budget of its own.
 MOST_INSTRUCTIONS = 10_000_000
 DEFAULT_BUDGET = 1_000_000
-# The requests of a machine, with as many exchanges, and its peripheral accesses.
+# The requests of a machine, with as many exchanges, and its peripheral accesses: E3.
 MOST_REQUESTS = 1_000_000
 MOST_ACCESSES = 1_000_000

@@ -65,6 +65,7 @@ class Settings:
         self.lines[name] = line
         value = self.value(text, column)
         if name in ("CORE", "PACKAGE"):
+            # The sizes that E24 allows, and the packages that E19 allows in the largest memory.
             least, most = (LEAST_WORDS, MOST_WORDS) if name == "CORE" else (0, MOST_WORDS - PACKAGE_WORDS)
             self.values[name] = within(value, least, most, column)
         else:

@@ -59,7 +59,7 @@ class End:
 
     @property
     def is_mid_word(self):
-        """Whether it is in the middle of a word."""
+        """Whether it is in the middle of a word, where an exchange is refused as E25 while the program runs."""
         return self.held != b"none"
 
     @property

@@ -359,7 +359,7 @@ class Following:
         if it.address is None:
             self.marks[row, n], it.state = "O", IN_CHANNEL if it.channel else ""
             return True
-        place = next((number for number in range(PLACES) if not self.places.get(number)), None)
+        place = next((number for number in range(PLACES) if not self.places.get(number)), None)  # E11
         if place is not None:
             self.places[place], it.state, self.marks[row, n] = row, IN_HOPPER, f"H{place}"
         return place is not None

@@ -54,7 +54,7 @@ class Judge:
 
     @property
     def is_held(self):
-        """Whether a word is held. While Branch is reserved nobody can say."""
+        """Whether a word is held, for E5, E6 and E25. While Branch is reserved nobody can say."""
         return self.replays.field(self.log, 0, 5) != "none"
 
     @property
@@ -84,7 +84,8 @@ class Judge:
         yield from self.first_order()
 
     def delaying(self):
-        """The stores that a fetch of the word at P waits for: those to come to their store events, and those to it."""
+        """The stores that a fetch of the word at P waits for, for E6: those to come to their store events, and those
+        to it."""
         address = self.replays.absolute(self.log, self.replays.number(self.log, 0, 1))
         if address is None:
             return ()
@@ -115,7 +116,7 @@ class Judge:
             yield Refusal("E9", register, (producer,))
 
     def awaited(self, row):
-        """The operands of a reservation that are still to come of earlier ones, each with the one that writes it."""
+        """E9: the operands of a reservation that are still to come of earlier ones, each with its producer."""
         operands = operands_of(self.rows[row].text)
         found = [(register, self.state.registers.get(register, row)) for register in operands]
         return [(register, producer) for register, producer in found if producer < row]
@@ -139,7 +140,7 @@ class Judge:
             yield Refusal("E12", rows=earlier)
 
     def before(self, row):
-        """The reservations in units that were issued before one."""
+        """The reservations in units that were issued before one, for E10 and E12."""
         return sorted(other for other in self.state.units.values() if other < row)
 
     def third_order(self, row, registers):
@@ -156,7 +157,7 @@ class Judge:
         if not row:
             yield Refusal("E15")
         it = self.rows[row]
-        bank = it.address % BANKS
+        bank = it.address % BANKS  # E13
         if bank in self.state.banks:
             yield Refusal("E13", str(bank), (self.state.banks[bank],))
         older = [other for other in self.state.places.values() if other < row]
@@ -166,7 +167,7 @@ class Judge:
 
     @staticmethod
     def is_in_order(older, it):
-        """Whether two references have to keep their order: they are to one word, and one of them stores."""
+        """Whether two references have to keep their order, for E14: they are to one word, and one of them stores."""
         return older.address == it.address and (stores(older.text) or stores(it.text))
 
     def load_return(self, channel):

@@ -66,7 +66,7 @@ class Panel:
         found = {}
         for place, row in sorted(self.state.places.items()):
             address = self.rows[row].address
-            found[str(place)] = self.labelled(row, f"word {address:o}, bank {address % BANKS}")
+            found[str(place)] = self.labelled(row, f"word {address:o}, bank {address % BANKS}")  # E13
         return found
 
     def channels(self):

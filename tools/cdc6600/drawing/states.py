@@ -42,12 +42,12 @@ class State:
 
     @property
     def pending(self):
-        """The reservations that have an effect still to come, oldest first."""
+        """The reservations that have an effect still to come, for E18, oldest first."""
         return sorted({*self.units.values(), *self.places.values(), *self.channels.values()})
 
     @property
     def free_place(self):
-        """The lowest place of the hopper that is empty, or none."""
+        """The lowest place of the hopper that is empty, or none, for E11."""
         return next((place for place in range(PLACES) if place not in self.places), None)
 
     def after(self, following, n):
@@ -113,7 +113,7 @@ class State:
     def accept(self, row, it):
         """A bank takes the reference of a reservation."""
         self.places = {place: other for place, other in self.places.items() if other != row}
-        self.banks[it.address % BANKS] = row
+        self.banks[it.address % BANKS] = row  # E13
         if it.channel:
             self.loaded.add(row)
 
@@ -127,7 +127,7 @@ class State:
         for row in self.pending:
             it = following.rows[row]
             if it.address is not None and row not in self.loaded:
-                self.banks[it.address % BANKS] = row
+                self.banks[it.address % BANKS] = row  # E13
             if row in self.units.values():
                 self.record_fault(row, following)
         self.units, self.phases, self.places, self.channels = {}, {}, {}, {}

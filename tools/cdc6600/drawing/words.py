@@ -145,13 +145,13 @@ class Words:
     def word(self, row):
         """The word of a reservation's reference, with its bank."""
         address = self.rows[row].address
-        return f"{address:o} in bank {address % BANKS}"
+        return f"{address:o} in bank {address % BANKS}"  # E13
 
     def accept(self, n, place):
         """A bank takes a reference."""
         row = self.states[n].places[int(place)]
         it = self.rows[row]
-        taken = f"Bank {it.address % BANKS} takes the reference of {reservation(self.rows, row)} and is busy."
+        taken = f"Bank {it.address % BANKS} takes the reference of {reservation(self.rows, row)} and is busy."  # E13
         if it.channel:
             value = self.value(it.after, f"X{it.channel}")
             return f"{taken} Word {it.address:o} is {value}, which waits in channel {it.channel}."

@@ -34,7 +34,7 @@ def place_line(state, rows, place):
     """The line of a place of the hopper."""
     row = state.places.get(place)
     address = rows[row].address if row else 0
-    return line_of(f"Place {place}  ", rows, row, f"{address:o} bank {address % BANKS}")
+    return line_of(f"Place {place}  ", rows, row, f"{address:o} bank {address % BANKS}")  # E13
 
 
 def channel_line(state, rows, channel):

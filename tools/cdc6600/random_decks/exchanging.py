@@ -58,6 +58,7 @@ def exchanges(draws):
     """The deck of several packages, and of requests for them at drawn times."""
     deck, count = Deck(), draws.between(3, 5)
     packages = draws.shuffled([PACKAGE_WORDS * n for n in range(count)])
+    # The last package that isn't refused as E19.
     packages[-1] = SIZE - PACKAGE_WORDS if draws.chance(0.5) else packages[-1]
     end = PACKAGE_WORDS * count
     for package in packages[1:]:

@@ -103,7 +103,7 @@ class Clock:
         """A reservation makes its next event."""
         self.advance(part.ready)
         if part.event == "accept":
-            self.banks[part.address % BANKS] = self.now + self.times["bank"]
+            self.banks[part.address % BANKS] = self.now + self.times["bank"]  # E13
         event, cycles = after(self.times, part, part.event)
         if event:
             part.then(event, self.now, cycles)

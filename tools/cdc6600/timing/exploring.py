@@ -117,7 +117,7 @@ class Exploration:
     @property
     def banks(self):
         """The banks to which the program refers."""
-        return sorted({it.address % BANKS for it in self.program.rows[1:] if it.address is not None})
+        return sorted({it.address % BANKS for it in self.program.rows[1:] if it.address is not None})  # E13
 
     @property
     def orders(self):
@@ -167,6 +167,7 @@ class Exploration:
         judge, state = self.judge_of(node), node.state
         for event in self.candidates(state):
             refusal = judge.refusal(event)
+            # E3, which a state alone doesn't have.
             if not refusal and event == "issue" and state.issued == self.program.budget:
                 continue
             yield event, refusal
@@ -263,7 +264,7 @@ class Exploration:
             if following:
                 ready[row] = now + cycles
             if kind == "accept":
-                ready[f"bank {it.address % BANKS}"] = now + self.times["bank"]
+                ready[f"bank {it.address % BANKS}"] = now + self.times["bank"]  # E13
         end = moment.end if kind == "bank" else max(moment.end, now, ready["issue"] if key == "issue" else 0)
         return Moment(now, ready, end, moment, event)
 

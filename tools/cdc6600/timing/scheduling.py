@@ -114,6 +114,7 @@ class Schedule:
             return False
         self.clock.step(part)
         if event == "store" and part.address is not None:
+            # The lowest free place, by the rule of E11.
             self.places[min(place for place in range(len(self.places) + 1) if place not in self.places)] = part
         elif event == "accept":
             del self.places[int(line[-1])]
