@@ -501,16 +501,14 @@ fn holds_references_to_the_range(rt: HostRuntime) -> Result<(), Fail> {
         state.fault = false;
         let address = index(*address);
         state.write_and_jump(&referring(None));
-        let is_untouched = !state.fault;
+        let untouched = state.fault;
         state.write_and_jump(&referring(Some(ProgramReference {
             address,
             access: Access::Load(digit(1)),
         })));
         let found = relocate(address, state.area.ra, state.area.fl, 32);
-        assert!(rt;
-            is_untouched && state.fault == *fault && found == *absolute,
-            "{name}"
-        );
+        let found = (found, state.fault, untouched);
+        assert_eq!(rt; found, (*absolute, *fault, false), "{name}");
     }
     Ok(())
 }
