@@ -482,14 +482,17 @@ const RANGES: [(&str, u32, u32, Option<u32>, bool); 3] = [
     ("FL, where the mode asks for none", 4, 0o767777, None, false),
 ];
 
-/// Work that only makes this reference.
-fn referring(reference: Option<ProgramReference>) -> Work {
-    Work {
+/// Whether work that only makes this reference sets the fault flag, with FL 4 and this exit mode.
+fn sets_the_fault(state: &mut State, mode: u32, reference: Option<ProgramReference>) -> bool {
+    state.area = area(4, mode);
+    state.fault = false;
+    state.write_and_jump(&Work {
         register: None,
         number: Word60::default(),
         jump: None,
         reference,
-    }
+    });
+    state.fault
 }
 
 /// References are held to FL 4, and work without a reference never faults.
@@ -497,17 +500,16 @@ fn referring(reference: Option<ProgramReference>) -> Work {
 fn holds_references_to_the_range(rt: HostRuntime) -> Result<(), Fail> {
     let mut state = State::boot(Storage::new(rt.alloc(), 32)?);
     for (name, address, mode, absolute, fault) in RANGES.as_slice() {
-        state.area = area(4, *mode);
-        state.fault = false;
-        let address = index(*address);
-        state.write_and_jump(&referring(None));
-        let untouched = state.fault;
-        state.write_and_jump(&referring(Some(ProgramReference {
-            address,
+        let area = area(4, *mode);
+        let reference = ProgramReference {
+            address: index(*address),
             access: Access::Load(digit(1)),
-        })));
-        let found = relocate(address, state.area.ra, state.area.fl, 32);
-        let found = (found, state.fault, untouched);
+        };
+        let found = (
+            relocate(reference.address, area.ra, area.fl, 32),
+            sets_the_fault(&mut state, *mode, Some(reference)),
+            sets_the_fault(&mut state, *mode, None),
+        );
         assert_eq!(rt; found, (*absolute, *fault, false), "{name}");
     }
     Ok(())
