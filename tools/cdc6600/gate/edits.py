@@ -1,0 +1,25 @@
+"""Checks that the edit of each wrong body can be applied to the sources as they are.
+
+    tools/check edits            prints each edit that can't be, and nothing if there is none
+
+The old text of an edit must occur exactly once in its file, and an edit may change no contract. This check takes
+seconds; whether the prover refuses the wrong body is up to `tools/wrong-bodies`.
+"""
+
+import sys
+
+from cdc6600.crates.source import Sources
+from cdc6600.crates.table import Table
+from cdc6600.shared.program import ROOT
+from cdc6600.wrong_bodies.edits import read_bodies
+
+
+def main():
+    """Prints the faults of the edits of all crates."""
+    table = Table(ROOT)
+    faults = []
+    for name in table.lines:
+        folder = table.folder(name)
+        faults += read_bodies(folder, Sources.read(folder))[1]
+    sys.stdout.writelines(f"{fault}\n" for fault in faults)
+    return 1 if faults else 0
