@@ -57,26 +57,10 @@ impl Signals {
         self.workers.get(unit).unwrap_or(&self.workers.branch)
     }
 
-    /// The signals of the workers.
-    fn of_workers(&self) -> [&Signal; 7] {
-        let PerUnit {
-            branch,
-            boolean,
-            shift,
-            long_add,
-            divide,
-            increment1,
-            increment2,
-        } = &self.workers;
-        [
-            branch, boolean, shift, long_add, divide, increment1, increment2,
-        ]
-    }
-
     /// Wakes the threads that wait for these events.
     pub fn wake(&self, wakeups: &Wakeups) {
         if wakeups.changed || wakeups.read {
-            for signal in self.of_workers() {
+            for signal in self.workers.each().into_array() {
                 signal.wake(wakeups);
             }
             self.issuing.wake(wakeups);
@@ -95,7 +79,7 @@ impl Signals {
 
     /// Wakes all threads.
     pub fn raise_all(&self) {
-        for signal in self.of_workers() {
+        for signal in self.workers.each().into_array() {
             signal.raise();
         }
         self.issuing.raise();
