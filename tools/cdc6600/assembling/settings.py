@@ -11,7 +11,7 @@ from .values import INDEX_BITS, REGISTER, WORD_BITS, fitted, octal, value_of, wi
 
 START = "START"
 DEFAULTS = {"RA": 0o100, "EM": 0o10000, "PACKAGE": 0o40}
-# Where the package has its numbers: the word and its bit 0 for those of the table's first part, by docs/formats.md.
+# Where the package has its numbers: the word and its bit 0 for those of the table's first part, by docs/use/formats.md.
 MIDDLE, HEAD = 36, {"P": 0, "RA": 1, "FL": 2, "EM": 3}
 A_BITS, FIRST_X = 18, 8
 

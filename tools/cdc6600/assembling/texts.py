@@ -1,4 +1,4 @@
-"""The texts of instructions in a source program: those of docs/instructions.md, with values where K or jk is."""
+"""The texts of instructions in a source program: those of docs/use/instructions.md, with values where K or jk is."""
 
 import re
 from dataclasses import dataclass

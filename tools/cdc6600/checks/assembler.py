@@ -1,6 +1,6 @@
 """Tries tools/assemble.
 
-- Each instruction of docs/instructions.md, with several registers and values, and each of the listings of decks/:
+- Each instruction of docs/use/instructions.md, with several registers and values, and each of the listings of decks/:
   assembled and then listed by the program it has the same text, and the words of --listing are those of the program.
 - The sources of decks/pages/bad-sources.md have the faults that stand beside them, and no deck.
 - The programs of decks/source/ print the dumps beside them, and --listing shows their lines and words.

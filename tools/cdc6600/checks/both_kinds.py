@@ -4,7 +4,7 @@
     tools/check both-kinds TIMES       that often, since threads run in another order each time
 
 All packages have the same program, a word of two passes and a jump to itself, so that it ends only with its budget, and
-an exchange can be made after each third instruction. docs/formats.md says what has to come of the requests:
+an exchange can be made after each third instruction. docs/use/formats.md says what has to come of the requests:
 
 - each is made once, those after a number of instructions in the order of these numbers and then of the deck, the free
   ones in the deck's order;

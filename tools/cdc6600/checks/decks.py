@@ -3,7 +3,7 @@ status with the files beside it, which decks/README.md names. Each deck is run w
 that a run prints is replayed, which has to print the same dump and to end with the same status. If the log of a run by
 threads depends on how these fall, it has to be one of those that it may have, and what is printed that of its replay.
 Then the rows of the pages refusals.md and requests.md are tried, and the timeline of each session and the picture
-docs/conflicts.svg are drawn anew and compared.
+docs/use/conflicts.svg are drawn anew and compared.
 
 It says nothing where all are as they should be, else the command and what differs. CDC6600 may name the program to try.
 """
@@ -18,7 +18,7 @@ from cdc6600.shared.waiting import faults_found, run
 NOTHING = b""
 # The two ways in which a deck is run: by threads, and one instruction at a time.
 THREADED, SEQUENTIAL = RUNS = (["run"], ["run", "--sequential"])
-PICTURE = ROOT / "docs/conflicts.svg"
+PICTURE = ROOT / "docs/use/conflicts.svg"
 
 
 def differing(wanted, came):

@@ -1,5 +1,5 @@
-"""Builds the library for C and the four examples of docs/embedding.md, by the commands of that page, and compares what
-they and the library's functions print and tell with what is stored for the decks and sessions of decks/.
+"""Builds the library for C and the four examples of docs/use/emulators.md, by the commands of that page, and compares
+what they and the library's functions print and tell with what is stored for the decks and sessions of decks/.
 
 - The functions, by the example in Python: the listing, the run, the replay of the log and the answers of each; the
   refused decks of refusals.md; logs and budgets that are refused; each capacity around the length of what is printed.
@@ -41,7 +41,7 @@ from cdc6600.shared.waiting import Missing, faults_found, run
 from . import kept_machine
 from .debian import provide
 
-PAGE, EXAMPLE = ROOT / "docs/embedding.md", ROOT / "crates/embedding/examples/cdc6600.py"
+PAGE, EXAMPLE = ROOT / "docs/use/emulators.md", ROOT / "crates/embedding/examples/cdc6600.py"
 KEPT = ROOT / "crates/embedding/out"
 SMALL_STACK = 64 * 1024
 NOTHING = b""

@@ -10,7 +10,7 @@
 - Faults that later steps cover up have to be found on the way, and a slow emulator mustn't be called wrong.
 - Emulators that hang, die, print nothing or something else have to give one line and their status.
 - The drawn decks have to be the same ones as ever, end before their budget, and have each instruction carried out.
-- The commands of docs/emulators.md have to print what is shown there.
+- The commands of docs/use/emulators.md have to print what is shown there.
 
 It prints each difference, and ends with status 1 then; else it prints nothing. It needs `rustc`, which root has
 installed from Debian. CDC6600 may name the program to try; else `./cdc6600` builds it.
@@ -47,7 +47,7 @@ from .planted import COVERED, PLANTED
 from .planted_edges import AT_EDGES
 from .planting import replaced_once, source_of
 
-PLAIN, PAGE, DECK = ROOT / "bench/replaying/plain.rs", "docs/emulators.md", "decks/two-adds.deck"
+PLAIN, PAGE, DECK = ROOT / "bench/replaying/plain.rs", "docs/use/emulators.md", "decks/two-adds.deck"
 ENDLESS = "decks/run/endless.deck"
 DRAWN, BEGINNINGS, MOST_STEPS, MOST_REPORTS = 100, 8, 10_000, 10
 EXACT, QUICK = ("-O",), ("-C", "opt-level=1")

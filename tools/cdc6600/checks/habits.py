@@ -1,10 +1,10 @@
-"""Checks what a user of Unix is used to: the manual page docs/cdc6600.1, completions in a shell, and tools/install.
+"""Checks what a user of Unix is used to: the manual page docs/use/cdc6600.1, completions in a shell, and tools/install.
 
 - `man` has no warning for the page. Its synopsis, its lines of decks, its exit statuses and its fault lines are those
-  of docs/formats.md, and its commands and options those that the program's help texts name.
+  of docs/use/formats.md, and its commands and options those that the program's help texts name.
 - docs/help.txt and docs/version.txt, which ./cdc6600 shows before the program is built, are what the program prints.
-- The table of tools/completions has the synopsis of docs/formats.md, and says what the program's help texts say. The
-  script for bash completes the commands and their options.
+- The table of tools/completions has the synopsis of docs/use/formats.md, and says what the program's help texts say.
+  The script for bash completes the commands and their options.
 - Into a folder of its own, whose name has a space, tools/install installs the program, which runs a deck then, and the
   page, which `man` finds there. The examples of the page are run with that program. Each tool that is installed prints
   what the one of this repository prints, and what README.md links to is there, except for what only a checkout has.
@@ -29,9 +29,9 @@ from cdc6600.shared.waiting import faults_found, run
 from .debian import provide
 from .manual import Manual
 
-PAGE, FORMATS = ROOT / "docs/cdc6600.1", ROOT / "docs/formats.md"
+PAGE, FORMATS = ROOT / "docs/use/cdc6600.1", ROOT / "docs/use/formats.md"
 # The one row that speaks of the page on which it stands.
-ELSEWHERE = ("listed below", "listed in docs/formats.md")
+ELSEWHERE = ("listed below", "listed in docs/use/formats.md")
 # How the output of each block of examples ends, or what it has; the first block writes the deck.
 SHOWN = ("", "LOG E40 I3\n", "LOG E40 I4\n", "LOG E40 I4\n", "E9 operand awaited X1\n", "000101 ")
 
@@ -60,7 +60,7 @@ OF_CHECKOUT = re.compile(r"tools/(install|build-library|build-program)")
 WITHOUT_LIBRARY = ("--without", "library")
 # A file of each other part.
 LEFT_OUT = {
-    "completions": FILES["bash"], "pages": "share/doc/cdc6600/docs/tutorial.md", "program": "bin/cdc6600",
+    "completions": FILES["bash"], "pages": "share/doc/cdc6600/docs/use/tutorial.md", "program": "bin/cdc6600",
     "tools": "share/doc/cdc6600/tools/timeline",
 }
 
@@ -73,14 +73,14 @@ def differing(what, wanted, came):
 
 
 def table(head):
-    """The rows of the table under a head of docs/formats.md: what is named, and what is said of it."""
+    """The rows of the table under a head of docs/use/formats.md: what is named, and what is said of it."""
     rows = cells_of(FORMATS, head)[1:]
     return {cells[0].strip("`"): cells[1].replace("`", "").replace(*ELSEWHERE) for cells in rows}
 
 
 def faults_of_page(page):
-    """What the page says otherwise than docs/formats.md."""
-    faults = [f"docs/cdc6600.1: {fault}" for fault in page.faults()]
+    """What the page says otherwise than docs/use/formats.md."""
+    faults = [f"docs/use/cdc6600.1: {fault}" for fault in page.faults()]
     faults += differing("SYNOPSIS", shown_synopsis(), [line for line in page.sections.get("SYNOPSIS", []) if line])
     faults += differing("EXIT STATUS", table("Exit statuses"), page.entries("EXIT STATUS"))
     faults += differing("DIAGNOSTICS", table("Fault lines"), page.entries("DIAGNOSTICS"))
@@ -89,7 +89,7 @@ def faults_of_page(page):
 
 
 def shown_synopsis():
-    """The lines of the synopsis in docs/formats.md."""
+    """The lines of the synopsis in docs/use/formats.md."""
     return [line[4:] for line in lines_of(FORMATS, "Command line") if line.startswith("    ")]
 
 
@@ -129,7 +129,7 @@ def faults_of_copies(program):
 
 
 def faults_of_table(program):
-    """What the table of completions says otherwise than docs/formats.md and the program's help texts."""
+    """What the table of completions says otherwise than docs/use/formats.md and the program's help texts."""
     faults = differing("tools/completions, the synopsis", shown_synopsis(), synopsis())
     text = program.run(["--help"]).printed.decode(errors="replace")
     said = {it.name: it.said for it in (*COMMANDS, HELP_COMMAND)}

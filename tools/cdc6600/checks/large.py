@@ -151,7 +151,7 @@ def logs_of_files():
 
 
 def small_stack():
-    """Each command on the deck of two sums, with no more stack than docs/formats.md says is enough."""
+    """Each command on the deck of two sums, with no more stack than docs/use/formats.md says is enough."""
     text = stored("two-adds").text
     for words in (["run"], ["run", "--sequential"], ["replay", "E40 I6"], ["list"], ["events"]):
         limited = ["sh", "-c", 'ulimit -s "$1" && shift && exec "$@"', "sh", str(STACK), program().path, *words]

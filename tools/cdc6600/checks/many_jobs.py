@@ -1,4 +1,4 @@
-"""Runs the commands of docs/many-jobs.md on copies of all decks of decks/run, in a folder of its own, and compares the
+"""Runs the commands of docs/use/tools.md on copies of all decks of decks/run, in a folder of its own, and compares the
 results of each with the files beside it.
 
 - The first command: one of the decks is refused, and one more is killed in the middle of its dump. This one, whose own
@@ -26,7 +26,7 @@ from cdc6600.shared.decks import FIRST, RUN, deck, decks, lines_of, log_of
 from cdc6600.shared.program import ROOT, Program, tell
 from cdc6600.shared.waiting import faults_found, finish, run, wait_until
 
-PAGE, TOOL = ROOT / "docs/many-jobs.md", ROOT / "tools/run-jobs"
+PAGE, TOOL = ROOT / "docs/use/tools.md", ROOT / "tools/run-jobs"
 # The command runs all decks, some of them up to their budgets.
 MINUTES = 30
 # A run that is killed when it has written a part of its dump.

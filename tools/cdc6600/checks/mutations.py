@@ -3,8 +3,8 @@
     tools/check mutations               3,000 cases, the same ones each time
     tools/check mutations SEED CASES    other ones
 
-The reader here follows docs/formats.md, and takes the codes and texts of instructions from the tables of
-docs/instructions.md, by shared/instructions.py; it shares nothing with the program. A case is a deck or session of
+The reader here follows docs/use/formats.md, and takes the codes and texts of instructions from the tables of
+docs/use/instructions.md, by shared/instructions.py; it shares nothing with the program. A case is a deck or session of
 decks/, or a deck that is drawn, with faults put in. A refused deck has to give status 1, its one fault line and no
 output, and its line has to have, at the column that the fault line names, what that names; an accepted one status 0 and
 its listing, and the deck of `at` and `word` lines that this listing makes has to give the same listing. Before the
@@ -28,7 +28,7 @@ from cdc6600.shared.program import Program
 # The longest decks take longer than others.
 MINUTES = 30
 
-# ---- the decks, as docs/formats.md has them ----
+# ---- the decks, as docs/use/formats.md has them ----
 
 
 class Refused(Exception):

@@ -1,8 +1,8 @@
 """Runs each command that the pages show, in the folder of the repository, and compares what it prints with the lines
 that are shown for it. Says nothing where all are as they should be, else the line and the command.
 
-    tools/check pages           docs/tutorial.md, docs/assembler.md, docs/scheduling.md, docs/teaching.md, and the
-                                 pages of decks/pages/ with commands
+    tools/check pages           docs/use/tutorial.md, docs/use/tools.md, docs/use/teaching.md, and the pages of
+                                decks/pages/ with commands
     tools/check pages PAGE..    these pages
 
 A command stands in a block between lines of three backquotes, after `$ ` at the begin of a line. The lines up to the
@@ -10,8 +10,8 @@ next command or the end of the block are what it prints, standard error too; `..
 are left out. `$?` in a command is the status of the one before it in its block. A line of the page that looks like a
 command and isn't in this form is a fault too.
 
-README.md and docs/examples.md say what their commands do, and readme-commands.md what they print: each command that the
-two show has to stand there. What `--unproved` builds isn't tried. CDC6600 may name the program to try in
+README.md says what its commands do, and readme-commands.md what they print: each command that README.md shows has to
+be there. What `--unproved` builds isn't tried. CDC6600 may name the program to try in
 the place of `./cdc6600`.
 """
 
@@ -29,9 +29,9 @@ from cdc6600.shared.program import ROOT, named_program, program_path, tell
 from cdc6600.shared.waiting import Missing, finish
 
 SHOWN = PAGES / "readme-commands.md"
-SHOWING = ("README.md", "docs/examples.md")
+SHOWING = ("README.md",)
 ALL = (
-    "docs/tutorial.md", "docs/assembler.md", "docs/scheduling.md", "docs/teaching.md", "decks/pages/commands.md",
+    "docs/use/tutorial.md", "docs/use/tools.md", "docs/use/teaching.md", "decks/pages/commands.md",
     "decks/pages/readme-commands.md",
 )
 FENCE, PROMPT, GAP = "```", "$ ", ".."

@@ -5,8 +5,8 @@
     tools/check sequential --deck SEED     prints the deck of a seed
 
 The decks are those of tools/random-deck. About half of them get one to five more requests for exchanges, a fifth of
-these `free`. Each deck is run with the whole budget, and with one of 1 to 399 instructions. docs/formats.md says what
-has to come of it:
+these `free`. Each deck is run with the whole budget, and with one of 1 to 399 instructions. docs/use/formats.md says
+what has to come of it:
 
 - The replay of a run's log prints the run's dump, and ends with its status.
 - Without a `free` request and without an address fault, both runs print the same and end with the same status. After an

@@ -1,6 +1,6 @@
 """Assembles a source program: writes the deck that it stands for to standard output.
 
-docs/assembler.md has the language. With --listing it prints the lines of the source instead, each with the address and
+docs/use/tools.md has the language. With --listing it prints the lines of the source instead, each with the address and
 the word that begin there.
 
 Of a source with faults it prints nothing on standard output, and on standard error a line for each fault, up to 20:

@@ -4,9 +4,9 @@
     tools/check NAME ARGUMENT..      a check with arguments of its own
     tools/check NAME --help          prints what a check does
 
-docs/CHANGING.md has a table of the checks, with what each one checks and when to run it. A check that finds nothing
-prints nothing. Its faults are printed, a line or a few lines for each. CDC6600 may name the program to try; otherwise
-it is the one that tools/build-program builds.
+docs/work/CHANGING.md has a table of the checks, with what each one checks and when to run it. A check that finds
+nothing prints nothing. Its faults are printed, a line or a few lines for each. CDC6600 may name the program to try;
+otherwise it is the one that tools/build-program builds.
 
 Exit status:
   0    the checks find nothing

@@ -1,8 +1,8 @@
 """Compares an emulator of the CDC 6600 with `cdc6600 replay` on a deck, and finds the instruction that it gets wrong.
 
 COMMAND is called with a log as its last argument, reads a deck on standard input and prints the dump, as `cdc6600
-replay LOG` does; docs/emulators.md says what it has to read and print. The log is that of `cdc6600 run` where none is
-given. The dumps show all registers and the whole memory.
+replay LOG` does; docs/use/emulators.md says what it has to read and print. The log is that of `cdc6600 run` where none
+is given. The dumps show all registers and the whole memory.
 
 First the dumps after the whole log are compared. Where they differ, the beginnings of the log are halved: exchanges,
 instructions and peripheral accesses are its steps. What is found is a step before which the dumps agree and after which

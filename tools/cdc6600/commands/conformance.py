@@ -1,10 +1,10 @@
 """Takes an emulator of the CDC 6600 through all decks of decks/, and through drawn ones, and compares its dumps with
 those of `cdc6600 replay`.
 
-COMMAND is called as by tools/compare; docs/emulators.md says what it has to read and print. The decks of decks/run have
-their stored logs, and the sessions of decks/sessions those of their answers, with peripheral accesses. The drawn decks
-are those that tools/random-deck prints for the seeds 1 to N, or from another seed on, with the log that `cdc6600 run`
-prints.
+COMMAND is called as by tools/compare; docs/use/emulators.md says what it has to read and print. The decks of decks/run
+have their stored logs, and the sessions of decks/sessions those of their answers, with peripheral accesses. The drawn
+decks are those that tools/random-deck prints for the seeds 1 to N, or from another seed on, with the log that `cdc6600
+run` prints.
 
 Dumps are compared along the way too: after each step of logs of up to 600 steps, after 64 numbers of steps and each of
 the last 8 steps of longer ones, and after 1, 2, 4, 8 .. steps of those of more than 10,000. With --every N they are
@@ -14,8 +14,8 @@ Decks that differ are grouped by the instruction that is wrong first. Each group
 and the step of its first deck; `tools/compare --every 1 COMMAND DECK LOG` tells more. An emulator that doesn't end in
 time is `too slow` on that deck, which isn't judged then. The last line has the counts.
 
-With --coverage no emulator is called. For each instruction of docs/instructions.md, and for each of its edges, the tool
-prints how many of the decks show it. docs/emulators.md says what an edge is.
+With --coverage no emulator is called. For each instruction of docs/use/instructions.md, and for each of its edges, the
+tool prints how many of the decks show it. docs/use/emulators.md says what an edge is.
 
 The status is 0 if nothing differs, 1 if something does or COMMAND prints no dump at all, 2 for bad input, and 3 if
 nothing differs but COMMAND is too slow on some deck. CDC6600 may name the program to ask.

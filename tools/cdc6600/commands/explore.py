@@ -6,7 +6,7 @@ finish, store, accept, return and bank. The deck's `ask` lines aren't used. A sc
 any more. Which events are accepted is judged by the rules in Python. Then the machine makes these events in sessions
 of `cdc6600 events`, and has to refuse all others.
 
-This is a look at one program. It proves nothing of another one: the theorem in README.md does. docs/scheduling.md
+This is a look at one program. It proves nothing of another one: the theorem in README.md does. docs/use/tools.md
 explains the output. The status is 0, or 1 for bad input. CDC6600 may name the program to ask.
 """
 

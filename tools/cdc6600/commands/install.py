@@ -39,7 +39,7 @@ EMBEDDING = ROOT / "crates/embedding"
 
 # What the tools read, by its names from the repository's folder on.
 READ_BY_TOOLS = (
-    "docs/instructions.md",
+    "docs/use/instructions.md",
     "decks/README.md",
     "decks/*.deck",
     "decks/run/*.*",
@@ -51,10 +51,10 @@ PAGES = (
     "README.md",
     "decks/exercises/*.*",
     "decks/source/*.*",
-    "docs/*.md",
-    "docs/*.svg",
-    "docs/*.png",
-    "docs/cdc6600.1",
+    "docs/*/*.md",
+    "docs/use/*.svg",
+    "docs/use/*.png",
+    "docs/use/cdc6600.1",
     "bench/README.md",
     "crates/program_order/src/law.rt",
     "crates/program_order/specs/Headline.antt",
@@ -144,7 +144,7 @@ def pieces(prefix, without):
     """All that is installed below this prefix, except for these parts."""
     if "program" not in without:
         yield Piece(PROGRAM, executable(), 0o755)
-        yield Piece("share/man/man1/cdc6600.1", (ROOT / "docs/cdc6600.1").read_bytes())
+        yield Piece("share/man/man1/cdc6600.1", (ROOT / "docs/use/cdc6600.1").read_bytes())
     if "completions" not in without:
         for shell, name in FILES.items():
             yield Piece(name, SHELLS[shell]().encode())

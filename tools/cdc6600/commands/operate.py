@@ -1,7 +1,7 @@
 """Drives a machine by hand: it shows what each part of the machine has, offers the events that may be tried, makes the
 chosen one by `cdc6600 events`, and tells in words what it did or why it is refused. Events are taken back by `undo`.
 With --save the session is written to a file at the end; `save FILE` writes it at any time. Where a schedule comes after
-the deck, its events are made first. docs/operating.md has an example. CDC6600 may name the program to ask.
+the deck, its events are made first. docs/use/tools.md has an example. CDC6600 may name the program to ask.
 """
 
 import argparse

@@ -1,4 +1,4 @@
-"""Runs decks, each as a job of its own, and keeps their results. docs/many-jobs.md says how to run many at once.
+"""Runs decks, each as a job of its own, and keeps their results. docs/use/tools.md says how to run many at once.
 
 Of the deck NAME.deck, FOLDER gets
 

@@ -9,7 +9,7 @@ are made as `run --sequential` makes them. The policy says in which order events
   program-order   each instruction is carried out to its end before the next one is issued
 
 With --summary the cycles, the instructions per cycle and the waits by their causes are printed instead. They are those
-of the file of times; nothing is said of a real machine. docs/scheduling.md explains them.
+of the file of times; nothing is said of a real machine. docs/use/tools.md explains them.
 
 The status is 0, or 1 for bad input. CDC6600 may name the program to ask.
 """

@@ -3,7 +3,7 @@
 where no file of answers is given. With --cycles a column is a minor cycle by the file of times. With --compare the page
 of two schedules of one deck is written, by their minor cycles; SECOND is then the other session.
 
-docs/timeline.md explains the drawing; drawing/following.py follows the events, drawing/forms.py draws the rows, and
+docs/use/tools.md explains the drawing; drawing/following.py follows the events, drawing/forms.py draws the rows, and
 drawing/page.py writes the page. CDC6600 may name the program to ask.
 """
 

@@ -11,8 +11,8 @@ Each line has, from left to right:
   the operands, with the values before the step
   -> and the results, with the values after the step
 
-All is octal but the step's number. docs/emulators.md says which operands and results a line has. With --json each line
-is a JSON object with the same fields.
+All is octal but the step's number. docs/use/emulators.md says which operands and results a line has. With --json each
+line is a JSON object with the same fields.
 
 Without LOG it is the log that `cdc6600 run --sequential` prints for the deck. Without --first, --last or --steps the
 first 10,000 steps are printed, and a line on standard error says if there are more.

@@ -6,7 +6,7 @@
     tools/wrong-bodies --after-rt-ci    over the libraries that `rt ci` has just left in this checkout
 
 A wrong body is an edit in crates/NAME/wrong-bodies/, or one of the promised ones in crates/NAME/must-fail/, which
-`rt ci` tries too. docs/CHANGING.md says how one is written. Bodies are tried in groups:
+`rt ci` tries too. docs/work/CHANGING.md says how one is written. Bodies are tried in groups:
 tools/cdc6600/wrong_bodies/copies.py, and for the rest groups.py, say why one check can judge many.
 tools/cdc6600/wrong_bodies/verdicts.py says what a check refuses, and second.py when that counts.
 

@@ -112,7 +112,7 @@ class Report:
 
     @property
     def kind(self):
-        """What the step is, without its operands: an instruction is named as in the table of docs/instructions.md."""
+        """What the step is, without its operands. An instruction has the name of docs/use/instructions.md."""
         if self.step and not self.is_instruction:
             return OTHER_KINDS[self.entry[0]]
         it = instruction(self.what) if self.is_instruction else None

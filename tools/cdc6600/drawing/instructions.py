@@ -16,7 +16,7 @@ UNITS = tuple(unit for kind in KINDS.values() for unit in kind)
 NAMES = dict(zip(UNITS, (
     "Branch", "Boolean", "Shift", "Add", "Long Add", "Multiply 1", "Multiply 2", "Divide", "Increment 1", "Increment 2"
 )))
-# The unit of an instruction that takes none, as docs/instructions.md has it.
+# The unit of an instruction that takes none, as docs/use/instructions.md has it.
 NO_UNIT = "none"
 # The register of the result comes after the first letter. A branch has none.
 RESULT = re.compile(r"[A-Z]([ABX][0-7]) ")

@@ -1,6 +1,6 @@
 """Judges an event by a state: what it is refused for, and which reservations hold it back.
 
-The tests and their order are those of the table of events in docs/machine.md. What an event is refused for by its
+The tests and their order are those of the table of events in docs/machine/rules.md. What an event is refused for by its
 budget or for want of memory can't be told by a state.
 """
 

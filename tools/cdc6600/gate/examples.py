@@ -1,10 +1,10 @@
-"""Checks that each block of Rust in docs/threads.md is in the test that it is from. Prints nothing if all are."""
+"""Checks that each block of Rust in docs/work/threads.md is in the test that it is from. Prints nothing if all are."""
 
 from pathlib import Path
 
 from cdc6600.shared.program import ROOT
 
-PAGE, TEST = "docs/threads.md", "crates/thread_tests/src/example_tests.rt"
+PAGE, TEST = "docs/work/threads.md", "crates/thread_tests/src/example_tests.rt"
 FENCE, RUST = "```", "```rust"
 
 

@@ -7,10 +7,11 @@
 
 The parts, in their order:
 
-- small checks, which take seconds: that docs/definitions.md names what is there and tools/where finds it,
-  docs/safety.md each public call, docs/threads.md its example, docs/crates.md the sizes, docs/CHANGING.md the checks of
-  the gate, that a deck or a test goes past each limit of the code, that a word with one meaning is used for nothing
-  else, that what comments and pages name is there, the layout of pages, and the style of the Python sources;
+- small checks, which take seconds: that docs/proof/definitions.md names what is there and tools/where finds it,
+  docs/proof/calls.md each public call, docs/work/threads.md its example, docs/work/crates.md the sizes,
+  docs/work/CHANGING.md the checks of the gate, that a deck or a test goes past each limit of the code, that a word with
+  one meaning is used for nothing else, that what comments and pages name is there, the layout of pages, and the style
+  of the Python sources;
 - `rt ci`: every proof from nothing, every test, the wrong bodies of `must-fail`, and the program's stored run. It keeps
   beside the kit what it proved and tried, by the sums of all that it read, and so proves and tries again only what
   changed, and what stands above that; tests and the program are run each time;
@@ -46,7 +47,7 @@ RUNNER = "tools/wrong-bodies"
 # What `rt ci` builds.
 PROGRAM = "crates/operator_main/out/operator_main"
 # The page whose table says what each of them checks.
-PAGE = "docs/CHANGING.md"
+PAGE = "docs/work/CHANGING.md"
 PROOFS = re.compile(r"(\d+) passed, (\d+) failed")
 TRIED = re.compile(r"(\d+) wrong bodies, (\d+) not refused, (\d+) can't tell")
 PIPED = {"stdout": subprocess.PIPE, "stderr": subprocess.STDOUT, "text": True, "errors": "replace"}

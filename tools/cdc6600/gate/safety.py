@@ -1,9 +1,9 @@
-"""Checks the tables of docs/safety.md against the sources: that each public call of each crate stands in its crate's
-table once, that each row names calls that are there, and that its cells fit what the source says of them. The refusals
-are those that the contract names, or else the text on its errors, if they name some; a call has something to refuse
-where it answers a Result; `Requires` is filled in exactly where the source has a `requires`; and `Returns` names a wait
-or a device exactly where the call is given a handle with Wait or a device. It prints a line for each fault, and nothing
-where all is right.
+"""Checks the tables of docs/proof/calls.md against the sources: that each public call of each crate stands in its
+crate's table once, that each row names calls that are there, and that its cells fit what the source says of them. The
+refusals are those that the contract names, or else the text on its errors, if they name some; a call has something to
+refuse where it answers a Result; `Requires` is filled in exactly where the source has a `requires`; and `Returns` names
+a wait or a device exactly where the call is given a handle with Wait or a device. It prints a line for each fault, and
+nothing where all is right.
 
 Public are the functions that a crate's lib.rt hands out, and the methods of the types and traits that it hands out.
 What a crate hands on from another one counts there.
@@ -14,7 +14,7 @@ import re
 from cdc6600.crates.crate import Source, crates
 from cdc6600.shared.program import ROOT
 
-PAGE = "docs/safety.md"
+PAGE = "docs/proof/calls.md"
 HEAD = "| Call | May refuse | A refusal leaves | Returns | Requires |"
 NONE = "-"
 # What is refused and has no name in the sources that are read here.

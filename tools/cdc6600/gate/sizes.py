@@ -1,4 +1,4 @@
-"""The sizes of the crates, and whether the table of docs/crates.md has them.
+"""The sizes of the crates, and whether the table of docs/work/crates.md has them.
 
     tools/check sizes            prints what differs, and nothing where all is right
     tools/check sizes --write    writes the table anew
@@ -13,7 +13,7 @@ import sys
 from cdc6600.crates.crate import crates
 from cdc6600.shared.program import ROOT
 
-PAGE = ROOT / "docs/crates.md"
+PAGE = ROOT / "docs/work/crates.md"
 HEAD = [
     "| Crate | Lines of code | Functions | Lines of tests | Lines of definitions | Lines of proof | Wrong bodies |",
     "|---|---|---|---|---|---|---|",
@@ -62,7 +62,7 @@ def main():
         write(rows)
         return 0
     lines = PAGE.read_text(encoding="utf-8").split("\n")
-    faults = [f"docs/crates.md has no line: {row}" for row in [*HEAD, *rows] if row not in lines]
+    faults = [f"docs/work/crates.md has no line: {row}" for row in [*HEAD, *rows] if row not in lines]
     large = [name for name, sizes in found.items() if sizes[0] > MOST_LINES or sizes[1] > MOST_FUNCTIONS]
     faults += [f"too large: `{name}`" for name in large]
     faults += [fault for crate in crates() for fault in long_functions(crate)]

@@ -2,9 +2,9 @@
 
     tools/check words            prints each line with a word in another meaning, and nothing where all is right
 
-docs/glossary.md says what each word means. A word is looked for whole, in sources, definitions, proofs, wrong bodies,
-the examples for the library, pages and the manual page. A name of several words, such as `place_line`, is read as one.
-If the meaning is another, the row says which word to write instead.
+docs/machine/glossary.md says what each word means. A word is looked for whole, in sources, definitions, proofs, wrong
+bodies, the examples for the library, pages and the manual page. A name of several words, such as `place_line`, is read
+as one. If the meaning is another, the row says which word to write instead.
 
 In a page a word has its meaning if its paragraph, or its row of a table, speaks of what the word belongs to: *place*
 of the hopper or of references, for example. Code, a name in backquotes and a word in stars aren't looked at. Each

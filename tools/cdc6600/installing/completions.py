@@ -1,6 +1,6 @@
 """The command line of the program as a table, and the scripts that complete it in a shell.
 
-The names are those of the synopsis in docs/formats.md, and the texts those of the program's help.
+The names are those of the synopsis in docs/use/formats.md, and the texts those of the program's help.
 """
 
 from dataclasses import dataclass

@@ -8,9 +8,9 @@ from cdc6600.drawing.instructions import NAMES, UNITS
 from .phrases import near
 
 HELP = (
-    "Type an event, as in docs/formats.md, or a command: next makes the event that a drain would make next, through "
-    "UNIT takes a unit to its store event, values and past show the values and the past events, undo takes the last "
-    "event back, save FILE writes the deck and the events as a session, quit ends."
+    "Type an event, as in docs/use/formats.md, or a command: next makes the event that a drain would make next, "
+    "through UNIT takes a unit to its store event, values and past show the values and the past events, undo takes "
+    "the last event back, save FILE writes the deck and the events as a session, quit ends."
 )
 OVER = "The session is at its end. undo takes its last event back, save FILE saves it, quit ends."
 # What may be shown instead of the machine.

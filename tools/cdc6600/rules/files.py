@@ -1,5 +1,5 @@
-"""What the tables of docs/definitions.md may name: the definitions, the functions, the proofs and the edits of the
-crates.
+"""What the tables of docs/proof/definitions.md may name: the definitions, the functions, the proofs and the edits of
+the crates.
 """
 
 import re

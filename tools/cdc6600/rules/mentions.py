@@ -1,5 +1,5 @@
-"""Finds every line that belongs to a rule of the machine: what the rule's rows of docs/definitions.md name, and for a
-refusal the lines that name its label or its variant.
+"""Finds every line that belongs to a rule of the machine: what the rule's rows of docs/proof/definitions.md name, and
+for a refusal the lines that name its label or its variant.
 """
 
 import difflib
@@ -19,7 +19,7 @@ HEADINGS = ("rule", "definition", "contract", "code", "proof", "wrong body", "te
 # More columns of a line aren't printed.
 WIDEST = 100
 # The page with the refusals of each call.
-CALLS = "docs/safety.md"
+CALLS = "docs/proof/calls.md"
 # The line of a timeline that says what its marks mean, with a label as an example.
 LEGEND = "refused with this number"
 # Lines that only bring in a name.

@@ -1,11 +1,11 @@
-"""The tables of rules in docs/definitions.md: a row for each rule, with a cell for each column."""
+"""The tables of rules in docs/proof/definitions.md: a row for each rule, with a cell for each column."""
 
 import re
 from dataclasses import dataclass
 
 from cdc6600.shared.program import ROOT
 
-PAGE = "docs/definitions.md"
+PAGE = "docs/proof/definitions.md"
 HEAD = "| Rule | Definition | Contract | Code | Proof | Wrong body | Source | Checked against |"
 COLUMNS = ("Definition", "Contract", "Code", "Proof", "Wrong body", "Source", "Checked against")
 FUNCTION = re.compile(r"([A-Za-z0-9_:]+)(?: \(([a-z_0-9, ]*)\))?(?:, *)?")

@@ -1,4 +1,5 @@
-"""The instructions, as the tables of docs/instructions.md have them: their codes, texts, lengths, units and operands.
+"""The instructions, as the tables of docs/use/instructions.md have them: their codes, texts, lengths, units and
+operands.
 
 It shares nothing with the program: what `list` says is compared with it.
 """
@@ -10,7 +11,7 @@ from functools import cached_property, lru_cache
 from .decks import cells_of
 from .program import ROOT
 
-PAGE = ROOT / "docs/instructions.md"
+PAGE = ROOT / "docs/use/instructions.md"
 FIELDS = re.compile(r"jk|[ijkK]")
 NUMBER = {"i": "[0-7]", "j": "[0-7]", "k": "[0-7]", "jk": "0|[1-7][0-7]?", "K": "0|[1-7][0-7]{0,5}"}
 # Where a row says that it is written for several codes, and that its operands stand in the table of the second digits;

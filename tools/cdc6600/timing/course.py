@@ -1,8 +1,9 @@
 """Goes through a deck's program one instruction at a time: the text of each, where branches lead, and the words to
 which it refers.
 
-The words come from `list`; values are computed here by the rules of docs/machine.md and docs/instructions.md, so that
-nothing is asked for each instruction. At the end of a schedule the registers are compared with the machine's dump.
+The words come from `list`; values are computed here by the rules of docs/machine/rules.md and docs/use/instructions.md,
+so that nothing is asked for each instruction. At the end of a schedule the registers are compared with the machine's
+dump.
 """
 
 import re
