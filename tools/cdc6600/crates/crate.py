@@ -36,10 +36,10 @@ class Source:
         """Its functions."""
         return [item for item in items_of(self.path, self.text) if item.kind == "function"]
 
-    def variants(self, name):
-        """The variants of an enum."""
+    def names_of_variants(self, name):
+        """The variants of an enum, in their order."""
         body = re.search(rf"pub enum {name} \{{(.*?)^\}}", self.text, re.DOTALL | re.MULTILINE)
-        return set(re.findall(r"^    (\w+)", body[1], re.MULTILINE))
+        return re.findall(r"^    (\w+)", body[1], re.MULTILINE)
 
 
 class Crate:

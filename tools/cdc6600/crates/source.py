@@ -128,6 +128,12 @@ class Item:
         return bool(REQUIRES.search(self.declaration))
 
     @property
+    def comment(self):
+        """Its comment, without the marks and what stands under `# Errors`."""
+        lines = (line.strip() for line in self.above.partition("# Errors")[0].splitlines())
+        return "\n".join(line.removeprefix("///").strip() for line in lines if line.startswith("///"))
+
+    @property
     def errors(self):
         """What the comment says under `# Errors`."""
         return self.above.partition("# Errors")[2]

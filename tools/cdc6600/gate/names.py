@@ -7,7 +7,7 @@
 - Beginnings: the comment that begins a crate names the file of the crate's tests, and ends with a sentence that says
   where to begin: `Begin with ..`. A crate of tests only says where to begin.
 - Calls: a table of calls, whose head begins with `Call`, names public calls of the crates that its page names above it.
-  `tools/check safety` checks the tables of docs/proof/calls.md.
+  the page of the calls is generated.
 - Paths: a path that begins with a folder of the repository is a file or a folder there, in the files of crates and in
   pages. In the tools' sources this holds for tools and pages, since tests name decks and crates that they make. NAME
   stands for any name, and so does the crate in `crates/crate/`; `*` has to match something.
@@ -54,7 +54,7 @@ ELSEWHERE = re.compile(r"[a-z]+:|#")
 OF_TESTS = re.compile(r"_(?:tests|schedules)$")
 
 TABLE, CRATES = Table(ROOT), {crate.name: crate for crate in crates()}
-SAFETY = "docs/proof/calls.md"
+CALLS = "docs/proof/calls.md"
 
 # ---- names and calls ----
 
@@ -197,6 +197,6 @@ def main():
         faults += faults_of_parts(name, lines) if name.endswith((".rt", ".md")) else []
         if name in pages:
             faults += faults_of_links(name, lines)
-            faults += faults_of_calls(name, lines) if name != SAFETY else []
+            faults += faults_of_calls(name, lines) if name != CALLS else []
     print("\n".join(faults), end="\n" if faults else "")
     return 1 if faults else 0

@@ -1,7 +1,7 @@
 """The checks by their names, in the parts of the gate. `tools/check NAME` runs one."""
 
 # They look at sources and pages alone, and take seconds.
-SMALL = ("definitions", "safety", "examples", "sizes", "limits", "words", "names", "layout", "edits", "style",
+SMALL = ("definitions", "generated", "examples", "sizes", "limits", "words", "names", "layout", "edits", "style",
          "where-test")
 # They try the tools that prove and that try wrong bodies, on small workspaces.
 BODIES = "wrong-bodies-test"

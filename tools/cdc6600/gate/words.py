@@ -16,11 +16,13 @@ import subprocess
 from dataclasses import dataclass
 from pathlib import Path
 
+from cdc6600.generating import calls, crate_map
 from cdc6600.shared.program import ROOT
 
 FOLDERS = ("crates", "docs", "README.md", "bench/README.md", "decks/README.md", "decks/pages")
 PAGES = (".md", ".1")
 KINDS = (".rt", ".antt", ".edit", ".h", ".c", ".rs", ".py", *PAGES)
+GENERATED = (calls.PAGE, crate_map.PAGE)
 FENCE = "```"
 # A row of a table, and a request of the manual page.
 ALONE = re.compile(r"\||\.[A-Z]")
@@ -120,11 +122,11 @@ GONE = {
 
 
 def files():
-    """The files that are read, as paths from the root."""
+    """The files that are read, as paths from the root. The pages that are generated have the words of sources."""
     listed = subprocess.run(
         ["git", "ls-files", *FOLDERS], cwd=ROOT, check=True, capture_output=True, text=True
     ).stdout.splitlines()
-    return [Path(name) for name in listed if name.endswith(KINDS)]
+    return [Path(name) for name in listed if name.endswith(KINDS) and name not in GENERATED]
 
 
 def passages(lines):

@@ -203,7 +203,7 @@ def beside_crates(label):
 
 def is_call_refusing(label, line):
     """Whether a line is the row of a call that may refuse so."""
-    return line.startswith("| `") and label.is_promised_in(line.split("|")[2])
+    return line.startswith("| `") and label.is_promised_in(re.split(r"(?<!\\)\|", line)[3])
 
 
 def is_tried(label):

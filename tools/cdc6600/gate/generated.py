@@ -1,0 +1,25 @@
+"""The pages that are generated from sources: docs/proof/calls.md, docs/work/crates.md and docs/use/cdc6600.1.
+
+    tools/check generated            names each page that isn't what the sources give now, and prints nothing else
+    tools/check generated --write    writes the pages anew
+"""
+
+import sys
+
+from cdc6600.generating import calls, crate_map, manual_page
+from cdc6600.shared.program import ROOT
+
+PAGES = (calls, crate_map, manual_page)
+
+
+def main():
+    """Compares the pages with what the sources give, or writes them."""
+    is_writing, faults = sys.argv[1:] == ["--write"], []
+    for page in PAGES:
+        file, text = ROOT / page.PAGE, page.text()
+        if is_writing:
+            file.write_text(text, encoding="utf-8")
+        elif not file.exists() or file.read_text(encoding="utf-8") != text:
+            faults.append(f"{page.PAGE} isn't what its sources give: run tools/check generated --write")
+    print("\n".join(faults), end="\n" if faults else "")
+    return 1 if faults else 0
