@@ -13,6 +13,8 @@ peripheral access may take some; and no instruction of a replay or of a `run --s
 
 It prints each difference, and ends with status 1 then; else it prints nothing. CDC6600 may name the program to try;
 else `./cdc6600` builds it. It needs a C compiler, `cc` or what CC names.
+
+Run it after a change of the log, the saved pages or the session.
 """
 
 import tempfile

@@ -14,6 +14,8 @@ an exchange can be made after each third instruction. docs/use/formats.md says w
 - the dump is the one that `replay` prints for the log.
 
 It prints each difference, and ends with status 1 then; else it prints nothing. CDC6600 may name the program to try.
+
+Run it after a change of what a run asks for, or when.
 """
 
 import re

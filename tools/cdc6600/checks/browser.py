@@ -17,6 +17,9 @@ at the first issue, and is tried in width and contrast.
 
 It says nothing where all is right, else the page and what is wrong. It needs `chromium` and `chromedriver`: root has
 what is missing installed from Debian. CDC6600 may name the program to ask.
+
+Run it after a change of `tools/cdc6600/drawing`, of `tools/cdc6600/timing/graph.py`, of a session, or of what is
+answered.
 """
 
 import argparse

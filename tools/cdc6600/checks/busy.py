@@ -9,6 +9,8 @@ each processor for an instruction. So a machine that is ten times slower keeps i
 
 It says nothing where each run keeps the limit, else a line for each fault. It takes some two seconds, and needs two
 processors. CDC6600 may name the program to try.
+
+Run it after a change of how threads wait.
 """
 
 import contextlib

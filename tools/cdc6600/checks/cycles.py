@@ -7,6 +7,8 @@
 - Bad input has one line, and a status.
 
 It says nothing where all is right, else what is wrong. CDC6600 may name the program to ask.
+
+Run it after a change of those tools, or of `tools/cdc6600/timing`.
 """
 
 import json

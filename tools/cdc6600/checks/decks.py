@@ -6,6 +6,8 @@ Then the rows of the pages refusals.md and requests.md are tried, and the timeli
 docs/use/conflicts.svg are drawn anew and compared.
 
 It says nothing where all are as they should be, else the command and what differs. CDC6600 may name the program to try.
+
+Run it after a change of what is computed or printed. It builds the program first if a source has changed.
 """
 
 import difflib

@@ -17,6 +17,8 @@ what they and the library's functions print and tell with what is stored for the
 It says nothing where all is right, else a line for each fault. CDC6600_LIBRARY may name the folder of the library to
 try, with its header; else tools/build-library builds it where a source is newer, and tells how far it is. It needs the
 C compiler `cc` and `rustc`: root has what is missing installed from Debian.
+
+Run it after a change of the crate `embedding`, its header, its examples or docs/use/emulators.md.
 """
 
 import ctypes

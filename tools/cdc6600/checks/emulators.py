@@ -14,6 +14,8 @@
 
 It prints each difference, and ends with status 1 then; else it prints nothing. It needs `rustc`, which root has
 installed from Debian. CDC6600 may name the program to try; else `./cdc6600` builds it.
+
+Run it after a change of what is computed or printed, of these tools, or of the plain interpreter.
 """
 
 import functools

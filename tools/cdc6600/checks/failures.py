@@ -21,6 +21,8 @@ reads and writes. What has to come of it:
 Each run has to end: the check waits ten minutes for it. It prints each difference, and ends with status 1 then; else it
 prints nothing. CDC6600 may name the program to try; else `./cdc6600` builds it. It needs a C compiler, `cc` or what CC
 names.
+
+Run it after a change of what takes memory, reads or writes.
 """
 
 import sys

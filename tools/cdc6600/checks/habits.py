@@ -14,6 +14,8 @@
 
 It says nothing where all is right, else a line for each fault. CDC6600 may name the program to install. It needs `man`,
 which root has installed from Debian.
+
+Run it after a change of the command line, of the version, of docs/use/formats.md, of the page or of what is installed.
 """
 
 import os

@@ -10,6 +10,8 @@ after it have 10,000,000 lines at most; `tools/check mutations` lists decks of s
 
 At a difference it says which, and ends with status 1. It prints nothing where there is none. CDC6600 may name the
 program to try; else `./cdc6600` builds it.
+
+Run it after a change of limits, or of what reads, keeps or prints them.
 """
 
 import functools

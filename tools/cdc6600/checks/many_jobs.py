@@ -10,6 +10,8 @@ results of each with the files beside it.
   is interrupted leaves no part, and neither does a full disk.
 
 It says nothing if all is right, otherwise a line for each fault. CDC6600 may name the program to try.
+
+Run it after a change of that page, or of `tools/run-jobs`.
 """
 
 import os

@@ -13,6 +13,9 @@ there may be.
 
 At the first difference it prints the seed, the case, the deck, and what was wanted and what came, and ends with status
 1. It prints nothing where there is none. CDC6600 may name the program to try; else `./cdc6600` builds it.
+
+Run it after a change of docs/use/formats.md, of the tables of docs/use/instructions.md, or of what reads and lists
+decks.
 """
 
 import functools

@@ -8,6 +8,8 @@ a signal has to leave the terminal as it was. A file that isn't there, a refused
 none, and a program that is missing or dies have to give one line and a status.
 
 It says nothing where all is right, else what was awaited and what came. CDC6600 may name the program to ask.
+
+Run it after a change of `tools/operate`, `tools/cdc6600/operating` or `tools/cdc6600/drawing`.
 """
 
 import os

@@ -13,6 +13,8 @@ command and isn't in this form is a fault too.
 README.md says what its commands do, and readme-commands.md what they print: each command that README.md shows has to
 be there. What `--unproved` builds isn't tried. CDC6600 may name the program to try in
 the place of `./cdc6600`.
+
+Run it after a change of what is computed or printed, or of one of these pages.
 """
 
 import os

@@ -11,6 +11,8 @@ A run that Ctrl-C ends leaves its line behind the `^C` of the terminal, and the 
 
 It says nothing where all is right, else a line for each fault. It takes six seconds, and for three of them most of the
 processors.
+
+Run it after a change of `progress` in `operator_main`.
 """
 
 import fcntl

@@ -11,6 +11,8 @@ reserved registers and the package that is asked for; and that what tools/cdc660
 event is what the program answered.
 
 It says nothing where all agree, else the seed, the session's number and what differs. CDC6600 may name the program.
+
+Run it after a change of what an event does or answers, or of `tools/cdc6600/drawing`.
 """
 
 import random

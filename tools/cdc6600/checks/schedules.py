@@ -4,6 +4,8 @@ prints and its exit status with what the schedule says. Says nothing where all a
 The schedules stand once, as constants in Rust, since tests make them by calls too. What they are made of (numbers,
 texts, lists and pairs) is written in Rust as in Python, but for the names before braces and for the ends of lines in
 a text; so they are read as Python.
+
+Run it after a change of what an event does or answers.
 """
 
 import ast

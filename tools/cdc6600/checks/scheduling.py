@@ -12,6 +12,8 @@
 
 It prints a line for each fault, and ends with status 1 then; else it prints nothing. CDC6600 may name the program to
 try; else `./cdc6600` builds it.
+
+Run it after a change of that tool, of `tools/cdc6600/timing`, or of docs/use/instructions.md.
 """
 
 import functools

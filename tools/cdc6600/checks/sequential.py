@@ -20,6 +20,8 @@ what has to come of it:
 It prints each difference with the words by which it prints the deck, and ends with status 1 then; else it prints
 nothing. It also fails if too few of the runs have requests of either kind, or a halt, an address fault or the end of
 their budget in the middle of a word. CDC6600 may name the program to try.
+
+Run it after a change of what a run computes, of its requests or of its end.
 """
 
 import re

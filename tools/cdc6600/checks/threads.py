@@ -3,6 +3,8 @@ thread, those of the seven units and the one for memory go on working. The threa
 thread starts first.
 
 It says nothing where all is right, else a line for each fault. It takes less than a second.
+
+Run it after a change of which threads there are, and of what they do.
 """
 
 import subprocess

@@ -10,6 +10,8 @@
 
 It prints a line for each fault, and ends with status 1 then; else it prints nothing. CDC6600 may name the program to
 try; else `./cdc6600` builds it.
+
+Run it after a change of that tool, of docs/use/instructions.md, or of a dump.
 """
 
 import functools

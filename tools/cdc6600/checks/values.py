@@ -15,6 +15,8 @@ The session is run anew up to each event, and ended there in three ways:
 The octal digits, the numbers and the marks of what has changed are also compared with those of `tools/beside --values`,
 which takes drawn sessions from files, and refuses what is no session in one line. It says nothing where all agree, else
 the seed, the session and what differs. CDC6600 may name the program to ask.
+
+Run it after a change of what an event does or answers, or of `tools/cdc6600/drawing`.
 """
 
 import random

@@ -3,6 +3,8 @@ well.
 
 Each edit below is handed to the runner as a wrong body. Those of REFUSED are wrong. Each of TOLD has to be told, in a
 line that says what is amiss: among them are right bodies in other words. Of those of UNSURE it can't tell.
+
+Run it after a change of it, or of the kit.
 """
 
 import os

@@ -3,6 +3,8 @@ to stand where its cell says, and where a cell says that tactics alone prove its
 Then that each file of definitions is named on that page, and that each definition is cited: by a contract, or by a
 definition that one cites. And that `tools/where` finds a definition, the code and a wrong body of each refusal by the
 rows that name its label, and a test or a deck. It prints a line for each fault, and nothing where all is right.
+
+Run it after a change of names, definitions or edits.
 """
 
 import re

@@ -4,6 +4,8 @@
 
 The old text of an edit must occur exactly once in its file, and an edit may change no contract. This check takes
 seconds; whether the prover refuses the wrong body is up to `tools/wrong-bodies`.
+
+Run it after a change of code or of an edit.
 """
 
 import sys

@@ -1,4 +1,7 @@
-"""Checks that each block of Rust in docs/work/threads.md is in the test that it is from. Prints nothing if all are."""
+"""Checks that each block of Rust in docs/work/threads.md is in the test that it is from. Prints nothing if all are.
+
+Run it after a change of that page or that test.
+"""
 
 from pathlib import Path
 

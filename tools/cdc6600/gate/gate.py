@@ -7,11 +7,7 @@
 
 The parts, in their order:
 
-- small checks, which take seconds: that docs/proof/definitions.md names what is there and tools/where finds it,
-  docs/proof/calls.md each public call, docs/work/threads.md its example, docs/work/crates.md the sizes,
-  docs/work/CHANGING.md the checks of the gate, that a deck or a test goes past each limit of the code, that a word with
-  one meaning is used for nothing else, that what comments and pages name is there, the layout of pages, and the style
-  of the Python sources;
+- small checks, which read sources and pages alone, and take seconds;
 - `rt ci`: every proof from nothing, every test, the wrong bodies of `must-fail`, and the program's stored run. It keeps
   beside the kit what it proved and tried, by the sums of all that it read, and so proves and tries again only what
   changed, and what stands above that; tests and the program are run each time;
@@ -25,8 +21,9 @@ The parts, in their order:
   machine does, that a machine is driven by hand, installed, run many times and called from C; then that forgotten
   tokens are refused, and that `./cdc6600` builds no program of which a crate isn't proved.
 
-The names of the checks are in parts.py. A check that needs a program which isn't installed is left out, and that is
-told. A check that finds nothing says nothing. Where `rt ci` fails nothing more is tried.
+docs/work/checks.md says what each check looks at; their names are in parts.py. A check that needs a program which isn't
+installed is left out, and that is told. A check that finds nothing says nothing. Where `rt ci` fails nothing more is
+tried.
 """
 
 import os
@@ -41,13 +38,11 @@ from pathlib import Path
 from cdc6600.checks.debian import missing
 from cdc6600.shared.program import ROOT
 
-from .parts import BODIES, BUILDING, DECKS, NAMES, SMALL, called, command
+from .parts import BODIES, BUILDING, DECKS, SMALL, called, command
 
 RUNNER = "tools/wrong-bodies"
 # What `rt ci` builds.
 PROGRAM = "crates/operator_main/out/operator_main"
-# The page whose table says what each of them checks.
-PAGE = "docs/work/CHANGING.md"
 PROOFS = re.compile(r"(\d+) passed, (\d+) failed")
 TRIED = re.compile(r"(\d+) wrong bodies, (\d+) not refused, (\d+) can't tell")
 PIPED = {"stdout": subprocess.PIPE, "stderr": subprocess.STDOUT, "text": True, "errors": "replace"}
@@ -117,13 +112,8 @@ def silent(names):
 
 
 def small_checks():
-    """The small checks, and that the page has a row for each check of the gate."""
-    passed, failed = silent(SMALL)
-    rows = re.findall(r"^\| `([^`]*)` \|", Path(PAGE).read_text(encoding="utf-8"), re.MULTILINE)
-    absent = [it for it in (RUNNER, *map(called, NAMES)) if it not in rows]
-    for it in absent:
-        print(f"{PAGE}: no row of a table begins with `{it}`", flush=True)
-    return (passed, failed + 1) if absent else (passed + 1, failed)
+    """The checks that look at sources and pages alone."""
+    return silent(SMALL)
 
 
 def proofs(is_anew):

@@ -2,6 +2,8 @@
 
 - A line has at most 120 columns. The targets of links don't count; tables and code may be wider.
 - A heading has an empty line before it. A line that is bold from its first word to its last is a heading too.
+
+Run it after a change of a page.
 """
 
 import re

@@ -13,6 +13,8 @@ without their tests. It fails in these cases:
   sources, so a limit that grows needs a larger deck.
 
 Arrays aren't limits: they have an element for each register, unit, place or channel.
+
+Run it after a change of a constant, or of one of these decks.
 """
 
 import re

@@ -12,6 +12,8 @@
   pages. In the tools' sources this holds for tools and pages, since tests name decks and crates that they make. NAME
   stands for any name, and so does the crate in `crates/crate/`; `*` has to match something.
 - Links: the target of a link in a page is there. Targets elsewhere, in the web, aren't looked up.
+
+Run it after a change of names, or of where files are.
 """
 
 import re

@@ -30,3 +30,8 @@ def called(name):
 def module(name):
     """The name of a check's module."""
     return f"cdc6600.{'gate' if name in OF_GATE else 'checks'}.{name.replace('-', '_')}"
+
+
+def file_of(name):
+    """The path of a check's source."""
+    return f"tools/{module(name).replace('.', '/')}.py"

@@ -5,6 +5,8 @@
 It fails if a crate has more than 1,550 lines or 100 functions without its tests, or a function has more than 40 lines.
 Some 1,500 lines are meant: a crate near that bound may still be mended, and is split when its subjects part. Tests are
 the files with `test` in their names, and all files of a crate whose name ends in `_tests`.
+
+Run it after every change.
 """
 
 from cdc6600.crates.crate import crates

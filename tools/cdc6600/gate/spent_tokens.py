@@ -3,6 +3,8 @@ any proof, so it isn't among the edits that the prover must refuse. The same fun
 accepted; so it is the forgetting that is refused.
 
 It says nothing where all this is right. A temporary folder gets the sources of `machine` and of what it stands on.
+
+Run it after a change of tokens.
 """
 
 import re

@@ -1,6 +1,8 @@
 """Checks the style of all Python of the project by flake8, with the settings of .flake8. It prints a line for each
 fault, and nothing if there is none. Called by itself as root, it installs flake8 from Debian's packages if it isn't
 there.
+
+Run it after a change of the tools.
 """
 
 import subprocess

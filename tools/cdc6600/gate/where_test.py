@@ -1,5 +1,8 @@
 """Tests tools/where: which lines name a refusal, what it finds of a label and of a word, and how it ends. Prints only a
-line if all is well."""
+line if all is well.
+
+Run it after a change of that tool, of `tools/cdc6600/rules`, or of what its tests name.
+"""
 
 import subprocess
 import unittest

@@ -9,6 +9,8 @@ as one. If the meaning is another, the row says which word to write instead.
 In a page a word has its meaning if its paragraph, or its row of a table, speaks of what the word belongs to: *place*
 of the hopper or of references, for example. Code, a name in backquotes and a word in stars aren't looked at. Each
 request of the manual page begins a paragraph.
+
+Run it after a change of names, of a page, or of docs/machine/glossary.md.
 """
 
 import re
@@ -16,13 +18,13 @@ import subprocess
 from dataclasses import dataclass
 from pathlib import Path
 
-from cdc6600.generating import calls, crate_map
+from cdc6600.generating import calls, checks, crate_map
 from cdc6600.shared.program import ROOT
 
 FOLDERS = ("crates", "docs", "README.md", "bench/README.md", "decks/README.md", "decks/pages")
 PAGES = (".md", ".1")
 KINDS = (".rt", ".antt", ".edit", ".h", ".c", ".rs", ".py", *PAGES)
-GENERATED = (calls.PAGE, crate_map.PAGE)
+GENERATED = (calls.PAGE, checks.PAGE, crate_map.PAGE)
 FENCE = "```"
 # A row of a table, and a request of the manual page.
 ALONE = re.compile(r"\||\.[A-Z]")

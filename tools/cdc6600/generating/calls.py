@@ -22,11 +22,11 @@ re-exports is listed under the crate that defines it.
 | Column | Meaning |
 |---|---|
 | What it does | the first sentence of its comment |
-| May refuse | the refusals that its contract or its comment names, by their names in `crates/instructions/src/refusal.rt`. \
-Any call that asks for memory may also refuse with `OutOfMemory` |
-| Returns | *always*: the call can't block. It takes no `Wait` handle, and without one the checker rejects any function \
-that may block or loop for ever. *when its device does*: it reads or writes by a device. *may wait*: it takes a `Wait` \
-handle |
+| May refuse | the refusals that its contract or its comment names, by their names in \
+`crates/instructions/src/refusal.rt`. Any call that asks for memory may also refuse with `OutOfMemory` |
+| Returns | *always*: the call can't block. It takes no `Wait` handle, and without one the checker rejects any \
+function that may block or loop for ever. *when its device does*: it reads or writes by a device. *may wait*: it takes \
+a `Wait` handle |
 | Requires | the conditions that the caller has to prove before the call. Every other contract holds for all arguments |
 
 A refused event leaves the machine as it was; that is part of the contract of each call that makes one. No function

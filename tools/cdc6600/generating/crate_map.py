@@ -39,7 +39,7 @@ EXPORTED = re.compile(r"^pub (?:const )?(?:fn|struct|enum|trait|type|const) (\w+
 
 
 def sections():
-    """The sections of crates.txt: the comment before each, which an empty line precedes, and the names of its crates."""
+    """The sections of crates.txt: the comment that begins each, after an empty line, and the names of its crates."""
     found = []
     for part in (ROOT / FILE).read_text(encoding="utf-8").split("\n\n")[1:]:
         head, *lines = part.strip().split("\n")

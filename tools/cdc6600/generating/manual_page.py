@@ -45,13 +45,14 @@ def inline(text):
     """A paragraph with its marks."""
     for old, new in HERE:
         text = text.replace(old, new)
+    plain = LINK.sub(r"\1", text)
     parts, end = [], 0
-    for found in MARKED.finditer(LINK.sub(r"\1", text)):
-        plain = LINK.sub(r"\1", text)
+    for found in MARKED.finditer(plain):
         bold, italic = found.groups()
-        parts += [escaped(plain[end:found.start()]), f"\\fB{escaped(bold)}\\fR" if bold else f"\\fI{escaped(italic)}\\fR"]
+        marked = f"\\fB{escaped(bold)}\\fR" if bold else f"\\fI{escaped(italic)}\\fR"
+        parts += [escaped(plain[end:found.start()]), marked]
         end = found.end()
-    return "".join([*parts, escaped(LINK.sub(r"\1", text)[end:])])
+    return "".join([*parts, escaped(plain[end:])])
 
 
 def cells(line):
