@@ -40,9 +40,9 @@ impl PerUnit<Unit> {
 }
 
 impl<T> PerUnit<T> {
-    /// Takes the values from an array in the order of the units' numbers. No clause promises that order: the prover
-    /// knows nothing about values moved out of an array if they may need a destructor. A wrong order would show in a
-    /// run: a worker for another unit claims nothing.
+    /// Takes the values from an array in the order of the units' numbers. No clause promises that order: the prover has
+    /// no facts about values taken out of an array if they can't simply be dropped. A wrong order would show in a run:
+    /// a worker for another unit claims nothing.
     pub fn from_array(all: [T; 7]) -> PerUnit<T> {
         let [
             branch,
@@ -159,7 +159,7 @@ impl<T> PerUnit<T> {
         }
     }
 
-    /// Makes a value of each unit's two values, one unit after another in the order of the units' numbers.
+    /// Combines the two values of each unit with `make`, one unit after another in the order of the units' numbers.
     pub fn zip_with<U, V, F: Fn(T, U) -> V>(self, other: PerUnit<U>, make: F) -> PerUnit<V>
         requires { F.IsAlwaysCallable make }
         ensures { Each (λ both v. F.post make both.0 both.1 v) (paired self other) result }
@@ -175,7 +175,7 @@ impl<T> PerUnit<T> {
         }
     }
 
-    /// Makes a value of each unit's value, one unit after another in the order of the units' numbers.
+    /// Applies `make` to the value of each unit, one unit after another in the order of the units' numbers.
     pub fn map<U, F: Fn(T) -> U>(self, make: F) -> PerUnit<U>
         requires { F.IsAlwaysCallable make }
         ensures { Each (λ t u. F.post make t u) self result }
