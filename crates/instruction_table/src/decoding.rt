@@ -17,7 +17,7 @@ use word60::{Word18, Word60};
 pub enum Decoded {
     /// An instruction, and the position after it, 1 to 4.
     Legal(Instr, u8),
-    /// An opcode that this machine does not have. It is refused before its length is known, so it is refused in the
+    /// An opcode that this machine does not have. It is refused before its length is checked, so it is refused in the
     /// last parcel too; that is this project's choice.
     Refused(Op),
     /// An instruction of two parcels in the last parcel of a word. Its second parcel would be in the next word, and the
