@@ -2,8 +2,9 @@
 //! target of a branch.
 //!
 //! The operations are the machine's (Control Data 6400/6600 Reference Manual, publication 60100000). This project chose
-//! the order of `GE` and `LT` and the equality of `EQ` and `NE` (`BTest` of `instructions`), that a nominal shift to
-//! the right by more than 63 bits leaves +0, and the zeros of sums and the long shifts and masks (`word60`).
+//! the order of `GE` and `LT` and the equality of `EQ` and `NE` (`BTest` of `instructions`). It also chose that a
+//! nominal shift to the right by more than 63 bits leaves +0, and it chose the zeros of sums and the long shifts and
+//! masks (`word60`).
 //!
 //! Callers rely on `value`: for each instruction that has a unit it returns exactly `value_of` of `specs/Values`. The
 //! tests are in `crates/core_tests/src/unit_ops_tests.rt`. Begin with `value` in `compute`, next to that definition.
