@@ -13,7 +13,7 @@ pub struct Entered {
     pub reference: Reference,
 }
 
-/// A load from address 0 in place 0: the filler of the empty positions of a list of fixed room.
+/// A load from address 0 in place 0. It fills the unused positions of a list with fixed room.
 impl Default for Entered {
     ghost use Rattle.relocation.specs.declared.area.Access.TheVariants.{Load};
 

@@ -12,7 +12,7 @@ use relocation::BANKS;
 use std::marker::Model;
 
 /// The references that wait in the four places, and the busy banks among the 32 (Thornton, stunt box; Control Data
-/// 60100000, central memory). A hopper allocates nothing, and every call accepts every number.
+/// 60100000, central memory). A hopper allocates nothing, and every call is defined for every number.
 #[derive(Drop)]
 pub struct Hopper {
     /// The waiting references, in the order in which they entered.
