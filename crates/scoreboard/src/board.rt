@@ -304,8 +304,8 @@ impl Board {
         }
     }
 
-    /// Records the store event of the instruction in the unit: frees the unit, and removes it from all producers. A
-    /// load moves to the channel of its X register. The caller first asks `may_store`.
+    /// Records the store event of the instruction in the unit. The unit is free then, and no instruction waits for it
+    /// to write. A load moves to the channel of its X register. The caller first asks `may_store` and `in_turn`.
     pub fn release(&mut self, unit: Unit)
         ensures { self.new ≡ with_issued self.old
             (replaced (seek (held_in unit) self.old.issued) self.old.issued left) }
@@ -332,8 +332,8 @@ impl Board {
         }
     }
 
-    /// Records the return of the load in the channel: empties the channel, and removes it from all producers. Channels
-    /// have the numbers of their X registers, 0 to 7. The caller first asks `may_return`.
+    /// Records the return of the load in the channel. The channel is empty then, and no instruction waits for it to
+    /// write. Channels have the numbers of their X registers, 0 to 7. The caller first asks `may_return`.
     pub fn returned(&mut self, channel: u8)
         requires { channel < 8 }
         ensures { self.new ≡ with_issued self.old
