@@ -71,7 +71,8 @@ issued (Exchanged n ∷ xs) = issued xs
 issued (ReadAt a ∷ xs) = issued xs
 issued (Wrote a w ∷ xs) = issued xs
 
--- the number of instructions since the last other step, if n instructions came directly before these steps
+-- the number of instructions after the last step that isn't an instruction, if n instructions came directly before
+-- these steps
 unfoldable pub run_after : ℕ → List LogStep → ℕ
 run_after n [] = n
 run_after n (Issued ∷ xs) = run_after (n + 1) xs

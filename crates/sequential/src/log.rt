@@ -114,7 +114,7 @@ impl Log {
         self.issues
     }
 
-    /// Makes room for `more` further entries. The steps stay the same in either case.
+    /// Makes room for `more` further entries. The steps don't change, even if memory runs out.
     ///
     /// # Errors
     /// `OutOfMemory` if memory runs out.

@@ -69,8 +69,8 @@ fn replay_entry(state: &mut State, entry: &Entry) -> Result<(), Refusal>
 /// Makes the steps of a log in order: each instruction, exchange and peripheral access.
 ///
 /// # Errors
-/// The refusal of the first refused step, after all steps before it. `PackageRange` if the sixteen words of an exchange
-/// aren't all in memory. `PeripheralRange` if the word of a peripheral access isn't in memory.
+/// The refusal of the first refused step; the steps before it have been made. `PackageRange` if the sixteen words of an
+/// exchange aren't all in memory. `PeripheralRange` if the word of a peripheral access isn't in memory.
 pub fn replay(state: &mut State, log: &Log) -> Result<(), Refusal>
     ensures answer { MatchResult result
         (λ _. replay state.old log.now.steps ≡ Some state.new)
