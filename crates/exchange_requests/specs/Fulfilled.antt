@@ -42,10 +42,10 @@ are_done total asks (at ∷ free) = false
 are_done total [] [] = true
 are_done total (ask ∷ asks) [] = nat_lt total ask.1
 
--- The exchanges after the last one, which was made after `last` instructions, fulfil these counted and free requests,
--- and so does the end after `total` instructions. Each exchange is that of the next counted request or of the next free
--- request. No request is left at the end, unless the machine runs in the middle of a word: there a request may wait,
--- and others with it.
+-- If the last exchange was made after `last` instructions, the exchanges that follow and an end after `total`
+-- instructions fulfil these counted and free requests. Each exchange is that of the next counted request or of the next
+-- free request. No request is left at the end, unless the machine runs in the middle of a word: there a request may
+-- wait, and others with it.
 unfoldable pub fulfils : Bool → ℕ → ℕ → List (ℕ × ℕ) → List ℕ → List (ℕ × ℕ) → Bool
 fulfils in_mid_word total last asks free [] =
     are_done total asks free || (in_mid_word && is_in_time last total asks)

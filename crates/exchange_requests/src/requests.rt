@@ -1,6 +1,6 @@
-//! The next request for an exchange that a run makes, and hence the end of a run.
+//! The order in which a run makes its counted requests for exchanges, and hence when the run ends.
 //!
-//! A request here names a number of instructions. It is due once that many were issued, and a run makes it before it
+//! A counted request names a number of instructions. It is due once that many were issued, and a run makes it before it
 //! issues the next instruction. While another request waits for its exchange, none is due. Of several requests, the one
 //! after the fewest instructions comes first; of equals, the one that was given first. The request for the run's first
 //! package comes before all others.
