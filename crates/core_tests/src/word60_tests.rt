@@ -105,7 +105,7 @@ fn makes_words(rt: HostRuntime) {
     }
 }
 
-/// Sums and complements of indexes, and words made of them with and without their sign. The most is 18 bits.
+/// Sums and complements of indexes, and words made of them with and without their sign. An index has at most 18 bits.
 #[test]
 fn makes_indexes(rt: HostRuntime) {
     let (one, two, minus_one) = (index(1), index(2), index(0o777776));
