@@ -29,7 +29,7 @@ bounds_of s = record { area = s.area; size = length s.memory }
 unfoldable pub absolute : Bounds → ℕ → Option ℕ
 absolute b a = relocate a b.area.ra b.area.fl b.size
 
--- the exit mode sets the fault flag at an address out of range: bit 010000 (octal)
+-- a reference out of range sets the fault flag: bit 010000 (octal) of the exit mode is 1
 unfoldable pub stops_at_fault : Bounds → Bool
 stops_at_fault b = bit b.area.mode 12 == 1
 

@@ -23,8 +23,8 @@ pub struct State {
     pub area: Area,
     /// The reason why the machine is halted, `None` while it runs.
     pub halt: Option<Halt>,
-    /// Whether an address was out of range while the exit mode had bit 010000 (octal). Only an exchange
-    /// clears it.
+    /// The fault flag, set by a reference out of range if the exit mode has bit 010000 (octal). Only an exchange clears
+    /// it.
     pub fault: bool,
 }
 

@@ -76,7 +76,7 @@ impl State {
             self.registers.set(register, work.number);
         }
         self.position = self.position.after_jump(work.jump);
-        // Bit 010000 (octal) of the exit mode: an address out of range sets the flag.
+        // Bit 010000 (octal) of the exit mode: a reference out of range sets the flag.
         if let Some(reference) = work.reference
             && (self.area.mode.get() >> 12) % 2 == 1
         {
