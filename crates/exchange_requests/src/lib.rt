@@ -15,10 +15,10 @@
 //! The log doesn't say which request an exchange was made for. So a log fulfils the requests if there is a way to
 //! assign every exchange to a request by these rules.
 //!
-//! Callers rely on `Requests::take_due`, which returns every counted request once, when it is due. They also rely on
-//! `are_fulfilled`, which judges a log in a time that grows with its exchanges, not with its instructions. `in_order`
-//! returns all counted requests of a run as a list. `judging` finds the request that an exchange was made for. The
-//! tests are in `crates/core_tests/src/exchange_requests_tests.rt` and
+//! Callers rely on `Requests::take_due`, which returns the counted request that is due, each only once. They also rely
+//! on `are_fulfilled`, which judges a log in a time that grows with its exchanges, not with its instructions.
+//! `in_order` returns all counted requests of a run as a list. `judging` finds the request that an exchange was made
+//! for. The tests are in `crates/core_tests/src/exchange_requests_tests.rt` and
 //! `crates/text_tests/src/fulfilled_requests_tests.rt`. Begin with `Requests::take_due`.
 #![tactic(auto)]
 
