@@ -23,11 +23,11 @@ use Rattle.instructions.specs.declared.instr.Instr.TheVariants.{CountOnes, Incre
 
 -- the registers and the kind of unit of an instruction
 pub record Uses : Type 0 where
-  -- the kind of unit that it is issued to; a pass and a stop have none
+  -- the kind of unit; None for a pass and a stop
   pub unit : Option UnitKind
-  -- the first operand, if it has one
+  -- the first operand, if there is one
   pub first : Option Reg
-  -- the second operand, if it has one
+  -- the second operand, if there is one
   pub second : Option Reg
   -- the register that SA6 or SA7 stores
   pub outgoing : Option Reg

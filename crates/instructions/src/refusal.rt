@@ -3,7 +3,7 @@ use std::fmt;
 use std::fmt::{Display, Formatter, Write};
 use thiserror::Error;
 
-/// Why the machine is halted.
+/// The reason why the machine is halted.
 #[derive(Clone, Copy, Debug, Drop, PartialEq, Eq)]
 pub enum Halt {
     /// A stop was issued, or the machine has just been booted.
