@@ -40,11 +40,11 @@ number_of t n = number_after 0 (drop n t)
 abbrev pub jump_in : List ℕ → Instr
 jump_in t = Jump (digit_of t 4) (number_of t 6)
 
--- the branch of `ZR Xj,K` and the others that test an X register
+-- the branch of `ZR Xj,K` and of the other names that test an X register
 abbrev pub branch_x_in : List ℕ → XTest → Instr
 branch_x_in t test = BranchX test (digit_of t 4) (number_of t 6)
 
--- the branch of `EQ Bi,Bj,K` and the others that compare two B registers
+-- the branch of `EQ Bi,Bj,K` and of the other names that compare two B registers
 abbrev pub branch_b_in : List ℕ → BTest → Instr
 branch_b_in t test = BranchB test (digit_of t 4) (digit_of t 7) (number_of t 9)
 
