@@ -56,13 +56,13 @@ fn link_word(back: Word18) -> Word60
 /// The effects of an instruction's value.
 #[derive(Clone, Copy, Debug, Drop, PartialEq, Eq)]
 pub struct Work {
-    /// The register that it writes, if it writes one.
+    /// The register to write, if there is one.
     pub register: Option<Reg>,
-    /// The number that it writes there. For a reference, this is the address.
+    /// The number to write there. For a reference, this is the address.
     pub number: Word60,
-    /// The address that it jumps to, if it jumps.
+    /// The address to jump to, if the instruction jumps.
     pub jump: Option<Word18>,
-    /// The reference that it makes, if it makes one.
+    /// The reference, if the instruction makes one.
     pub reference: Option<ProgramReference>,
 }
 
