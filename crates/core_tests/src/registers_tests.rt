@@ -4,7 +4,7 @@ use crate::fixtures::{Register, index, word};
 use Register::{A, B, X};
 use registers::RegisterFile;
 
-/// A word, whose low 18 bits are 107654.
+/// A word whose low 18 bits are 107654.
 const WORD: u64 = 0o76543_21076_54321_07654;
 
 const WRITTEN: [Register; 7] = [X(0), X(7), A(0), A(7), B(0), B(1), B(7)];

@@ -42,7 +42,7 @@ fn holds_addresses_to_the_range(rt: HostRuntime) {
 /// Sizes of memory that are refused.
 const SIZES: [u32; 4] = [0, 31, 131_073, u32::MAX];
 
-/// Less than 32 words and more than 131,072 are refused.
+/// Sizes below 32 words and above 131,072 words are refused.
 #[test]
 fn refuses_other_sizes(rt: HostRuntime) {
     for words in SIZES.as_slice() {

@@ -210,7 +210,7 @@ fn fetches_from_a_held_word(rt: HostRuntime) -> Result<(), Fail> {
     Ok(())
 }
 
-/// RA 20 and an FL, and the exit mode.
+/// An area with RA 20 and this FL and exit mode.
 fn area(fl: u32, mode: u32) -> Area {
     Area {
         ra: index(0o20),
