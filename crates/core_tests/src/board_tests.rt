@@ -1,4 +1,4 @@
-//! A board's answers, by lists of calls with the answer of each.
+//! Results of a board's calls, as lists of calls with the result of each.
 
 use crate::fixtures::Register;
 use Answer::{Awaited, Busy, Fine, Held, OutOfTurn, Reserved, Taken, Truth};
@@ -13,7 +13,7 @@ use instructions::{Refusal, Unit, unit_kind};
 use scoreboard::Board;
 use std::marker::Model;
 
-/// A call to a board. Instructions are given as texts.
+/// A call to a board. Instructions are given as text.
 #[derive(Clone, Copy, Drop)]
 enum Call {
     Reserve(&'static str),
@@ -28,22 +28,22 @@ enum Call {
     HasStoreToCome,
 }
 
-/// What a call answers.
+/// The result of a call.
 #[derive(Clone, Copy, Debug, Drop, PartialEq, Eq)]
 enum Answer {
-    /// It may, or it is done.
+    /// The event may be made, or the update is done.
     Fine,
     Reserved(Unit, u64),
     Busy(Unit),
-    /// The result is to come already.
+    /// A result register is already a result still to come.
     Taken(Register),
     Awaited(Register),
     Held(Register),
     OutOfTurn,
-    /// A refusal that no board gives.
+    /// A refusal that no board returns.
     OtherRefusal,
     Truth(bool),
-    /// The text is no instruction that takes a unit.
+    /// The text isn't an instruction that takes a unit.
     NoUnit,
 }
 
@@ -58,7 +58,7 @@ fn refused(refusal: Refusal) -> Answer {
     }
 }
 
-/// What a judgement of the board says.
+/// The answer of a query.
 fn judged(judgement: Result<(), Refusal>) -> Answer {
     match judgement {
         Ok(()) => Fine,
@@ -92,7 +92,7 @@ impl Counted {
         }
     }
 
-    /// Asks for a unit for the instruction of that text.
+    /// Reserves a unit for the instruction with this text.
     #[tactic(auto, unfolding(scoreboard::specs::Answers::reserved))]
     fn reserve(&mut self, text: &str) -> Answer {
         let Some(instr) = read_text(text) else {
@@ -129,7 +129,7 @@ impl Counted {
     }
 }
 
-/// The position of the first call to a new board that isn't answered so, None if all are.
+/// The position of the first call to a new board whose answer is wrong, or `None` if all are right.
 fn first_wrong(calls: &[(Call, Answer)]) -> Option<usize> {
     let mut counted = Counted::new();
     for index in 0..calls.len() {
@@ -141,7 +141,8 @@ fn first_wrong(calls: &[(Call, Answer)]) -> Option<usize> {
     None
 }
 
-/// The lower-numbered free unit of the kind; where both Increment units are taken, the first is named.
+/// The lower-numbered free unit of the kind is reserved. If both Increment units are taken, the refusal names the
+/// first.
 const RESERVES_A_FREE_UNIT: [(Call, Answer); 9] = [
     (Reserve("IX1 X0+X0"), Reserved(LongAdd, 1)),
     (Reserve("IX2 X0+X0"), Busy(LongAdd)),
@@ -154,7 +155,7 @@ const RESERVES_A_FREE_UNIT: [(Call, Answer); 9] = [
     (Reserve("SX5 B0+B0"), Reserved(Increment2, 5)),
 ];
 
-/// A load reserves A and X, and names A first. A is free from its store event on, X from its return.
+/// A load reserves A and X, and the refusal names A first. A is free from the store event on, X from the return.
 const RESERVES_NO_RESULT_TWICE: [(Call, Answer); 11] = [
     (Reserve("SA1 X0+B0"), Reserved(Increment1, 1)),
     (Reserve("SX1 B0+B0"), Taken(X(1))),
@@ -169,7 +170,7 @@ const RESERVES_NO_RESULT_TWICE: [(Call, Answer); 11] = [
     (Reserve("SA1 X0+B0"), Reserved(Increment1, 2)),
 ];
 
-/// `SB0` has no result, so two of them are issued, and B0 is nobody's operand.
+/// `SB0` has no result, so two of them can be issued. B0 is never an operand.
 const NEVER_WAITS_FOR_B0: [(Call, Answer); 10] = [
     (Reserve("SB0 B1+B1"), Reserved(Increment1, 1)),
     (Reserve("SB0 B1+B1"), Reserved(Increment2, 2)),
@@ -183,8 +184,8 @@ const NEVER_WAITS_FOR_B0: [(Call, Answer); 10] = [
     (MayRead(Branch), Awaited(B(2))),
 ];
 
-/// An instruction waits for earlier writers of its operands, in their order, and not for itself or for a later
-/// writer.
+/// An instruction waits for earlier writers of its operands, in the operands' order. It doesn't wait for itself or for
+/// a later writer.
 const WAITS_FOR_EARLIER_WRITERS: [(Call, Answer); 18] = [
     (Reserve("SX1 X1+B1"), Reserved(Increment1, 1)),
     (MayRead(Increment1), Fine),
@@ -207,8 +208,8 @@ const WAITS_FOR_EARLIER_WRITERS: [(Call, Answer); 18] = [
     (MayRead(Boolean), Fine),
 ];
 
-/// An instruction that reads the A register of a load waits for the load's store event; one that reads X waits for its
-/// return.
+/// An instruction that reads the A register of a load waits for the load's store event. One that reads the X register
+/// waits for the return.
 const WAITS_FOR_A_LOAD: [(Call, Answer); 12] = [
     (Reserve("SA1 X0+B0"), Reserved(Increment1, 1)),
     (Reserve("IX2 X1+X1"), Reserved(LongAdd, 2)),
@@ -224,7 +225,8 @@ const WAITS_FOR_A_LOAD: [(Call, Answer); 12] = [
     (MayRead(LongAdd), Fine),
 ];
 
-/// A store event waits for earlier readers of what it writes, and not for itself or for a later one.
+/// A store event waits for earlier readers of the register that it writes. It doesn't wait for itself or for a later
+/// reader.
 const STORES_AFTER_EARLIER_READS: [(Call, Answer); 17] = [
     (Reserve("IX2 X1+X1"), Reserved(LongAdd, 1)),
     (Reserve("SX1 X1+B0"), Reserved(Increment1, 2)),
@@ -238,7 +240,7 @@ const STORES_AFTER_EARLIER_READS: [(Call, Answer); 17] = [
     (Release(LongAdd), Fine),
     (Reserve("IX6 X0+X0"), Reserved(LongAdd, 5)),
     (MayStore(LongAdd), Held(X(6))),
-    // A1 is free of an earlier writer and is to be read by the SA6.
+    // A1 has no earlier writer any more, and SA6 has yet to read it.
     (Release(Increment1), Fine),
     (Reserve("SA1 X0+B0"), Reserved(Increment1, 6)),
     (MayStore(Increment1), Held(A(1))),
@@ -247,7 +249,7 @@ const STORES_AFTER_EARLIER_READS: [(Call, Answer); 17] = [
     (MayStore(LongAdd), Fine),
 ];
 
-/// The return of a load waits for earlier readers of its X register, and not for a later one.
+/// The return of a load waits for earlier readers of its X register, but not for later ones.
 const RETURNS_AFTER_EARLIER_READS: [(Call, Answer); 9] = [
     (Reserve("IX2 X1+X1"), Reserved(LongAdd, 1)),
     (Reserve("SA1 X0+B0"), Reserved(Increment1, 2)),
@@ -260,7 +262,7 @@ const RETURNS_AFTER_EARLIER_READS: [(Call, Answer); 9] = [
     (MayReturn(1), Fine),
 ];
 
-/// References come to their store events in turn: loads, stores and return jumps.
+/// References have their store events in turn: loads, stores and return jumps.
 const KEEPS_THE_TURN: [(Call, Answer); 18] = [
     (Reserve("SA1 X0+B0"), Reserved(Increment1, 1)),
     (Reserve("SA6 X0+B0"), Reserved(Increment2, 2)),
@@ -283,7 +285,7 @@ const KEEPS_THE_TURN: [(Call, Answer); 18] = [
     (InTurn(Branch), Fine),
 ];
 
-/// A free unit and an empty channel have no conflict, and a call for them changes nothing.
+/// A free unit and an empty channel have no conflict, and a call about them changes nothing.
 const LEAVES_FREE_UNITS_ALONE: [(Call, Answer); 10] = [
     (Reserve("SX1 B0+B0"), Reserved(Increment1, 1)),
     (MayRead(LongAdd), Fine),
@@ -297,7 +299,7 @@ const LEAVES_FREE_UNITS_ALONE: [(Call, Answer); 10] = [
     (Reserve("SX2 B0+B0"), Reserved(Increment2, 2)),
 ];
 
-/// Branch is held from the issue of a branch to its store event, and a return jump's store isn't asked for.
+/// Branch is held from the issue of a branch to its store event. A return jump doesn't count as a store still to come.
 const FOLLOWS_BRANCHES_AND_STORES: [(Call, Answer); 20] = [
     (IsBranchHeld, Truth(false)),
     (HasStoreToCome, Truth(false)),
@@ -321,7 +323,7 @@ const FOLLOWS_BRANCHES_AND_STORES: [(Call, Answer); 20] = [
     (HasStoreToCome, Truth(false)),
 ];
 
-/// The lists of calls, by what each shows.
+/// The lists of calls, with the rule that each shows.
 const LISTS: [(&str, &[(Call, Answer)]); 10] = [
     ("reserves a free unit", &RESERVES_A_FREE_UNIT),
     ("reserves no result twice", &RESERVES_NO_RESULT_TWICE),
@@ -335,7 +337,7 @@ const LISTS: [(&str, &[(Call, Answer)]); 10] = [
     ("follows branches and stores", &FOLLOWS_BRANCHES_AND_STORES),
 ];
 
-/// A board answers each list so.
+/// A board answers every call as the lists say.
 #[test]
 fn answers_calls(rt: HostRuntime) {
     for (name, calls) in LISTS.as_slice() {

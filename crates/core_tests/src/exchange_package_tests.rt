@@ -1,4 +1,4 @@
-//! Exchange packages: read, written, and swapped with one in memory.
+//! Exchange packages: decoded, encoded, and swapped with a package in memory.
 
 use crate::fixtures::{index, word};
 use exchange_package::Package;
@@ -28,7 +28,7 @@ const INCOMING: [u64; 16] = [
     0o73333_33333_33333_33337,
 ];
 
-/// The same package as a halted machine leaves it.
+/// The same package as a halted machine writes it.
 const OUTGOING: [u64; 16] = [
     0o00_000100_111110_000000,
     0o00_200001_111111_222221,
@@ -83,7 +83,7 @@ fn registers() -> RegisterFile {
     }
 }
 
-/// The package of a machine that is halted or not, with a fault or not.
+/// The package of a machine that is halted or running, with or without a fault.
 fn package(halted: bool, fault: bool) -> Package {
     Package {
         p: index(0o100),
@@ -103,7 +103,7 @@ fn has_the_same(one: &Package, other: &Package) -> bool {
     one.p == other.p && one.area == other.area && one.registers == other.registers
 }
 
-/// Bits without a name, a B field in word 0 and the status don't count.
+/// Bits without a name, a B field in word 0 and the status are ignored.
 #[test]
 fn reads_a_package(rt: HostRuntime) {
     let incoming = Package::read(&words(&INCOMING));
@@ -130,7 +130,7 @@ fn writes_the_status(rt: HostRuntime) {
     }
 }
 
-/// What stands in a memory of 256 words from 360 on, None in another memory.
+/// The sixteen words from 360 on of a memory of 256 words, or `None` for a memory of another size.
 fn last_words(memory: &Storage) -> Option<[Word60; 16]> {
     if memory.size() == 256 {
         Some(memory.words::<16>(0o360))
@@ -139,7 +139,7 @@ fn last_words(memory: &Storage) -> Option<[Word60; 16]> {
     }
 }
 
-/// A package out of memory is refused and leaves it as it is.
+/// A package outside memory is refused, and memory doesn't change.
 #[test]
 fn refuses_a_package_out_of_memory(rt: HostRuntime) -> Result<(), Fail> {
     let mut memory = Storage::new(rt.alloc(), 256)?;
@@ -149,7 +149,7 @@ fn refuses_a_package_out_of_memory(rt: HostRuntime) -> Result<(), Fail> {
     Ok(())
 }
 
-/// Two swaps give the package back.
+/// Two swaps return the original package.
 #[test]
 fn swaps_packages(rt: HostRuntime) -> Result<(), Fail> {
     let mut memory = Storage::new(rt.alloc(), 256)?;

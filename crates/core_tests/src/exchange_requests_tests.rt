@@ -1,10 +1,10 @@
-//! Requests in their order, and when they are due.
+//! The order of requests, and when they are due.
 
 use exchange_requests::Requests;
 use std::test::Fail;
 
-/// The requests that are due before each of eight instructions, where each exchange is made at once: of those that are
-/// due the one after the fewest instructions first.
+/// The requests that are due before each of eight instructions, if each exchange is made at once. Of several due
+/// requests, the one after the fewest instructions comes first.
 #[test]
 fn requests_in_turn(rt: HostRuntime) -> Result<(), Fail> {
     let asks = [(0o60, 4), (0o100, 2), (0o120, 4), (0o140, 0), (0o160, 9)];
@@ -24,7 +24,7 @@ fn requests_in_turn(rt: HostRuntime) -> Result<(), Fail> {
     Ok(())
 }
 
-/// None is due while one waits, though it is known which one follows.
+/// No request is due while another waits, though the next one is known.
 #[test]
 fn waiting_request(rt: HostRuntime) -> Result<(), Fail> {
     let asks = [(0o60, 0)];
@@ -45,7 +45,7 @@ fn waiting_request(rt: HostRuntime) -> Result<(), Fail> {
     Ok(())
 }
 
-/// Several instructions at once, up to the next request and no further.
+/// Several instructions are counted at once, up to the next request and no further.
 #[test]
 fn requests_ahead(rt: HostRuntime) -> Result<(), Fail> {
     let asks = [(0o60, 4)];

@@ -1,4 +1,4 @@
-//! Words, registers, reasons to halt and values of units, as constants can hold them.
+//! Words, registers, reasons for a halt and values of units, in forms that constants can hold.
 
 use instruction_table::read_text;
 use instructions::{Digit, Halt, Instr, Op, Reg};
@@ -31,22 +31,22 @@ impl Register {
     }
 }
 
-/// The digit of a number, 0 to 7.
+/// The digit with this number, 0 to 7.
 pub(crate) fn digit(number: u8) -> Digit {
     Digit::low(u16::from(number))
 }
 
-/// The word of a number of 60 bits, and +0 for one that has more.
+/// The word with this number, or +0 if the number has more than 60 bits.
 pub(crate) fn word(number: u64) -> Word60 {
     Word60::new(number).unwrap_or_default()
 }
 
-/// The index of a number of 18 bits, and +0 for one that has more.
+/// The index with this number, or +0 if the number has more than 18 bits.
 pub(crate) fn index(number: u32) -> Word18 {
     Word18::new(number).unwrap_or_default()
 }
 
-/// The instruction of a text, and a stop for a text of none.
+/// The instruction with this text, or a stop if there is none.
 pub(crate) fn instruction(text: &str) -> Instr {
     match read_text(text) {
         Some(instr) => instr,
@@ -62,14 +62,14 @@ pub(crate) fn number_of(index: Option<Word18>) -> Option<u32> {
     }
 }
 
-/// Why a machine is halted, or that it runs.
+/// The reason why a machine is halted, or that it runs.
 #[derive(Clone, Copy, Drop)]
 pub(crate) enum Stand {
     Running,
     Stopped,
     Straddling,
     OutOfRange,
-    /// At an operation that is refused, by the digits f and m.
+    /// Halted at a refused opcode with the digits f and m.
     Refused(u8, u8),
 }
 
@@ -85,7 +85,7 @@ impl Stand {
     }
 }
 
-/// What a unit answers, by the numbers of words and indexes.
+/// The value of a unit, as numbers of words and indexes.
 #[derive(Clone, Copy, Drop)]
 pub(crate) enum Computed {
     Word(u64),
@@ -94,7 +94,7 @@ pub(crate) enum Computed {
     Store(u32, u64),
     Goes(u32),
     Stays,
-    /// Where the link word is stored, and where a jump to it goes back to.
+    /// The address of the link word, and the address that a jump to it returns to.
     Link(u32, u32),
 }
 

@@ -1,4 +1,4 @@
-//! A hopper's answers, by lists of steps with the answer of the last.
+//! Results of a hopper's calls, as lists of steps with the result of the last.
 
 use Answer::{Entered, Freed, IsLoad, IsStore, No, Yes};
 use Step::{Accept, Free, IsBusy, IsFull, Load, Store, StoresTo, WaitsFor};
@@ -8,18 +8,18 @@ use relocation::Access;
 use std::process::Abort;
 use word60::Word60;
 
-/// What a test does to a hopper, or asks it.
+/// A change or a query of a hopper.
 #[derive(Clone, Copy, Drop)]
 enum Step {
-    /// A load from the address enters.
+    /// Enters a load from the address.
     Load(u32),
-    /// A store to the address enters.
+    /// Enters a store to the address.
     Store(u32),
-    /// The place is accepted.
+    /// Accepts the reference in the place.
     Accept(u8),
-    /// The bank is freed.
+    /// Frees the bank.
     Free(u8),
-    /// Is each place taken?
+    /// Are all places taken?
     IsFull,
     /// Is the bank busy?
     IsBusy(u8),
@@ -29,16 +29,16 @@ enum Step {
     WaitsFor(u32),
 }
 
-/// What a step answers.
+/// The result of a step.
 #[derive(Clone, Copy, Debug, Drop, PartialEq, Eq)]
 enum Answer {
-    /// What entered has this place.
+    /// The reference entered this place.
     Entered(u8),
     /// Memory takes a load from the address.
     IsLoad(u32),
     /// Memory takes a store to the address.
     IsStore(u32),
-    /// Memory takes what no test let enter.
+    /// Memory takes a reference that no test entered.
     IsOther,
     /// The bank is free now.
     Freed,
@@ -109,7 +109,7 @@ fn take(hopper: &mut Hopper, step: Step) -> Result<Answer, Refusal> {
     }
 }
 
-/// What the last of the steps answers.
+/// The result of the last step.
 fn last_answer(steps: &[Step]) -> Result<Answer, Refusal> {
     let mut hopper = Hopper::new();
     let mut last = Ok(No);
@@ -119,10 +119,10 @@ fn last_answer(steps: &[Step]) -> Result<Answer, Refusal> {
     last
 }
 
-/// What a case shows, some steps, and what the last of them answers.
+/// A case: its name, some steps, and the result of the last step.
 type Case = (&'static str, &'static [Step], Result<Answer, Refusal>);
 
-/// A reference enters at the lowest free place, and the fifth finds none.
+/// A reference enters the lowest-numbered free place, and a fifth finds none.
 const ENTERING: [Case; 8] = [
     ("the first", &[Load(0)], Ok(Entered(0))),
     ("the second", &[Load(0), Load(1)], Ok(Entered(1))),
@@ -158,7 +158,7 @@ const ENTERING: [Case; 8] = [
     ),
 ];
 
-/// What entered is accepted once, where its bank is free and no older one holds it back.
+/// A reference that entered is accepted once, if its bank is free and no older reference holds it back.
 const ACCEPTING: [Case; 19] = [
     ("a load", &[Load(9), Store(0o47), Accept(0)], Ok(IsLoad(9))),
     (
@@ -254,7 +254,7 @@ const ACCEPTING: [Case; 19] = [
     ),
 ];
 
-/// A bank is busy from its acceptance until it is freed, and a store is found while it waits.
+/// A bank is busy from the acceptance of a reference until it is freed, and a store is found while it waits.
 const KEEPING: [Case; 18] = [
     ("no bank is busy at first", &[Load(5), IsBusy(5)], Ok(No)),
     (
@@ -332,20 +332,20 @@ const KEEPING: [Case; 18] = [
     ),
 ];
 
-/// The last step of each case answers so.
+/// Checks the result of the last step of each case.
 fn expect(rt: &impl Abort, cases: &[Case]) {
     for (name, steps, wanted) in cases {
         assert_eq!(rt; last_answer(steps), *wanted, "{name}");
     }
 }
 
-/// A reference enters where the cases say.
+/// References enter the places that the cases say.
 #[test]
 fn enters(rt: HostRuntime) {
     expect(&rt, ENTERING.as_slice());
 }
 
-/// What the cases accept is accepted, and nothing else.
+/// The references of the cases are accepted, and no others.
 #[test]
 fn accepts(rt: HostRuntime) {
     expect(&rt, ACCEPTING.as_slice());
@@ -357,10 +357,10 @@ fn keeps(rt: HostRuntime) {
     expect(&rt, KEEPING.as_slice());
 }
 
-/// An address and its bank.
+/// Addresses and their banks.
 const BANKS: [(u32, u8); 5] = [(0, 0), (31, 31), (32, 0), (0o47, 7), (131_071, 31)];
 
-/// The bank of an address.
+/// An address has the bank of its low five bits.
 #[test]
 fn has_a_bank(rt: HostRuntime) {
     for (address, bank) in BANKS.as_slice() {
@@ -368,7 +368,8 @@ fn has_a_bank(rt: HostRuntime) {
     }
 }
 
-/// Two references to one address keep their order where one of them stores; those to another address of the bank don't.
+/// Two references to one address keep their order if one of them stores. References to different addresses of a bank
+/// don't.
 #[test]
 fn keeps_the_order_at_an_address(rt: HostRuntime) {
     let answers = [
@@ -381,7 +382,7 @@ fn keeps_the_order_at_an_address(rt: HostRuntime) {
     assert_eq!(rt; answers, [true, true, true, false, false]);
 }
 
-/// A store is to its address alone, not to another of its bank, and a load is no store; there are four places.
+/// A store is to its own address, not to another address of its bank, and a load is no store. There are four places.
 #[test]
 fn stores_to_its_address_alone(rt: HostRuntime) {
     let answers = [

@@ -1,4 +1,4 @@
-//! The instruction table: patterns of parcels, the parcels of an instruction, and its text.
+//! The instruction table: patterns of parcels, the parcels of instructions, and their texts.
 
 use crate::fixtures::{digit, index, word};
 use Known::{Branch, Copy, Difference, Increment, Jump, Load, Pass, Set, Stop, Sum};
@@ -9,7 +9,7 @@ use instruction_table::{
 };
 use std::test::Fail;
 
-/// The increment of register 1 of a kind to B0+10.
+/// The instruction that sets register 1 of a kind to B0+10.
 fn set(target: Target) -> Instr {
     let addends = Addends::Address {
         base: Base::B,
@@ -23,7 +23,7 @@ fn set(target: Target) -> Instr {
     }
 }
 
-/// An instruction, field by field at `instr`.
+/// An instruction, spelled out field by field in `instr`.
 #[derive(Clone, Copy, Drop)]
 enum Known {
     Stop,
@@ -93,14 +93,14 @@ impl Known {
     }
 }
 
-/// What stands at a position of a word.
+/// The result of decoding at a position of a word.
 #[derive(Clone, Copy, Drop)]
 enum Reading {
     /// An instruction, and the position after it.
     Legal(Known, u8),
-    /// A refused operation, by its digits f and m.
+    /// A refused opcode, by its digits f and m.
     Refused(u8, u8),
-    /// A refused operation, by its digits f, m and i.
+    /// A refused opcode, by its digits f, m and i.
     Extended(u8, u8, u8),
     Straddle,
 }
@@ -122,7 +122,7 @@ const FOUR: u64 = 0o36312_37421_46000_00000;
 /// SA1 B0+10; BX3 X1*X2; SX2 B1+B2.
 const THREE: u64 = 0o51100_00010_11312_76212;
 
-/// What a case shows, a word, a position below 4, and what stands there.
+/// A case: its name, a word, a position below 4, and the result of decoding there.
 const READINGS: [(&str, u64, u8, Reading); 11] = [
     ("a sum", FOUR, 0, Legal(Sum, 1)),
     ("a difference", FOUR, 1, Legal(Difference, 2)),
@@ -162,7 +162,7 @@ const READINGS: [(&str, u64, u8, Reading); 11] = [
     ),
 ];
 
-/// Whether a position below 4 is decoded so, also where its first digits are known.
+/// Whether a position below 4 is decoded as wanted, by `decode` and by `decode_as` with its first digits.
 fn is_decoded_so(number: u64, position: u8, reading: &Reading) -> bool {
     let (word, position) = (word(number), position % 4);
     let wanted = reading.decoded();
@@ -170,7 +170,7 @@ fn is_decoded_so(number: u64, position: u8, reading: &Reading) -> bool {
         && decode_as(word, position, first_digits(word, position)) == wanted
 }
 
-/// Each position is decoded as the cases say.
+/// Each case is decoded as wanted.
 #[test]
 fn decodes(rt: HostRuntime) {
     for (name, number, position, reading) in READINGS.as_slice() {
@@ -188,7 +188,7 @@ fn names_opcodes(rt: HostRuntime) {
     assert_eq!(rt; found, [extended, Op::Plain(digit(7), digit(1))]);
 }
 
-/// An instruction, and its parcels.
+/// Instructions and their parcels.
 const PARCELS: [(Known, &[u16]); 6] = [
     (Sum, &[0o36312]),
     (Difference, &[0o37421]),
@@ -198,7 +198,7 @@ const PARCELS: [(Known, &[u16]); 6] = [
     (Copy, &[0o10650]),
 ];
 
-/// An instruction is written as these parcels.
+/// Each instruction is encoded as these parcels.
 #[test]
 fn encodes(rt: HostRuntime) {
     for (known, wanted) in PARCELS.as_slice() {
@@ -215,7 +215,7 @@ fn code(instr: &Instr) -> u32 {
     number
 }
 
-/// A text is read as an instruction of these parcels, and the instruction is spelled so.
+/// Whether the text is read as an instruction with these parcels, and that instruction is spelled as the text.
 fn is_text_of(line: &str, wanted: u32) -> bool {
     match read_text(line) {
         Some(instr) => code(&instr) == wanted && spell(&instr).as_str() == line,
@@ -223,7 +223,7 @@ fn is_text_of(line: &str, wanted: u32) -> bool {
     }
 }
 
-/// A branch or a stop, and its parcels as one number.
+/// Branches and a stop, with their parcels as one number.
 const BRANCHES: [(&str, u32); 15] = [
     ("PS", 0),
     ("RJ 20", 0o0100000020),
@@ -250,7 +250,7 @@ fn reads_and_spells_branches(rt: HostRuntime) {
     }
 }
 
-/// What computes a word or nothing, and its parcel.
+/// Instructions that compute a word, and a pass, with their parcels.
 const WORDS: [(&str, u32); 17] = [
     ("BX6 X5", 0o10650),
     ("BX3 X1*X2", 0o11312),
@@ -271,7 +271,7 @@ const WORDS: [(&str, u32); 17] = [
     ("CX2 X1", 0o47201),
 ];
 
-/// What computes words is read and spelled.
+/// Instructions that compute words are read and spelled.
 #[test]
 fn reads_and_spells_words(rt: HostRuntime) {
     for (line, wanted) in WORDS.as_slice() {
@@ -279,7 +279,7 @@ fn reads_and_spells_words(rt: HostRuntime) {
     }
 }
 
-/// An increment, and its parcels as one number.
+/// Increments, with their parcels as one number.
 const INCREMENTS: [(&str, u32); 24] = [
     ("SA1 A2+3", 0o5012000003),
     ("SA1 B0+17", 0o5110000017),
@@ -315,7 +315,7 @@ fn reads_and_spells_increments(rt: HostRuntime) {
     }
 }
 
-/// Texts of no instruction.
+/// Texts that aren't instructions.
 const OTHERS: [&str; 17] = [
     "",
     "NO ",
@@ -336,7 +336,7 @@ const OTHERS: [&str; 17] = [
     "BX1 X2*X3 ",
 ];
 
-/// Other spellings, numbers that are too large and registers that are none are refused.
+/// Other spellings, numbers that are too large and registers that don't exist are refused.
 #[test]
 fn refuses_other_texts(rt: HostRuntime) {
     for line in OTHERS.as_slice() {
@@ -344,7 +344,7 @@ fn refuses_other_texts(rt: HostRuntime) {
     }
 }
 
-/// An instruction is given as a text, and read from bytes.
+/// An instruction is written as a text, and read from bytes.
 #[test]
 fn gives_texts(rt: HostRuntime) -> Result<(), Fail> {
     for (line, known) in [("PS", Stop), ("BX6 X5", Copy)] {

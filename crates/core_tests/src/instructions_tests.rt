@@ -1,11 +1,11 @@
-//! What holds of an instruction by itself. Instructions are given as texts.
+//! Properties of single instructions. Instructions are given as text.
 
 use crate::fixtures::{Register, digit, instruction};
 use List::{Results, Sets, Sources};
 use Register::{A, B, X};
 use instructions::{Digit, Reg, SixBits, UnitKind, operand_registers, results, sources, unit_kind};
 
-/// Digits are below 8 and counts below 64; higher bits don't count in `low`.
+/// Digits are below 8 and counts below 64; `low` ignores higher bits.
 #[test]
 fn makes_fields(rt: HostRuntime) {
     assert!(rt; [Digit::new(7), Digit::new(8)] == [Some(Digit::low(0o17)), None]);
@@ -18,7 +18,7 @@ fn makes_fields(rt: HostRuntime) {
 enum List {
     Sources,
     Results,
-    /// What is written at the store event.
+    /// The register written at the store event.
     Sets,
 }
 
@@ -46,7 +46,7 @@ fn has_list(text: &str, list: List, wanted: &[Register]) -> bool {
     }
 }
 
-/// What a case shows, an instruction, a list, and the registers in it.
+/// A case: its name, an instruction, one of its lists, and the registers in that list.
 const LISTS: [(&str, &str, List, &[Register]); 11] = [
     ("B0 is no source", "EQ B0,B0,0", Sources, &[]),
     ("two sources", "IX3 X1+X2", Sources, &[X(1), X(2)]),
@@ -74,7 +74,7 @@ fn lists_registers(rt: HostRuntime) {
     }
 }
 
-/// The operands of a store, and the register that is the default.
+/// The operands of a store, and the default register.
 #[test]
 fn finds_operands(rt: HostRuntime) {
     let store = operand_registers(&instruction("SA6 B0+10"));
@@ -85,7 +85,7 @@ fn finds_operands(rt: HostRuntime) {
     );
 }
 
-/// An instruction, and the kind of its unit.
+/// Instructions and the kinds of their units.
 const KINDS: [(&str, Option<UnitKind>); 8] = [
     ("PS", None),
     ("NO", None),
@@ -105,7 +105,7 @@ fn names_units(rt: HostRuntime) {
     }
 }
 
-/// An instruction, and whether it is a branch, makes a reference to memory, and stores.
+/// An instruction, and whether it is a branch, refers to memory, and stores.
 const SHAPES: [(&str, bool, bool, bool); 6] = [
     ("RJ 10", true, true, true),
     ("JP B1+0", true, false, false),
@@ -115,7 +115,7 @@ const SHAPES: [(&str, bool, bool, bool); 6] = [
     ("SX6 B1+10", false, false, false),
 ];
 
-/// Which instructions are branches, which make references, and which store.
+/// Branches, references and stores are told apart.
 #[test]
 fn tells_references(rt: HostRuntime) {
     for (text, branch, reference, store) in SHAPES.as_slice() {

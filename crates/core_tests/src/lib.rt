@@ -1,9 +1,9 @@
-//! Tests of the crates below `in_flight`, and of the order of requests in `exchange_requests`, by what these crates
-//! hand out. The crate hands out nothing itself.
+//! Tests of the crates below `in_flight`, and of the order of requests in `exchange_requests`, through their public
+//! items. This crate exports nothing.
 //!
-//! There is a file for each crate or subject. Where an instruction is needed the tables have its text. `fixtures` has
-//! registers and words, which constants can't hold. The first table is `RESERVES_A_FREE_UNIT`: calls to a new
-//! scoreboard, one a row, with the answer of each. Begin with that table, in `board_tests`.
+//! There is a file for each crate or subject. Tables give instructions as text. `fixtures` has registers and words in
+//! forms that constants can hold. The first table is `RESERVES_A_FREE_UNIT`: calls to a new scoreboard, one a row, with
+//! the result of each. Begin with that table, in `board_tests`.
 #![tactic(auto)]
 
 #[cfg(test)]

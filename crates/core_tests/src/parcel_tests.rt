@@ -5,7 +5,7 @@ use parcel::{Cursor, join, parcel_of, split};
 
 const WORD: u64 = 0o12345_23456_34567_45670;
 
-/// A word is taken apart and put together.
+/// A word is split and joined again.
 #[test]
 fn takes_a_word_apart(rt: HostRuntime) {
     let parts = [0o12345, 0o23456, 0o34567, 0o45670];
@@ -13,7 +13,7 @@ fn takes_a_word_apart(rt: HostRuntime) {
     assert_eq!(rt; found, (parts, 0o34567, word(WORD)));
 }
 
-/// A cursor takes one parcel or two, and none where too few are left.
+/// A cursor takes one parcel or two, and none if too few are left.
 #[test]
 fn takes_parcels_in_order(rt: HostRuntime) {
     let mut cursor = Cursor {

@@ -1,11 +1,11 @@
-//! What is kept of each unit: found by its unit, changed for it alone, and in the order of the units' numbers.
+//! Values for each unit: found by unit, changed for one unit alone, and kept in the order of the units' numbers.
 
 use instructions::{PerUnit, Unit};
 
-/// What is kept in the tests, in the order of the units' numbers.
+/// The values in the tests, in the order of the units' numbers.
 const KEPT: [u8; 7] = [10, 11, 12, 13, 14, 15, 16];
 
-/// A unit, what is found of it, and all of them after 0 is written there.
+/// A unit, its value, and all values after 0 is written to it.
 const FOUND: [(Unit, Option<u8>, [u8; 7]); 10] = [
     (Unit::Branch, Some(10), [0, 11, 12, 13, 14, 15, 16]),
     (Unit::Boolean, Some(11), [10, 0, 12, 13, 14, 15, 16]),
@@ -19,7 +19,7 @@ const FOUND: [(Unit, Option<u8>, [u8; 7]); 10] = [
     (Unit::Increment2, Some(16), [10, 11, 12, 13, 14, 15, 0]),
 ];
 
-/// Each unit in use finds its own, and a change for it leaves what is kept of the others.
+/// Each unit in use finds its own value, and a change leaves the values of the other units alone.
 #[test]
 fn finds_and_changes_the_one_of_a_unit(rt: HostRuntime) {
     for (unit, found, changed) in FOUND.as_slice() {
@@ -32,7 +32,7 @@ fn finds_and_changes_the_one_of_a_unit(rt: HostRuntime) {
     }
 }
 
-/// A unit itself stays beside what is kept of it.
+/// `zip` keeps a unit together with its value.
 #[test]
 fn keeps_units_together(rt: HostRuntime) {
     let mut kept = PerUnit::from_array(KEPT);
@@ -51,7 +51,7 @@ fn keeps_units_together(rt: HostRuntime) {
     );
 }
 
-/// What was put side by side comes apart again.
+/// `unzip` splits the pairs that `zip` made.
 #[test]
 fn unzips(rt: HostRuntime) {
     let (units, kept) = PerUnit::units().zip(PerUnit::from_array(KEPT)).unzip();
@@ -59,7 +59,7 @@ fn unzips(rt: HostRuntime) {
     assert_eq!(rt; kept.into_array(), KEPT);
 }
 
-/// All are there, or one is missing.
+/// `complete` succeeds if all values are there, and fails if one is missing.
 #[test]
 fn complete_or_not(rt: HostRuntime) {
     let mut all = PerUnit::from_array(KEPT).map(|kept| Some(kept));

@@ -1,15 +1,15 @@
-//! The operating registers: what is written into them, and what is read.
+//! The operating registers, written and read.
 
 use crate::fixtures::{Register, index, word};
 use Register::{A, B, X};
 use registers::RegisterFile;
 
-/// A word, whose low 18 bits are 107654.
+/// A word whose low 18 bits are 107654.
 const WORD: u64 = 0o76543_21076_54321_07654;
 
 const WRITTEN: [Register; 7] = [X(0), X(7), A(0), A(7), B(0), B(1), B(7)];
 
-/// A and B registers take the low 18 bits, B0 takes none, and others stay as they are.
+/// A and B registers take the low 18 bits, B0 takes none, and other registers don't change.
 #[test]
 fn writes_registers(rt: HostRuntime) {
     let mut registers = RegisterFile::default();
@@ -28,7 +28,7 @@ fn writes_registers(rt: HostRuntime) {
 
 const READ: [(Register, u64); 4] = [(X(7), WORD), (A(7), 0o107654), (B(7), 0o107654), (B(0), 0)];
 
-/// A and B registers are read without their sign, and B0 as +0.
+/// A and B registers are read without sign extension, and B0 as +0.
 #[test]
 fn reads_registers(rt: HostRuntime) {
     let low = index(0o107654);

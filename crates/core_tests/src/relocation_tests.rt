@@ -1,4 +1,4 @@
-//! Central memory, what was saved of it, and the range rule.
+//! Central memory, its saved pages, and the range rule.
 
 use crate::fixtures::{index, word};
 use instructions::Refusal;
@@ -6,7 +6,7 @@ use relocation::{SavedPages, Storage, package_fits, relocate};
 use std::test::Fail;
 use word60::Word60;
 
-/// What a case shows, an address, RA, FL and the size of memory, and the absolute address.
+/// A case: its name, an address, RA, FL and the size of memory, and the absolute address.
 const RANGES: [(&str, u32, u32, u32, u32, Option<u32>); 6] = [
     ("below FL", 0o7, 0o100, 0o10, 4096, Some(0o107)),
     ("FL", 0o10, 0o100, 0o10, 4096, None),
@@ -30,7 +30,7 @@ const RANGES: [(&str, u32, u32, u32, u32, Option<u32>); 6] = [
     ),
 ];
 
-/// An address is below FL, and its sum with RA below the size.
+/// An address is in range if it is below FL and its sum with RA is below the size.
 #[test]
 fn holds_addresses_to_the_range(rt: HostRuntime) {
     for (name, address, ra, fl, size, wanted) in RANGES.as_slice() {
@@ -42,7 +42,7 @@ fn holds_addresses_to_the_range(rt: HostRuntime) {
 /// Sizes of memory that are refused.
 const SIZES: [u32; 4] = [0, 31, 131_073, u32::MAX];
 
-/// Less than 32 words and more than 131,072 are refused.
+/// Sizes below 32 words and above 131,072 words are refused.
 #[test]
 fn refuses_other_sizes(rt: HostRuntime) {
     for words in SIZES.as_slice() {
@@ -64,7 +64,7 @@ fn takes_memory_of_the_right_size(rt: HostRuntime) -> Result<(), Fail> {
     Ok(())
 }
 
-/// A word is loaded where it was stored, and a copy keeps its words.
+/// A stored word is loaded from the same address, and a copy keeps its words.
 #[test]
 fn loads_and_stores(rt: HostRuntime) -> Result<(), Fail> {
     let zero = Word60::default();
@@ -85,11 +85,11 @@ fn loads_and_stores(rt: HostRuntime) -> Result<(), Fail> {
     Ok(())
 }
 
-/// What was written after it was saved is restored, and nothing else.
+/// Pages saved before they were written are restored, and no others change.
 #[test]
 fn restores_what_was_saved(rt: HostRuntime) -> Result<(), Fail> {
     let (one, two, five) = (word(1), word(2), word(5));
-    // The last page has one word, and the words from 255 on lie in two pages.
+    // The last page has one word. The two words from 255 on are in different pages.
     let mut memory = Storage::new(rt.alloc(), 513)?;
     memory.store(255, one);
     assert!(rt; memory.size() == 513);
@@ -118,7 +118,7 @@ fn restores_what_was_saved(rt: HostRuntime) -> Result<(), Fail> {
     Ok(())
 }
 
-/// An address, the size of memory, and whether a package there lies in memory.
+/// An address, the size of memory, and whether a package at the address is in memory.
 const PACKAGES: [(u32, u32, bool); 5] = [
     (0, 32, true),
     (240, 256, true),
@@ -127,7 +127,7 @@ const PACKAGES: [(u32, u32, bool); 5] = [
     (u32::MAX, 131_072, false),
 ];
 
-/// A package fits up to the last sixteen words, and no address is too large to be asked about.
+/// A package fits up to the last sixteen words, and every address may be tested.
 #[test]
 fn packages_in_memory(rt: HostRuntime) {
     for (at, size, wanted) in PACKAGES.as_slice() {

@@ -1,4 +1,4 @@
-//! What one issued instruction has still to read and to write, and what it holds.
+//! The registers that one issued instruction has yet to read and to write, and the unit that it holds.
 
 use crate::fixtures::Register;
 use Ask::{HasStoreTurn, HasToCome, HasToRead, HasTurn, Holds, IsBranch};
@@ -9,7 +9,7 @@ use instruction_table::read_text;
 use instructions::{Digit, Unit};
 use scoreboard::{Occupancy, Reservation, is_same_unit, unit_number};
 
-/// A question to a reservation.
+/// A query of a reservation.
 #[derive(Clone, Copy, Drop)]
 enum Ask {
     HasToRead(Register),
@@ -20,13 +20,13 @@ enum Ask {
     HasStoreTurn,
 }
 
-/// How far the instruction has come.
+/// The progress of the instruction.
 #[derive(Clone, Copy, Drop)]
 enum Stage {
     Waiting,
     Read,
     Gone,
-    /// Its load has still to return to the X register of this number.
+    /// Its load has yet to return to the X register of this number.
     Returning(u16),
 }
 
@@ -52,7 +52,7 @@ fn is_so(reservation: &Reservation, question: Ask) -> bool {
     }
 }
 
-/// What a case shows, an instruction's text, its unit, how far it has come, and questions with their answers.
+/// A case: its name, an instruction's text, its unit, its progress, and queries with their answers.
 type Case = (
     &'static str,
     &'static str,
@@ -61,7 +61,7 @@ type Case = (
     &'static [(Ask, bool)],
 );
 
-/// The position of the first question that isn't answered so by the instruction in its unit, None if all are.
+/// The position of the first query that the reservation answers wrongly, or `None` if all answers are right.
 fn first_wrong(case: &Case) -> Option<usize> {
     let (_, text, unit, stage, questions) = *case;
     let Some(instr) = read_text(text) else {
@@ -81,7 +81,7 @@ fn first_wrong(case: &Case) -> Option<usize> {
     None
 }
 
-/// An increment and a B0, which is neither read nor written; a load, a store and an SA0; a return jump.
+/// An increment, and B0, which is neither read nor written; a load, a store and an SA0; a return jump.
 const RESERVATIONS: [Case; 10] = [
     (
         "an increment waits for its operands",
@@ -189,7 +189,7 @@ const RESERVATIONS: [Case; 10] = [
     ),
 ];
 
-/// A reservation answers each question so.
+/// A reservation answers every query as the cases say.
 #[test]
 fn follows_instructions(rt: HostRuntime) {
     for case in RESERVATIONS.as_slice() {
@@ -211,7 +211,7 @@ const NUMBERS: [(Unit, usize); 10] = [
     (Increment2, 9),
 ];
 
-/// Units are numbered from 0, and Increment1 is the only one that is the same as Increment1.
+/// Units are numbered from 0, and only Increment1 is the same unit as Increment1.
 #[test]
 fn numbers_units(rt: HostRuntime) {
     for (unit, number) in NUMBERS.as_slice() {

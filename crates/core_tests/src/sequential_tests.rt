@@ -1,4 +1,4 @@
-//! The machine that does one instruction at a time: positions, fetches, steps, references, exchanges and logs.
+//! The machine that executes one instruction at a time: positions, fetches, steps, references, exchanges and logs.
 
 use crate::fixtures::{Computed, Register, Stand, digit, index, instruction, number_of, word};
 use Stand::{OutOfRange, Refused, Running, Stopped, Straddling};
@@ -28,7 +28,7 @@ const ZEROS: u64 = 0o51000_00005_61000_00005;
 /// Four passes.
 const PASSES: u64 = 0o46000_46000_46000_46000;
 
-/// The position at a parcel of this held word, which stands at 5; the position after it where the parcel is 4.
+/// The position at a parcel of this held word, which is at 5. Parcel 4 is the beginning of the next word.
 fn held_at(held: u64, parcel: u8) -> ProgramPosition {
     match ParcelNumber::new(parcel) {
         Some(parcel) => ProgramPosition {
@@ -49,7 +49,7 @@ fn beginning(p: u32) -> ProgramPosition {
     }
 }
 
-/// The last word is followed by the first, and a jump begins a word.
+/// The first word follows the last, and a jump goes to the beginning of a word.
 #[test]
 fn moves_on(rt: HostRuntime) {
     let last = index(0o777777);
@@ -77,12 +77,12 @@ fn moves_on(rt: HostRuntime) {
     );
 }
 
-/// What a fetch does.
+/// The effect of a fetch.
 #[derive(Clone, Copy, Drop)]
 enum Outcome {
     Halts(Stand),
     Passes,
-    /// It takes the instruction of this text.
+    /// The instruction with this text goes to a unit.
     Takes(&'static str),
 }
 
@@ -97,7 +97,7 @@ fn fetched(outcome: &Outcome, next: ProgramPosition) -> Fetched {
     }
 }
 
-/// What a case shows, the held word, the parcel, what the fetch does, and the parcel that is next.
+/// A case: its name, the held word, the parcel, the effect of the fetch, and the next parcel.
 type Fetch = (&'static str, u64, u8, Outcome, u8);
 
 const FETCHES: [Fetch; 17] = [
@@ -198,7 +198,7 @@ const FETCHES: [Fetch; 17] = [
     ),
 ];
 
-/// What is fetched from a held word.
+/// Instructions fetched from a held word.
 #[test]
 fn fetches_from_a_held_word(rt: HostRuntime) -> Result<(), Fail> {
     let mut state = State::boot(Storage::new(rt.alloc(), 32)?);
@@ -210,7 +210,7 @@ fn fetches_from_a_held_word(rt: HostRuntime) -> Result<(), Fail> {
     Ok(())
 }
 
-/// RA 20 and an FL, and the exit mode.
+/// An area with RA 20 and this FL and exit mode.
 fn area(fl: u32, mode: u32) -> Area {
     Area {
         ra: index(0o20),
@@ -223,7 +223,7 @@ fn out_of_range(p: u32) -> Fetched {
     Fetched::Halting(Halt::FetchRange, beginning(p))
 }
 
-/// Words are fetched from RA on, and none where FL is reached, as after boot.
+/// Words are fetched from RA on, and none from FL on, as after boot.
 #[test]
 fn fetches_from_memory(rt: HostRuntime) -> Result<(), Fail> {
     let mut memory = Storage::new(rt.alloc(), 32)?;
@@ -246,7 +246,7 @@ fn fetches_from_memory(rt: HostRuntime) -> Result<(), Fail> {
     Ok(())
 }
 
-/// What a case shows, how the machine stands before and after a step, the held word, the parcel, and the next one.
+/// A case: its name, the machine's halt before and after a step, the held word, the parcel, and the next parcel.
 type Stepped = (&'static str, Stand, Stand, u64, u8, u8);
 
 const STEPS: [Stepped; 6] = [
@@ -272,7 +272,7 @@ const STEPS: [Stepped; 6] = [
     ),
 ];
 
-/// A step does one instruction or halts, and a fault stays. A halted machine doesn't change.
+/// A step executes one instruction or halts, and a fault stays. A halted machine doesn't change.
 #[test]
 fn steps_over_one_instruction(rt: HostRuntime) -> Result<(), Fail> {
     let mut state = State::boot(Storage::new(rt.alloc(), 32)?);
@@ -301,8 +301,8 @@ fn halts_out_of_range(rt: HostRuntime) -> Result<(), Fail> {
     Ok(())
 }
 
-/// What an exchange changes: the position, the halt, the range and the registers, and the first ten words of a package
-/// in memory.
+/// The state that an exchange changes: the position, the halt, the area and the registers, and the first ten words of a
+/// package in memory.
 #[derive(Clone, Copy, Debug, Drop, PartialEq, Eq)]
 struct Seen {
     position: ProgramPosition,
@@ -336,8 +336,8 @@ fn with_package(alloc: Global) -> Result<State, Fail> {
     Ok(State::boot(memory))
 }
 
-/// What is seen after the exchange: the package that it leaves is all zero, except for the status of a halted machine
-/// in word 7.
+/// The state after the exchange. The package that it leaves is all zero, except for the status of a halted machine in
+/// word 7.
 fn after_exchange() -> Seen {
     let zero = Word60::default();
     let status = word(0o00000001_000000_000000);
@@ -356,7 +356,7 @@ fn after_exchange() -> Seen {
     }
 }
 
-/// A package out of range is refused. An exchange takes a package and leaves one, and a copy has all of it.
+/// A package outside memory is refused. An exchange takes a package and leaves one, and a copy has the whole state.
 #[test]
 fn exchanges(rt: HostRuntime) -> Result<(), Fail> {
     let mut state = with_package(rt.alloc())?;
@@ -372,7 +372,7 @@ fn exchanges(rt: HostRuntime) -> Result<(), Fail> {
 /// -1, in ones' complement.
 const MINUS_ONE: u64 = 0o77777_77777_77777_77776;
 
-/// Operands are what the registers of an instruction hold.
+/// Operands are the contents of the instruction's registers.
 #[test]
 fn reads_operands(rt: HostRuntime) {
     let mut registers = RegisterFile::default();
@@ -391,7 +391,7 @@ fn reads_operands(rt: HostRuntime) {
     );
 }
 
-/// What a unit answers, and the number that it writes.
+/// The value of a unit, and the number that it writes.
 const NUMBERS: [(Computed, u64); 4] = [
     (Computed::Word(MINUS_ONE), MINUS_ONE),
     (Computed::Index(0o777777), 0o777777),
@@ -399,7 +399,7 @@ const NUMBERS: [(Computed, u64); 4] = [
     (Computed::Store(0o777777, MINUS_ONE), 0o777777),
 ];
 
-/// A unit's word is the number that is written, and of a reference its address.
+/// The number written is the unit's word, or the address of a reference.
 #[test]
 fn writes_numbers(rt: HostRuntime) {
     for (computed, wanted) in NUMBERS.as_slice() {
@@ -408,14 +408,14 @@ fn writes_numbers(rt: HostRuntime) {
     }
 }
 
-/// An instruction, what its unit answers, and where it jumps to.
+/// An instruction, its value, and the address that it jumps to.
 const JUMPS: [(&str, Computed, Option<u32>); 3] = [
     ("RJ 10", Computed::Link(0o777777, 5), Some(0)),
     ("JP B0+5", Computed::Goes(5), Some(5)),
     ("JP B0+5", Computed::Stays, None),
 ];
 
-/// A return jump goes on after its link word, and 0 comes after 777777.
+/// A return jump continues after its link word, and 0 follows 777777.
 #[test]
 fn jumps(rt: HostRuntime) {
     for (text, computed, wanted) in JUMPS.as_slice() {
@@ -424,7 +424,7 @@ fn jumps(rt: HostRuntime) {
     }
 }
 
-/// What a reference does to the word at 777777.
+/// The access of a reference to the word at 777777.
 #[derive(Clone, Copy, Drop)]
 enum Reach {
     Nothing,
@@ -444,7 +444,7 @@ fn program_reference(reach: Reach) -> Option<ProgramReference> {
     })
 }
 
-/// An instruction, what its unit answers, and the reference that is made.
+/// An instruction, its value, and its reference.
 const REFERENCES: [(&str, Computed, Reach); 4] = [
     ("SA0 X1+B1", Computed::Index(0o777777), Reach::Nothing),
     ("SA1 X1+B1", Computed::Load(0o777777), Reach::Load(1)),
@@ -469,7 +469,7 @@ fn makes_references(rt: HostRuntime) {
     }
 }
 
-/// What a case shows, an address, the exit mode, the absolute address, and whether the reference faults.
+/// A case: its name, an address, the exit mode, the absolute address, and whether the reference faults.
 const RANGES: [(&str, u32, u32, Option<u32>, bool); 3] = [
     ("the last address below FL", 3, 0o010000, Some(0o23), false),
     (
@@ -482,7 +482,7 @@ const RANGES: [(&str, u32, u32, Option<u32>, bool); 3] = [
     ("FL, where the mode asks for none", 4, 0o767777, None, false),
 ];
 
-/// Whether work that only makes this reference sets the fault flag, with FL 4 and this exit mode.
+/// Whether an instruction that only makes this reference sets the fault flag, with FL 4 and this exit mode.
 fn sets_the_fault(state: &mut State, mode: u32, reference: Option<ProgramReference>) -> bool {
     state.area = area(4, mode);
     state.fault = false;
@@ -495,7 +495,7 @@ fn sets_the_fault(state: &mut State, mode: u32, reference: Option<ProgramReferen
     state.fault
 }
 
-/// References are held to FL 4, and work without a reference never faults.
+/// References are checked against FL 4, and an instruction without a reference never faults.
 #[test]
 fn holds_references_to_the_range(rt: HostRuntime) -> Result<(), Fail> {
     let mut state = State::boot(Storage::new(rt.alloc(), 32)?);
@@ -515,7 +515,7 @@ fn holds_references_to_the_range(rt: HostRuntime) -> Result<(), Fail> {
     Ok(())
 }
 
-/// What is logged.
+/// A step of a log.
 #[derive(Clone, Copy, Drop)]
 enum Did {
     Instruction,
@@ -555,7 +555,7 @@ fn log_of(alloc: Global, steps: &[Did]) -> Result<Log, Refusal> {
     Ok(log)
 }
 
-/// Steps, the log's entries with the steps of each, and how many instructions there are. A constant can't lend an
+/// Steps, the entries of their log as steps with counts, and the number of instructions. A constant can't lend an
 /// `Entry`, which may hold a word.
 const LOGS: [(&[Did], &[(Did, u64)], u64); 3] = [
     (&[], &[], 0),
@@ -594,7 +594,7 @@ const LOGS: [(&[Did], &[(Did, u64)], u64); 3] = [
     ),
 ];
 
-/// The entry of so many steps of a kind.
+/// The entry for `count` steps of a kind.
 fn entry_of(did: Did, count: u64) -> Entry {
     match did {
         Did::Instruction => Entry::Issued(count),
@@ -604,7 +604,7 @@ fn entry_of(did: Did, count: u64) -> Entry {
     }
 }
 
-/// Whether the entries are those of the steps.
+/// Whether the entries are the wanted ones.
 fn are(entries: &[Entry], wanted: &[(Did, u64)]) -> bool {
     if entries.len() != wanted.len() {
         return false;
@@ -618,7 +618,7 @@ fn are(entries: &[Entry], wanted: &[(Did, u64)]) -> bool {
     true
 }
 
-/// Instructions one after another are one entry, and a copy has the same entries.
+/// Consecutive instructions are one entry, and a copy has the same entries.
 #[test]
 fn logs(rt: HostRuntime) -> Result<(), Fail> {
     for (steps, entries, issues) in LOGS.as_slice() {
@@ -634,8 +634,7 @@ fn logs(rt: HostRuntime) -> Result<(), Fail> {
 /// X3 = X1+X1, X3 = X3+X3, NO and PS.
 const DOUBLING: u64 = 0o36311_36333_46000_00000;
 
-/// A machine of 64 words. In word 0 stands `DOUBLING`, and at 40 the package of a program with P 0, RA 0, FL 1 and 5
-/// in X1.
+/// A machine of 64 words. Word 0 is `DOUBLING`, and at 40 is the package of a program with P 0, RA 0, FL 1 and 5 in X1.
 fn doubling(alloc: Global) -> Result<State, Fail> {
     let mut memory = Storage::new(alloc, 64)?;
     memory.store(0, word(DOUBLING));
@@ -644,7 +643,7 @@ fn doubling(alloc: Global) -> Result<State, Fail> {
     Ok(State::boot(memory))
 }
 
-/// What a case shows, the steps, whether they are done, how the machine stands then, the parcel of word 0, and X3.
+/// A case: its name, the steps, the result of the replay, the machine's halt after it, the parcel of word 0, and X3.
 type Replay = (
     &'static str,
     &'static [Did],
@@ -711,10 +710,10 @@ const REPLAYS: [Replay; 5] = [
     ),
 ];
 
-/// What a replay answers, why the machine is then halted, at which position, and with what in X3.
+/// The result of a replay, the halt, the position, and X3.
 type Replayed = (Result<(), Refusal>, Option<Halt>, ProgramPosition, Word60);
 
-/// What the replay of a log makes of the doubling machine.
+/// Replays a log on the doubling machine.
 fn replayed(alloc: Global, steps: &[Did]) -> Result<Replayed, Fail> {
     let mut state = doubling(alloc)?;
     let done = replay(&mut state, &log_of(alloc, steps)?);
@@ -722,7 +721,7 @@ fn replayed(alloc: Global, steps: &[Did]) -> Result<Replayed, Fail> {
     Ok((done, state.halt, state.position, x3))
 }
 
-/// A log is replayed so.
+/// Each log is replayed as the cases say.
 #[test]
 fn replays(rt: HostRuntime) -> Result<(), Fail> {
     for (name, steps, answer, stand, parcel, x3) in REPLAYS.as_slice() {

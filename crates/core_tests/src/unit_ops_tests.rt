@@ -1,11 +1,11 @@
-//! What the units compute, and where branches go. Instructions are given as texts.
+//! The values of the units, and the targets of branches. Instructions are given as text.
 
 use crate::fixtures::{Computed, index, instruction, number_of, word};
 use Computed::{Goes, Index, Link, Load, Stays, Store, Word};
 use instructions::unit_kind;
 use unit_ops::{Operands, UnitValue, branch_taken, value};
 
-/// Operands of an instruction of the word at 777777 that stores 5.
+/// The operands of an instruction of the word at 777777 that stores 5.
 fn operands(first: u64, second: u64) -> Operands {
     Operands {
         first: word(first),
@@ -15,7 +15,7 @@ fn operands(first: u64, second: u64) -> Operands {
     }
 }
 
-/// What an instruction computes, None where it has no unit.
+/// The value of an instruction, or `None` if it has no unit.
 fn computed(text: &str, first: u64, second: u64) -> Option<UnitValue> {
     let instr = instruction(text);
     if unit_kind(&instr).is_none() {
@@ -33,7 +33,7 @@ const TOP: u64 = 0o40000_00000_00000_00000;
 /// Ones in the upper half.
 const HALF: u64 = 0o77777_77777_00000_00000;
 
-/// What a case shows, an instruction, its operands, and what is computed.
+/// A case: its name, an instruction, its operands, and its value.
 type Case = (&'static str, &'static str, u64, u64, Computed);
 
 const BRANCHES: [Case; 5] = [
@@ -161,12 +161,12 @@ fn makes_references(rt: HostRuntime) {
     }
 }
 
-/// Where an instruction goes to by its operands.
+/// The target of an instruction with these operands.
 fn branches_to(text: &str, first: u64, second: u64) -> Option<u32> {
     number_of(branch_taken(&instruction(text), &operands(first, second)))
 }
 
-/// A jump or a branch on an X register, its first operand, and where it goes to.
+/// A jump or a branch on an X register, its first operand, and its target.
 const JUMPS: [(&str, u64, Option<u32>); 19] = [
     ("RJ 20", 0, Some(0o21)),
     ("RJ 777777", 0, Some(0)),
@@ -189,7 +189,7 @@ const JUMPS: [(&str, u64, Option<u32>); 19] = [
     ("ID X1,10", 0o17760_00000_00000_00000, None),
 ];
 
-/// Branches go to their address where the operand is so, and to none elsewhere.
+/// Branches go to their address if the operand passes the test, and otherwise nowhere.
 #[test]
 fn takes_branches(rt: HostRuntime) {
     for (text, first, wanted) in JUMPS.as_slice() {
@@ -197,7 +197,7 @@ fn takes_branches(rt: HostRuntime) {
     }
 }
 
-/// A branch on +0 and -0, or what is no branch, and where it goes to.
+/// Branches on +0 and -0 and other instructions, with their targets.
 const COMPARISONS: [(&str, Option<u32>); 8] = [
     ("EQ B0,B2,10", None),
     ("NE B0,B2,10", Some(0o10)),
@@ -209,7 +209,7 @@ const COMPARISONS: [(&str, Option<u32>); 8] = [
     ("SA1 B2+10", None),
 ];
 
-/// +0 and -0 differ, and +0 is the greater; what is no branch goes nowhere.
+/// +0 and -0 differ, and +0 is the greater. An instruction that isn't a branch goes nowhere.
 #[test]
 fn takes_branches_on_indexes(rt: HostRuntime) {
     for (text, wanted) in COMPARISONS.as_slice() {
@@ -217,7 +217,7 @@ fn takes_branches_on_indexes(rt: HostRuntime) {
     }
 }
 
-/// What a unit answers, and where it goes to.
+/// The value of a unit, and its target.
 const DESTINATIONS: [(Computed, Option<u32>); 4] = [
     (Link(0o777777, 0), Some(0)),
     (Goes(0o777777), Some(0o777777)),
@@ -225,7 +225,7 @@ const DESTINATIONS: [(Computed, Option<u32>); 4] = [
     (Index(0o777777), None),
 ];
 
-/// A return jump goes to the word after the one that it stores; 0 comes after 777777.
+/// A return jump continues at the word after the one that it stores; 0 follows 777777.
 #[test]
 fn goes_where_it_is_sent(rt: HostRuntime) {
     for (computed, wanted) in DESTINATIONS.as_slice() {

@@ -12,7 +12,7 @@ const MINUS_TWO: u64 = 0o77777_77777_77777_77775;
 /// A one in the highest bit.
 const TOP: u64 = 0o40000_00000_00000_00000;
 
-/// What is made of two words, or of the first.
+/// An operation on two words, or on the first of them.
 #[derive(Clone, Copy, Drop)]
 enum Operation {
     Sum,
@@ -40,7 +40,7 @@ fn made(operation: Operation, left: Word60, right: Word60) -> Word60 {
     }
 }
 
-/// What a case shows, an operation, two words, and what is made of them.
+/// A case: its name, an operation, two words, and the result.
 const MADE: [(&str, Operation, u64, u64, u64); 19] = [
     ("-0 and -0", Sum, MINUS_ZERO, MINUS_ZERO, MINUS_ZERO),
     ("-0 and +0", Sum, MINUS_ZERO, 0, 0),
@@ -93,7 +93,7 @@ const MADE: [(&str, Operation, u64, u64, u64); 19] = [
     ("a mask of more than all bits", Mask(61), 0, 0, MINUS_ZERO),
 ];
 
-/// Words are made as the cases say.
+/// Each operation has the result that the cases say.
 #[test]
 fn makes_words(rt: HostRuntime) {
     for (name, operation, left, right, wanted) in MADE.as_slice() {
@@ -105,7 +105,7 @@ fn makes_words(rt: HostRuntime) {
     }
 }
 
-/// Sums of indexes, their complement, and words of them with and without their sign; 18 bits are the most.
+/// Sums and complements of indexes, and words made of them with and without their sign. An index has at most 18 bits.
 #[test]
 fn makes_indexes(rt: HostRuntime) {
     let (one, two, minus_one) = (index(1), index(2), index(0o777776));
@@ -122,7 +122,7 @@ fn makes_indexes(rt: HostRuntime) {
     assert!(rt; minus_one.get() == 0o777776 && Word18::new(0o1000000).is_none());
 }
 
-/// The number of a word, its ones, the number 2^60, which is none, and +0.
+/// The number of a word, its count of ones, 2^60, which isn't a word, and +0.
 #[test]
 fn counts_bits(rt: HostRuntime) {
     let found = (
@@ -133,7 +133,7 @@ fn counts_bits(rt: HostRuntime) {
     assert_eq!(rt; (Word60::new(1 << 60), Word60::default()), (None, word(0)));
 }
 
-/// Texts, and the number that each is read as.
+/// Texts, and the numbers that they are read as.
 const TEXTS: [(&[u8], Option<u64>); 7] = [
     (b"01234567012345670123", Some(0o1234567012345670123)),
     (b"7", Some(7)),
@@ -156,7 +156,7 @@ fn reads_octal(rt: HostRuntime) {
     }
 }
 
-/// Twenty digits are written of a word and six of an index.
+/// A word is written as twenty digits, and an index as six.
 #[test]
 fn writes_octal(rt: HostRuntime) {
     let digits = word(0o1234567012345670123).octal();

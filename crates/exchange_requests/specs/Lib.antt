@@ -1,5 +1,5 @@
--- The definitions of the order in which a run makes its requests for exchanges, and of which logs fulfil them. Source:
--- ours.
+-- The definitions of the order in which a run makes its requests for exchanges, and of the logs that fulfil them.
+-- Source: ours.
 pub mod Requests
 pub mod Fulfilled
 pub mod inner

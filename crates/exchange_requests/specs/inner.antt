@@ -1,2 +1,2 @@
--- What ties the code to its definitions. Source: ours.
+-- The relation between the code and its definitions. Source: ours.
 pub mod Judging

@@ -7,10 +7,10 @@ use crate::requests::Ask;
 use sequential::Entry;
 use std::alloc::{AllocError, Global};
 
-/// Adds what an entry of the log has.
+/// Adds an entry of the log: its exchange to `made`, or its instructions to `count`.
 ///
 /// # Errors
-/// Memory ran out.
+/// `AllocError` if memory runs out.
 #[tactic(auto, unfolding(sequential::specs::Log::steps_of, sequential::specs::Log::issued, crate::specs::Fulfilled::exchanges_after), using(crate::proofs::Counting::issues_alone, crate::proofs::Counting::no_exchange))]
 fn add(made: &mut Vec<Ask>, count: &mut u64, entry: &Entry) -> Result<(), AllocError>
     requires count { count.old + issued (steps_of (entry.now ∷ [])) < 2 ^ 64 }
@@ -26,11 +26,11 @@ fn add(made: &mut Vec<Ask>, count: &mut u64, entry: &Entry) -> Result<(), AllocE
     Ok(())
 }
 
-/// The exchanges of a log's entries, in order, each as the absolute address of its package and the number of
+/// The exchanges of a log's entries, in order. Each is the absolute address of its package and the number of
 /// instructions before it.
 ///
 /// # Errors
-/// Memory ran out.
+/// `AllocError` if memory runs out.
 pub fn exchanges(alloc: Global, entries: &[Entry]) -> Result<Vec<Ask>, AllocError>
     requires count { issued (steps_of entries.now) < 2 ^ 64 }
     ensures { IfOk result (λ made. made.items ≡ exchanges_after 0 (steps_of entries.now)) }

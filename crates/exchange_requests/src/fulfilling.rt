@@ -1,4 +1,4 @@
-//! Whether a log fulfils the requests of its run.
+//! Checks whether a log fulfils the requests of its run.
 ghost use Rattle.std.specs.Prelude.{◌≡◌, ◌<◌, ◌^◌, IfOk, true, drop, length, if◌then◌else◌};
 ghost use Rattle.sequential.specs.Log.{issued};
 ghost use Rattle.exchange_requests.specs.Fulfilled.{exchanges_after, fulfils};
@@ -10,7 +10,7 @@ use crate::requests::Ask;
 use sequential::Log;
 use std::alloc::{AllocError, Global};
 
-/// The requests without the first one, if that one has its exchange.
+/// The requests without the first one, if the first one has its exchange; otherwise all of them.
 fn left_of<T>(has_exchange: bool, requests: &[T]) -> &[T]
     requires { has_exchange ≡ true → 0 < length requests.now }
     ensures { result.now ≡ (if has_exchange then drop 1 requests.now else requests.now) }
@@ -22,8 +22,8 @@ fn left_of<T>(has_exchange: bool, requests: &[T]) -> &[T]
     }
 }
 
-/// Gives each exchange to the request that it was made for, and answers whether that can be done, and the run may end
-/// after `total` instructions with the requests that are left.
+/// Assigns every exchange to its request. Returns whether this is possible and the run may end after `total`
+/// instructions with the requests that are left.
 fn are_given(in_mid_word: bool, total: u64, asks: &[Ask], free: &[u32], exchanges: &[Ask]) -> bool
     requires { AreWithin total exchanges.now }
     ensures { result ≡ fulfils in_mid_word total 0 asks.now free.now exchanges.now }
@@ -43,12 +43,12 @@ fn are_given(in_mid_word: bool, total: u64, asks: &[Ask], free: &[u32], exchange
     may_end(in_mid_word, total, last, asks, free)
 }
 
-/// Whether a log, from its beginning, fulfils the requests after numbers of instructions, in the order in which they are
-/// made and with that for the first package, and those at any time, in their order. `in_mid_word` says whether the
-/// machine runs without fault in the middle of a word at the log's end.
+/// Whether a log, from its beginning, fulfils the counted requests `asks` and the free requests `free`. `asks` includes
+/// the request for the first package, and both lists are in the order in which the requests are made. `in_mid_word`
+/// says whether the machine runs without a fault in the middle of a word at the log's end.
 ///
 /// # Errors
-/// Memory ran out.
+/// `AllocError` if memory runs out.
 pub fn are_fulfilled(
     alloc: Global,
     asks: &[Ask],

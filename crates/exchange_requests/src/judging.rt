@@ -1,21 +1,22 @@
-//! For which request an exchange was made.
+//! Finds the request that an exchange was made for.
 ghost use Rattle.std.specs.Prelude.{◌≡◌, []};
 ghost use Rattle.exchange_requests.specs.Fulfilled.{is_in_time, is_next_ask, is_next_free, are_done, fulfils};
 ghost use Rattle.exchange_requests.specs.inner.Judging.{is_made, is_of_ask, starts_with_due};
 
 use crate::requests::Ask;
 
-/// The most instructions that come after another in its word, which has four parcels.
+/// The most instructions that can follow another in its word, which has four parcels.
 const REST_OF_A_WORD: u64 = 3;
 
-/// Whether an exchange is that of this request, and was made after `now` instructions.
+/// Whether the exchange is that of this request and was made after `now` instructions.
 fn is_made(now: u64, ask: &Ask, made: &Ask) -> bool
     ensures { result ≡ is_made now ask.now made.now }
 {
     made.0 == ask.0 && made.1 == now
 }
 
-/// Whether the exchanges begin with those of all requests that are due after `now` instructions, each made then.
+/// Whether the exchanges begin with those of all counted requests that are due after `now` instructions, each made
+/// then.
 fn starts_with_due(now: u64, asks: &[Ask], exchanges: &[Ask]) -> bool
     ensures { result ≡ starts_with_due now asks.now exchanges.now }
 {
@@ -32,8 +33,7 @@ fn starts_with_due(now: u64, asks: &[Ask], exchanges: &[Ask]) -> bool
     true
 }
 
-/// Whether the next request after a number of instructions isn't late after `now` of them, where the last exchange was
-/// made after `last`.
+/// Whether the next counted request isn't late after `now` instructions, if the last exchange was made after `last`.
 #[tactic(auto, unfolding(crate::specs::Fulfilled::is_in_time))]
 fn is_in_time(last: u64, now: u64, asks: &[Ask]) -> bool
     ensures { result ≡ is_in_time last now asks.now }
@@ -44,7 +44,7 @@ fn is_in_time(last: u64, now: u64, asks: &[Ask]) -> bool
     }
 }
 
-/// Whether an exchange can be that of the next request after a number of instructions.
+/// Whether the exchange can be that of the next counted request.
 #[tactic(auto, unfolding(crate::specs::Fulfilled::is_next_ask))]
 fn is_next_ask(last: u64, made: &Ask, asks: &[Ask]) -> bool
     ensures { result ≡ is_next_ask last made.now asks.now }
@@ -57,8 +57,8 @@ fn is_next_ask(last: u64, made: &Ask, asks: &[Ask]) -> bool
     }
 }
 
-/// Whether the first exchange was made for the next request after a number of instructions. Where it may also have been
-/// made for one at any time, the exchanges that follow decide: those of all requests that are due come at once.
+/// Whether the first exchange was made for the next counted request. If it could also be that of a free request, the
+/// exchanges that follow decide: the exchanges of all due requests come at once.
 pub fn is_of_ask(last: u64, asks: &[Ask], exchanges: &[Ask]) -> bool
     ensures { result ≡ is_of_ask last asks.now exchanges.now }
 {
@@ -69,7 +69,7 @@ pub fn is_of_ask(last: u64, asks: &[Ask], exchanges: &[Ask]) -> bool
     }
 }
 
-/// Whether an exchange can be that of the next request at any time.
+/// Whether the exchange can be that of the next free request.
 #[tactic(auto, unfolding(crate::specs::Fulfilled::is_next_free))]
 pub fn is_next_free(last: u64, made: &Ask, asks: &[Ask], free: &[u32]) -> bool
     ensures { result ≡ is_next_free last made.now asks.now free.now }
@@ -88,7 +88,7 @@ pub fn may_end(in_mid_word: bool, total: u64, last: u64, asks: &[Ask], free: &[u
     are_done(total, asks, free) || (in_mid_word && is_in_time(last, total, asks))
 }
 
-/// Whether no request is left after `total` instructions.
+/// Whether no free request, and no counted request that is due, is left after `total` instructions.
 #[tactic(auto, unfolding(crate::specs::Fulfilled::are_done))]
 fn are_done(total: u64, asks: &[Ask], free: &[u32]) -> bool
     ensures { result ≡ are_done total asks.now free.now }

@@ -1,13 +1,13 @@
-//! Which request for an exchange a run makes next, and so when a run ends.
+//! The order in which a run makes its counted requests for exchanges, and hence when the run ends.
 //!
-//! A request names a number of instructions. It is due once so many were issued, and a run makes it
-//! before it issues the next one; while another request waits for its exchange none is due. Of several
-//! the one after the fewest instructions comes first, and of equals the one that was given first. The
-//! request for the run's first package precedes all.
+//! A counted request names a number of instructions. It is due once that many were issued, and a run makes it before it
+//! issues the next instruction. While another request waits for its exchange, none is due. Of several requests, the one
+//! after the fewest instructions comes first; of equals, the one that was given first. The request for the run's first
+//! package comes before all others.
 //!
-//! A run ends where the machine is drained and either it is halted, faulted or out of budget, no request
-//! waits and none is due; or it is out of budget in mid word, where no exchange can be made. A run makes
-//! no request after more instructions than it has issued by then.
+//! A run ends when the machine is drained in one of two situations. Either the machine is halted, faulted or out of
+//! budget, and no request waits and none is due. Or the machine is out of budget in the middle of a word, where no
+//! exchange can be made. A request after more instructions than a run has issued by its end is not made.
 ghost use Rattle.std.specs.Prelude.{◌≡◌, ◌<◌, ◌+◌, ◌^◌, ◌++◌, ◌∷◌, ◌||◌, true, false, None, is_some, option_to_list};
 ghost use Rattle.std.specs.Prelude.{IfOk, ℕ, ◌≤◌};
 ghost use Rattle.exchange_requests.specs.Requests.{AreOrdered, IsInOrder, KeepsTies, IsDue, StartsWithAny};
@@ -16,15 +16,15 @@ use std::alloc::{AllocError, Global};
 use std::collections::VecDeque;
 use std::marker::Model;
 
-/// A request for an exchange: the absolute address of the package, and the number of instructions after which it is
-/// made.
+/// A counted request for an exchange: the absolute address of the package, and the number of instructions after which
+/// the request is made.
 pub type Ask = (u32, u64);
 
-/// The requests of a run in the order in which they are made: that for the first package, which comes after no
-/// instruction and before all others, and the others.
+/// The counted requests of a run, in the order in which they are made. The request for the first package is first,
+/// after no instructions.
 ///
 /// # Errors
-/// Memory ran out.
+/// `AllocError` if memory runs out.
 pub fn in_order(alloc: Global, start: u32, asks: &[Ask]) -> Result<Vec<Ask>, AllocError>
     ensures { IfOk result (λ all. AreOrdered start asks.now all.items) }
 {
@@ -34,13 +34,13 @@ pub fn in_order(alloc: Global, start: u32, asks: &[Ask]) -> Result<Vec<Ask>, All
     Ok(all)
 }
 
-/// The requests that a run has still to make, and how far the run has come. A contract sees the requests in the order
-/// in which they are made, how many instructions were issued, and whether a request waits for its exchange.
+/// The counted requests that a run has yet to make, and the run's progress. In contracts this is the requests in the
+/// order in which they are made, the number of instructions issued, and whether a request waits for its exchange.
 #[derive(Drop)]
 pub struct Requests {
-    /// In the order in which they are made.
+    /// The requests, in the order in which they are made.
     left: VecDeque<Ask>,
-    /// How many instructions were issued.
+    /// The number of instructions issued.
     issued: u64,
     /// Whether a request waits for its exchange.
     is_waiting: bool,
@@ -57,10 +57,10 @@ impl Model for Requests {
 }
 
 impl Requests {
-    /// The requests of a run before its first instruction.
+    /// The counted requests of a run before its first instruction.
     ///
     /// # Errors
-    /// Memory ran out.
+    /// `AllocError` if memory runs out.
     pub fn new(alloc: Global, start: u32, asks: &[Ask]) -> Result<Requests, AllocError>
         ensures left { IfOk result (λ requests. KeepsTies ((start, 0) ∷ asks.now) requests.asks) }
         ensures order { IfOk result (λ requests. IsInOrder requests.asks) }
@@ -75,8 +75,8 @@ impl Requests {
         })
     }
 
-    /// The request that `take_due` would give if none waited for its exchange: while one waits, it is the one that
-    /// follows as soon as that exchange was made.
+    /// The request that `take_due` would return if no request waited. While a request waits, this is the request to
+    /// make as soon as its exchange was made.
     pub fn next_due(&self) -> Option<Ask>
         ensures due { IsDue self.now.asks self.now.issued result }
         ensures first { StartsWithAny self.now.asks result }
@@ -89,7 +89,7 @@ impl Requests {
         Some(*next)
     }
 
-    /// The request that is due: none is while one waits for its exchange.
+    /// The request that is due. None is due while a request waits for its exchange.
     pub fn due(&self) -> Option<Ask>
         ensures due { self.now.is_waiting ≡ false → IsDue self.now.asks self.now.issued result }
         ensures none { self.now.is_waiting ≡ true → result ≡ None }
@@ -101,7 +101,7 @@ impl Requests {
         self.next_due()
     }
 
-    /// Takes the request that is due, if one is; it waits for its exchange from then on.
+    /// Takes the request that is due, if there is one. From then on it waits for its exchange.
     pub fn take_due(&mut self) -> Option<Ask>
         ensures due { self.old.is_waiting ≡ false → IsDue self.old.asks self.old.issued result }
         ensures none { self.old.is_waiting ≡ true → result ≡ None }
@@ -114,7 +114,7 @@ impl Requests {
         self.left.pop_front()
     }
 
-    /// The exchange of the request that waits was made.
+    /// Records the exchange of the waiting request.
     pub fn exchanged(&mut self)
         ensures left { self.new.asks ≡ self.old.asks }
         ensures is_waiting { self.new.is_waiting ≡ false }
@@ -123,7 +123,7 @@ impl Requests {
         self.is_waiting = false;
     }
 
-    /// An instruction was issued.
+    /// Records an issued instruction.
     pub fn issued(&mut self)
         ensures left { self.new.asks ≡ self.old.asks }
         ensures is_waiting { self.new.is_waiting ≡ self.old.is_waiting }
@@ -132,7 +132,7 @@ impl Requests {
         self.issued = self.issued.saturating_add(1);
     }
 
-    /// So many instructions were issued.
+    /// Records `count` issued instructions.
     pub fn issued_many(&mut self, count: u64)
         ensures left { self.new.asks ≡ self.old.asks }
         ensures is_waiting { self.new.is_waiting ≡ self.old.is_waiting }
@@ -141,7 +141,8 @@ impl Requests {
         self.issued = self.issued.saturating_add(count);
     }
 
-    /// For how many more instructions no request comes due, if none is due now; the largest number where none is left.
+    /// The number of further instructions until a request is due, 0 if one is due now. The largest `u64` if no request
+    /// is left.
     pub fn until_due(&self) -> u64
         ensures none { (more : ℕ) → more < result → IsDue self.now.asks (self.now.issued + more) None }
         ensures some { IsDue self.now.asks self.now.issued None → 0 < result }

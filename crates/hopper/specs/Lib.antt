@@ -1,4 +1,4 @@
--- The definitions of the hopper: its places, the busy banks, and what is answered. Source: Thornton, stunt box;
+-- The definitions of the hopper: its places, the busy banks, and the results of its calls. Source: Thornton, stunt box;
 -- 60100000, central memory.
 pub mod Hopper
 pub mod Queue

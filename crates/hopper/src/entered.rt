@@ -9,11 +9,11 @@ use relocation::Access;
 pub struct Entered {
     /// The number of the place, 0 to 3.
     pub place: u8,
-    /// What waits there.
+    /// The reference that waits there.
     pub reference: Reference,
 }
 
-/// A load from address 0 in place 0: what lists of a fixed room hold where nothing is.
+/// A load from address 0 in place 0. It fills the unused positions of a list with fixed room.
 impl Default for Entered {
     ghost use Rattle.relocation.specs.declared.area.Access.TheVariants.{Load};
 

@@ -11,13 +11,13 @@ use instructions::Refusal;
 use relocation::BANKS;
 use std::marker::Model;
 
-/// The references that wait for their bank in the four places, and which of the 32 banks are busy (Thornton, stunt
-/// box; Control Data 60100000, central memory). It takes no memory, and each call is defined for every number.
+/// The references that wait in the four places, and the busy banks among the 32 (Thornton, stunt box; Control Data
+/// 60100000, central memory). A hopper allocates nothing, and every call is defined for every number.
 #[derive(Drop)]
 pub struct Hopper {
-    /// Those that wait, in the order in which they entered.
+    /// The waiting references, in the order in which they entered.
     entered: ArrayVec<Entered, PLACES>,
-    /// By the number of the bank.
+    /// Whether each bank is busy, by the number of the bank.
     busy: [bool; BANKS as usize],
 }
 
@@ -34,7 +34,7 @@ impl Model for Hopper {
 }
 
 impl Hopper {
-    /// A hopper in which nothing waits, with no bank busy.
+    /// An empty hopper, with no bank busy.
     pub fn new() -> Hopper
         ensures { result ≡ record { entered = []; busy = replicate 32 false } }
     {
@@ -51,11 +51,11 @@ impl Hopper {
         self.entered.is_full()
     }
 
-    /// A reference enters, after those that wait. It takes the lowest-numbered free place (this project's choice)
-    /// and answers its number, 0 to 3.
+    /// Enters a reference behind the waiting references. It takes the lowest-numbered free place (this project's
+    /// choice), and the call returns the place's number, 0 to 3.
     ///
     /// # Errors
-    /// `HopperFull` where all four places are taken; then nothing changes.
+    /// `HopperFull` if all four places are taken; nothing changes then.
     #[tactic(auto, unfolding(crate::proofs::Opened::places_taken))]
     pub fn enter(&mut self, reference: Reference) -> Result<u8, Refusal>
         ensures answer { result ≡ enter_answer (place_for self.old.entered) }
@@ -82,13 +82,13 @@ impl Hopper {
         Ok(place)
     }
 
-    /// The memory takes the reference in a place, whose bank is busy from then on. It answers the reference; those
-    /// that entered after it keep their order.
+    /// Lets memory take the reference in a place, and makes its bank busy. Returns the reference. References that
+    /// entered after it keep their order.
     ///
     /// # Errors
-    /// In this order, and then nothing changes: `Nothing` where nothing stands in the place or there is no such
-    /// place; `BankBusy` where the bank of the address is busy; `OlderAtAddress` where one that entered earlier waits
-    /// at the same address and at least one of the two stores.
+    /// In this order, and nothing changes then: `Nothing` if the place is empty or doesn't exist; `BankBusy` if the
+    /// bank of the address is busy; `OlderAtAddress` if a reference that entered earlier waits for the same address and
+    /// at least one of the two stores.
     #[tactic(auto, unfolding(crate::proofs::Opened::one_that_waits))]
     pub fn accept(&mut self, place: u8) -> Result<Reference, Refusal>
         ensures answer { result ≡ accept_answer self.old.busy (seek (reference_at place) self.old.entered) }
@@ -122,10 +122,10 @@ impl Hopper {
         Ok(reference)
     }
 
-    /// The bank has done its cycle and is free.
+    /// Frees a bank that has done its cycle.
     ///
     /// # Errors
-    /// `Nothing` where the bank isn't busy or there is no such bank; then nothing changes.
+    /// `Nothing` if the bank isn't busy or doesn't exist; nothing changes then.
     pub fn bank_free(&mut self, bank: u8) -> Result<(), Refusal>
         ensures answer { result ≡ free_answer self.old.busy bank }
         ensures after { MatchResult result
@@ -140,7 +140,7 @@ impl Hopper {
         }
     }
 
-    /// Whether a reference to an absolute address waits, be it a load or a store.
+    /// Whether a reference to an absolute address waits, load or store.
     #[tactic(auto, unfolding(crate::specs::Queue::is_for))]
     pub fn waits_for(&self, address: u32) -> bool
         ensures { result ≡ list_any (is_for address) self.now.entered }
@@ -164,7 +164,7 @@ impl Hopper {
         )
     }
 
-    /// Whether the bank of a number is busy; one above 31 isn't.
+    /// Whether a bank is busy. A number above 31 names no bank and isn't busy.
     pub fn is_bank_busy(&self, bank: u8) -> bool
         ensures { result ≡ slice_index_or self.now.busy bank false }
     {

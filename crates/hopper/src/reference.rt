@@ -3,7 +3,7 @@ ghost use Rattle.hopper.specs.Hopper.{bank_of, keep_order, stores_to};
 
 use relocation::{Access, BANKS};
 
-/// How many references can wait at a time (Thornton, stunt box). Places are numbered from 0.
+/// The number of references that can wait at once (Thornton, stunt box). Places are numbered from 0.
 pub const PLACES: usize = 4;
 
 /// A reference to a word of memory.
@@ -11,7 +11,7 @@ pub const PLACES: usize = 4;
 pub struct Reference {
     /// The absolute address.
     pub address: u32,
-    /// What it does to the word there.
+    /// The load or store at that address.
     pub access: Access,
 }
 
@@ -25,8 +25,8 @@ pub fn bank_of(address: u32) -> u8
 }
 
 impl Reference {
-    /// Whether memory has to take it and another one in the order in which they entered: at least one of them stores,
-    /// and both are to one absolute address.
+    /// Whether memory must take the two references in the order in which they entered: both are to the same absolute
+    /// address, and at least one of them stores.
     #[tactic(auto, unfolding(crate::specs::Hopper::keep_order, crate::specs::Hopper::is_store))]
     pub fn keeps_order(&self, other: &Reference) -> bool
         ensures { result ≡ keep_order other.now.address other.now.access self.now.address self.now.access }
@@ -35,7 +35,7 @@ impl Reference {
         (is_store(&other.access) || is_store(&self.access)) && self.address == other.address
     }
 
-    /// Whether it stores to an absolute address.
+    /// Whether the reference stores to an absolute address.
     #[tactic(auto, unfolding(crate::specs::Hopper::stores_to))]
     pub fn stores_to(&self, address: u32) -> bool
         ensures { result ≡ stores_to address self.now.address self.now.access }

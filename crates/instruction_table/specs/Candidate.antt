@@ -1,5 +1,5 @@
--- The only instruction that can have a given text: its first two letters say at which positions the digits stand. This
--- says nothing of what texts mean, since a candidate counts only where its spelling is the text (`instr_of` of
+-- The only instruction that can have a given text. The first two letters decide at which positions the digits are.
+-- These definitions don't say what texts mean: a candidate counts only if its spelling is the text (`instr_of` of
 -- Spelling.antt).
 -- Source: ours.
 use Rattle.std.specs.Prelude.{ℕ, ◌+◌, ◌-◌, ◌*◌, ◌%◌, ◌^◌, ◌==◌, if◌then◌else◌, List, [], ◌∷◌, slice_index, drop}
@@ -27,12 +27,12 @@ use Rattle.instructions.specs.declared.instr.Instr.TheVariants.{CountOnes, Incre
 abbrev pub digit_of : List ℕ → ℕ → ℕ
 digit_of t n = (slice_index t n - 48) % 8
 
--- the number that has these further octal digits after those of n, in 18 bits
+-- the number, in 18 bits, with the octal digits of n followed by these
 abbrev pub number_after : ℕ → List ℕ → ℕ
 number_after n [] = n
 number_after n (c ∷ cs) = number_after ((n * 8 + (c - 48) % 8) % 2 ^ 18) cs
 
--- the number of 18 bits that the octal digits from a position on give
+-- the number of 18 bits whose octal digits begin at a position of the text
 unfoldable pub number_of : List ℕ → ℕ → ℕ
 number_of t n = number_after 0 (drop n t)
 
@@ -40,21 +40,21 @@ number_of t n = number_after 0 (drop n t)
 abbrev pub jump_in : List ℕ → Instr
 jump_in t = Jump (digit_of t 4) (number_of t 6)
 
--- the branch of `ZR Xj,K` and the others that test an X register
+-- the branch of `ZR Xj,K` and of the other names that test an X register
 abbrev pub branch_x_in : List ℕ → XTest → Instr
 branch_x_in t test = BranchX test (digit_of t 4) (number_of t 6)
 
--- the branch of `EQ Bi,Bj,K` and the others that compare two B registers
+-- the branch of `EQ Bi,Bj,K` and of the other names that compare two B registers
 abbrev pub branch_b_in : List ℕ → BTest → Instr
 branch_b_in t test = BranchB test (digit_of t 4) (digit_of t 7) (number_of t 9)
 
--- the shift of `LXi jk` and `AXi jk`, or, where a B register follows, of `LXi Bj,Xk` and `AXi Bj,Xk`
+-- the shift of `LXi jk` and `AXi jk` or, if a B register follows, of `LXi Bj,Xk` and `AXi Bj,Xk`
 abbrev pub shift_in : List ℕ → Direction → Instr
 shift_in t direction =
     if slice_index t 4 == 66 then ShiftNominal direction (digit_of t 2) (digit_of t 5) (digit_of t 8)
     else ShiftBy direction (digit_of t 2) (number_of t 4 % 64)
 
--- the Boolean instruction of `BXi`, by whether -Xk comes first, and the sign between two registers
+-- the Boolean instruction of `BXi`, by whether -Xk comes first and by the sign between the two registers
 abbrev pub boolean_in : List ℕ → Instr
 boolean_in t =
     if slice_index t 4 == 88 then
@@ -78,7 +78,7 @@ addition_in t =
     if slice_index t 6 == 43 then LongAdd Sum (digit_of t 2) (digit_of t 5) (digit_of t 8)
     else LongAdd Difference (digit_of t 2) (digit_of t 5) (digit_of t 8)
 
--- what follows `SAi`, `SBi` or `SXi`: two registers, or a register and K
+-- the operands after `SAi`, `SBi` or `SXi`: two registers, or a register and K
 abbrev pub addends_in : List ℕ → Addends
 addends_in t =
     if slice_index t 7 == 66 then
@@ -98,28 +98,28 @@ addends_in t =
 abbrev pub increment_in : List ℕ → Target → Instr
 increment_in t target = Increment target (digit_of t 2) (addends_in t)
 
--- by the second letter, where the first is I: `ID`, `IR`, or else `IXi`
+-- the candidate of a text with first letter I, by the second letter: `ID`, `IR`, otherwise `IXi`
 abbrev pub after_i : List ℕ → Instr
 after_i t =
     if slice_index t 1 == 68 then branch_x_in t Indefinite
     else (if slice_index t 1 == 82 then branch_x_in t InRange else addition_in t)
 
--- by the second letter, where the first is L: `LT`, or else `LXi`
+-- the candidate of a text with first letter L, by the second letter: `LT`, otherwise `LXi`
 abbrev pub after_l : List ℕ → Instr
 after_l t = if slice_index t 1 == 84 then branch_b_in t Less else shift_in t Left
 
--- by the second letter, where the first is N: `NE`, `NG`, `NO`, or else `NZ`
+-- the candidate of a text with first letter N, by the second letter: `NE`, `NG`, `NO`, otherwise `NZ`
 abbrev pub after_n : List ℕ → Instr
 after_n t =
     if slice_index t 1 == 69 then branch_b_in t NotEqual
     else (if slice_index t 1 == 71 then branch_x_in t Negative
     else (if slice_index t 1 == 79 then Pass else branch_x_in t NonZero))
 
--- by the second letter, where the first is P: `PL`, or else `PS`
+-- the candidate of a text with first letter P, by the second letter: `PL`, otherwise `PS`
 abbrev pub after_p : List ℕ → Instr
 after_p t = if slice_index t 1 == 76 then branch_x_in t Positive else Stop
 
--- by the second letter, where the first is S: `SAi`, `SBi`, or else `SXi`
+-- the candidate of a text with first letter S, by the second letter: `SAi`, `SBi`, otherwise `SXi`
 abbrev pub after_s : List ℕ → Instr
 after_s t =
     if slice_index t 1 == 65 then increment_in t TargetA

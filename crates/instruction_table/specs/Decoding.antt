@@ -1,4 +1,4 @@
--- From a parcel to its reading. A row for each of the 64 opcodes, in order; 01 and 03 go on by the digit i.
+-- The decoding of parcels: a row for each of the 64 opcodes, in order. The rows 01 and 03 depend on the digit i.
 -- Source: 60100000, the descriptions of the instructions; ours: that a refused opcode is refused before its length is
 -- looked at, and that an instruction across the end of its word halts the machine.
 use Rattle.std.specs.Prelude.{ℕ, ◌+◌, ◌*◌, ◌/◌, ◌%◌, ◌^◌, ◌<◌, ◌≤◌, ⊤, nat_lt, if◌then◌else◌, List, [], ◌∷◌, get_or}
@@ -24,19 +24,19 @@ use Rattle.instruction_table.specs.declared.decoding.Decoded.TheVariants.{Legal,
 use Rattle.instruction_table.specs.declared.decoding.TableEntry.{TableEntry}
 use Rattle.instruction_table.specs.declared.decoding.TableEntry.TheVariants.{Short, Long, Refused}
 
--- what 030 to 037 ask of Xj, in the order of the digit i
+-- the tests of Xj by 030 to 037, in the order of the digit i
 abbrev pub x_tests : List XTest
 x_tests = Zero ∷ NonZero ∷ Positive ∷ Negative ∷ InRange ∷ OutOfRange ∷ Definite ∷ Indefinite ∷ []
 
--- what 03 asks of Xj, by the digit i
+-- the test of Xj by an 03 instruction, by its digit i
 abbrev pub x_test_at : ℕ → XTest
 x_test_at i = get_or x_tests i Zero
 
--- one of eight readings, by the octal digit m, or i after 01
+-- one of eight entries, by the octal digit m, or by i after 01
 abbrev pub entry : List TableEntry → ℕ → TableEntry
 entry row m = get_or row m (Short Pass)
 
--- the readings of 010 to 017, by the digit i: a return jump, and seven refused opcodes
+-- the entries of 010 to 017, by the digit i: a return jump, and seven refused opcodes
 abbrev pub extended : ℕ → List TableEntry
 extended K =
     Long (ReturnJump K)
@@ -49,11 +49,11 @@ extended K =
     ∷ Refused (Extended 0 1 7)
     ∷ []
 
--- the reading of 01 by the digit i: 010 is a return jump, and 011 to 017 are refused
+-- the entry of 01 by the digit i: 010 is a return jump, and 011 to 017 are refused
 abbrev pub extended_at : ℕ → ℕ → TableEntry
 extended_at i K = entry (extended K) i
 
--- the readings of 00 to 07, by the digit m: a stop and the branches, of which 01 and 03 go on by the digit i
+-- the entries of 00 to 07, by the digit m: a stop and the branches; 01 and 03 depend on the digit i
 abbrev pub branches : ℕ → ℕ → ℕ → List TableEntry
 branches i j K =
     Short Stop
@@ -66,7 +66,7 @@ branches i j K =
     ∷ Long (BranchB Less i j K)
     ∷ []
 
--- the readings of 10 to 17, by the digit m
+-- the entries of 10 to 17, by the digit m
 abbrev pub logicals : ℕ → ℕ → ℕ → List TableEntry
 logicals i j k =
     Short (Copy i j)
@@ -79,7 +79,7 @@ logicals i j k =
     ∷ Short (Logical XorNot i j k)
     ∷ []
 
--- the readings of 20 to 27, by the digit m; 24 to 27 are refused
+-- the entries of 20 to 27, by the digit m; 24 to 27 are refused
 abbrev pub shifts : ℕ → ℕ → ℕ → List TableEntry
 shifts i j k =
     Short (ShiftBy Left i (8 * j + k))
@@ -92,7 +92,7 @@ shifts i j k =
     ∷ Refused (Plain 2 7)
     ∷ []
 
--- the readings of 30 to 37, by the digit m; 30 to 35 are refused
+-- the entries of 30 to 37, by the digit m; 30 to 35 are refused
 abbrev pub additions : ℕ → ℕ → ℕ → List TableEntry
 additions i j k =
     Refused (Plain 3 0)
@@ -105,7 +105,7 @@ additions i j k =
     ∷ Short (LongAdd Difference i j k)
     ∷ []
 
--- the readings of 40 to 47, by the digit m; 40 to 42, 44 and 45 are refused
+-- the entries of 40 to 47, by the digit m; 40 to 42, 44 and 45 are refused
 abbrev pub others : ℕ → ℕ → ℕ → List TableEntry
 others i j k =
     Refused (Plain 4 0)
@@ -118,7 +118,7 @@ others i j k =
     ∷ Short (CountOnes i k)
     ∷ []
 
--- the readings of 50 to 57 for A, 60 to 67 for B and 70 to 77 for X, by the digit m
+-- the entries of 50 to 57 for A, 60 to 67 for B and 70 to 77 for X, by the digit m
 abbrev pub increments : Target → ℕ → ℕ → ℕ → ℕ → List TableEntry
 increments target i j k K =
     Long (Increment target i (Address A j K))
@@ -131,7 +131,7 @@ increments target i j k K =
     ∷ Short (Increment target i (Registers BMinusB j k))
     ∷ []
 
--- the eight readings of the first digit f
+-- the eight entries of the first digit f
 abbrev pub rows : ℕ → ℕ → ℕ → ℕ → ℕ → List TableEntry
 rows f i j k K = get_or
     (branches i j K
@@ -144,31 +144,32 @@ rows f i j k K = get_or
     ∷ increments TargetX i j k K
     ∷ []) f []
 
--- the reading of a parcel that is followed by another, which has the low 15 bits of K
+-- the entry of a parcel and the parcel that follows it, which has the low 15 bits of K
 unfoldable pub entry_of : ℕ → ℕ → TableEntry
 entry_of parcel following =
     entry (rows (parcel / 2 ^ 12) (parcel / 2 ^ 6 % 8) (parcel / 2 ^ 3 % 8) (parcel % 8)
     (parcel % 8 * 2 ^ 15 + following)) (parcel / 2 ^ 9 % 8)
 
--- a reading at a position of a word: an instruction and the position after it, a refused opcode, or a straddle
+-- the result for an entry at a position of a word: an instruction and the position after it, a refused opcode, or a
+-- straddle
 abbrev pub settled : TableEntry → ℕ → Decoded
 settled (Short instr) position = Legal instr (position + 1)
 settled (Long instr) position = if nat_lt position 3 then Legal instr (position + 2) else Straddle
 settled (Refused op) position = RefusedOp op
 
--- the parcel after a position, and 0 after the last
+-- the parcel after a position, or 0 after the last
 abbrev pub following_at : ℕ → ℕ → ℕ
 following_at word position = if nat_lt position 3 then parcel_at word (position + 1) else 0
 
--- the two digits of the opcode, as one number, that the reading of a position begins with
+-- the two digits of the opcode at a position, as one number
 abbrev pub digits_at : ℕ → ℕ → ℕ
 digits_at word position = parcel_at word position / 2 ^ 9
 
--- the one reading of a position: a refused opcode comes before its length
+-- the result of decoding at a position; a refused opcode is refused before its length is looked at
 unfoldable pub reading_at : ℕ → ℕ → Decoded
 reading_at word position = settled (entry_of (parcel_at word position) (following_at word position)) position
 
--- the position after an instruction comes after its own, in the word or at its end
+-- the position after a decoded instruction is past its own, within the word or at its end
 abbrev pub GoesOn : ℕ → Decoded → Type 0
 GoesOn position (Legal instr next) = (position < next) × (next ≤ 4)
 GoesOn position (RefusedOp op) = ⊤

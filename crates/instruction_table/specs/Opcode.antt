@@ -1,4 +1,4 @@
--- The opcode of an instruction, which its first parcel begins with.
+-- The opcode of an instruction, in its first parcel.
 -- Source: 60100000, the descriptions of the instructions; that a refused opcode is named by these digits is ours.
 use Rattle.std.specs.Prelude.{ℕ, ◌/◌, ◌%◌, ◌^◌, ◌||◌, ◌==◌, if◌then◌else◌, List, [], ◌∷◌}
 use Rattle.instructions.specs.declared.instr.Op.{Op}

@@ -1,5 +1,5 @@
--- How a word may differ from what the table says: the fields that an instruction uses agree, and the other fields hold
--- anything.
+-- Words that the table decodes as one instruction: the fields that the instruction uses agree, and its unused fields
+-- may hold anything.
 -- Source: 60100000, the descriptions of the instructions; that unused fields are ignored is ours.
 use Rattle.std.specs.Prelude.{◌≡◌, ◌≢◌, ℕ, zero, suc, ◌+◌, ◌-◌, ◌*◌, ◌/◌, ◌%◌, ◌^◌, List, [], ◌∷◌}
 use Rattle.parcel.specs.Parcels.{parcel_at}
@@ -34,12 +34,12 @@ used_fields (Invert i k) parcel = without_j parcel
 used_fields (CountOnes i k) parcel = without_j parcel
 used_fields instr parcel = parcel
 
--- the parcels of an instruction with zeros in the fields of the first one that it doesn't use
+-- the parcels of an instruction, with zeros in the unused fields of the first parcel
 abbrev pub used_in : Instr → List ℕ → List ℕ
 used_in instr [] = []
 used_in instr (parcel ∷ rest) = used_fields instr parcel ∷ rest
 
--- with zeros in the fields that the instruction doesn't use, the parcels are those of its row
+-- the parcels agree with the instruction's row, apart from its unused fields
 abbrev pub IsReadAs : Instr → List ℕ → Type 0
 IsReadAs instr parcels = IsInstr instr × (used_in instr parcels ≡ parcels_of instr)
 
@@ -47,13 +47,14 @@ IsReadAs instr parcels = IsInstr instr × (used_in instr parcels ≡ parcels_of 
 abbrev pub IsNoCode : Op → Type 0
 IsNoCode op = (instr : Instr) → IsInstr instr → op_of instr ≢ op
 
--- n parcels of a word, from a position on
+-- n consecutive parcels of a word, from a position on
 abbrev pub parcels_from : ℕ → ℕ → ℕ → List ℕ
 parcels_from word position zero = []
 parcels_from word position (suc n) = parcel_at word position ∷ parcels_from word (position + 1) n
 
--- What is read at a position is what the table says: an instruction as its row has it; a refused opcode, which stands
--- there and which no row has; or, in parcel 3, an instruction of two parcels, as it would be read with zeros after it.
+-- The result of decoding at a position agrees with the table. An instruction has the parcels of its row. A refused
+-- opcode is the one at the position, and no row has it. A straddle is in parcel 3, and some instruction of two parcels
+-- has this parcel if its second parcel is zero.
 abbrev pub IsByTable : ℕ → ℕ → Decoded → Type 0
 IsByTable word position (Legal instr next) = IsReadAs instr (parcels_from word position (next - position))
 IsByTable word position (Refused op) = (op ≡ op_at (parcel_at word position)) × IsNoCode op

@@ -3,7 +3,7 @@ ghost use Rattle.instruction_table.specs.Opcode.{op_at, op_of};
 
 use crate::{Digit, Instr, Op, encode};
 
-/// The code that a parcel begins with.
+/// The opcode in the top digits of a parcel.
 fn opcode_at(parcel: u16) -> Op
     requires { parcel < 2 ^ 15 }
     ensures { result ≡ op_at parcel }
@@ -17,7 +17,7 @@ fn opcode_at(parcel: u16) -> Op
     }
 }
 
-/// The code of an instruction: the digits f and m, and also i where it begins with 01 or 03.
+/// The opcode of an instruction: the digits f and m, and also i if the code begins with 01 or 03.
 #[tactic(auto, unfolding(crate::specs::Opcode::op_of))]
 pub fn opcode(instr: &Instr) -> Op
     ensures { result ≡ op_of instr.now }

@@ -12,27 +12,27 @@ use crate::{
 use parcel::parcel_of;
 use word60::{Word18, Word60};
 
-/// What stands at a position of a word: one of these three, and one only.
+/// The result of decoding at a position of a word: exactly one of these three.
 #[derive(Clone, Copy, Debug, PartialEq, Eq)]
 pub enum Decoded {
     /// An instruction, and the position after it, 1 to 4.
     Legal(Instr, u8),
-    /// An opcode that this machine does not have. It is refused before its length is looked at, so in the
-    /// last position too; that is this project's choice.
+    /// An opcode that this machine does not have. It is refused before its length is checked, so it is refused in the
+    /// last parcel too; that is this project's choice.
     Refused(Op),
-    /// An instruction of two parcels in the last position: it would go on in the next word, and the machine halts.
-    /// That it halts there is this project's choice.
+    /// An instruction of two parcels in the last parcel of a word. Its second parcel would be in the next word, and the
+    /// machine halts. The halt is this project's choice.
     Straddle,
 }
 
-/// What an opcode reads as, before its length is looked at.
+/// The table's entry for an opcode, before the length is checked.
 enum TableEntry {
     Short(Instr),
     Long(Instr),
     Refused(Op),
 }
 
-/// 030 to 037, by the digit i.
+/// The test of 030 to 037, by the digit i.
 #[inline(always)]
 fn x_test(digit: Digit) -> XTest
     ensures { result ≡ x_test_at digit }
@@ -49,7 +49,7 @@ fn x_test(digit: Digit) -> XTest
     }
 }
 
-/// A refused opcode of two digits.
+/// The entry of a refused opcode of two digits.
 #[inline(always)]
 fn refused(f: u16, m: Digit) -> TableEntry
     requires { f < 8 }
@@ -58,7 +58,7 @@ fn refused(f: u16, m: Digit) -> TableEntry
     TableEntry::Refused(Op::Plain(Digit::low(f), m))
 }
 
-/// 010 to 017.
+/// The entries of 010 to 017.
 #[inline(always)]
 fn return_jump(i: Digit, to: Word18) -> TableEntry
     ensures { result ≡ extended_at i to }
@@ -69,7 +69,7 @@ fn return_jump(i: Digit, to: Word18) -> TableEntry
     }
 }
 
-/// 00 to 07.
+/// The entries of 00 to 07.
 #[inline(always)]
 fn branch(m: Digit, i: Digit, j: Digit, to: Word18) -> TableEntry
     ensures { result ≡ entry (branches i j to) m }
@@ -90,7 +90,7 @@ fn branch(m: Digit, i: Digit, j: Digit, to: Word18) -> TableEntry
     TableEntry::Long(Instr::BranchB { test, i, j, to })
 }
 
-/// 10 to 17.
+/// The entries of 10 to 17.
 #[inline(always)]
 fn logical(m: Digit, i: Digit, j: Digit, k: Digit) -> TableEntry
     ensures { result ≡ entry (logicals i j k) m }
@@ -108,7 +108,7 @@ fn logical(m: Digit, i: Digit, j: Digit, k: Digit) -> TableEntry
     TableEntry::Short(Instr::Logical { op, i, j, k })
 }
 
-/// 20 to 27.
+/// The entries of 20 to 27.
 #[inline(always)]
 fn shift(m: Digit, i: Digit, j: Digit, k: Digit) -> TableEntry
     ensures { result ≡ entry (shifts i j k) m }
@@ -140,7 +140,7 @@ fn shift(m: Digit, i: Digit, j: Digit, k: Digit) -> TableEntry
     }
 }
 
-/// 30 to 37.
+/// The entries of 30 to 37.
 #[inline(always)]
 fn addition(m: Digit, i: Digit, j: Digit, k: Digit) -> TableEntry
     ensures { result ≡ entry (additions i j k) m }
@@ -153,7 +153,7 @@ fn addition(m: Digit, i: Digit, j: Digit, k: Digit) -> TableEntry
     TableEntry::Short(Instr::LongAdd { op, i, j, k })
 }
 
-/// 40 to 47.
+/// The entries of 40 to 47.
 #[inline(always)]
 fn other(m: Digit, i: Digit, j: Digit, k: Digit) -> TableEntry
     ensures { result ≡ entry (others i j k) m }
@@ -170,7 +170,7 @@ fn other(m: Digit, i: Digit, j: Digit, k: Digit) -> TableEntry
     }
 }
 
-/// The instructions of 50 to 77 that add an address.
+/// The entry of an instruction of 50 to 77 that adds K to a register.
 #[inline(always)]
 fn address_increment(target: Target, i: Digit, base: Base, j: Digit, address: Word18) -> TableEntry
     ensures { result ≡ TableEntry.Long (Instr.Increment target i (Addends.Address base j address)) }
@@ -179,7 +179,7 @@ fn address_increment(target: Target, i: Digit, base: Base, j: Digit, address: Wo
     TableEntry::Long(Instr::Increment { target, i, addends })
 }
 
-/// 50 to 77.
+/// The entries of 50 to 77.
 #[inline(always)]
 fn increment(target: Target, m: Digit, i: Digit, j: Digit, k: Digit, address: Word18) -> TableEntry
     ensures { result ≡ entry (increments target i j k address) m }
@@ -198,7 +198,7 @@ fn increment(target: Target, m: Digit, i: Digit, j: Digit, k: Digit, address: Wo
     TableEntry::Short(Instr::Increment { target, i, addends })
 }
 
-/// The reading of a parcel that is followed by another.
+/// The entry of a parcel and the parcel that follows it.
 #[inline(always)]
 fn entry_at(parcel: u16, following: u16) -> TableEntry
     requires parcel { parcel < 2 ^ 15 }
@@ -222,8 +222,8 @@ fn entry_at(parcel: u16, following: u16) -> TableEntry
     }
 }
 
-/// The same as `decode`, with the two digits that the reading begins with. Where these are a constant, the compiler
-/// leaves only what is done with them.
+/// Decodes as `decode` does, given the first two digits. If the digits are a constant, the compiler keeps only the code
+/// for that opcode.
 #[inline(always)]
 pub fn decode_as(word: Word60, position: u8, digits: u16) -> Decoded
     requires position { position < 4 }
@@ -232,7 +232,7 @@ pub fn decode_as(word: Word60, position: u8, digits: u16) -> Decoded
     ensures range { GoesOn position result }
 {
     let low = parcel_of(word, position) % 0x200;
-    // After the last parcel of a word no other follows.
+    // No parcel follows the last parcel of a word.
     let following = if position < 3 {
         parcel_of(word, position + 1)
     } else {
@@ -246,7 +246,7 @@ pub fn decode_as(word: Word60, position: u8, digits: u16) -> Decoded
     }
 }
 
-/// The two digits that the reading of a word from a position on begins with, as one number from 0 to 63.
+/// The two digits of the opcode at a position, as one number, 0 to 63.
 #[inline(always)]
 pub fn first_digits(word: Word60, position: u8) -> u16
     requires { position < 4 }
@@ -256,25 +256,25 @@ pub fn first_digits(word: Word60, position: u8) -> u16
     parcel_of(word, position) >> 9
 }
 
-/// The reading of a word from a position on, 0 to 3 from the uppermost parcel down.
+/// Decodes the instruction at a position of a word. Positions count from 0, the uppermost parcel, to 3.
 ///
-/// Fields that an instruction does not use are ignored, which is this project's choice: i, j and k of `PS` and
-/// `NO`, j of `RJ` and `JP`, k of `BXi Xj`, j of `BXi -Xk` and `CXi Xk`.
+/// Unused fields are ignored, which is this project's choice: i, j and k of `PS` and `NO`, j of `RJ` and `JP`, k of
+/// `BXi Xj`, j of `BXi -Xk` and `CXi Xk`.
 #[inline(always)]
 pub fn decode(word: Word60, position: u8) -> Decoded
     requires { position < 4 }
     ensures value { result ≡ reading_at word position }
     ensures range { GoesOn position result }
 
-    // Where the parcels of an instruction stand, that instruction is read.
+    // If the word has the parcels of an instruction at this position, that instruction is the result.
     ensures encoded { (instr : Instr) → IsInstr instr → StandsAt word position (parcels_of instr)
         → result ≡ Decoded.Legal instr (position + length (parcels_of instr)) }
 
-    // The same, whatever stands in the fields that the instruction doesn't use.
+    // The same holds for any content of the fields that the instruction doesn't use.
     ensures pattern { (instr : Instr) (n : ℕ) → position + n ≤ 4 → IsReadAs instr (parcels_from word position n)
         → result ≡ Decoded.Legal instr (position + n) }
 
-    // What is read and what is refused both agree with the instruction table.
+    // Both the instructions decoded and the opcodes refused agree with the instruction table.
     ensures table { IsByTable word position result }
 {
     decode_as(word, position, first_digits(word, position))

@@ -1,15 +1,14 @@
-//! The instruction table: what a pattern of parcels says, as which parcels an instruction is
-//! written, and its text. It hands on the instructions themselves, which are those of
-//! `instructions`.
+//! The instruction table: how instructions are decoded from parcels, encoded into parcels and written as text. The
+//! crate also exports the instructions themselves, from `instructions`.
 //!
-//! An instruction of 15 bits has the octal digits f, m, i, j and k, three bits each from the top;
-//! one of 30 bits has f, m, i and j and then 18 bits, K. The table is the machine's (Control Data
-//! 6400/6600 Reference Manual, publication 60100000), without its floating-point instructions; an
-//! item says so where something is this project's choice.
+//! An instruction of 15 bits has the octal digits f, m, i, j and k, three bits each from the top. An instruction of 30
+//! bits has f, m, i and j, then the 18 bits of K. The table is the machine's (Control Data 6400/6600 Reference Manual,
+//! publication 60100000), without its floating-point instructions. A comment says so if something is this project's
+//! choice.
 //!
-//! Callers rely on `decode`: it reads each pattern exactly as `specs/Table` says, and wherever the parcels of an
-//! instruction stand it reads that instruction. Its tests are in `crates/core_tests/src/instruction_table_tests.rt`.
-//! Begin with `decode` in `decoding`.
+//! Callers rely on `decode`: it decodes each pattern exactly as `specs/Table` says, and it decodes the parcels of an
+//! instruction as that instruction, at any position. The tests are in
+//! `crates/core_tests/src/instruction_table_tests.rt`. Begin with `decode` in `decoding`.
 #![tactic(auto)]
 
 mod codes;

@@ -12,14 +12,14 @@ use crate::{
 };
 use word60::Word18;
 
-/// The byte at a position, and 0 past the end.
+/// The byte at a position, or 0 past the end.
 fn byte(text: &[u8], at: usize) -> u8
     ensures { result ≡ slice_index text.now at }
 {
     text.get(at).copied().unwrap_or(0)
 }
 
-/// The octal digit at a position, and some digit where none stands there.
+/// The octal digit at a position. If the byte there isn't an octal digit, the result is some digit.
 fn digit(text: &[u8], at: usize) -> Digit
     ensures { result ≡ digit_of text.now at }
 {
@@ -45,7 +45,7 @@ fn address(text: &[u8], from: usize) -> Word18
     Word18::from_bits(number(text, from))
 }
 
-/// The count of positions or bits from a position on.
+/// The count of bit positions or bits from a position on.
 fn count(text: &[u8], from: usize) -> SixBits
     ensures { result ≡ number_of text.now from % 64 }
 {
@@ -161,7 +161,7 @@ fn addition(text: &[u8]) -> Instr
     }
 }
 
-/// What an increment instruction computes.
+/// The sum or difference that an increment instruction computes.
 fn addends(text: &[u8]) -> Addends
     ensures { result ≡ addends_in text.now }
 {
@@ -198,8 +198,8 @@ fn increment(text: &[u8], target: Target) -> Instr
     }
 }
 
-/// The only instruction whose text this can be, by the two letters that it begins with. Nothing else is judged
-/// here: the candidate's text is compared with the given one.
+/// The only instruction that can have this text, by its first two letters. The text isn't checked here: the caller
+/// compares it with the candidate's own text.
 #[tactic(auto, unfolding(crate::specs::Candidate::candidate_in))]
 fn candidate(text: &[u8]) -> Instr
     ensures { result ≡ candidate_in text.now }
@@ -238,7 +238,7 @@ fn candidate(text: &[u8]) -> Instr
     }
 }
 
-/// The candidate, where its text is the one that was given.
+/// The candidate, if its text is the given one.
 #[tactic(auto, unfolding(crate::specs::Spelling::instr_of))]
 fn instr_of(text: &[u8]) -> Option<Instr>
     ensures { result ≡ instr_of text.now }
@@ -251,8 +251,8 @@ fn instr_of(text: &[u8]) -> Option<Instr>
     }
 }
 
-/// The instruction whose text these bytes are, and None where no instruction has this text: other spacing, small
-/// letters, leading zeros and numbers out of range are refused.
+/// The instruction with this text, or `None` if no instruction has it. Other spacing, lower case, leading zeros and
+/// numbers out of range are refused.
 #[tactic(auto, using(crate::proofs::texts::TextLaws::texts_of_instr))]
 pub fn read_bytes(text: &[u8]) -> Option<Instr>
     ensures value { result ≡ instr_of text.now }
@@ -263,7 +263,7 @@ pub fn read_bytes(text: &[u8]) -> Option<Instr>
     instr_of(text)
 }
 
-/// The instruction whose text this is, and None where no instruction has this text.
+/// The instruction with this text, or `None` if no instruction has it.
 pub fn read_text(text: &str) -> Option<Instr>
     ensures value { result ≡ instr_of text.now }
     ensures fields { IfSome result IsInstr }

@@ -16,7 +16,7 @@ use arrayvec::ArrayString;
 use std::alloc::Global;
 use word60::Word18;
 
-/// The text of an instruction. The longest have 15 bytes, as `EQ B1,B2,777777`.
+/// The text of an instruction. The longest, such as `EQ B1,B2,777777`, have 15 bytes.
 pub type InstrText = ArrayString<16>;
 
 /// The two letters that the text of an instruction begins with.
@@ -62,7 +62,7 @@ fn name(instr: &Instr) -> &'static str
     }
 }
 
-/// Adds an octal digit.
+/// Appends an octal digit.
 fn put_digit(text: &mut InstrText, value: u8)
     requires room { array_string_len text.old < 16 }
     requires octal { value < 8 }
@@ -71,7 +71,7 @@ fn put_digit(text: &mut InstrText, value: u8)
     text.push(char::from(b'0' + value));
 }
 
-/// Adds a text and the number of a register.
+/// Appends a text and the number of a register.
 fn put(text: &mut InstrText, front: &str, register: Digit)
     requires { array_string_len text.old + length front.now < 16 }
     ensures bytes { text.new.bytes ≡ text.old.bytes ++ (front.now ++ digit register) }
@@ -81,7 +81,7 @@ fn put(text: &mut InstrText, front: &str, register: Digit)
     put_digit(text, register.get());
 }
 
-/// Adds a number in octal, without leading zeros.
+/// Appends a number in octal, without leading zeros.
 #[tactic(auto, using(crate::proofs::texts::OctalLaws::octal_ends, crate::proofs::texts::OctalLaws::octal_small))]
 fn put_octal(text: &mut InstrText, number: u32)
     requires { array_string_len text.old + length (octal number) ≤ 16 }
@@ -96,7 +96,7 @@ fn put_octal(text: &mut InstrText, number: u32)
     }
 }
 
-/// Adds a text and an address.
+/// Appends a text and an address.
 #[tactic(auto, using(crate::proofs::texts::OctalLaws::octal_length_6))]
 fn put_address(text: &mut InstrText, front: &str, address: Word18)
     requires { array_string_len text.old + length front.now ≤ 10 }
@@ -106,7 +106,7 @@ fn put_address(text: &mut InstrText, front: &str, address: Word18)
     put_octal(text, address.get());
 }
 
-/// Adds a space and a count of positions or bits.
+/// Appends a space and a count of bit positions or bits.
 #[tactic(auto, using(crate::proofs::texts::OctalLaws::octal_length_2))]
 fn put_count(text: &mut InstrText, count: SixBits)
     requires { array_string_len text.old ≤ 10 }
@@ -116,7 +116,7 @@ fn put_count(text: &mut InstrText, count: SixBits)
     put_octal(text, u32::from(count.get()));
 }
 
-/// Adds a register and the address of a jump.
+/// Appends the register and the address of a jump.
 fn put_jump(text: &mut InstrText, i: Digit, to: Word18)
     requires { array_string_len text.old ≤ 2 }
     ensures { text.new.bytes ≡ text.old.bytes ++ jump_text i to }
@@ -125,7 +125,7 @@ fn put_jump(text: &mut InstrText, i: Digit, to: Word18)
     put_address(text, "+", to);
 }
 
-/// Adds a register and the address of a branch on it.
+/// Appends the register that a branch tests, and its address.
 fn put_branch_x(text: &mut InstrText, j: Digit, to: Word18)
     requires { array_string_len text.old ≤ 2 }
     ensures { text.new.bytes ≡ text.old.bytes ++ branch_x_text j to }
@@ -134,7 +134,7 @@ fn put_branch_x(text: &mut InstrText, j: Digit, to: Word18)
     put_address(text, ",", to);
 }
 
-/// Adds two registers and the address of a branch on them.
+/// Appends the two registers that a branch compares, and its address.
 fn put_branch_b(text: &mut InstrText, i: Digit, j: Digit, to: Word18)
     requires { array_string_len text.old ≤ 2 }
     ensures { text.new.bytes ≡ text.old.bytes ++ branch_b_text i j to }
@@ -144,7 +144,7 @@ fn put_branch_b(text: &mut InstrText, i: Digit, j: Digit, to: Word18)
     put_address(text, ",", to);
 }
 
-/// Adds two registers and the sign between them.
+/// Appends two registers and the sign between them.
 fn put_addition(text: &mut InstrText, op: Addition, j: Digit, k: Digit)
     requires { array_string_len text.old < 10 }
     ensures { text.new.bytes ≡ text.old.bytes ++ addition_text op j k }
@@ -157,7 +157,7 @@ fn put_addition(text: &mut InstrText, op: Addition, j: Digit, k: Digit)
     put(text, sign, k);
 }
 
-/// Adds two registers and the operation on them.
+/// Appends two registers and the operation on them.
 fn put_logic(text: &mut InstrText, op: Logic, j: Digit, k: Digit)
     requires { array_string_len text.old < 10 }
     ensures { text.new.bytes ≡ text.old.bytes ++ logic_text op j k }
@@ -174,7 +174,7 @@ fn put_logic(text: &mut InstrText, op: Logic, j: Digit, k: Digit)
     put(text, sign, right);
 }
 
-/// Adds two registers and what joins them.
+/// Appends two registers and the sign between them.
 fn put_pair(text: &mut InstrText, pair: Pair, j: Digit, k: Digit)
     requires { array_string_len text.old < 10 }
     ensures { text.new.bytes ≡ text.old.bytes ++ addends_text (Registers pair j k) }
@@ -190,7 +190,7 @@ fn put_pair(text: &mut InstrText, pair: Pair, j: Digit, k: Digit)
     put(text, right, k);
 }
 
-/// Adds what an increment instruction computes.
+/// Appends the operands of an increment instruction.
 fn put_addends(text: &mut InstrText, addends: Addends)
     requires { array_string_len text.old < 4 }
     ensures { text.new.bytes ≡ text.old.bytes ++ addends_text addends }
@@ -209,7 +209,7 @@ fn put_addends(text: &mut InstrText, addends: Addends)
     }
 }
 
-/// The one text of an instruction, which takes no memory.
+/// The text of an instruction. Each instruction has exactly one text. Allocates nothing.
 pub fn spell(instr: &Instr) -> InstrText
     ensures { result.bytes ≡ spelling instr.now }
 {
@@ -254,10 +254,10 @@ pub fn spell(instr: &Instr) -> InstrText
     text
 }
 
-/// The one text of an instruction, in memory of its own.
+/// The text of an instruction, as a `String`.
 ///
 /// # Errors
-/// `OutOfMemory`.
+/// `OutOfMemory` if memory runs out.
 pub fn text(alloc: Global, instr: &Instr) -> Result<String, Refusal>
     ensures { MatchResult result
         (λ text. string_bytes text ≡ spelling instr.now)

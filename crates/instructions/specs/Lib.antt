@@ -1,4 +1,4 @@
--- The definitions of the instructions, of what is kept of each unit, and of lists; each file names its source.
+-- The definitions of instructions, of one value per unit, and of lists. Each file names its source.
 pub mod Operations
 pub mod Operands
 pub mod Shape

@@ -1,6 +1,6 @@
--- What an instruction reads and sets, and the kind of unit that it takes: a row for each instruction.
+-- The registers that an instruction reads and sets, and its kind of unit: one row for each instruction.
 -- Source: 60100000, the descriptions of the instructions; ours: an instruction that reads a register twice waits for it
--- once, and for B0 never.
+-- once, and never waits for B0.
 use Rattle.std.specs.Prelude.{ℕ, Bool, false, ◌||◌, ◌==◌, nat_le, if◌then◌else◌, List, [], ◌∷◌, ◌++◌, Option, Some}
 use Rattle.std.specs.Prelude.{None}
 use Rattle.std.specs.List.{list_any}
@@ -21,25 +21,25 @@ use Rattle.instructions.specs.declared.instr.Instr.TheVariants.{Stop, Pass, Retu
 use Rattle.instructions.specs.declared.instr.Instr.TheVariants.{Invert, Logical, ShiftBy, ShiftNominal, LongAdd, Mask}
 use Rattle.instructions.specs.declared.instr.Instr.TheVariants.{CountOnes, Increment}
 
--- the registers and the unit of an instruction
+-- the registers and the kind of unit of an instruction
 pub record Uses : Type 0 where
-  -- the kind of unit that it takes, none for a pass and a stop
+  -- the kind of unit; None for a pass and a stop
   pub unit : Option UnitKind
-  -- the first operand, if it has one
+  -- the first operand, if there is one
   pub first : Option Reg
-  -- the second operand, if it has one
+  -- the second operand, if there is one
   pub second : Option Reg
   -- the register that SA6 or SA7 stores
   pub outgoing : Option Reg
   -- the result registers, Ai before the Xi that is loaded
   pub results : List Reg
 
--- what an instruction uses that stores no register
+-- the row of an instruction that stores no register
 abbrev pub line : Option UnitKind → Option Reg → Option Reg → List Reg → Uses
 line unit first second results =
     record { unit = unit; first = first; second = second; outgoing = None; results = results }
 
--- which of three holds for SAi: SA0 makes no reference to memory, SA1 to SA5 load, SA6 and SA7 store
+-- the choice by i for SAi: SA0 makes no reference to memory, SA1 to SA5 load, SA6 and SA7 store
 abbrev pub by_reference : {R : Type 0} → ℕ → R → R → R → R
 by_reference i nothing load store = if i == 0 then nothing else (if nat_le i 5 then load else store)
 
@@ -49,19 +49,19 @@ stored TargetA i = by_reference i None None (Some (X i))
 stored TargetB i = None
 stored TargetX i = None
 
--- the results of 50 to 77: Ai, and Xi where it is loaded; Bi, but nothing for B0; Xi
+-- the results of 50 to 77: Ai, and Xi if it is loaded; Bi, but nothing for B0; Xi
 abbrev pub set_by : Target → ℕ → List Reg
 set_by TargetA i = A i ∷ by_reference i [] (X i ∷ []) []
 set_by TargetB i = if i == 0 then [] else (B i ∷ [])
 set_by TargetX i = X i ∷ []
 
--- register j of a kind: the operand of 50 to 77 that K is added to
+-- register j of the given kind: the operand of 50 to 77 that K is added to
 abbrev pub base_reg : Base → ℕ → Reg
 base_reg BaseA j = A j
 base_reg BaseB j = B j
 base_reg BaseX j = X j
 
--- the first of two registers that 50 to 77 add or subtract
+-- the first of the two registers that 50 to 77 add or subtract
 abbrev pub pair_reg : Pair → ℕ → Reg
 pair_reg XPlusB j = X j
 pair_reg APlusB j = A j
@@ -69,7 +69,7 @@ pair_reg AMinusB j = A j
 pair_reg BPlusB j = B j
 pair_reg BMinusB j = B j
 
--- what one of 50 to 77 uses
+-- the row of an instruction of 50 to 77
 abbrev pub increment : Target → ℕ → Option Reg → Option Reg → Uses
 increment target i first second =
     record {
@@ -80,7 +80,7 @@ increment target i first second =
       results = set_by target i;
     }
 
--- what each instruction uses: unit, first operand, second operand, results
+-- the row of each instruction: kind of unit, first operand, second operand, results
 abbrev pub uses : Instr → Uses
 uses Stop = line None None None []
 uses (ReturnJump K) = line (Some Branch) None None []
@@ -99,21 +99,21 @@ uses (CountOnes i k) = line (Some Divide) (Some (X k)) None (X i ∷ [])
 uses (Increment target i (Address base j K)) = increment target i (Some (base_reg base j)) None
 uses (Increment target i (Registers pair j k)) = increment target i (Some (pair_reg pair j)) (Some (B k))
 
--- the same register
+-- the two are the same register
 abbrev pub reg_eq : Reg → Reg → Bool
 reg_eq (X m) (X n) = m == n
 reg_eq (A m) (A n) = m == n
 reg_eq (B m) (B n) = m == n
 reg_eq _ _ = false
 
--- the operands with one more: a register that occurs twice counts once, and B0 never
+-- the operands and one more, if there is one; a register counts once, and B0 not at all
 abbrev pub with_source : List Reg → Option Reg → List Reg
 with_source sources None = sources
 with_source sources (Some reg) =
     if reg_eq reg (B 0) || list_any (reg_eq reg) sources then sources else (sources ++ reg ∷ [])
 
--- the operands of an instruction: first, second and then the register that a store sends; E9 operand awaited names the
--- first of them that is a result still to come
+-- the operands of an instruction: first, second, then the register that a store sends to memory; E9 operand awaited
+-- names the first that is a result still to come
 abbrev pub sources_of : Instr → List Reg
 sources_of instr =
     with_source (with_source (with_source [] (uses instr).first) (uses instr).second) (uses instr).outgoing

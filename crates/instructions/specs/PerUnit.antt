@@ -1,16 +1,16 @@
--- Something of each of the seven units in use. Source: ours.
+-- One value for each of the seven units in use. Source: ours.
 use Rattle.std.specs.Prelude.{List, [], ◌∷◌, Option, Some, None, Bool, ◌&&◌, is_some}
 use Rattle.instructions.specs.declared.instr.Unit.{Unit}
 use Rattle.instructions.specs.declared.instr.Unit.TheVariants.{Branch, Boolean, Shift, LongAdd, Divide, Increment1}
 use Rattle.instructions.specs.declared.instr.Unit.TheVariants.{Increment2}
 use Rattle.instructions.specs.declared.per_unit.PerUnit.{PerUnit}
 
--- all of them, in the order of the units' numbers
+-- the values, in the order of the units' numbers
 abbrev pub in_order : {T : Type 0} → PerUnit T → List T
 in_order all =
     all.branch ∷ all.boolean ∷ all.shift ∷ all.long_add ∷ all.divide ∷ all.increment1 ∷ all.increment2 ∷ []
 
--- the one of a unit, if it is in use
+-- the value of a unit, if the unit is in use
 abbrev pub of_unit : {T : Type 0} → Unit → PerUnit T → Option T
 of_unit Branch all = Some all.branch
 of_unit Boolean all = Some all.boolean
@@ -21,13 +21,13 @@ of_unit Increment1 all = Some all.increment1
 of_unit Increment2 all = Some all.increment2
 of_unit _ all = None
 
--- none is missing
+-- no value is missing
 abbrev pub is_complete : {T : Type 0} → PerUnit (Option T) → Bool
 is_complete all =
     is_some all.branch && is_some all.boolean && is_some all.shift && is_some all.long_add && is_some all.divide
     && is_some all.increment1 && is_some all.increment2
 
--- the one of each unit beside what another has of it
+-- the two values of each unit, paired
 abbrev pub paired : {T U : Type 0} → PerUnit T → PerUnit U → PerUnit (T × U)
 paired one other = record {
   branch = (one.branch, other.branch);
@@ -39,7 +39,7 @@ paired one other = record {
   increment2 = (one.increment2, other.increment2);
 }
 
--- what is so of the one of each unit and of what another has of it
+-- the relation holds between the two values of each unit
 pub record Each {T U : Type 0} (R : T → U → Type 0) (one : PerUnit T) (other : PerUnit U) : Type 0 where
   pub branch : R one.branch other.branch
   pub boolean : R one.boolean other.boolean

@@ -1,10 +1,10 @@
--- The number of each refusal and what it says.
+-- The number and the text of each refusal.
 -- Source: ours.
 use Rattle.std.specs.Prelude.{ℕ, List, codes}
 use Rattle.instructions.specs.declared.refusal.Refusal.{Refusal}
 use Rattle.instructions.specs.declared.refusal.Refusal.TheVariants as refusals
 
--- the number of a refusal and what it says; where it names something a space ends this, since the name follows
+-- the number and the text of a refusal; the text ends in a space if a name follows it
 abbrev pub label_of : Refusal → List ℕ
 label_of (refusals.Halted halt) = codes "E1 halted "
 label_of refusals.Faulted = codes "E2 faulted"

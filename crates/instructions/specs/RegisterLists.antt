@@ -1,4 +1,4 @@
--- Registers among others.
+-- Membership in lists of registers.
 -- Source: ours.
 use Rattle.std.specs.Prelude.{Bool, List}
 use Rattle.std.specs.List.{list_any}

@@ -1,4 +1,4 @@
--- What an instruction does with its value, whatever its opcode.
+-- The effect of an instruction's value, whatever its opcode.
 -- Source: ours.
 use Rattle.std.specs.Prelude.{ℕ, Bool, true, false, List, [], ◌∷◌, ◌++◌, Option, Some, None}
 use Rattle.instructions.specs.declared.instr.Reg.{Reg}
@@ -11,20 +11,20 @@ use Rattle.instructions.specs.declared.shape.MemoryUse.{MemoryUse}
 use Rattle.instructions.specs.declared.shape.MemoryUse.TheVariants as memory
 use Rattle.instructions.specs.Operands.{uses, by_reference}
 
--- what an instruction does with its value: it writes registers, loads, stores, jumps or links
+-- the effect of an instruction's value: it sets registers, loads, stores, jumps or links
 pub data Shape : Type 0 where
-  -- writes its results (none for SB0, a pass and a stop), and makes no reference
+  -- sets its results (none for SB0, a pass and a stop), and makes no reference
   Sets : (registers : List Reg) → Shape
   -- SA1 to SA5: writes An and loads Xn
   Loads : (n : ℕ) → Shape
   -- SA6 and SA7: writes An and stores Xn
   Stores : (n : ℕ) → Shape
-  -- 02 to 07: jumps, or goes on where the branch isn't taken
+  -- 02 to 07: jumps, or continues with the next instruction if the branch isn't taken
   Jumps : Shape
   -- RJ: stores its link word and jumps
   Links : Shape
 
--- what an instruction does with its value; of SA0 to SA7 by the register number alone
+-- the effect of an instruction's value; of SA0 to SA7, by the register number alone
 unfoldable pub shape_of : Instr → Shape
 shape_of (ReturnJump K) = Links
 shape_of (Jump i K) = Jumps
@@ -33,7 +33,7 @@ shape_of (BranchB test i j K) = Jumps
 shape_of (Increment TargetA i addends) = by_reference i (Sets (A 0 ∷ [])) (Loads i) (Stores i)
 shape_of instr = Sets (uses instr).results
 
--- the registers that are written at the store event
+-- the registers written at the store event
 unfoldable pub sets_of : Shape → List Reg
 sets_of (Sets rs) = rs
 sets_of (Loads n) = A n ∷ []
@@ -41,7 +41,7 @@ sets_of (Stores n) = A n ∷ []
 sets_of Jumps = []
 sets_of Links = []
 
--- the register that is written when the load returns
+-- the register written when the load returns
 unfoldable pub loads_of : Shape → List Reg
 loads_of (Sets rs) = []
 loads_of (Loads n) = X n ∷ []
@@ -49,12 +49,12 @@ loads_of (Stores n) = []
 loads_of Jumps = []
 loads_of Links = []
 
--- the result registers: those written at the store event, and then the one that is loaded; E8 result reserved names the
--- first of them that is a result still to come
+-- the result registers: those written at the store event, then the one that is loaded; E8 result reserved names the
+-- first that is a result still to come
 unfoldable pub results : Shape → List Reg
 results shape = sets_of shape ++ loads_of shape
 
--- it jumps or may jump
+-- the instruction jumps or may jump
 unfoldable pub is_branch_shape : Shape → Bool
 is_branch_shape (Sets rs) = false
 is_branch_shape (Loads n) = false
@@ -62,7 +62,7 @@ is_branch_shape (Stores n) = false
 is_branch_shape Jumps = true
 is_branch_shape Links = true
 
--- what its reference does, if it makes one
+-- the reference that the instruction makes, if it makes one
 unfoldable pub memory_of : Shape → Option MemoryUse
 memory_of (Sets rs) = None
 memory_of (Loads n) = Some (memory.Loads n)
@@ -70,13 +70,13 @@ memory_of (Stores n) = Some (memory.Stores n)
 memory_of Jumps = None
 memory_of Links = Some memory.Links
 
--- the same of one of 50 to 77, by what it sets
+-- the reference of an instruction of 50 to 77, by the register that it sets
 abbrev pub memory_by : Target → ℕ → Option MemoryUse
 memory_by TargetA i = by_reference i None (Some (memory.Loads i)) (Some (memory.Stores i))
 memory_by TargetB i = None
 memory_by TargetX i = None
 
--- it reads or writes a word of memory
+-- the instruction reads or writes a word of memory
 unfoldable pub has_reference : Shape → Bool
 has_reference (Sets rs) = false
 has_reference (Loads n) = true
@@ -84,7 +84,7 @@ has_reference (Stores n) = true
 has_reference Jumps = false
 has_reference Links = true
 
--- it writes a word of memory
+-- the instruction writes a word of memory
 unfoldable pub has_store : Shape → Bool
 has_store (Sets rs) = false
 has_store (Loads n) = false

@@ -2,7 +2,7 @@ ghost use Rattle.std.specs.Prelude.{◌≡◌, ◌<◌, ◌+◌, ◌*◌, ◌%�
 
 use std::marker::Model;
 
-/// A number below `N`: a field of an instruction, or of the position of one.
+/// A number below `N`: a field of an instruction, or of its position.
 #[derive(Clone, Copy, Debug, Drop, PartialEq, Eq)]
 pub struct Below<const N: u8> {
     value: u8,
@@ -23,14 +23,14 @@ impl<const N: u8> Model for Below<N> {
 /// An octal digit of an instruction, 0 to 7, such as a register's number.
 pub type Digit = Below<8>;
 
-/// The digits j and k of an instruction read as one number: a count of positions or bits, 0 to 63.
+/// The digits j and k of an instruction as one number: a count of bit positions or bits, 0 to 63.
 pub type SixBits = Below<64>;
 
-/// The number of a parcel in its word: 0, the uppermost, to 3.
+/// The number of a parcel in its word, 0 to 3. Parcel 0 is the uppermost.
 pub type ParcelNumber = Below<4>;
 
 impl<const N: u8> Below<N> {
-    /// The number with this value, and None for `N` and above.
+    /// Makes the number with this value, or returns `None` if the value is `N` or more.
     #[inline(always)]
     pub fn new(value: u8) -> Option<Self>
         ensures { SomeIff result (value < N) value }
@@ -91,7 +91,7 @@ impl Below<64> {
         }
     }
 
-    /// The count of the two digits j and k, 8 j + k.
+    /// The count that the two digits j and k make, 8 j + k.
     #[inline(always)]
     pub fn of(j: Digit, k: Digit) -> SixBits
         ensures { result ≡ 8 * j + k }

@@ -12,8 +12,8 @@ pub enum Reg {
     B(Digit),
 }
 
-/// A functional unit, in the order of the units' numbers, 0 to 9. The units are the machine's; their numbers
-/// and this order are this project's choice. No instruction of the table is issued to Add or to Multiply.
+/// A functional unit, in the order of the units' numbers, 0 to 9. The units are the machine's; their numbers and their
+/// order are this project's choice. No instruction of the table is issued to Add or to Multiply.
 #[derive(Clone, Copy, Debug, PartialEq, Eq)]
 pub enum Unit {
     Branch,
@@ -28,8 +28,7 @@ pub enum Unit {
     Increment2,
 }
 
-/// The kinds of unit that instructions are issued to. There are two units of the kind Increment, and one of
-/// each other kind.
+/// The kinds of unit that instructions are issued to. There are two Increment units, and one unit of each other kind.
 #[derive(Clone, Copy, Debug, PartialEq, Eq)]
 pub enum UnitKind {
     Branch,
@@ -40,8 +39,8 @@ pub enum UnitKind {
     Increment,
 }
 
-/// The code of an instruction, by its octal digits: f is bits 14 to 12 of its first parcel, m bits 11 to 9 and
-/// i bits 8 to 6.
+/// The code of an instruction, by its octal digits: f is bits 14 to 12 of its first parcel, m bits 11 to 9 and i bits 8
+/// to 6.
 #[derive(Clone, Copy, Debug, PartialEq, Eq)]
 pub enum Op {
     /// f and m.
@@ -50,13 +49,13 @@ pub enum Op {
     Extended(Digit, Digit, Digit),
 }
 
-/// What a branch asks of an X register. The tests for in range, out of range, definite and indefinite look at its upper
-/// twelve bits, where a floating-point number has its sign and exponent.
+/// The test that a branch makes of an X register. The tests for in range, out of range, definite and indefinite look at
+/// its upper twelve bits, the sign and exponent of a floating-point number.
 #[derive(Clone, Copy, Debug, PartialEq, Eq)]
 pub enum XTest {
     /// `ZR`, 030: +0 or -0.
     Zero,
-    /// `NZ`, 031: neither.
+    /// `NZ`, 031: neither +0 nor -0.
     NonZero,
     /// `PL`, 032: bit 59 is 0.
     Positive,
@@ -72,13 +71,13 @@ pub enum XTest {
     Indefinite,
 }
 
-/// What a branch asks of two B registers. Equality is of bit patterns, so +0 and -0 differ; the order is that
-/// of two's complement numbers of 18 bits, so +0 is above -0. Both are this project's choice.
+/// The test that a branch makes of two B registers. Two values are equal if their bits are, so +0 and -0 differ. The
+/// order is that of two's complement numbers of 18 bits, so +0 is above -0. Both are this project's choice.
 #[derive(Clone, Copy, Debug, PartialEq, Eq)]
 pub enum BTest {
     /// `EQ`, 04: the same bits.
     Equal,
-    /// `NE`, 05: other bits.
+    /// `NE`, 05: different bits.
     NotEqual,
     /// `GE`, 06: Bi is at least Bj.
     GreaterOrEqual,
@@ -103,7 +102,7 @@ pub enum Logic {
     XorNot,
 }
 
-/// Where a shift goes. Left is round the word; right copies the sign in at the top.
+/// The direction of a shift. A left shift is circular; a right shift extends the sign.
 #[derive(Clone, Copy, Debug, PartialEq, Eq)]
 pub enum Direction {
     /// `LXi`, 20 and 22.
@@ -121,45 +120,45 @@ pub enum Addition {
     Difference,
 }
 
-/// What an increment instruction sets.
+/// The register that an increment instruction sets.
 #[derive(Clone, Copy, Debug, PartialEq, Eq)]
 pub enum Target {
-    /// `SAi`, 50 to 57: Ai. For i of 1 to 5 the word at that address is loaded into Xi, for 6 and 7 Xi is
-    /// stored there.
+    /// `SAi`, 50 to 57: Ai. If i is 1 to 5, the word at that address is loaded into Xi; if i is 6 or 7, Xi is stored
+    /// there.
     A,
-    /// `SBi`, 60 to 67: Bi, and nothing where that is B0.
+    /// `SBi`, 60 to 67: Bi. `SB0` sets nothing.
     B,
-    /// `SXi`, 70 to 77: Xi, with the sign of the 18 bits copied in above them.
+    /// `SXi`, 70 to 77: Xi, to the 18 bits with their sign extended.
     X,
 }
 
-/// The kind of register to which an address is added. Only the low 18 bits of an X register count.
+/// The kind of register that K is added to. Only the low 18 bits of an X register count.
 #[derive(Clone, Copy, Debug, PartialEq, Eq)]
 pub enum Base {
-    /// `Aj+K`, where m is 0.
+    /// `Aj+K`: m is 0.
     A,
-    /// `Bj+K`, where m is 1.
+    /// `Bj+K`: m is 1.
     B,
-    /// `Xj+K`, where m is 2.
+    /// `Xj+K`: m is 2.
     X,
 }
 
 /// Two registers that an increment instruction adds or subtracts. Only the low 18 bits of an X register count.
 #[derive(Clone, Copy, Debug, PartialEq, Eq)]
 pub enum Pair {
-    /// `Xj+Bk`, where m is 3.
+    /// `Xj+Bk`: m is 3.
     XPlusB,
-    /// `Aj+Bk`, where m is 4.
+    /// `Aj+Bk`: m is 4.
     APlusB,
-    /// `Aj-Bk`, where m is 5.
+    /// `Aj-Bk`: m is 5.
     AMinusB,
-    /// `Bj+Bk`, where m is 6.
+    /// `Bj+Bk`: m is 6.
     BPlusB,
-    /// `Bj-Bk`, where m is 7.
+    /// `Bj-Bk`: m is 7.
     BMinusB,
 }
 
-/// What an increment instruction computes, in ones' complement of 18 bits.
+/// The sum or difference that an increment instruction computes, in ones' complement of 18 bits.
 #[derive(Clone, Copy, Debug, PartialEq, Eq)]
 pub enum Addends {
     /// Register j of the kind `base`, plus the instruction's own 18 bits.
@@ -168,7 +167,7 @@ pub enum Addends {
         j: Digit,
         address: Word18,
     },
-    /// Register j and Bk.
+    /// Register j plus or minus Bk.
     Registers {
         pair: Pair,
         j: Digit,
@@ -176,19 +175,19 @@ pub enum Addends {
     },
 }
 
-/// An instruction of the table. `i`, `j` and `k` are the octal digits of that name, register numbers for the
-/// most part; `to` is the 18-bit address K of a branch.
+/// An instruction of the table. `i`, `j` and `k` are its octal digits of those names, mostly register numbers; `to` is
+/// the 18-bit address K of a branch.
 ///
 /// Codes, names and effects are the machine's (Control Data 6400/6600 Reference Manual, publication 60100000). The
-/// floating-point instructions and the manual's other codes are not among them: the machine refuses these.
+/// floating-point instructions and the manual's other codes are missing: the machine refuses them.
 #[derive(Clone, Copy, Debug, PartialEq, Eq)]
 pub enum Instr {
-    /// `PS`, 00: the machine halts. That it takes one parcel, whatever the manual says of its length, is this project's
-    /// choice.
+    /// `PS`, 00: the machine halts. The instruction takes one parcel, whatever the manual says of its length; this is
+    /// the project's choice.
     Stop,
-    /// `NO`, 46: nothing.
+    /// `NO`, 46: does nothing.
     Pass,
-    /// `RJ K`, 010: a jump back to the next word is stored at K, and the next instruction is at K + 1.
+    /// `RJ K`, 010: stores a jump back to the next word at K, and continues at K + 1.
     ReturnJump {
         to: Word18,
     },
@@ -197,13 +196,13 @@ pub enum Instr {
         i: Digit,
         to: Word18,
     },
-    /// `ZR Xj,K` to `ID Xj,K`, 030 to 037: a jump to K where Xj is so.
+    /// `ZR Xj,K` to `ID Xj,K`, 030 to 037: jumps to K if Xj passes the test.
     BranchX {
         test: XTest,
         j: Digit,
         to: Word18,
     },
-    /// `EQ Bi,Bj,K` to `LT Bi,Bj,K`, 04 to 07: a jump to K where Bi and Bj are so.
+    /// `EQ Bi,Bj,K` to `LT Bi,Bj,K`, 04 to 07: jumps to K if Bi and Bj pass the test.
     BranchB {
         test: BTest,
         i: Digit,
@@ -227,14 +226,13 @@ pub enum Instr {
         j: Digit,
         k: Digit,
     },
-    /// `LXi jk` and `AXi jk`, 20 and 21: Xi by a count of 0 to 63 positions.
+    /// `LXi jk` and `AXi jk`, 20 and 21: Xi shifted by jk positions, 0 to 63.
     ShiftBy {
         direction: Direction,
         i: Digit,
         count: SixBits,
     },
-    /// `LXi Bj,Xk` and `AXi Bj,Xk`, 22 and 23: Xk by the count in Bj, and in the other direction where Bj is
-    /// negative.
+    /// `LXi Bj,Xk` and `AXi Bj,Xk`, 22 and 23: Xk shifted by the count in Bj, in the other direction if Bj is negative.
     ShiftNominal {
         direction: Direction,
         i: Digit,

@@ -1,14 +1,12 @@
-//! Instructions, and what holds of one by itself: which registers it reads and sets, which kind of
-//! unit it takes, and whether it is a branch or makes a reference to memory. `instruction_table`
-//! has how it is written and read.
+//! Instructions and their static properties: the registers an instruction reads and sets, its kind of unit, and whether
+//! it branches or refers to memory. `instruction_table` has how instructions are encoded and written as text.
 //!
-//! The instructions are the machine's (Control Data 6400/6600 Reference Manual, publication
-//! 60100000), without its floating-point instructions; an item says so where something is this
-//! project's choice.
+//! The instructions are the machine's (Control Data 6400/6600 Reference Manual, publication 60100000), without its
+//! floating-point instructions. A comment says so if something is this project's choice.
 //!
-//! Callers rely on `operand_registers`, `results` and `unit_kind`: they answer exactly what the instruction's row of
-//! `uses` in `specs/Operands` says. `shape` says which instructions refer to memory, and `refusal` has why the machine
-//! halts and everything that may be refused. `per_unit` keeps something of each of the units in use. Its tests are in
+//! Callers rely on `operand_registers`, `results` and `unit_kind`: they return exactly what the instruction's row of
+//! `uses` in `specs/Operands` says. `shape` says which instructions refer to memory. `refusal` lists the reasons for a
+//! halt and every refusal. `PerUnit` holds one value for each unit in use. The tests are in
 //! `crates/core_tests/src/instructions_tests.rt` and `crates/core_tests/src/per_unit_tests.rt`. Begin with `Instr` in
 //! `instr`, then `registers`.
 #![tactic(auto)]

@@ -47,7 +47,7 @@ impl Logic {
 }
 
 impl Direction {
-    /// The digit m of 20 and 21; 22 and 23 have 2 more.
+    /// The digit m of 20 and 21. For 22 and 23, m is this plus 2.
     pub fn code(self) -> u8
         ensures value { result ≡ direction_code self }
         ensures range { result < 2 }
@@ -87,7 +87,7 @@ impl Target {
 }
 
 impl Base {
-    /// The digit m of an increment by an address.
+    /// The digit m of an increment that adds K to a register.
     pub fn code(self) -> u8
         ensures value { result ≡ base_code self }
         ensures range { result < 8 }
@@ -101,7 +101,7 @@ impl Base {
 }
 
 impl Pair {
-    /// The digit m of an increment by a register.
+    /// The digit m of an increment that adds or subtracts two registers.
     pub fn code(self) -> u8
         ensures value { result ≡ pair_code self }
         ensures range { result < 8 }

@@ -1,6 +1,6 @@
-//! Something of each of the seven units in use, as a lane or a worker's thread of each.
+//! One value for each of the seven units in use, such as a lane or a worker's thread.
 //!
-//! Callers rely on `PerUnit::get`, which finds the one of a unit, and on `zip` and `map`, which keep what belongs to
+//! Callers rely on `PerUnit::get`, which returns the value of a unit, and on `zip` and `map`, which keep the values of
 //! one unit together.
 ghost use Rattle.std.specs.Prelude.{◌≡◌, ◌∷◌, [], IfSome, MatchOption, Some, None, is_some};
 ghost use Rattle.instructions.specs.declared.instr.Unit.TheVariants.{Branch, Boolean, Shift, LongAdd, Divide};
@@ -9,7 +9,7 @@ ghost use Rattle.instructions.specs.PerUnit.{in_order, of_unit, is_complete, pai
 
 use crate::instr::Unit;
 
-/// Something of each of the seven units in use.
+/// One value for each of the seven units in use.
 #[derive(Default, Drop)]
 pub struct PerUnit<T> {
     pub branch: T,
@@ -22,7 +22,7 @@ pub struct PerUnit<T> {
 }
 
 impl PerUnit<Unit> {
-    /// The units themselves.
+    /// The seven units themselves.
     pub fn units() -> PerUnit<Unit>
         ensures { in_order result
             ≡ Branch ∷ Boolean ∷ Shift ∷ LongAdd ∷ Divide ∷ Increment1 ∷ Increment2 ∷ [] }
@@ -40,9 +40,9 @@ impl PerUnit<Unit> {
 }
 
 impl<T> PerUnit<T> {
-    /// From all of them in the order of the units' numbers. No clause says so: what is taken out of an array of
-    /// values that may have to be spent has no facts. A run would find another order: a worker for another unit
-    /// claims nothing.
+    /// Takes the values from an array in the order of the units' numbers. No clause promises that order: the prover has
+    /// no facts about values taken out of an array if they can't simply be dropped. A wrong order would show in a run:
+    /// a worker for another unit claims nothing.
     pub fn from_array(all: [T; 7]) -> PerUnit<T> {
         let [
             branch,
@@ -64,7 +64,7 @@ impl<T> PerUnit<T> {
         }
     }
 
-    /// All of them in the order of the units' numbers.
+    /// The values as an array, in the order of the units' numbers.
     pub fn into_array(self) -> [T; 7]
         ensures { result ≡ in_order self }
     {
@@ -82,7 +82,7 @@ impl<T> PerUnit<T> {
         ]
     }
 
-    /// The one of a unit. None where the unit is never reserved.
+    /// The value of a unit, or `None` if no instruction uses that unit.
     pub fn get(&self, unit: Unit) -> Option<&T>
         ensures { MatchOption result (of_unit unit self.now ≡ None) (λ found. of_unit unit self.now ≡ Some found.now) }
     {
@@ -98,7 +98,7 @@ impl<T> PerUnit<T> {
         }
     }
 
-    /// The one of a unit, to change. None where the unit is never reserved.
+    /// The value of a unit, to change. `None` if no instruction uses that unit.
     pub fn get_mut(&mut self, unit: Unit) -> Option<&mut T>
         ensures { MatchOption result (of_unit unit self.old ≡ None) (λ found. of_unit unit self.old ≡ Some found.now) }
     {
@@ -114,7 +114,7 @@ impl<T> PerUnit<T> {
         }
     }
 
-    /// References to all of them.
+    /// References to the values.
     pub fn each(&self) -> PerUnit<&T>
         ensures { Each (λ t found. found.now ≡ t) self.now result }
     {
@@ -129,7 +129,7 @@ impl<T> PerUnit<T> {
         }
     }
 
-    /// References to all of them, to change them.
+    /// References to the values, to change them.
     pub fn each_mut(&mut self) -> PerUnit<&mut T>
         ensures { Each (λ t found. found.now ≡ t) self.old result }
     {
@@ -144,7 +144,7 @@ impl<T> PerUnit<T> {
         }
     }
 
-    /// The one of each unit beside what another has of it.
+    /// Pairs the value of each unit with the other's value of that unit.
     pub fn zip<U>(self, other: PerUnit<U>) -> PerUnit<(T, U)>
         ensures { result ≡ paired self other }
     {
@@ -159,8 +159,7 @@ impl<T> PerUnit<T> {
         }
     }
 
-    /// What is made of the one of each unit and of what another has of it, one after another in the order of the units'
-    /// numbers.
+    /// Combines the two values of each unit with `make`, one unit after another in the order of the units' numbers.
     pub fn zip_with<U, V, F: Fn(T, U) -> V>(self, other: PerUnit<U>, make: F) -> PerUnit<V>
         requires { F.IsAlwaysCallable make }
         ensures { Each (λ both v. F.post make both.0 both.1 v) (paired self other) result }
@@ -176,7 +175,7 @@ impl<T> PerUnit<T> {
         }
     }
 
-    /// What is made of each, one after another in the order of the units' numbers.
+    /// Applies `make` to the value of each unit, one unit after another in the order of the units' numbers.
     pub fn map<U, F: Fn(T) -> U>(self, make: F) -> PerUnit<U>
         requires { F.IsAlwaysCallable make }
         ensures { Each (λ t u. F.post make t u) self result }
@@ -194,7 +193,7 @@ impl<T> PerUnit<T> {
 }
 
 impl<T, U> PerUnit<(T, U)> {
-    /// The first ones, and the second ones.
+    /// Splits the pairs into the first values and the second values.
     pub fn unzip(self) -> (PerUnit<T>, PerUnit<U>)
         ensures { self ≡ paired result.0 result.1 }
     {
@@ -230,12 +229,12 @@ impl<T, U> PerUnit<(T, U)> {
 }
 
 impl<T: Drop> PerUnit<Option<T>> {
-    /// All of them, if none is missing.
+    /// The values, if none is missing.
     pub fn complete(self) -> Option<PerUnit<T>>
         ensures complete { is_some result ≡ is_complete self }
         ensures all { IfSome result (λ all. Each (λ one t. one ≡ Some t) self all) }
     {
-        // One look at all: an early return for each would have to drop those before it, in seven ways.
+        // One test of all seven: an early return for each would have to drop the values before it, in seven ways.
         let first = self
             .branch
             .zip(self.boolean)

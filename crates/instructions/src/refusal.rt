@@ -3,20 +3,20 @@ use std::fmt;
 use std::fmt::{Display, Formatter, Write};
 use thiserror::Error;
 
-/// Why the machine is halted.
+/// The reason why the machine is halted.
 #[derive(Clone, Copy, Debug, Drop, PartialEq, Eq)]
 pub enum Halt {
-    /// A stop was issued, or the machine was just booted.
+    /// A stop was issued, or the machine has just been booted.
     Stop,
     /// An opcode that this machine refuses.
     Illegal(Op),
-    /// An instruction of two parcels that begins in the last one of its word.
+    /// An instruction of two parcels that begins in the last parcel of its word.
     Straddle,
     /// The word at P is out of range.
     FetchRange,
 }
 
-/// What is wrong with a line of a deck or a schedule. As a text it is the word that the program prints for it.
+/// A fault of a line of a deck or a schedule. `Display` writes the word that the program prints for it.
 #[derive(Clone, Copy, Debug, Drop, Error, PartialEq, Eq)]
 pub enum DeckFault {
     /// More than 10,000,000 lines.
@@ -28,10 +28,10 @@ pub enum DeckFault {
     /// The first line isn't a `core` line.
     #[error("first")]
     First,
-    /// No such line, or a wrong number of fields.
+    /// An unknown line, or a wrong number of fields.
     #[error("unknown")]
     Unknown,
-    /// A field that isn't a number of its base, or is too large.
+    /// A field that isn't a number in its base, or is too large.
     #[error("number")]
     Number,
     /// A memory size that isn't 32 to 131,072 words.
@@ -46,16 +46,16 @@ pub enum DeckFault {
     /// An address that isn't in memory.
     #[error("range")]
     Range,
-    /// Sixteen words of a package that don't fit into memory.
+    /// A package whose sixteen words don't fit into memory.
     #[error("package")]
     Package,
-    /// A text that is no instruction.
+    /// A text that isn't an instruction.
     #[error("instruction")]
     Instruction,
     /// Instructions that don't fit into one word.
     #[error("full")]
     Full,
-    /// No `start` line before the end.
+    /// There is no `start` line before the end.
     #[error("no start")]
     NoStart,
     /// The input ended before the `end` line.
@@ -63,17 +63,17 @@ pub enum DeckFault {
     NoEnd,
 }
 
-/// Why something was refused. `label` has the number of each, and what it says; the program prints both for a refusal
-/// of a schedule's event, and for some faults of its own. Where several apply, the answer is the one with the lowest
-/// number, and want of memory comes last.
+/// The reason for a refusal. `label` returns its number and its text; the program prints both for a refused event of a
+/// schedule, and for some faults of its own. If several reasons apply, the one with the lowest number is reported, and
+/// `OutOfMemory` comes last.
 #[derive(Clone, Copy, Debug, Drop, PartialEq, Eq)]
 pub enum Refusal {
     /// Issue: the machine is halted.
     Halted(Halt),
     /// Issue: the fault flag is set.
     Faulted,
-    /// Issue: the budget is used up; ask: 1,000,000 requests were accepted; peripheral access: 1,000,000
-    /// accesses were accepted.
+    /// Issue: the budget is used up. Ask: 1,000,000 requests were accepted. Peripheral access: 1,000,000 accesses were
+    /// accepted.
     Budget,
     /// Issue: the Branch unit is reserved.
     BranchPending,
@@ -81,31 +81,31 @@ pub enum Refusal {
     ExchangeWaiting,
     /// Issue: a store may still change the word to be fetched.
     FetchWait,
-    /// Issue: no free unit; the lower-numbered one of the kind.
+    /// Issue: no unit of the kind is free. Names the lower-numbered unit of the kind.
     UnitBusy(Unit),
-    /// Issue: the first result register that an earlier instruction has still to write, A before X.
+    /// Issue: the first result register that an earlier instruction has not yet written, A before X.
     ResultReserved(Reg),
-    /// Read: the first operand that an earlier instruction has still to write.
+    /// Read: the first operand that an earlier instruction has not yet written.
     OperandAwaited(Reg),
-    /// Store or return: the register that an earlier instruction has still to read.
+    /// Store or return: the register that an earlier instruction has not yet read.
     ResultHeld(Reg),
-    /// Store: a reference in range, and all four places of the hopper are taken.
+    /// Store: the reference is in range, and all four places of the hopper are taken.
     HopperFull,
-    /// Store: an earlier reference hasn't come to its store event.
+    /// Store: an earlier reference has not yet had its store event.
     OutOfTurn,
     /// Accept: the bank is busy.
     BankBusy(u8),
-    /// Accept: an older reference to the address waits, and one of the two stores.
+    /// Accept: an older reference to the same address waits, and one of the two stores.
     OlderAtAddress,
-    /// There is nothing that the event could act on.
+    /// The event has nothing to act on.
     Nothing,
-    /// A token that doesn't match the slot that it names.
+    /// A token that doesn't match the slot it names.
     Stranger,
-    /// Ask: a request waits already.
+    /// Ask: another request is waiting.
     ExchangeBusy,
     /// Exchange or snapshot: the machine isn't drained.
     NotDrained,
-    /// The sixteen words of the package don't lie in memory.
+    /// The sixteen words of the package aren't all in memory.
     PackageRange,
     /// A line of the deck or the schedule is refused; lines are numbered from 1.
     Deck { line: u32, fault: DeckFault },
@@ -113,15 +113,15 @@ pub enum Refusal {
     OutOfMemory,
     /// A read failed.
     Read,
-    /// A write or a flush failed, or a write took nothing of a piece that wasn't empty.
+    /// A write or a flush failed, or a write took no bytes of a nonempty piece.
     Write,
     /// A memory size that isn't 32 to 131,072 words.
     MemorySize,
-    /// Exchange: the machine runs without fault in the middle of a word.
+    /// Exchange: the program is in the middle of a word, and the machine has neither halted nor faulted.
     MidWord,
-    /// Peripheral access: a reference hasn't come to its store event, or one that entered waits for the word.
+    /// Peripheral access: a reference has not yet had its store event, or a reference in the hopper waits for the word.
     PeripheralWait,
-    /// Peripheral access: the address doesn't lie in memory.
+    /// Peripheral access: the address isn't in memory.
     PeripheralRange,
 }
 
@@ -129,7 +129,7 @@ impl Refusal {
     ghost use Rattle.std.specs.Prelude.{◌≡◌};
     ghost use Rattle.instructions.specs.Refusals.{label_of};
 
-    /// Its number and what it says. Where it names something a space ends it, since the name follows.
+    /// The number and the text of the refusal. The text ends in a space if a name follows it.
     pub fn label(&self) -> &'static str
         ensures { result.now ≡ label_of self.now }
     {
@@ -165,8 +165,8 @@ impl Refusal {
     }
 }
 
-/// The label, and for a line that is refused its number and its fault. The names that end some labels are written with
-/// the answers of a schedule, in `job_deck`.
+/// Writes the label and, for a refused line, its number and its fault. `job_deck` writes the names that follow some
+/// labels, with the answers of a schedule.
 impl Display for Refusal {
     fn fmt<W: Write>(&self, f: &mut Formatter<W>) -> fmt::Result {
         f.write_str(self.label())?;

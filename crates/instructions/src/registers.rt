@@ -18,7 +18,7 @@ impl Default for Reg {
     }
 }
 
-/// The kind of unit that an instruction is issued to; a pass or a stop has none.
+/// The kind of unit that an instruction is issued to, or `None` for a pass or a stop.
 pub fn unit_kind(instr: &Instr) -> Option<UnitKind>
     ensures { result ≡ (uses instr.now).unit }
 {
@@ -40,7 +40,7 @@ pub fn unit_kind(instr: &Instr) -> Option<UnitKind>
     }
 }
 
-/// The registers that an instruction sets: at most two, A before X, and never B0.
+/// The registers that an instruction sets: at most two, A before X, never B0.
 pub fn results(instr: &Instr) -> ArrayVec<Reg, 2>
     ensures uses { result.items ≡ (uses instr.now).results }
     ensures shape { result.items ≡ results_of_shape (shape_of instr.now) }
@@ -91,14 +91,14 @@ impl Pair {
     }
 }
 
-/// Whether two names are of one register.
+/// Whether the two are the same register.
 fn is_same(left: Reg, right: Reg) -> bool
     ensures { result ≡ reg_eq left right }
 {
     left == right
 }
 
-/// Adds a register that is not there yet and is not B0, if there is one.
+/// Adds a register, if there is one, unless the list has it or it is B0.
 fn add(sources: &mut ArrayVec<Reg, 3>, register: Option<Reg>)
     requires { array_vec_len sources.old < 3 }
     ensures items { sources.new.items ≡ with_source sources.old.items register }
@@ -113,14 +113,14 @@ fn add(sources: &mut ArrayVec<Reg, 3>, register: Option<Reg>)
     }
 }
 
-/// The registers that an instruction reads, by their parts in it. None stands for an absent operand.
+/// The registers that an instruction reads, by role. `None` means that the instruction has no such operand.
 #[derive(Clone, Copy, Debug, PartialEq, Eq)]
 pub struct OperandRegisters {
     /// The left operand, or the only one.
     pub first: Option<Reg>,
     /// The right operand.
     pub second: Option<Reg>,
-    /// Xi, which SA6 and SA7 store.
+    /// Xi of SA6 or SA7, which the instruction stores.
     pub outgoing: Option<Reg>,
 }
 
@@ -148,7 +148,7 @@ pub fn operand_registers(instr: &Instr) -> OperandRegisters
             Addends::Registers { pair, j, k } => (Some(pair.register(j)), Some(Reg::B(k))),
         },
     };
-    // A store, SA6 or SA7, sends Xi.
+    // A store, SA6 or SA7, reads Xi for memory.
     let outgoing = match *instr {
         Instr::Increment { target, i, .. } => match target.memory(i) {
             Some(MemoryUse::Stores(_)) => Some(Reg::X(i)),
@@ -163,8 +163,8 @@ pub fn operand_registers(instr: &Instr) -> OperandRegisters
     }
 }
 
-/// The registers that an instruction reads, at most three, each once and never B0: the operands, and then what a
-/// store sends.
+/// The registers that an instruction reads: its operands, then the register that a store sends to memory. At most
+/// three, each once, never B0.
 pub fn sources(instr: &Instr) -> ArrayVec<Reg, 3>
     ensures { result.items ≡ sources_of instr.now }
 {

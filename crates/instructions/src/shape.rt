@@ -4,20 +4,20 @@ ghost use Rattle.instructions.specs.Shape.{memory_by};
 
 use crate::{Digit, Instr, Reg, Target};
 
-/// What the reference of an instruction does (Control Data 60100000, increment unit and return jump).
+/// The reference that an instruction makes (Control Data 60100000, increment unit and return jump).
 #[derive(Clone, Copy, Debug, PartialEq, Eq)]
 pub enum MemoryUse {
-    /// SA1 to SA5: it loads the X register of this number.
+    /// SA1 to SA5: loads the X register of this number.
     Loads(Digit),
-    /// SA6 and SA7: it stores the X register of this number.
+    /// SA6 and SA7: stores the X register of this number.
     Stores(Digit),
-    /// RJ: it stores the link word.
+    /// RJ: stores the link word.
     Links,
 }
 
 impl Target {
-    /// What the reference of an increment instruction that sets register `i` does, if it makes one. No other function
-    /// decides which of SA0 to SA7 load and which store.
+    /// The reference of an increment instruction that sets register `i`, if it makes one. This function alone decides
+    /// which of SA0 to SA7 load and which store.
     #[inline(always)]
     pub fn memory(self, i: Digit) -> Option<MemoryUse>
         ensures { result ≡ memory_by self i }
@@ -34,7 +34,7 @@ impl Target {
 }
 
 impl Instr {
-    /// Whether it is a branch: it jumps, or may jump.
+    /// Whether the instruction is a branch: it jumps, or may jump.
     #[tactic(auto, unfolding(crate::specs::Shape::shape_of, crate::specs::Shape::is_branch_shape))]
     #[inline(always)]
     pub fn is_branch(&self) -> bool
@@ -49,7 +49,7 @@ impl Instr {
         }
     }
 
-    /// What its reference to memory does, if it makes one: SA1 to SA7 and RJ do.
+    /// The reference that the instruction makes to memory. SA1 to SA7 and RJ make one.
     #[tactic(auto, unfolding(crate::specs::Shape::shape_of, crate::specs::Shape::memory_of))]
     #[inline(always)]
     pub fn memory(&self) -> Option<MemoryUse>
@@ -62,7 +62,7 @@ impl Instr {
         }
     }
 
-    /// Whether it makes a reference to memory: SA1 to SA7 and RJ.
+    /// Whether the instruction refers to memory: SA1 to SA7 and RJ do.
     #[tactic(auto, using(crate::proofs::MemoryUses::reference_used))]
     #[inline(always)]
     pub fn has_reference(&self) -> bool
@@ -71,7 +71,7 @@ impl Instr {
         self.memory().is_some()
     }
 
-    /// Whether it writes memory: SA6, SA7 and RJ.
+    /// Whether the instruction writes memory: SA6, SA7 and RJ do.
     pub fn has_store(&self) -> bool
         ensures { result ≡ has_store (shape_of self.now) }
     {
@@ -83,7 +83,8 @@ impl Instr {
         }
     }
 
-    /// The register that it writes at its store event, if there is one: its result, except the X register of a load.
+    /// The register that the instruction writes at its store event, if there is one: its result, except the X register
+    /// of a load.
     #[tactic(auto, unfolding(crate::specs::Shape::shape_of, crate::specs::Shape::sets_of))]
     #[inline(always)]
     pub fn sets(&self) -> Option<Reg>

@@ -11,12 +11,12 @@ pub struct RegisterFile {
     pub x: [Word60; 8],
     /// A0 to A7.
     pub a: [Word18; 8],
-    /// B1 to B7; B0 is no part of it, since it is always +0.
+    /// B1 to B7. B0 isn't stored, because it is always +0.
     pub b: [Word18; 7],
 }
 
 impl RegisterFile {
-    /// What a register holds; A and B registers stand in the low 18 bits.
+    /// The content of a register. A and B registers are in the low 18 bits.
     #[tactic(auto, unfolding(crate::specs::Registers::get))]
     #[inline(always)]
     pub fn get(&self, register: Reg) -> Word60
@@ -32,7 +32,7 @@ impl RegisterFile {
         }
     }
 
-    /// Writes a register: the low 18 bits into A and B registers, and nothing into B0.
+    /// Writes a register. An A or B register takes the low 18 bits of the word, and B0 doesn't change.
     #[tactic(auto, unfolding(crate::specs::Registers::put))]
     #[inline(always)]
     pub fn set(&mut self, register: Reg, word: Word60)

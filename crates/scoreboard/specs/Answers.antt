@@ -1,5 +1,5 @@
--- What a board answers, and what it is after a change, by the list of the issued instructions in the order of their
--- numbers.
+-- The results of a board's calls and the board after each change, in terms of the list of the issued instructions in
+-- the order of their numbers.
 -- Source: Thornton, scoreboard; 60100000, unit and register conflicts.
 use Rattle.std.specs.Prelude.{ℕ, suc, Bool, true, false, ◌&&◌, ◌==◌, if◌then◌else◌, List, [], ◌∷◌, ◌++◌, Option, Some}
 use Rattle.std.specs.Prelude.{None, Result, Ok, Err}
@@ -21,32 +21,32 @@ use Rattle.scoreboard.specs.Conflicts.{out_of_turn}
 use Rattle.scoreboard.specs.declared.issued.Issued.{Issued}
 use Rattle.scoreboard.specs.Issued.{reservation_of, channel_of}
 
--- what a board stands for
+-- a board, as contracts see it
 pub record Standing : Type 0 where
-  -- those that hold a unit, and the loads still to return, in issue order
+  -- the instructions that hold a unit, and the loads still to return, in issue order
   pub issued : List Issued
   -- the number of the last reservation
   pub last : ℕ
 
--- ---- which is meant ----
+-- ---- the instruction that a call is about ----
 
--- the instruction of the one that holds the unit
+-- the instruction, if it holds the unit
 unfoldable pub held_in : FunctionalUnit → Issued → Option Instr
 held_in unit x = if holds unit x.reservation then Some x.reservation.instr else None
 
--- in that occupancy a load has still to return through the channel
+-- an instruction in this occupancy is a load still to return through the channel
 unfoldable pub returns_in : ℕ → Occupancy → Bool
 returns_in n (Reserved has_read) = false
 returns_in n (Left None) = false
 returns_in n (Left (Some m)) = m == n
 
--- the instruction of the load that has still to return through the channel
+-- the instruction, if it is a load still to return through the channel
 unfoldable pub returning_by : ℕ → Issued → Option Instr
 returning_by n x = if returns_in n x.reservation.occupancy then Some x.reservation.instr else None
 
 -- ---- the conflicts ----
 
--- the refusal where it applies; else the event may be made
+-- the refusal if it applies; otherwise the event may be made
 abbrev pub unless : Bool → Refusal → Result (Unit {0}) Refusal
 unless refused refusal = if refused then Err refusal else Ok tt
 
@@ -57,26 +57,25 @@ read_answer (Some f) =
     unless (operand_awaited reservation_of f.earlier (sources_of f.answer))
     (OperandAwaited (first_such (awaited reservation_of f.earlier) (sources_of f.answer)))
 
--- E10, result held (third order): an earlier instruction has still to read what the store event writes
+-- E10, result held (third order): an earlier instruction has yet to read a register that the store event writes
 unfoldable pub store_answer : Option (Found Issued Instr) → Result (Unit {0}) Refusal
 store_answer None = Ok tt
 store_answer (Some f) =
     unless (result_held reservation_of f.earlier (sets_of (shape_of f.answer)))
     (ResultHeld (first_such (to_be_read reservation_of f.earlier) (sets_of (shape_of f.answer))))
 
--- E10, result held (third order): an earlier instruction has still to read the X register that the load's return
--- writes
+-- E10, result held (third order): an earlier instruction has yet to read the X register that the load's return writes
 unfoldable pub return_answer : ℕ → Option (Found Issued Instr) → Result (Unit {0}) Refusal
 return_answer n None = Ok tt
 return_answer n (Some f) = unless (to_be_read reservation_of f.earlier (X n)) (ResultHeld (X n))
 
--- E12, out of turn: it makes a reference, and an earlier reference has not come to its store event
+-- E12, out of turn: the instruction makes a reference, and an earlier reference has not yet had its store event
 unfoldable pub turn_answer : Option (Found Issued Instr) → Result (Unit {0}) Refusal
 turn_answer None = Ok tt
 turn_answer (Some f) = unless (has_reference (shape_of f.answer) && out_of_turn reservation_of f.earlier) OutOfTurn
 
--- first order: E7, unit busy, where no unit of the kind is free; E8, result reserved, where a result register is a
--- result still to come; else the unit and the next number
+-- first order: E7, unit busy, if no unit of the kind is free; E8, result reserved, if a result register is a result
+-- still to come; otherwise the unit and the next number
 unfoldable pub reserve_answer : Standing → Instr → Option FunctionalUnit → Result (FunctionalUnit × ℕ) Refusal
 reserve_answer s i None = Err (UnitBusy (first_unit (uses i).unit))
 reserve_answer s i (Some unit) =
@@ -86,34 +85,34 @@ reserve_answer s i (Some unit) =
 
 -- ---- the changes ----
 
--- a new reservation: it holds its unit and has still to read its operands
+-- a new reservation: it holds its unit and has yet to read its operands
 unfoldable pub new_issued : Instr → FunctionalUnit → ℕ → Issued
 new_issued i unit number =
     record { number = number; reservation = record { instr = i; unit = unit; occupancy = Reserved false } }
 
--- the board after an issue: it has one reservation more, or is as it was where the issue was refused
+-- the board after an issue: it has one more reservation, or is unchanged if the issue was refused
 unfoldable pub reserved : Standing → Instr → Result (FunctionalUnit × ℕ) Refusal → Standing
 reserved s i (Err refusal) = s
 reserved s i (Ok (unit, number)) = record { issued = s.issued ++ new_issued i unit number ∷ []; last = number }
 
--- the same instruction, which has come so far
+-- the same instruction in another occupancy
 unfoldable pub in_occupancy : Issued → Occupancy → Issued
 in_occupancy x occupancy = record x { reservation = record x.reservation { occupancy = occupancy } }
 
--- its operands are read
+-- the instruction after it has read its operands
 unfoldable pub read : Issued → List Issued
 read x = in_occupancy x (Reserved true) ∷ []
 
--- what the board has of it after its store event: a load with its channel, or nothing
+-- the board's entry for an instruction after its store event: a load with its channel, or nothing
 unfoldable pub left_with : Issued → Option ℕ → List Issued
 left_with x None = []
 left_with x (Some n) = in_occupancy x (Left (Some n)) ∷ []
 
--- it has left its unit: a load is still to return
+-- the instruction after it has left its unit; a load has yet to return
 unfoldable pub left : Issued → List Issued
 left x = left_with x (channel_of (shape_of x.reservation.instr))
 
--- its load has returned, and the board has nothing more of it
+-- the instruction after its load has returned: the board has no entry for it
 unfoldable pub gone : Issued → List Issued
 gone x = []
 

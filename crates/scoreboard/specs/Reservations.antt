@@ -1,4 +1,4 @@
--- One issued instruction: what it has still to write and to read, and what it holds.
+-- One issued instruction: the registers that it has yet to write and to read, and the unit that it holds.
 -- Source: Thornton, scoreboard; 60100000, unit and register conflicts.
 use Rattle.std.specs.Prelude.{ℕ, Bool, true, false, not, ◌&&◌, List, [], ◌∷◌, Option, Some, None}
 use Rattle.instructions.specs.declared.instr.Reg.{Reg}
@@ -12,56 +12,56 @@ use Rattle.scoreboard.specs.declared.reservation.Reservation.{Reservation}
 use Rattle.instructions.specs.RegisterLists.{is_in}
 use Rattle.scoreboard.specs.Units.{same_unit}
 
--- it holds its unit
+-- the instruction holds its unit
 unfoldable pub is_reserved : Occupancy → Bool
 is_reserved (Reserved has_read) = true
 is_reserved (Left returning) = false
 
--- the X register of this number, to which a load has still to return, if there is one
+-- the X register of this number, which a load is still to write, if there is one
 unfoldable pub returning_to : Option ℕ → List Reg
 returning_to None = []
 returning_to (Some n) = X n ∷ []
 
--- the results still to come: all of them while the unit is held, then the X register of a load that has to return
+-- the results still to come: all of them while the unit is held, then only the X register of a load
 unfoldable pub to_come_in : Shape → Occupancy → List Reg
 to_come_in shape (Reserved has_read) = results shape
 to_come_in shape (Left returning) = returning_to returning
 
--- its results still to come
+-- the results still to come of the instruction
 unfoldable pub to_come : Reservation → List Reg
 to_come reservation = to_come_in (shape_of reservation.instr) reservation.occupancy
 
--- the operands that are still to be read: all of them before the read, none after it
+-- the operands still to be read: all of them before the read, none after it
 unfoldable pub reads_in : List Reg → Occupancy → List Reg
 reads_in sources (Reserved false) = sources
 reads_in sources (Reserved true) = []
 reads_in sources (Left returning) = []
 
--- the operands that it has still to read
+-- the operands that the instruction has yet to read
 unfoldable pub reads : Reservation → List Reg
 reads reservation = reads_in (sources_of reservation.instr) reservation.occupancy
 
--- a register is one of its results still to come
+-- the register is a result still to come of the instruction
 unfoldable pub comes : Reg → Reservation → Bool
 comes register reservation = is_in (to_come reservation) register
 
--- a register is one of the operands that it has still to read
+-- the register is an operand that the instruction has yet to read
 unfoldable pub reads_it : Reg → Reservation → Bool
 reads_it register reservation = is_in (reads reservation) register
 
--- it holds this unit
+-- the instruction holds this unit
 unfoldable pub holds : Unit → Reservation → Bool
 holds unit reservation = same_unit reservation.unit unit && is_reserved reservation.occupancy
 
--- it is a branch that holds its unit
+-- the instruction is a branch that holds its unit
 unfoldable pub is_branch : Reservation → Bool
 is_branch reservation = is_reserved reservation.occupancy && is_branch_shape (shape_of reservation.instr)
 
--- it has a reference that has not come to its store event
+-- the instruction makes a reference that has not yet had its store event
 unfoldable pub has_turn : Reservation → Bool
 has_turn reservation = is_reserved reservation.occupancy && has_reference (shape_of reservation.instr)
 
--- it is an SA6 or SA7 that has not come to its store event
+-- the instruction is an SA6 or SA7 that has not yet had its store event
 unfoldable pub has_store_turn : Reservation → Bool
 has_store_turn reservation =
     (is_reserved reservation.occupancy && has_store (shape_of reservation.instr))

@@ -10,7 +10,7 @@ use Rattle.instructions.specs.declared.instr.UnitKind.TheVariants.{Branch as Bra
 use Rattle.instructions.specs.declared.instr.UnitKind.TheVariants.{Shift as ShiftKind, LongAdd as LongAddKind}
 use Rattle.instructions.specs.declared.instr.UnitKind.TheVariants.{Divide as DivideKind, Increment as IncrementKind}
 
--- the number of a unit, from 0 for Branch to 9 for Increment 2
+-- the number of a unit, 0 for Branch to 9 for Increment 2
 abbrev pub unit_number : Unit → ℕ
 unit_number Branch = 0
 unit_number Boolean = 1
@@ -23,7 +23,7 @@ unit_number Divide = 7
 unit_number Increment1 = 8
 unit_number Increment2 = 9
 
--- two units are one: they have the same number
+-- the two are the same unit: they have the same number
 unfoldable pub same_unit : Unit → Unit → Bool
 same_unit unit other = unit_number unit == unit_number other
 
@@ -41,12 +41,12 @@ unfoldable pub may_take : Option UnitKind → Unit → Bool
 may_take None unit = false
 may_take (Some kind) unit = list_any (same_unit unit) (units_of kind)
 
--- the first of the units (Branch where there is none)
+-- the first of the units, or Branch if there is none
 unfoldable pub head_unit : List Unit → Unit
 head_unit [] = Branch
 head_unit (u ∷ us) = u
 
--- the unit that E7, unit busy, names: the lower-numbered one of the kind (Branch for an instruction that takes no
+-- the unit that E7, unit busy, names: the lower-numbered unit of the kind (Branch for an instruction that takes no
 -- unit)
 unfoldable pub first_unit : Option UnitKind → Unit
 first_unit None = Branch

@@ -1,3 +1,3 @@
--- What ties the fields of the code to the definitions that a reader checks. Source: ours.
+-- The relation between the fields of the code and the definitions that a reader checks. Source: ours.
 pub mod View
 pub mod Fields

@@ -1,4 +1,4 @@
-//! The board: reservations, conflicts between them, and their way through the fields.
+//! The board: the reservations, the conflicts between them, and the updates of the fields.
 
 ghost use Rattle.std.specs.Prelude.{◌≡◌, ◌<◌, ◌+◌, ◌^◌, [], is_some};
 ghost use Rattle.std.specs.List.{list_any};
@@ -16,24 +16,23 @@ use crate::{Issued, Occupancy, Reservation, Writer, Writers};
 use instructions::{Digit, Instr, MemoryUse, Refusal, Reg, Unit, results, sources};
 use std::marker::Model;
 
-/// Which instructions hold a unit or have a load still to return, and who will write which register (Thornton,
+/// The instructions that hold a unit or have a load still to return, and the writer of each register (Thornton,
 /// scoreboard). All of it is kept by unit, by register and by load channel; docs/scoreboard.md has the fields.
 ///
-/// In contracts a board is the list of these instructions in issue order, with the number of the last
-/// reservation. A call about a unit that nobody holds, or a channel that is empty, finds no conflict and changes
-/// nothing.
+/// In contracts a board is the list of these instructions in issue order, with the number of the last reservation. A
+/// call about a free unit, or about an empty channel, finds no conflict and changes nothing.
 #[derive(Drop)]
 pub struct Board {
-    /// By the number of the unit: the instruction that holds it.
+    /// The instruction that holds each unit, by the number of the unit.
     units: [Option<Issued>; 10],
-    /// By the number of the unit: who, among those issued earlier, is still to write each of the up to three sources of
-    /// its instruction. For a free unit this means nothing.
+    /// By the number of the unit: the earlier instruction that is still to write each of the up to three sources of the
+    /// unit's instruction. The entry of a free unit has no meaning.
     producers: [[Option<Writer>; 3]; 10],
-    /// By the number of the X register: the load that has left its unit and has still to return.
+    /// The load that has left its unit and has yet to return, by the number of its X register.
     channels: [Option<Issued>; 8],
-    /// By register: who is to write it.
+    /// The writer of each register.
     writers: Writers,
-    /// The number of the last reservation, 0 before the first. Numbers are never given twice.
+    /// The number of the last reservation, 0 before the first. No number is used twice.
     last: u64,
 }
 
@@ -49,7 +48,7 @@ impl Model for Board {
     ghost invariant = { λ b. IsRight b.units b.channels b.producers b.writers b.last };
 }
 
-/// The number of the channel, as a digit.
+/// The number of a channel as a digit.
 fn digit(channel: u8) -> Digit
     requires { channel < 8 }
     ensures { result ≡ channel }
@@ -58,7 +57,7 @@ fn digit(channel: u8) -> Digit
 }
 
 impl Board {
-    /// A board on which nothing was reserved yet. The first reservation has the number 1.
+    /// A board without reservations. The first reservation has the number 1.
     pub fn new() -> Board
         ensures { result ≡ record { issued = []; last = 0 } }
     {
@@ -74,13 +73,13 @@ impl Board {
         }
     }
 
-    /// First order: reserves the lower-numbered free unit of the instruction's kind, and answers it with the
-    /// number of the reservation, which is one more than the last. A refusal changes nothing (Control Data
-    /// 60100000, unit and register conflicts; that the lower-numbered unit is taken is this project's choice).
+    /// First order: reserves the lower-numbered free unit of the instruction's kind. Returns the unit and the number of
+    /// the reservation, which is one more than the last. A refusal changes nothing (Control Data 60100000, unit and
+    /// register conflicts; that the lower-numbered unit is taken is this project's choice).
     ///
     /// # Errors
-    /// `UnitBusy` where no unit of the kind is free, with the lower-numbered one; else `ResultReserved` with the
-    /// first of its result registers, A before X, that somebody is to write.
+    /// `UnitBusy` if no unit of the kind is free; it names the lower-numbered unit. Otherwise `ResultReserved` if an
+    /// issued instruction is still to write one of the result registers; it names the first of them, A before X.
     pub fn try_reserve(&mut self, instr: &Instr) -> Result<(Unit, u64), Refusal>
         requires { self.old.last + 1 < 2 ^ 64 }
         ensures answer { result ≡ reserve_answer self.old instr.now
@@ -121,11 +120,11 @@ impl Board {
     }
 
     /// Second order: whether the instruction in the unit may read its operands, all at once (which is this project's
-    /// choice). It waits for earlier instructions alone, not for itself or a later one.
+    /// choice). It waits only for earlier instructions, not for itself or for later instructions.
     ///
     /// # Errors
-    /// `OperandAwaited` with the first of its sources, in the instruction table's order, that is a result still
-    /// to come of an earlier instruction.
+    /// `OperandAwaited` if a source is a result still to come of an earlier instruction. It names the first such source
+    /// in the instruction table's order.
     pub fn may_read(&self, unit: Unit) -> Result<(), Refusal>
         ensures { result ≡ read_answer (seek (held_in unit) self.now.issued) }
     {
@@ -143,7 +142,7 @@ impl Board {
         ) {
             return Ok(());
         }
-        // Only a refusal has to know which sources they are.
+        // The sources themselves are needed only for a refusal.
         let sources = sources(&issued.reservation.instr);
         match sources
             .as_slice()
@@ -156,11 +155,12 @@ impl Board {
         }
     }
 
-    /// Third order: whether the instruction in the unit may come to its store event and write its result. This doesn't
-    /// look at a load's X register, since the return of the load writes it.
+    /// Third order: whether the instruction in the unit may have its store event and write its result. A load's X
+    /// register doesn't count, because the return of the load writes it.
     ///
     /// # Errors
-    /// `ResultHeld` with the first of these registers that an earlier instruction has still to read.
+    /// `ResultHeld` if an earlier instruction has yet to read a register that the store event writes. It names the
+    /// first such register.
     #[tactic(auto, unfolding(crate::specs::inner::Fields::slot_reads))]
     pub fn may_store(&self, unit: Unit) -> Result<(), Refusal>
         ensures { result ≡ store_answer (seek (held_in unit) self.now.issued) }
@@ -191,11 +191,11 @@ impl Board {
         }
     }
 
-    /// Third order for the load in a channel: whether it may return and write the X register of the channel's
-    /// number, 0 to 7 (loads use 1 to 5).
+    /// Third order for the load in a channel: whether it may return and write the X register of the channel's number, 0
+    /// to 7 (loads use 1 to 5).
     ///
     /// # Errors
-    /// `ResultHeld` with that register, where an earlier instruction has still to read it.
+    /// `ResultHeld` with that register, if an earlier instruction has yet to read it.
     #[tactic(auto, unfolding(crate::specs::inner::Fields::slot_reads))]
     pub fn may_return(&self, channel: u8) -> Result<(), Refusal>
         requires { channel < 8 }
@@ -224,11 +224,11 @@ impl Board {
         }
     }
 
-    /// The turn of references: whether the instruction in the unit makes none, or all earlier ones have come to
-    /// their store events. SA1 to SA7 and RJ make references. That they keep this turn is this project's choice.
+    /// The turn of references: whether the instruction in the unit makes no reference, or all earlier references have
+    /// had their store events. SA1 to SA7 and RJ make references. The turn is this project's choice.
     ///
     /// # Errors
-    /// `OutOfTurn`.
+    /// `OutOfTurn` if an earlier reference has not yet had its store event.
     #[tactic(auto, unfolding(crate::specs::inner::Fields::slot_has_turn))]
     pub fn in_turn(&self, unit: Unit) -> Result<(), Refusal>
         ensures { result ≡ turn_answer (seek (held_in unit) self.now.issued) }
@@ -259,29 +259,28 @@ impl Board {
         }
     }
 
-    /// Whether a branch was issued that hasn't come to its store event. While Branch is held the caller issues nothing;
-    /// that is this project's choice.
+    /// Whether an issued branch has yet to have its store event. While Branch is held, the caller issues nothing; that
+    /// is this project's choice.
     pub fn is_branch_held(&self) -> bool
         ensures { result ≡ list_any (λ x. is_branch x.reservation) self.now.issued }
     {
-        // Branch takes no other instructions than branches.
+        // Only branches are issued to Branch.
         self.units[Unit::Branch as usize].is_some()
     }
 
-    /// Whether an instruction was issued whose reference hasn't come to its store event.
+    /// Whether an issued reference has yet to have its store event.
     pub fn has_reference_to_come(&self) -> bool
         ensures { result ≡ list_any (λ x. has_turn x.reservation) self.now.issued }
     {
         any_reference(&self.units)
     }
 
-    /// Whether an SA6 or SA7 was issued that hasn't come to its store event. A return jump isn't counted: it
-    /// holds Branch.
+    /// Whether an issued SA6 or SA7 has yet to have its store event. A return jump doesn't count: it holds Branch.
     #[tactic(auto, unfolding(crate::specs::inner::Fields::slot_is))]
     pub fn has_store_to_come(&self) -> bool
         ensures { result ≡ list_any (λ x. has_store_turn x.reservation) self.now.issued }
     {
-        // Only the Increment units take such instructions.
+        // Only the Increment units take SA6 and SA7.
         let has_store = |slot: &Option<Issued>|
             ensures { result ≡ slot_is has_store_turn slot.now }
         {
@@ -294,7 +293,7 @@ impl Board {
             || has_store(&self.units[Unit::Increment2 as usize])
     }
 
-    /// The instruction in the unit has read its operands. The caller asks first whether it may.
+    /// Records that the instruction in the unit has read its operands. The caller first asks `may_read`.
     pub fn mark_read(&mut self, unit: Unit)
         ensures { self.new ≡ with_issued self.old
             (replaced (seek (held_in unit) self.old.issued) self.old.issued read) }
@@ -305,8 +304,8 @@ impl Board {
         }
     }
 
-    /// The instruction in the unit has come to its store event. The unit is free, and nobody waits for it any longer; a
-    /// load goes to the channel of its X register. The caller asks first whether it may.
+    /// Records the store event of the instruction in the unit. The unit is free then, and no instruction waits for it
+    /// to write. A load moves to the channel of its X register. The caller first asks `may_store` and `in_turn`.
     pub fn release(&mut self, unit: Unit)
         ensures { self.new ≡ with_issued self.old
             (replaced (seek (held_in unit) self.old.issued) self.old.issued left) }
@@ -318,7 +317,7 @@ impl Board {
         };
         self.units[index] = None;
         let instr = &issued.reservation.instr;
-        // The unit is entered as the writer of this register alone.
+        // The unit is the writer of no other register.
         self.writers.set(instr.sets(), None);
         if let Instr::Increment { target, i, .. } = *instr
             && let Some(MemoryUse::Loads(_)) = target.memory(i)
@@ -327,14 +326,14 @@ impl Board {
             load.reservation.occupancy = Occupancy::Left { returning: Some(i) };
             self.channels[usize::from(i.get())] = Some(load);
         }
-        // Nobody was issued after the last one, so nobody waits for it.
+        // No instruction was issued after the last one, so none waits for it.
         if issued.number != self.last {
             forget_in_taken(&self.units, &mut self.producers, &Writer::OfUnit(unit));
         }
     }
 
-    /// The load in the channel has returned, and nobody waits for it any longer. Channels are numbered from 0 to 7, as
-    /// X registers are. The caller asks first whether it may.
+    /// Records the return of the load in the channel. The channel is empty then, and no instruction waits for it to
+    /// write. Channels have the numbers of their X registers, 0 to 7. The caller first asks `may_return`.
     pub fn returned(&mut self, channel: u8)
         requires { channel < 8 }
         ensures { self.new ≡ with_issued self.old
@@ -347,7 +346,7 @@ impl Board {
         };
         let number = digit(channel);
         self.channels[index] = None;
-        // The channel is entered as the writer of this register alone.
+        // The channel is the writer of no other register.
         self.writers.set(Some(Reg::X(number)), None);
         if issued.number != self.last {
             forget_in_taken(&self.units, &mut self.producers, &Writer::OfChannel(number));

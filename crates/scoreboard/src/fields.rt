@@ -1,5 +1,5 @@
-//! Questions to the fields of a board, and how an issue and a store event change the fields. A slot is the field of one
-//! unit.
+//! The board's queries of its fields, and changes of the fields by a store event or a return. A slot is the field of
+//! one unit.
 
 ghost use Rattle.std.specs.Prelude.{◌≡◌, ◌≤◌, ◌||◌, length};
 ghost use Rattle.instructions.specs.declared.instr.Unit.TheVariants.{Branch};
@@ -13,8 +13,7 @@ use crate::writer::forget_in;
 use crate::{Issued, Writer};
 use instructions::{Instr, Unit, UnitKind, unit_kind};
 
-/// Whether an instruction has a reference that hasn't come to its store event. Only Branch and the Increment units take
-/// such instructions.
+/// Whether an issued reference has yet to have its store event. Only Branch and the Increment units take references.
 #[tactic(auto, unfolding(crate::specs::inner::Fields::slot_is))]
 pub(crate) fn any_reference(units: &[Option<Issued>]) -> bool
     requires { length units.now ≡ 10 }
@@ -29,7 +28,8 @@ pub(crate) fn any_reference(units: &[Option<Issued>]) -> bool
         || refers(&units[Unit::Increment2 as usize])
 }
 
-/// The lower-numbered free unit of the instruction's kind, None where it takes no unit or none of its kind is free.
+/// The lower-numbered free unit of the instruction's kind. `None` if the instruction takes no unit or no unit of its
+/// kind is free.
 #[tactic(auto, unfolding(crate::proofs::Opened::free_of_kind))]
 pub(crate) fn free_unit(units: &[Option<Issued>], instr: &Instr) -> Option<Unit>
     requires { length units.now ≡ 10 }
@@ -51,7 +51,7 @@ pub(crate) fn free_unit(units: &[Option<Issued>], instr: &Instr) -> Option<Unit>
     }
 }
 
-/// The lower-numbered unit of an instruction's kind, Branch where it takes no unit.
+/// The lower-numbered unit of an instruction's kind, or Branch if the instruction takes no unit.
 #[tactic(auto, unfolding(crate::proofs::Opened::first_of_kind))]
 pub(crate) fn first_unit(instr: &Instr) -> Unit
     ensures { result ≡ first_unit (uses instr.now).unit }
@@ -67,8 +67,8 @@ pub(crate) fn first_unit(instr: &Instr) -> Unit
     }
 }
 
-/// No instruction in a unit waits for the writer any longer, for it has written. The producers of a free unit are
-/// not looked at.
+/// Removes a writer that has written from the producers of every held unit. The producers of a free unit aren't looked
+/// at.
 pub(crate) fn forget_in_taken(
     units: &[Option<Issued>],
     producers: &mut [[Option<Writer>; 3]],

@@ -3,8 +3,8 @@ use crate::Reservation;
 /// An issued instruction with the number of its reservation.
 #[derive(Clone, Copy, Debug, Drop, PartialEq, Eq)]
 pub struct Issued {
-    /// From 1, in issue order; no two have the same.
+    /// The number of the reservation, from 1 in issue order. No two are the same.
     pub number: u64,
-    /// What was issued, to which unit, and how far it has come.
+    /// The instruction, its unit, and its progress.
     pub reservation: Reservation,
 }

@@ -1,13 +1,13 @@
-//! The scoreboard: what issued instructions have still to read and to write, and which units they
-//! hold (Thornton, scoreboard; Control Data 60100000, register and unit conflicts).
+//! The scoreboard: the registers that issued instructions have yet to read and to write, and the units that they hold
+//! (Thornton, scoreboard; Control Data 60100000, register and unit conflicts).
 //!
-//! `Reservation` is one issued instruction by itself. `Board` keeps all of them in fixed fields, by
-//! unit, register and load channel, and judges the three orders of conflict (docs/scoreboard.md).
+//! `Reservation` is one issued instruction by itself. `Board` keeps all of them in fixed fields, by unit, register and
+//! load channel, and judges the three orders of conflict (docs/scoreboard.md).
 //!
-//! Callers rely on `Board::try_reserve`, `may_read`, `may_store` and `may_return`: each refuses exactly where
-//! `specs/Conflicts` finds a conflict in the list of the issued instructions. `fields` has what it asks of its fields.
-//! Its tests are in `crates/core_tests/src/board_tests.rt` and `crates/core_tests/src/reservation_tests.rt`. Begin with
-//! `Board` in `board`.
+//! Callers rely on `Board::try_reserve`, `may_read`, `may_store` and `may_return`: each refuses exactly if
+//! `specs/Conflicts` finds a conflict in the list of the issued instructions. `fields` has the board's queries of its
+//! fields. The tests are in `crates/core_tests/src/board_tests.rt` and `crates/core_tests/src/reservation_tests.rt`.
+//! Begin with `Board` in `board`.
 #![tactic(auto)]
 
 mod board;

@@ -7,17 +7,17 @@ ghost use Rattle.instructions.specs.RegisterLists.{is_in};
 use arrayvec::ArrayVec;
 use instructions::{Digit, Instr, Reg, Unit, results, sources};
 
-/// How far the scoreboard has seen an issued instruction come.
+/// The progress of an issued instruction, as the scoreboard sees it.
 #[derive(Clone, Copy, Debug, Drop, PartialEq, Eq)]
 pub enum Occupancy {
-    /// It holds its unit.
+    /// The instruction holds its unit.
     Reserved {
-        /// Whether it has read its operands.
+        /// Whether the instruction has read its operands.
         has_read: bool,
     },
-    /// It has come to its store event and left its unit.
+    /// The instruction has had its store event and left its unit.
     Left {
-        /// The number of the X register to which its load has still to return.
+        /// The number of the X register that its load is still to write, if it is a load.
         returning: Option<Digit>,
     },
 }
@@ -25,15 +25,15 @@ pub enum Occupancy {
 /// An issued instruction as the scoreboard sees it.
 #[derive(Clone, Copy, Debug, Drop, PartialEq, Eq)]
 pub struct Reservation {
-    /// What was issued.
+    /// The instruction.
     pub instr: Instr,
-    /// The unit that it was issued to.
+    /// The unit that the instruction was issued to.
     pub unit: Unit,
-    /// How far it has come.
+    /// The instruction's progress.
     pub occupancy: Occupancy,
 }
 
-/// The X register of this number, if there is one.
+/// The X register of this number as a list, empty if there is no number.
 #[tactic(auto, unfolding(crate::specs::Reservations::returning_to))]
 fn returning_to(number: Option<Digit>) -> ArrayVec<Reg, 2>
     ensures { result.items ≡ returning_to number }
@@ -45,7 +45,7 @@ fn returning_to(number: Option<Digit>) -> ArrayVec<Reg, 2>
     registers
 }
 
-/// Whether the register is among those.
+/// Whether the register is in the list.
 #[tactic(auto, unfolding(instructions::specs::RegisterLists::is_in))]
 fn is_among(registers: &[Reg], register: &Reg) -> bool
     ensures { result ≡ is_in registers.now register.now }
@@ -58,7 +58,7 @@ fn is_among(registers: &[Reg], register: &Reg) -> bool
 }
 
 impl Reservation {
-    /// Whether it holds a unit.
+    /// Whether the instruction holds a unit.
     #[tactic(auto, unfolding(crate::specs::Reservations::is_reserved))]
     fn is_reserved(&self) -> bool
         ensures { result ≡ is_reserved self.now.occupancy }
@@ -69,7 +69,7 @@ impl Reservation {
         }
     }
 
-    /// Its results still to come.
+    /// The results still to come of the instruction.
     #[tactic(auto, unfolding(crate::specs::Reservations::to_come, crate::specs::Reservations::to_come_in))]
     fn to_come(&self) -> ArrayVec<Reg, 2>
         ensures { result.items ≡ to_come self.now }
@@ -80,7 +80,7 @@ impl Reservation {
         }
     }
 
-    /// The sources that it has still to read.
+    /// The sources that the instruction has yet to read.
     #[tactic(auto, unfolding(crate::specs::Reservations::reads, crate::specs::Reservations::reads_in))]
     fn reads(&self) -> ArrayVec<Reg, 3>
         ensures { result.items ≡ reads self.now }
@@ -92,7 +92,7 @@ impl Reservation {
         }
     }
 
-    /// Whether the register is one of its results still to come.
+    /// Whether the register is a result still to come of the instruction.
     #[tactic(auto, unfolding(crate::specs::Reservations::comes))]
     pub fn has_to_come(&self, register: &Reg) -> bool
         ensures { result ≡ comes register.now self.now }
@@ -100,7 +100,7 @@ impl Reservation {
         is_among(self.to_come().as_slice(), register)
     }
 
-    /// Whether the register is one of the sources that it has still to read.
+    /// Whether the register is a source that the instruction has yet to read.
     #[tactic(auto, unfolding(crate::specs::Reservations::reads_it))]
     pub fn has_to_read(&self, register: &Reg) -> bool
         ensures { result ≡ reads_it register.now self.now }
@@ -108,7 +108,7 @@ impl Reservation {
         is_among(self.reads().as_slice(), register)
     }
 
-    /// Whether it holds the unit.
+    /// Whether the instruction holds the unit.
     #[tactic(auto, unfolding(crate::specs::Reservations::holds, crate::specs::Units::same_unit))]
     pub fn holds(&self, unit: Unit) -> bool
         ensures { result ≡ holds unit self.now }
@@ -116,7 +116,7 @@ impl Reservation {
         self.unit == unit && self.is_reserved()
     }
 
-    /// Whether it is a branch that holds its unit.
+    /// Whether the instruction is a branch that holds its unit.
     #[tactic(auto, unfolding(crate::specs::Reservations::is_branch))]
     pub fn is_branch(&self) -> bool
         ensures { result ≡ is_branch self.now }
@@ -124,7 +124,7 @@ impl Reservation {
         self.is_reserved() && self.instr.is_branch()
     }
 
-    /// Whether it makes a reference that hasn't come to its store event.
+    /// Whether the instruction makes a reference that has yet to have its store event.
     #[tactic(auto, unfolding(crate::specs::Reservations::has_turn))]
     pub fn has_turn(&self) -> bool
         ensures { result ≡ has_turn self.now }
@@ -132,7 +132,7 @@ impl Reservation {
         self.is_reserved() && self.instr.has_reference()
     }
 
-    /// Whether it is an SA6 or SA7 that hasn't come to its store event.
+    /// Whether the instruction is an SA6 or SA7 that has yet to have its store event.
     #[tactic(auto, unfolding(crate::specs::Reservations::has_store_turn))]
     pub fn has_store_turn(&self) -> bool
         ensures { result ≡ has_store_turn self.now }

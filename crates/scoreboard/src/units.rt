@@ -3,7 +3,7 @@ ghost use Rattle.scoreboard.specs.Units.{unit_number, same_unit};
 
 use instructions::Unit;
 
-/// The number of a unit, from 0 for Branch to 9 for Increment2 (this project's choice).
+/// The number of a unit, 0 for Branch to 9 for Increment2 (this project's choice).
 pub fn unit_number(unit: Unit) -> usize
     ensures value { result ≡ unit_number unit }
     ensures range { result < 10 }
@@ -11,7 +11,7 @@ pub fn unit_number(unit: Unit) -> usize
     unit as usize
 }
 
-/// Whether two units are one.
+/// Whether the two are the same unit.
 #[tactic(auto, unfolding(crate::specs::Units::same_unit))]
 pub fn is_same_unit(unit: Unit, other: Unit) -> bool
     ensures { result ≡ same_unit unit other }

@@ -3,7 +3,8 @@ ghost use Rattle.scoreboard.specs.Writers.{is_expected, forget};
 
 use instructions::{Digit, Unit};
 
-/// Who is to write a register (Thornton's result designators; that a load channel is one is this project's choice).
+/// The writer of a register that is a result still to come (Thornton's result designators; that a load channel can be a
+/// writer is this project's choice).
 #[derive(Clone, Copy, Debug, Drop, PartialEq, Eq)]
 pub enum Writer {
     /// A unit, at its store event.
@@ -12,7 +13,7 @@ pub enum Writer {
     OfChannel(Digit),
 }
 
-/// None of these expects the writer any longer, for it has written.
+/// Removes a writer that has written from the expected writers.
 #[tactic(auto, unfolding(crate::proofs::Opened::expecting))]
 pub(crate) fn forget_in(expected: &mut [Option<Writer>], writer: &Writer)
     ensures { expected.new ≡ map (forget writer.now) expected.old }

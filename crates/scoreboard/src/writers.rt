@@ -7,19 +7,19 @@ ghost use Rattle.scoreboard.specs.inner.View.{AreProducers};
 use crate::Writer;
 use instructions::Reg;
 
-/// Who is to write each register, None where nobody is (Thornton, result register designators).
+/// The writer of each register, `None` if no result for it is still to come (Thornton, result register designators).
 #[derive(Clone, Copy, Debug, Drop, PartialEq, Eq)]
 pub struct Writers {
-    /// Of X0 to X7.
+    /// The writers of X0 to X7.
     pub x: [Option<Writer>; 8],
-    /// Of A0 to A7.
+    /// The writers of A0 to A7.
     pub a: [Option<Writer>; 8],
-    /// Of B0 to B7. B0 has none, for it is no result.
+    /// The writers of B0 to B7. B0 has no writer, because it is never a result.
     pub b: [Option<Writer>; 8],
 }
 
 impl Writers {
-    /// Nobody is to write anything.
+    /// No register has a writer.
     pub(crate) fn new() -> Writers
         ensures { result ≡ record { x = replicate 8 None; a = replicate 8 None; b = replicate 8 None } }
     {
@@ -30,7 +30,7 @@ impl Writers {
         }
     }
 
-    /// Sets who is to write the register, if there is one.
+    /// Sets the writer of the register, if there is a register.
     #[tactic(auto, unfolding(crate::specs::Writers::set_writer))]
     pub(crate) fn set(&mut self, register: Option<Reg>, writer: Option<Writer>)
         ensures value { self.new ≡ set_each self.old (option_to_list register) writer }
@@ -46,7 +46,7 @@ impl Writers {
         }
     }
 
-    /// Who is to write each of the registers, of which there are at most three.
+    /// The writer of each of the registers. There are at most three registers.
     #[tactic(auto, unfolding(crate::proofs::Opened::writer_of_one))]
     pub(crate) fn of(&self, registers: &[Reg]) -> [Option<Writer>; 3]
         requires { length registers.now ≤ 3 }

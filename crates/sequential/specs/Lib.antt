@@ -1,4 +1,4 @@
--- The definitions of the machine that does one instruction at a time, its exchange and its log; each file names its
+-- The definitions of the machine that executes one instruction at a time, its exchange and its log. Each file names its
 -- source.
 pub mod Position
 pub mod State

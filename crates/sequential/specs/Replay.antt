@@ -1,4 +1,4 @@
--- The log, and the machine that goes through it step by step.
+-- The log, and its replay on the machine step by step.
 -- Source: ours.
 use Rattle.std.specs.Prelude.{option_and_then}
 use Rattle.std.specs.Prelude.{ℕ, ◌≡◌, false, nat_lt, if◌then◌else◌, List, [], ◌∷◌, ◌++◌, Option, Some, None, length}
@@ -24,42 +24,42 @@ pub data LogStep : Type 0 where
   -- a peripheral processor wrote a word to an absolute address
   Wrote : (a w : ℕ) → LogStep
 
--- what a step of a log is refused for in a memory of that size, if it is: E19, package range, for an exchange whose
--- sixteen words don't lie in memory; E27, peripheral range, for a peripheral access to no word of it
+-- the refusal of a step in a memory of this size, if it is refused: E19, package range, for an exchange whose sixteen
+-- words aren't all in memory; E27, peripheral range, for a peripheral access outside memory
 unfoldable pub step_refusal : ℕ → LogStep → Option Refusal
 step_refusal size Issued = None
 step_refusal size (Exchanged n) = if package_fits n size then None else Some PackageRange
 step_refusal size (ReadAt a) = if nat_lt a size then None else Some PeripheralRange
 step_refusal size (Wrote a w) = if nat_lt a size then None else Some PeripheralRange
 
--- the state after one step of a log, none for one that is refused; that a word was read changes nothing
+-- the state after one step of a log, None if the step is refused; a peripheral read changes nothing
 unfoldable pub do_log_step : State → LogStep → Option State
 do_log_step s Issued = Some (step s)
 do_log_step s (Exchanged n) = if package_fits n (length s.memory) then Some (swap n s) else None
 do_log_step s (ReadAt a) = if nat_lt a (length s.memory) then Some s else None
 do_log_step s (Wrote a w) = if nat_lt a (length s.memory) then Some (store_word s a w) else None
 
--- the state after all steps of a log, none where one of them is refused
+-- the state after all steps of a log, None if one of them is refused
 unfoldable pub replay : State → List LogStep → Option State
 replay s [] = Some s
 replay s (x ∷ xs) = option_and_then (λ t. replay t xs) (do_log_step s x)
 
--- the first of the steps that is refused, and for what: those before it lead to the state `end`, in whose memory an
--- exchange's sixteen words or the word of a peripheral access don't lie
+-- the first refused step of a log and its refusal; the steps before it reach the state `end`, in whose memory the step
+-- is refused
 pub record IsRefusedAt (start : State) (steps : List LogStep) (end : State) (refusal : Refusal) : Type 0 where
-  -- the steps before it
+  -- the steps before it, and the step itself
   pub before : List LogStep
   pub at : LogStep
   -- the steps after it, which aren't made
   pub after : List LogStep
-  -- these make up all the steps
+  -- together these are all the steps
   pub steps_are : steps ≡ before ++ (at ∷ after)
-  -- the steps before it lead to the state `end`
+  -- the steps before it reach the state `end`
   pub reached : replay start before ≡ Some end
-  -- it is refused there
+  -- the step is refused there
   pub refused : step_refusal (length end.memory) at ≡ Some refusal
 
--- the state at boot: registers, P, RA, FL and mode +0, halted by a stop, without fault
+-- the state at boot: registers, P, RA, FL and mode +0, halted by a stop, without a fault
 unfoldable pub boot : List ℕ → State
 boot memory = record {
   registers = record { x = replicate 8 0; a = replicate 8 0; b = replicate 7 0 };

@@ -1,6 +1,6 @@
--- The step of the machine that does one instruction at a time.
--- Source: 60100000, the descriptions of the instructions; ours: how a stop, a refused opcode, an instruction across
--- the end of its word and a fetch out of range halt.
+-- The step of the machine that executes one instruction at a time.
+-- Source: 60100000, the descriptions of the instructions; ours: how a stop, a refused opcode, an instruction across the
+-- end of its word and a fetch out of range halt.
 use Rattle.std.specs.Prelude.{ℕ, List, Option, Some, None, slice_index_or}
 use Rattle.instructions.specs.declared.instr.Instr.{Instr}
 use Rattle.instructions.specs.declared.instr.Instr.TheVariants.{Stop, Pass}
@@ -30,7 +30,7 @@ classify position after Stop = Halting StopHalt position
 classify position after Pass = Passing after
 classify position after instr = Taking instr after
 
--- what is read halts the machine where it stands, or moves it on
+-- the effect of a decoded instruction: it halts the machine at its own position, or the machine moves on
 unfoldable pub fetched_by : ℕ → ℕ → ℕ → Decoded → Fetched
 fetched_by p parcel word (Legal instr next) = classify (at_instruction p parcel word) (after_parcel p word next) instr
 fetched_by p parcel word (Refused op) = Halting (Illegal op) (at_instruction p parcel word)
@@ -41,35 +41,35 @@ unfoldable pub fetched_from : ℕ → ℕ → Option ℕ → Fetched
 fetched_from p parcel None = Halting FetchRange (beginning p)
 fetched_from p parcel (Some word) = fetched_by p parcel word (reading_at word parcel)
 
--- the word at an absolute address, none where there is no address
+-- the word at an absolute address, None if there is no address
 unfoldable pub word_at : List ℕ → Option ℕ → Option ℕ
 word_at memory None = None
 word_at memory (Some a) = Some (slice_index_or memory a 0)
 
--- the word held, or else the one at P, if that is in range
+-- the held word or, if no word is held, the word at P, if P is in range
 unfoldable pub word_seen : Bounds → List ℕ → ℕ → Option ℕ → Option ℕ
 word_seen b memory p (Some word) = Some word
 word_seen b memory p None = word_at memory (absolute b p)
 
--- what the next instruction does to the machine before any unit works: it halts, passes or goes to a unit
+-- the effect of the next instruction before any unit works: it halts, passes or goes to a unit
 unfoldable pub fetch : Bounds → List ℕ → ProgramPosition → Fetched
 fetch b memory position = fetched_from position.p position.parcel (word_seen b memory position.p position.held)
 
--- an instruction's whole change at once, references too
+-- the state after an instruction's complete effect, including its reference
 unfoldable pub do_instruction : Bounds → State → Instr → ℕ → State
 do_instruction b s instr at = do_work b s (work_of (shape_of instr) (value_of instr (operands instr at s.registers)))
 
--- the state after what was fetched: a halt, a pass, or an instruction of the word at an address
+-- the state after a fetched instruction: a halt, a pass, or an instruction of the word at the address `at`
 unfoldable pub do_fetched : Bounds → State → ℕ → Fetched → State
 do_fetched b s at (Halting halt position) = halt_by (move_to s position) halt
 do_fetched b s at (Passing position) = move_to s position
 do_fetched b s at (Taking instr position) = do_instruction b (move_to s position) instr at
 
--- the state after one step, unless it is halted: a halted state is unchanged
+-- the state after one step; a halted state is unchanged
 unfoldable pub step_unless : State → Option Halt → State
 step_unless s (Some halt) = s
 step_unless s None = do_fetched (bounds_of s) s s.position.p (fetch (bounds_of s) s.memory s.position)
 
--- one step of the machine; a state with the fault set steps on
+-- one step of the machine; a set fault flag doesn't stop it
 unfoldable pub step : State → State
 step s = step_unless s s.halt

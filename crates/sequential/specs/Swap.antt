@@ -1,5 +1,5 @@
 -- The exchange: registers and sixteen words of memory are exchanged.
--- Source: 60100000, exchange jump; that a package starts at parcel 0, running, without fault is ours.
+-- Source: 60100000, exchange jump; that a package starts at parcel 0, running, without a fault is ours.
 use Rattle.std.specs.Prelude.{ℕ, false, List, None, is_some}
 use Rattle.relocation.specs.Relocation.{overwritten}
 use Rattle.exchange_package.specs.declared.package.Package.{Package}
@@ -12,7 +12,7 @@ unfoldable pub package_of : State → Package
 package_of s =
     record { p = s.position.p; registers = s.registers; area = s.area; halted = is_some s.halt; fault = s.fault }
 
--- the state that a package begins with: at parcel 0, running, without fault
+-- the state in which an incoming package starts: at parcel 0, running, without a fault
 unfoldable pub program_entered : Package → List ℕ → State
 program_entered incoming memory = record {
   registers = incoming.registers;

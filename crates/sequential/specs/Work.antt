@@ -1,4 +1,4 @@
--- What an instruction does with its value: the registers that it writes, its jump and its reference.
+-- The effects of an instruction's value: the registers that it writes, its jump and its reference.
 -- Source: 60100000, the descriptions of the instructions, exit mode; what is out of range is ours.
 use Rattle.std.specs.Prelude.{◌≡◌, ℕ, ◌+◌, ◌*◌, ◌^◌, Bool, false, ◌&&◌, ◌||◌, is_none, if◌then◌else◌, List, [], ◌∷◌, Option, Some}
 use Rattle.std.specs.Prelude.{None, option_to_list}
@@ -21,12 +21,12 @@ use Rattle.sequential.specs.declared.work.Work.{Work as DoneWork}
 use Rattle.sequential.specs.Position.{after_jump}
 use Rattle.sequential.specs.State.{Bounds, absolute, stops_at_fault, write, write_all, jump_to, or_fault, access_at}
 
--- what an operand register holds; an absent operand is +0
+-- the content of an operand register; an absent operand is +0
 unfoldable pub operand_at : RegisterFile → Option Reg → ℕ
 operand_at g None = 0
 operand_at g (Some r) = get g r
 
--- what an instruction of the word at an address computes with
+-- the operands of an instruction of the word at an address
 unfoldable pub operands : Instr → ℕ → RegisterFile → Operands
 operands instr position g = record {
   first = operand_at g (uses instr).first;
@@ -44,7 +44,7 @@ number_in (Store a w) = a
 number_in (Jump to) = 0
 number_in (Link at back) = 0
 
--- the address that a value refers to, +0 where it refers to none
+-- the address that a value refers to, +0 if it makes no reference
 unfoldable pub address_in : UnitValue → ℕ
 address_in (Word w) = 0
 address_in (Index n) = 0
@@ -57,7 +57,7 @@ address_in (Link at back) = at
 unfoldable pub link_word : ℕ → ℕ
 link_word back = 0o400 * 2 ^ 48 + back * 2 ^ 30
 
--- the word that a value stores, +0 where it stores none
+-- the word that a value stores, +0 if it stores none
 unfoldable pub word_in : UnitValue → ℕ
 word_in (Word w) = 0
 word_in (Index n) = 0
@@ -66,21 +66,21 @@ word_in (Store a w) = w
 word_in (Jump to) = 0
 word_in (Link at back) = link_word back
 
--- what an instruction does with its value
+-- the effects of an instruction's value
 pub record Work : Type 0 where
-  -- the registers that are written, each with its number
+  -- the registers to write, each with its number
   pub sets : List (Reg × ℕ)
-  -- the address that it jumps to, if it jumps
+  -- the address to jump to, if the instruction jumps
   pub jump : Option ℕ
-  -- the reference that it makes, by the program's own address
+  -- the reference, if there is one, by the program's own address
   pub reference : Option ProgramReference
 
--- one number for each of the registers
+-- the same number for each of the registers
 unfoldable pub each_set_to : ℕ → List Reg → List (Reg × ℕ)
 each_set_to v [] = []
 each_set_to v (r ∷ rs) = (r, v) ∷ each_set_to v rs
 
--- where an instruction jumps, if it does; RJ goes on after its link word
+-- the address that an instruction jumps to, if it jumps; RJ continues after its link word
 unfoldable pub jump_for : Shape → UnitValue → Option ℕ
 jump_for shape v = if is_branch_shape shape then destination v else None
 
@@ -92,7 +92,7 @@ reference_for (Stores n) v = Some (record { address = address_in v; access = Sto
 reference_for Jumps v = None
 reference_for Links v = Some (record { address = address_in v; access = StoreWord (word_in v) })
 
--- what an instruction does with this value
+-- the effects of an instruction with this value
 unfoldable pub work_of : Shape → UnitValue → Work
 work_of shape v = record {
   sets = each_set_to (number_in v) (sets_of shape);
@@ -100,8 +100,8 @@ work_of shape v = record {
   reference = reference_for shape v;
 }
 
--- it is what an instruction of that shape does with that value: the one register that it writes, if it writes one, with
--- its number, the jump and the reference
+-- the code's record agrees with these effects: the register to write, if there is one, with its number, the jump and
+-- the reference
 pub record IsWorkOf (shape : Shape) (v : UnitValue) (work : DoneWork) : Type 0 where
   pub register : sets_of shape ≡ option_to_list work.register
   pub number : work.number ≡ number_in v
@@ -118,7 +118,7 @@ abbrev pub put_any : RegisterFile → Option Reg → ℕ → RegisterFile
 put_any g None v = g
 put_any g (Some r) v = put g r v
 
--- the state after an instruction has written its result and jumped, with the fault flag where its reference sets it
+-- the state after an instruction has written its result and jumped, with the fault flag set if its reference sets it
 abbrev pub written : State → DoneWork → Bool → State
 written s work faults = record s {
   registers = put_any s.registers work.register work.number;
@@ -130,7 +130,7 @@ written s work faults = record s {
 unfoldable pub write_and_jump : Bounds → State → Work → State
 write_and_jump b s work = or_fault (jump_to (write_all s work.sets) work.jump) (fault_of b work.reference)
 
--- a reference that was relocated: out of range a load gives +0, and a store writes nothing
+-- the state after a reference to a relocated address; out of range, a load gives +0 and a store writes nothing
 unfoldable pub refer_at : State → Option ℕ → Access → State
 refer_at s (Some a) access = access_at s a access
 refer_at s None (LoadInto n) = write s (X n) 0
@@ -141,6 +141,6 @@ unfoldable pub refer : Bounds → State → Option ProgramReference → State
 refer b s None = s
 refer b s (Some r) = refer_at s (absolute b r.address) r.access
 
--- the state after all of an instruction's work, its reference last
+-- the state after all effects of an instruction, its reference last
 unfoldable pub do_work : Bounds → State → Work → State
 do_work b s work = refer b (write_and_jump b s work) work.reference

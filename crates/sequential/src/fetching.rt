@@ -7,18 +7,18 @@ use instruction_table::{Decoded, Halt, Instr, decode};
 use relocation::relocate;
 use word60::Word60;
 
-/// What the next instruction does to the machine before any unit works.
+/// The effect of the next instruction on the machine before any unit works.
 #[derive(Clone, Copy, Debug, Drop, PartialEq, Eq)]
 pub enum Fetched {
-    /// It halts the machine, which stays at this position.
+    /// The instruction halts the machine, which stays at this position.
     Halting(Halt, ProgramPosition),
-    /// It does nothing, and the next one is at this position.
+    /// The instruction does nothing, and the next one is at this position.
     Passing(ProgramPosition),
-    /// It goes to a unit, and the next one is at this position.
+    /// The instruction goes to a unit, and the next one is at this position.
     Taking(Instr, ProgramPosition),
 }
 
-/// What the reading of a word does at a position that holds it.
+/// The effect of a decoded instruction, given its position and its word.
 #[tactic(auto, unfolding(crate::specs::Step::fetched_by, crate::specs::Step::classify))]
 #[inline(always)]
 pub fn fetched_by(position: ProgramPosition, word: Word60, reading: Decoded) -> Fetched
@@ -43,7 +43,8 @@ pub fn fetched_by(position: ProgramPosition, word: Word60, reading: Decoded) -> 
 }
 
 impl State {
-    /// The word that instructions are taken from: the one held, or else the one at P, if that is in range.
+    /// The word that instructions are taken from: the held word or, if no word is held, the word at P, if P is in
+    /// range.
     #[tactic(auto, unfolding(crate::proofs::Opened::word_to_take))]
     #[inline(always)]
     pub(crate) fn word_here(&self) -> Option<Word60>
@@ -63,7 +64,7 @@ impl State {
         }
     }
 
-    /// What the next instruction does. A fetch out of range halts.
+    /// Fetches the next instruction. A fetch out of range halts.
     #[tactic(auto, unfolding(crate::specs::Step::fetch, crate::specs::Step::fetched_from))]
     #[inline(always)]
     pub fn fetch(&self) -> Fetched

@@ -1,11 +1,11 @@
-//! The machine that does one instruction at a time: its state, its step, the exchange and the log.
+//! The machine that executes one instruction at a time: its state, its step, the exchange and the log.
 //!
-//! It is the measure of the machine whose units work side by side: the theorem compares that
-//! machine, when drained, with the state to which `replay` comes by the log.
+//! This machine defines the correct results of the machine whose units work in parallel. The theorem compares that
+//! machine, when drained, with the state that `replay` reaches with its log.
 //!
 //! Callers rely on `step` and `replay`: they leave exactly the state that `specs/Step` and `specs/Replay` define.
-//! `fetching` says what an instruction does before a unit works, `work` what its value does, and `log` keeps what was
-//! done. Its tests are in `crates/core_tests/src/sequential_tests.rt`. Begin with `step` in `stepping`.
+//! `fetching` has what an instruction does before a unit works, `work` has the effects of its value, and `log` records
+//! the steps. The tests are in `crates/core_tests/src/sequential_tests.rt`. Begin with `step` in `stepping`.
 #![tactic(auto)]
 
 mod fetching;

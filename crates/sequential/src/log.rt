@@ -15,7 +15,7 @@ use word60::Word60;
 pub enum Entry {
     /// An exchange with the package at this absolute address.
     Exchange(u32),
-    /// So many instructions, one after another.
+    /// This many consecutive instructions.
     Issued(u64),
     /// A peripheral processor read the word at this absolute address.
     PpRead(u32),
@@ -23,7 +23,7 @@ pub enum Entry {
     PpWrite(u32, Word60),
 }
 
-/// Adds instructions: so many more to the last count, or else an entry of their own.
+/// Adds `more` instructions to the last entry if it is a count, and otherwise as a new entry.
 fn add(entries: &mut Vec<Entry>, more: u64)
     requires room { ends_open entries.old.items ≡ false → vec_len entries.old < vec_capacity entries.old }
     requires count { last_run (steps_of entries.old.items) + more < 2 ^ 64 }
@@ -43,11 +43,11 @@ fn add(entries: &mut Vec<Entry>, more: u64)
     entries.push_reserved(Entry::Issued(more));
 }
 
-/// What a machine did, in order: instructions, exchanges and peripheral accesses.
+/// The steps that a machine made, in order: instructions, exchanges and peripheral accesses.
 #[derive(Drop)]
 pub struct Log {
     entries: Vec<Entry>,
-    /// How many instructions there are, or the largest number where there are more.
+    /// The number of instructions, or the largest `u64` if there are more.
     issues: u64,
 }
 
@@ -71,7 +71,7 @@ impl Model for Log {
 }
 
 impl Log {
-    /// The empty log.
+    /// An empty log.
     #[tactic(auto, unfolding(crate::proofs::Opened::no_entries))]
     pub fn new(alloc: Global) -> Log
         ensures steps { result.steps ≡ [] }
@@ -82,10 +82,10 @@ impl Log {
         }
     }
 
-    /// The same log once more.
+    /// Copies the log.
     ///
     /// # Errors
-    /// `OutOfMemory`.
+    /// `OutOfMemory` if memory runs out.
     pub fn copy(&self) -> Result<Log, Refusal>
         ensures { MatchResult result (λ log. log.steps ≡ self.now.steps) (λ refusal. refusal ≡ OutOfMemory) }
     {
@@ -98,7 +98,7 @@ impl Log {
         }
     }
 
-    /// The entries, in order: no count is 0, and no two stand side by side.
+    /// The entries, in order. No count is 0, and no two counts are adjacent.
     pub fn entries(&self) -> &[Entry]
         ensures steps { steps_of result.now ≡ self.now.steps }
         ensures shortest { result.now ≡ entries_of self.now.steps }
@@ -106,7 +106,7 @@ impl Log {
         self.entries.as_slice()
     }
 
-    /// How many instructions there are, or the largest number where there are more.
+    /// The number of instructions, or the largest `u64` if there are more.
     pub fn issues(&self) -> u64
         ensures total { result ≡ min (issued self.now.steps) (2 ^ 64 - 1) }
         ensures run { last_run self.now.steps ≤ result }
@@ -114,10 +114,10 @@ impl Log {
         self.issues
     }
 
-    /// Makes room for so many entries beyond those that it has.
+    /// Makes room for `more` further entries. The steps don't change, even if memory runs out.
     ///
     /// # Errors
-    /// `OutOfMemory`; the log stays as it was in either case.
+    /// `OutOfMemory` if memory runs out.
     pub fn reserve(&mut self, more: u32) -> Result<(), Refusal>
         ensures steps { self.new.steps ≡ self.old.steps }
         ensures room { MatchResult result (λ _. more ≤ self.new.room) (λ refusal. refusal ≡ OutOfMemory) }
@@ -129,7 +129,7 @@ impl Log {
         }
     }
 
-    /// Adds an exchange.
+    /// Appends an exchange.
     pub fn exchanged(&mut self, at: u32)
         requires { 0 < self.old.room }
         ensures steps { self.new.steps ≡ self.old.steps ++ Exchanged at ∷ [] }
@@ -139,7 +139,7 @@ impl Log {
         self.entries.push_reserved(Entry::Exchange(at));
     }
 
-    /// Adds that a peripheral processor read the word at an absolute address.
+    /// Appends a peripheral processor's read of the word at an absolute address.
     pub fn read_at(&mut self, at: u32)
         requires { 0 < self.old.room }
         ensures steps { self.new.steps ≡ self.old.steps ++ ReadAt at ∷ [] }
@@ -149,7 +149,7 @@ impl Log {
         self.entries.push_reserved(Entry::PpRead(at));
     }
 
-    /// Adds that a peripheral processor wrote a word to an absolute address.
+    /// Appends a peripheral processor's write of a word to an absolute address.
     pub fn wrote(&mut self, at: u32, word: Word60)
         requires { 0 < self.old.room }
         ensures steps { self.new.steps ≡ self.old.steps ++ Wrote at word ∷ [] }
@@ -159,7 +159,7 @@ impl Log {
         self.entries.push_reserved(Entry::PpWrite(at, word));
     }
 
-    /// Adds an instruction: one more to the last count, or else an entry of its own.
+    /// Appends an instruction: adds 1 to the last entry if it is a count, and otherwise makes a new entry.
     pub fn issued(&mut self)
         requires room { ends_issuing self.old.steps ≡ false → 0 < self.old.room }
         requires count { last_run self.old.steps + 1 < 2 ^ 64 }
@@ -171,8 +171,8 @@ impl Log {
         self.issues = self.issues.saturating_add(1);
     }
 
-    /// Adds so many instructions: so many more to the last count, or else an entry of their own. Adding none needs no
-    /// room.
+    /// Appends `count` instructions: adds them to the last entry if it is a count, and otherwise makes a new entry. A
+    /// count of 0 needs no room.
     pub fn issued_many(&mut self, count: u64)
         requires room { ends_issuing self.old.steps ≡ false → 0 < count → 0 < self.old.room }
         requires count { last_run self.old.steps + count < 2 ^ 64 }

@@ -4,12 +4,12 @@ ghost use Rattle.sequential.specs.Position.{after_parcel, after_jump};
 use instructions::ParcelNumber;
 use word60::{Word18, Word60};
 
-/// Where the next instruction is.
+/// The position of the next instruction.
 #[derive(Clone, Copy, Debug, Default, Drop, PartialEq, Eq)]
 pub struct ProgramPosition {
-    /// P: the address of the held word, or else of the word that is fetched next.
+    /// P: the address of the held word or, if no word is held, of the word to fetch next.
     pub p: Word18,
-    /// The next parcel; 0 where no word is held.
+    /// The next parcel, 0 if no word is held.
     pub parcel: ParcelNumber,
     /// The word that instructions are taken from.
     pub held: Option<Word60>,
@@ -28,8 +28,8 @@ impl ProgramPosition {
         }
     }
 
-    /// The position after an instruction of the word at `p`: its parcel `next`, or from 4 on the beginning of
-    /// the next word. After the word at 777777 comes the one at 0.
+    /// The position after an instruction of the word at `p`: parcel `next` of that word or, if `next` is 4 or more, the
+    /// beginning of the next word. The word at 0 follows the word at 777777.
     #[tactic(auto, unfolding(crate::specs::Position::after_parcel))]
     #[inline(always)]
     pub fn after_parcel(p: Word18, word: Word60, next: u8) -> ProgramPosition
@@ -45,7 +45,7 @@ impl ProgramPosition {
         }
     }
 
-    /// The position after a jump to this address, or the same position where there is none.
+    /// The position after a jump to this address, or the same position if there is no jump.
     #[tactic(auto, unfolding(crate::specs::Position::after_jump))]
     #[inline(always)]
     pub fn after_jump(self, to: Option<Word18>) -> ProgramPosition

@@ -9,7 +9,7 @@ use crate::{Entry, Log, State, step};
 use instruction_table::Refusal;
 use word60::Word60;
 
-/// So many steps, one after another. Once the machine is halted no further step changes it.
+/// Makes `count` steps. A halted machine doesn't change, so the loop stops at a halt.
 #[inline(never)]
 fn issue_many(state: &mut State, count: u64)
     ensures { replay state.old (replicate count Issued) ≡ Some state.new }
@@ -22,7 +22,7 @@ fn issue_many(state: &mut State, count: u64)
     }
 }
 
-/// Whether a peripheral processor may go to the word at the absolute address.
+/// Checks that the absolute address of a peripheral access is in memory.
 fn peripheral_range(state: &State, at: u32) -> Result<(), Refusal>
     ensures { MatchResult result (λ _. nat_lt at (length state.now.memory) ≡ true)
         (λ refusal. (nat_lt at (length state.now.memory) ≡ false) × (refusal ≡ PeripheralRange)) }
@@ -34,7 +34,7 @@ fn peripheral_range(state: &State, at: u32) -> Result<(), Refusal>
     }
 }
 
-/// A peripheral processor writes a word to the absolute address.
+/// Writes a peripheral processor's word to an absolute address.
 #[tactic(auto, unfolding(crate::specs::State::store_word))]
 fn peripheral_write(state: &mut State, at: u32, word: Word60) -> Result<(), Refusal>
     ensures answer { MatchResult result (λ _. nat_lt at (length state.old.memory) ≡ true)
@@ -49,7 +49,7 @@ fn peripheral_write(state: &mut State, at: u32, word: Word60) -> Result<(), Refu
     }
 }
 
-/// The steps of an entry.
+/// Makes the steps of one entry.
 fn replay_entry(state: &mut State, entry: &Entry) -> Result<(), Refusal>
     ensures done { OnOk result (replay state.old (steps_of (entry.now ∷ [])) ≡ Some state.new) }
     ensures refused { IfErr result
@@ -66,11 +66,11 @@ fn replay_entry(state: &mut State, entry: &Entry) -> Result<(), Refusal>
     }
 }
 
-/// Goes through the steps of a log: each instruction, each exchange and each peripheral access, in order.
+/// Makes the steps of a log in order: each instruction, exchange and peripheral access.
 ///
 /// # Errors
-/// Why the first refused step is refused; the steps before it are done. `PackageRange` where an exchange's sixteen
-/// words don't lie in memory, `PeripheralRange` where the word of a peripheral access doesn't.
+/// The refusal of the first refused step; the steps before it have been made. `PackageRange` if the sixteen words of an
+/// exchange aren't all in memory. `PeripheralRange` if the word of a peripheral access isn't in memory.
 pub fn replay(state: &mut State, log: &Log) -> Result<(), Refusal>
     ensures answer { MatchResult result
         (λ _. replay state.old log.now.steps ≡ Some state.new)

@@ -10,7 +10,7 @@ use instruction_table::{Halt, Refusal};
 use registers::RegisterFile;
 use relocation::{Area, Storage};
 
-/// The state of the machine that does one instruction at a time.
+/// The state of the machine that executes one instruction at a time.
 #[derive(Drop)]
 pub struct State {
     /// X0 to X7, A0 to A7 and B1 to B7.
@@ -21,15 +21,15 @@ pub struct State {
     pub position: ProgramPosition,
     /// RA, FL and the exit mode.
     pub area: Area,
-    /// Why the machine is halted, None while it runs.
+    /// The reason why the machine is halted, `None` while it runs.
     pub halt: Option<Halt>,
-    /// Whether an address was out of range while the exit mode had bit 010000 (octal). Only an exchange
-    /// clears it.
+    /// The fault flag, set by a reference out of range if the exit mode has bit 010000 (octal). Only an exchange clears
+    /// it.
     pub fault: bool,
 }
 
 impl State {
-    /// A machine that was just booted: registers, P, RA, FL and mode +0, halted by a stop.
+    /// The machine just after boot: registers, P, RA, FL and mode +0, halted by a stop.
     #[tactic(auto, unfolding(crate::specs::Replay::boot))]
     pub fn boot(memory: Storage) -> State
         ensures { result ≡ boot memory }
@@ -44,10 +44,10 @@ impl State {
         }
     }
 
-    /// The same state once more.
+    /// Copies the state.
     ///
     /// # Errors
-    /// `OutOfMemory`.
+    /// `OutOfMemory` if memory runs out.
     pub fn copy(&self) -> Result<State, Refusal>
         ensures { MatchResult result (λ state. state ≡ self.now) (λ refusal. refusal ≡ OutOfMemory) }
     {
@@ -61,7 +61,7 @@ impl State {
         })
     }
 
-    /// The package that the exchange leaves in memory.
+    /// The package that an exchange leaves in memory.
     #[tactic(auto, unfolding(crate::specs::Swap::package_of))]
     fn to_package(&self) -> Package
         ensures { result ≡ package_of self.now }
@@ -75,11 +75,11 @@ impl State {
         }
     }
 
-    /// The exchange jump: the registers and the sixteen words at an absolute address are exchanged. The
-    /// new program starts at parcel 0, running, without fault.
+    /// The exchange jump: exchanges the registers and the sixteen words at an absolute address. The new program starts
+    /// at parcel 0, running, without a fault.
     ///
     /// # Errors
-    /// `PackageRange` where the sixteen words don't lie in memory; the state is then as it was.
+    /// `PackageRange` if the sixteen words aren't all in memory; the state doesn't change then.
     #[tactic(auto, unfolding(crate::specs::Swap::swap, crate::specs::Swap::program_entered))]
     pub fn exchange(&mut self, at: u32) -> Result<(), Refusal>
         ensures answer { MatchResult result

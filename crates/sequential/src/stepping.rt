@@ -13,7 +13,7 @@ use relocation::{Access, Area, relocate};
 use unit_ops::{Operands, UnitValue, value};
 use word60::{Word18, Word60};
 
-/// What an instruction computes. A pass and a stop have no unit and compute +0.
+/// The value of an instruction. A pass and a stop have no unit, and the value +0.
 #[inline(always)]
 fn computed(instr: &Instr, operands: &Operands) -> UnitValue
     ensures { result ≡ value_of instr.now operands.now }
@@ -24,7 +24,7 @@ fn computed(instr: &Instr, operands: &Operands) -> UnitValue
     }
 }
 
-/// Does what is read in a word, with an arm for each pair of digits that it can begin with.
+/// Executes the next instruction of a word, with a match arm for each pair of opcode digits.
 macro_rules! take_by_digits {
     ($state:ident, $word:ident, $digits:expr => $($known:literal)*) => {
         match $digits {
@@ -35,7 +35,7 @@ macro_rules! take_by_digits {
 }
 
 impl State {
-    /// Makes a reference that was relocated: out of range a load gives +0, and a store writes nothing.
+    /// Makes a reference to a relocated address. Out of range, a load gives +0 and a store writes nothing.
     #[tactic(auto, unfolding(crate::proofs::Opened::reference_cases))]
     #[inline(always)]
     fn refer_at(&mut self, address: Option<u32>, access: &Access)
@@ -65,8 +65,8 @@ impl State {
         }
     }
 
-    /// Writes the result of an instruction, jumps, and sets the fault flag if its reference is out of range and the exit
-    /// mode says so. The flag stays once it is set. The reference itself is still to be made.
+    /// Writes the result of an instruction, jumps, and sets the fault flag if the reference is out of range and the
+    /// exit mode says so. The flag stays set. The caller makes the reference itself.
     #[tactic(auto, unfolding(crate::specs::Work::put_any, crate::specs::Work::fault_of, crate::specs::State::stops_at_fault, crate::specs::State::bounds_of, crate::specs::State::absolute))]
     #[inline(always)]
     pub fn write_and_jump(&mut self, work: &Work)
@@ -76,7 +76,7 @@ impl State {
             self.registers.set(register, work.number);
         }
         self.position = self.position.after_jump(work.jump);
-        // Bit 010000 (octal) of the exit mode: an address out of range sets the flag.
+        // Bit 010000 (octal) of the exit mode: a reference out of range sets the flag.
         if let Some(reference) = work.reference
             && (self.area.mode.get() >> 12) % 2 == 1
         {
@@ -86,7 +86,7 @@ impl State {
         }
     }
 
-    /// All that an instruction of the word at the address `at` does, its reference too.
+    /// Executes an instruction of the word at the address `at`, including its reference.
     #[inline(always)]
     fn perform(&mut self, instr: &Instr, at: Word18)
         ensures { self.new ≡ do_instruction (bounds_of self.old) self.old instr.now at }
@@ -97,7 +97,7 @@ impl State {
         self.refer(&work.reference);
     }
 
-    /// Does what was fetched.
+    /// Carries out a fetched instruction.
     #[tactic(auto, unfolding(crate::proofs::Opened::fetched_cases))]
     #[inline(always)]
     fn make(&mut self, fetched: Fetched)
@@ -117,8 +117,8 @@ impl State {
         }
     }
 
-    /// Does what is read in this word, where its next parcel begins with these two digits. There is a copy of this
-    /// function for each `DIGITS`, in which the compiler knows the kind of instruction and leaves out what others do.
+    /// Executes the next instruction of this word, whose first two digits are `DIGITS`. In the copy of this function
+    /// for each `DIGITS` the compiler knows the kind of instruction and omits the code for all others.
     #[inline(always)]
     fn take_as<const DIGITS: u16>(&mut self, word: Word60)
         requires { DIGITS ≡ digits_at word self.old.position.parcel }
@@ -129,7 +129,7 @@ impl State {
         self.make(fetched_by(self.position, word, reading));
     }
 
-    /// Does what is read in this word.
+    /// Executes the next instruction of this word.
     #[inline(always)]
     fn take(&mut self, word: Word60)
         ensures { self.new ≡ do_fetched (bounds_of self.old) self.old self.old.position.p
@@ -149,8 +149,8 @@ impl State {
     }
 }
 
-/// One instruction: a halted machine stays as it is; else the next instruction is fetched and done, or
-/// halts the machine. A machine with the fault flag goes on.
+/// Makes one step. A halted machine doesn't change. Otherwise the next instruction is fetched, and is executed or halts
+/// the machine. A set fault flag doesn't stop this machine.
 #[tactic(auto, unfolding(crate::proofs::Opened::step_cases))]
 #[inline(always)]
 pub fn step(state: &mut State)

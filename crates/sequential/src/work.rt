@@ -8,16 +8,16 @@ use relocation::Access;
 use unit_ops::{Operands, UnitValue};
 use word60::{Word18, Word60};
 
-/// A reference by the program's own address.
+/// A reference to a program's own address.
 #[derive(Clone, Copy, Debug, Drop, PartialEq, Eq)]
 pub struct ProgramReference {
-    /// The address, which is counted from RA.
+    /// The address, counted from RA.
     pub address: Word18,
-    /// What it does to the word there.
+    /// The load or store at that address.
     pub access: Access,
 }
 
-/// An operand, +0 where it is absent.
+/// The content of an operand register, +0 if there is no operand.
 #[tactic(auto, unfolding(crate::specs::Work::operand_at))]
 #[inline(always)]
 fn operand_at(registers: &RegisterFile, register: Option<Reg>) -> Word60
@@ -29,7 +29,7 @@ fn operand_at(registers: &RegisterFile, register: Option<Reg>) -> Word60
     }
 }
 
-/// What an instruction of the word at the address `position` computes with.
+/// The operands of an instruction of the word at the address `position`.
 #[tactic(auto, unfolding(crate::specs::Work::operands))]
 #[inline(always)]
 pub fn operands(instr: &Instr, position: Word18, registers: &RegisterFile) -> Operands
@@ -53,22 +53,22 @@ fn link_word(back: Word18) -> Word60
     Word60::from_bits(0o0400 * 0x1_0000_0000_0000 + u64::from(back.get()) * 0x4000_0000)
 }
 
-/// What an instruction does with its value.
+/// The effects of an instruction's value.
 #[derive(Clone, Copy, Debug, Drop, PartialEq, Eq)]
 pub struct Work {
-    /// The register that it writes, if it writes one.
+    /// The register to write, if there is one.
     pub register: Option<Reg>,
-    /// The number that it writes there; of a reference this is the address.
+    /// The number to write there. For a reference, this is the address.
     pub number: Word60,
-    /// The address that it jumps to, if it jumps.
+    /// The address to jump to, if the instruction jumps.
     pub jump: Option<Word18>,
-    /// The reference that it makes, if it makes one.
+    /// The reference, if the instruction makes one.
     pub reference: Option<ProgramReference>,
 }
 
 impl Work {
-    /// The work of an instruction with this value. SA1 to SA5 load, SA6 and SA7 store, RJ stores its link word and goes
-    /// on after it (Control Data 60100000), and all others make no reference.
+    /// The effects of an instruction with this value. SA1 to SA5 load, SA6 and SA7 store, RJ stores its link word and
+    /// continues after it (Control Data 60100000), and all others make no reference.
     #[tactic(auto, unfolding(crate::proofs::Opened::work_of_a_value))]
     #[inline(always)]
     pub fn of(instr: &Instr, value: &UnitValue) -> Work

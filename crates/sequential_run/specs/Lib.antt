@@ -1,4 +1,4 @@
--- The definitions of a whole run of the machine that does one instruction at a time. Source: ours.
+-- The definitions of a whole run of the machine that executes one instruction at a time. Source: ours.
 pub mod Turns
 pub mod Run
 pub mod Made

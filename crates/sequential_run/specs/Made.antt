@@ -1,4 +1,4 @@
--- A log and a state that events make.
+-- A log and a state that the machine with instructions in flight makes by events.
 -- Source: ours.
 use Rattle.std.specs.Prelude.{◌≡◌, ℕ, List, [], Result}
 use Rattle.instructions.specs.declared.refusal.Refusal.{Refusal}
@@ -9,7 +9,7 @@ use Rattle.program_order.specs.Reached.{IsReached}
 use Rattle.sequential.specs.declared.state.State.{State}
 use Rattle.sequential.specs.Replay.{LogStep}
 
--- events with their answers lead from boot to a drained machine with this log, in this state
+-- events and their answers lead from boot to a drained machine with this log and this state
 pub record IsMadeByEvents (memory : List ℕ) (budget : ℕ) (log : List LogStep) (s : State) : Type 0 where
   pub events : List Event
   pub answers : List (Result Done Refusal)

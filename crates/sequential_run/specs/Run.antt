@@ -1,4 +1,4 @@
--- What every run promises, and to what log and state a run by one instruction at a time comes.
+-- The promise of every run, and the log and the state that a run by one instruction at a time reaches.
 -- Source: ours.
 use Rattle.std.specs.Prelude.{◌≡◌, ◌≤◌, ◌||◌, ℕ, Bool, true, false, List, ◌∷◌, length, Some, is_some, nat_le}
 use Rattle.exchange_requests.specs.Requests.{AreOrdered}
@@ -12,15 +12,14 @@ use Rattle.sequential.specs.Log.{issued}
 use Rattle.sequential.specs.Replay.{LogStep, Exchanged, boot, replay}
 use Rattle.sequential_run.specs.Turns.{Moment, Ends, Exchanges, begun, is_in_mid_word, next_turn, turns}
 
--- a run with this budget that came by this log to this state is over: the machine is halted or faulted, or it has
--- issued as many instructions as the budget
+-- a run with this budget, this log and this state is over: the machine is halted or faulted, or it has issued as many
+-- instructions as the budget
 abbrev pub is_over : State → List LogStep → ℕ → Bool
 is_over s log budget = is_some s.halt || (s.fault || nat_le budget (issued log))
 
--- the log leads from boot with this memory to this state; it begins with the exchange for the first package, fulfils
--- the requests after numbers of instructions and at any time, and has no more instructions than the budget, and the run
--- is over there; if the state has the fault, the log is a beginning of the program's run that includes the faulting
--- instruction
+-- The log leads from boot with this memory to this state. It begins with the exchange for the first package, fulfils
+-- the counted and the free requests, and has no more instructions than the budget. The run is over there. If the state
+-- has the fault, the log is a beginning of the program's run that includes the faulting instruction.
 pub record IsRun (memory : List ℕ) (start : ℕ) (after : List (ℕ × ℕ)) (free : List ℕ) (budget : ℕ)
     (log : List LogStep) (s : State) : Type 0 where
   pub begins : (more : List LogStep) × (log ≡ Exchanged start ∷ more)
@@ -30,13 +29,13 @@ pub record IsRun (memory : List ℕ) (start : ℕ) (after : List (ℕ × ℕ)) (
   pub over : is_over s log budget ≡ true
   pub fault : s.fault ≡ true → IsFaultedRun log memory s
 
--- after some turns a run comes to a moment at which it ends
+-- after some turns a run reaches a moment at which it ends
 pub record EndsAt (budget : ℕ) (first last : Moment) : Type 0 where
   pub count : ℕ
   pub reached : turns budget count first ≡ last
   pub ends : next_turn budget last ≡ Ends
 
--- after some turns a run comes to an exchange whose sixteen words don't lie in memory
+-- after some turns a run reaches an exchange whose sixteen words aren't all in memory
 pub record IsUnfit (budget : ℕ) (first : Moment) : Type 0 where
   pub count : ℕ
   pub last : Moment
@@ -45,8 +44,7 @@ pub record IsUnfit (budget : ℕ) (first : Moment) : Type 0 where
   pub exchanges : next_turn budget last ≡ Exchanges at
   pub unfit : package_fits at (length last.state.memory) ≡ false
 
--- a run of a memory, a first package, requests after so many instructions and at any time, and a budget ends with this
--- log in this state
+-- a run with this memory, first package, counted and free requests, and budget ends with this log and this state
 pub record IsSequentialRun (memory : List ℕ) (start : ℕ) (after : List (ℕ × ℕ)) (free : List ℕ) (budget : ℕ)
     (log : List LogStep) (s : State) : Type 0 where
   pub asks : List (ℕ × ℕ)
@@ -56,14 +54,14 @@ pub record IsSequentialRun (memory : List ℕ) (start : ℕ) (after : List (ℕ 
   pub log_is : log ≡ last.log
   pub state_is : s ≡ last.state
 
--- a run comes to an exchange whose sixteen words don't lie in memory
+-- a run reaches an exchange whose sixteen words aren't all in memory
 pub record IsUnfitRun (memory : List ℕ) (start : ℕ) (after : List (ℕ × ℕ)) (free : List ℕ) (budget : ℕ)
     : Type 0 where
   pub asks : List (ℕ × ℕ)
   pub ordered : AreOrdered start after asks
   pub unfit : IsUnfit budget (begun memory asks free)
 
--- why a run has no end: memory ran out, or E19, package range
+-- the reason why a run has no end: memory ran out, or E19, package range
 abbrev pub IsWhyNoRun : List ℕ → ℕ → List (ℕ × ℕ) → List ℕ → ℕ → Refusal → Type 0
 IsWhyNoRun memory start after free budget OutOfMemory = Unit {0}
 IsWhyNoRun memory start after free budget PackageRange = IsUnfitRun memory start after free budget

@@ -1,3 +1,3 @@
--- What ties the code of a sequential run to its definitions. Source: ours.
+-- The relation between the code of a sequential run and its definitions. Source: ours.
 pub mod Course
 pub mod Stepping

@@ -1,4 +1,4 @@
-//! How far a run has come, and the turns by which it goes on.
+//! The progress of a run, and the turns that advance it.
 ghost use Rattle.std.specs.Prelude.{◌≡◌, ◌≤◌, ◌<◌, ◌+◌, ◌^◌, ◌&&◌, nat_lt, ℕ, true, false, Some, None, is_some};
 ghost use Rattle.std.specs.Prelude.{MatchResult};
 ghost use Rattle.instructions.specs.declared.refusal.Refusal.TheVariants.{OutOfMemory};
@@ -13,24 +13,23 @@ use instruction_table::Refusal;
 use sequential::{Log, State};
 use std::collections::VecDeque;
 
-/// A run on its way.
+/// A run in progress.
 #[derive(Drop)]
 pub struct Course {
     /// The state of the machine.
     pub state: State,
-    /// The instructions and exchanges that led to it.
+    /// The instructions and exchanges so far.
     pub log: Log,
-    /// The requests that name the number of instructions after which they are made.
+    /// The counted requests, which name the number of instructions after which they are made.
     pub requests: Requests,
-    /// The absolute addresses of packages whose requests may be made at any time, in their order.
+    /// The free requests, which may be made at any time: the absolute addresses of their packages, in order.
     pub free: VecDeque<u32>,
-    /// The absolute address of the package of the request that waits for its exchange.
+    /// The absolute address of the package of the request that is waiting for its exchange.
     pub waiting: Option<u32>,
 }
 
 impl Course {
-    /// Makes the next request that is due, or if none is, the next one that may be made at any time. False if there is
-    /// neither.
+    /// Makes the next request that is due or, if none is due, the next free request. Returns false if there is neither.
     fn ask(&mut self, budget: u64) -> bool
         requires kept { IsKept budget self.old }
         requires idle { self.old.waiting ≡ None }
@@ -50,8 +49,8 @@ impl Course {
         false
     }
 
-    /// How many instructions to do before the next look at the requests, at most `left`. While a request waits it is
-    /// one, because its exchange may be possible after that.
+    /// The number of instructions to execute before the next check of the requests, at most `left`. While a request
+    /// waits the number is at most 1, because the exchange may be possible after one instruction.
     fn next_issues(&self, left: u64) -> u64
         ensures most { result ≤ left }
         ensures some { CanIssue self.now → 0 < left → 0 < result }
@@ -66,7 +65,7 @@ impl Course {
         if until < left { until } else { left }
     }
 
-    /// Whether an instruction may be done: the machine runs without fault, and some of the budget is left.
+    /// Whether an instruction may be executed: the machine runs without a fault, and some of the budget is left.
     fn may_issue(&self, budget: u64) -> bool
         requires kept { IsKept budget self.now }
         ensures { result ≡ (is_going self.now.state && nat_lt (issued self.now.log.steps) budget) }
@@ -74,7 +73,7 @@ impl Course {
         is_going(&self.state) && self.log.issues() < budget
     }
 
-    /// Does `count` instructions, or fewer if the machine halts or faults.
+    /// Executes `count` instructions, or fewer if the machine halts or faults.
     fn issue_some(&mut self, count: u64)
         requires room { 0 < self.old.log.room }
         requires count { issued self.old.log.steps + count < 2 ^ 64 }
@@ -86,11 +85,11 @@ impl Course {
         self.requests.issued_many(made);
     }
 
-    /// Does instructions up to the next look at the requests. False if no instruction may be done: then the run has
-    /// ended.
+    /// Executes instructions up to the next check of the requests. Returns false if no instruction may be executed: the
+    /// run has ended.
     ///
     /// # Errors
-    /// `OutOfMemory`.
+    /// `OutOfMemory` if memory runs out.
     fn issue(&mut self, budget: u64) -> Result<bool, Refusal>
         requires kept { IsKept budget self.old }
         ensures gone { CanIssue self.old
@@ -109,10 +108,10 @@ impl Course {
         Ok(true)
     }
 
-    /// Makes an exchange, makes a request, or does some instructions, whichever comes next. False if the run has ended.
+    /// Makes the next turn: an exchange, a request, or some instructions. Returns false if the run has ended.
     ///
     /// # Errors
-    /// `OutOfMemory`, and `PackageRange` if the sixteen words of the exchange that comes next don't all lie in memory.
+    /// `OutOfMemory` if memory runs out. `PackageRange` if the sixteen words of the next exchange aren't all in memory.
     pub fn turn(&mut self, budget: u64) -> Result<bool, Refusal>
         requires kept { IsKept budget self.old }
         ensures gone { MatchResult result (λ on. Went budget on (moment_of self.old) (moment_of self.new))

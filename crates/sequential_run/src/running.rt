@@ -1,4 +1,4 @@
-//! A run from its boot to its end.
+//! A run from boot to its end.
 ghost use Rattle.std.specs.Prelude.{IfOk, MatchResult};
 ghost use Rattle.sequential_run.specs.inner.Course.{IsBegun};
 ghost use Rattle.sequential_run.specs.Run.{IsRun, IsSequentialRun, IsWhyNoRun};
@@ -11,19 +11,19 @@ use sequential::{Log, State};
 use std::alloc::{AllocError, Global};
 use std::collections::VecDeque;
 
-/// What a run ends with.
+/// The result of a completed run.
 #[derive(Drop)]
 pub struct CompletedRun {
     /// The final state of the machine.
     pub state: State,
-    /// The instructions and exchanges that led to it.
+    /// The instructions and exchanges of the run.
     pub log: Log,
 }
 
-/// Boots the machine and puts the requests into their order.
+/// Boots the machine and puts the requests in order.
 ///
 /// # Errors
-/// Memory ran out.
+/// `AllocError` if memory runs out.
 fn begin(
     alloc: Global,
     memory: Storage,
@@ -44,14 +44,13 @@ fn begin(
     })
 }
 
-/// Runs a program to its end, one instruction at a time. The machine is booted with `memory`, its first exchange is
-/// with the package at the absolute address `start`, and at most `budget` instructions are done. The requests of
-/// `after` are made after as many instructions as they name, those of `free`, absolute addresses of packages, at the
-/// first moment that allows it.
+/// Runs a program to its end, one instruction at a time. The machine boots with `memory`, makes its first exchange with
+/// the package at the absolute address `start`, and executes at most `budget` instructions. The counted requests of
+/// `after` are made after as many instructions as they name. The free requests of `free`, absolute addresses of
+/// packages, are made at the first moment that allows it.
 ///
 /// # Errors
-/// `OutOfMemory` if an allocation fails, and `PackageRange` if the sixteen words of an exchange that comes next don't
-/// all lie in memory.
+/// `OutOfMemory` if memory runs out. `PackageRange` if the sixteen words of the next exchange aren't all in memory.
 pub fn run(
     alloc: Global,
     memory: Storage,

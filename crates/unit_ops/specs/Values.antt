@@ -1,6 +1,6 @@
--- What a row computes from its operands.
+-- The value of each instruction, from its operands.
 -- Source: 60100000, the descriptions of the instructions; ours: EQ and NE compare bits, GE and LT order them as two's
--- complement numbers, a nominal right shift by more than 63 gives +0, and P + 1 and K + 1 of RJ go on from 777777 to 0.
+-- complement numbers, a nominal right shift by more than 63 gives +0, and P + 1 and K + 1 of RJ wrap from 777777 to 0.
 use Rattle.std.specs.Prelude.{ℕ, ◌+◌, ◌/◌, ◌%◌, ◌^◌, Bool, not, ◌||◌, ◌==◌, nat_lt, nat_le, if◌then◌else◌, Option, Some}
 use Rattle.std.specs.Prelude.{None, bit_and, bit_or, bit_xor, count_ones}
 use Rattle.word60.specs.Words.{all_ones, bit, sum, difference, complement, rotate_left, shift_right, mask, low18}
@@ -46,7 +46,7 @@ is_indefinite x = (upper x == 0o1777) || (upper x == 0o6000)
 abbrev pub is_zero : ℕ → Bool
 is_zero x = (x == 0) || (x == all_ones 60)
 
--- the jump of 030 to 037 is taken, for this Xj
+-- the branch of 030 to 037 is taken for this Xj
 abbrev pub x_holds : XTest → ℕ → Bool
 x_holds Zero x = is_zero x
 x_holds NonZero x = not (is_zero x)
@@ -57,18 +57,18 @@ x_holds OutOfRange x = is_out_of_range x
 x_holds Definite x = not (is_indefinite x)
 x_holds Indefinite x = is_indefinite x
 
--- where an 18-bit pattern stands from the most negative on, with -0 (777777) just below +0
+-- the rank of an 18-bit pattern, counted from the most negative; -0 (777777) is just below +0
 abbrev pub rank : ℕ → ℕ
 rank b = (b + 2 ^ 17) % 2 ^ 18
 
--- the jump of 04 to 07 is taken, for these Bi and Bj
+-- the branch of 04 to 07 is taken for these Bi and Bj
 abbrev pub b_holds : BTest → ℕ → ℕ → Bool
 b_holds Equal a b = a == b
 b_holds NotEqual a b = not (a == b)
 b_holds GreaterOrEqual a b = nat_le (rank b) (rank a)
 b_holds Less a b = nat_lt (rank a) (rank b)
 
--- what 11 to 13 and 15 to 17 give; the last three complement the second word
+-- the result of 11 to 13 and 15 to 17; the last three complement the second word
 abbrev pub logic : Logic → ℕ → ℕ → ℕ
 logic And x y = bit_and x y
 logic Or x y = bit_or x y
@@ -77,39 +77,39 @@ logic AndNot x y = bit_and x (complement 60 y)
 logic OrNot x y = bit_or x (complement 60 y)
 logic XorNot x y = bit_xor x (complement 60 y)
 
--- what 20 and 21 give: 20 rotates left by a count, 21 shifts right with the sign copied in
+-- the result of 20 and 21: 20 rotates left by a count, 21 shifts right and extends the sign
 abbrev pub shifted : Direction → ℕ → ℕ → ℕ
 shifted Left x count = rotate_left x count
 shifted Right x count = shift_right x count
 
--- the sign of an index is bit 17
+-- the index is negative: bit 17 is 1
 abbrev pub is_negative : ℕ → Bool
 is_negative b = bit b 17 == 1
 
--- an index without its sign: its complement where it is negative
+-- an index without its sign: its complement if it is negative
 abbrev pub magnitude : ℕ → ℕ
 magnitude b = if is_negative b then complement 18 b else b
 
--- a nominal right shift: by a magnitude above 63 it leaves +0
+-- the result of a nominal right shift; a magnitude above 63 leaves +0
 abbrev pub shifted_out : ℕ → ℕ → ℕ
 shifted_out x count = if nat_lt 63 count then 0 else shift_right x count
 
--- 22 rotates left and 23 shifts right, and the other way round for a negative count
+-- the shift is a left rotation: 22 rotates left and 23 shifts right, the other way round for a negative count
 abbrev pub rotates_left : Direction → ℕ → Bool
 rotates_left Left b = not (is_negative b)
 rotates_left Right b = is_negative b
 
--- what 22 and 23 give; a rotation goes by the low six bits of the magnitude
+-- the result of 22 and 23; a rotation uses the low six bits of the magnitude
 abbrev pub shifted_nominally : Direction → ℕ → ℕ → ℕ
 shifted_nominally direction b x =
     if rotates_left direction b then rotate_left x (magnitude b % 64) else shifted_out x (magnitude b)
 
--- what 36 and 37 give: the sum or the difference of two words
+-- the result of 36 and 37: the sum or the difference of two words
 abbrev pub added : Addition → ℕ → ℕ → ℕ
 added Sum x y = sum 60 x y
 added Difference x y = difference 60 x y
 
--- two registers added or subtracted in 18 bits
+-- the sum or the difference of two registers, in 18 bits
 abbrev pub pair_value : Pair → ℕ → ℕ → ℕ
 pair_value XPlusB x y = sum 18 (low18 x) (low18 y)
 pair_value APlusB x y = sum 18 (low18 x) (low18 y)
@@ -117,7 +117,7 @@ pair_value AMinusB x y = difference 18 (low18 x) (low18 y)
 pair_value BPlusB x y = sum 18 (low18 x) (low18 y)
 pair_value BMinusB x y = difference 18 (low18 x) (low18 y)
 
--- what an increment instruction computes in 18 bits: a register plus K, or two registers
+-- the 18 bits that an increment instruction computes: a register plus K, or the sum or difference of two registers
 abbrev pub addends_value : Addends → ℕ → ℕ → ℕ
 addends_value (Address base j K) x y = sum 18 (low18 x) K
 addends_value (Registers pair j k) x y = pair_value pair x y
@@ -133,15 +133,15 @@ increment_value TargetA i v outgoing = reference i v outgoing
 increment_value TargetB i v outgoing = Index v
 increment_value TargetX i v outgoing = Word (extend v)
 
--- the value of a branch: to K where it is taken, and else nowhere
+-- the value of a branch: to K if it is taken, otherwise nowhere
 abbrev pub branch_to : Bool → ℕ → UnitValue
 branch_to taken K = Jump (if taken then Some K else None)
 
--- the address after another; 0 comes after 777777
+-- the next address; 0 follows 777777
 abbrev pub next_address : ℕ → ℕ
 next_address address = (address + 1) % 2 ^ 18
 
--- the value of a row; a pass and a stop have none, and +0 stands here for it
+-- the value of an instruction; a pass and a stop have none, and the definition gives +0
 abbrev pub value_of : Instr → Operands → UnitValue
 value_of Stop o = Index 0
 value_of Pass o = Index 0
@@ -159,7 +159,7 @@ value_of (Mask i jk) o = Word (mask jk)
 value_of (CountOnes i k) o = Word (count_ones o.first)
 value_of (Increment target i addends) o = increment_value target i (addends_value addends o.first o.second) o.outgoing
 
--- where the answer of a unit sends the machine, if anywhere: a return jump goes on after the word that it stores
+-- the address that a value makes the machine jump to, if any; a return jump continues after the word that it stores
 abbrev pub destination : UnitValue → Option ℕ
 destination (Word x) = None
 destination (Index b) = None
@@ -168,6 +168,6 @@ destination (Store a x) = None
 destination (Jump to) = to
 destination (Link at back) = Some (next_address at)
 
--- where a branch that is taken goes; None is for one that isn't, and for every other instruction
+-- the target of a branch that is taken; None for a branch that isn't taken, and for every other instruction
 abbrev pub branch_of : Instr → Operands → Option ℕ
 branch_of instr o = destination (value_of instr o)

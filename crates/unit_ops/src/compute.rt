@@ -13,7 +13,7 @@ use instructions::{
 };
 use word60::{Word18, Word60};
 
-/// +0 or -0.
+/// Whether the word is +0 or -0.
 #[inline(always)]
 fn is_zero(x: Word60) -> bool
     ensures { result ≡ is_zero x }
@@ -21,7 +21,7 @@ fn is_zero(x: Word60) -> bool
     x.get() == 0 || x.get() == 0xfff_ffff_ffff_ffff
 }
 
-/// The upper twelve bits are 3777 or 4000: an exponent that overflowed.
+/// Whether the upper twelve bits are 3777 or 4000: an exponent that overflowed.
 #[inline(always)]
 fn is_out_of_range(x: Word60) -> bool
     ensures { result ≡ is_out_of_range x }
@@ -30,7 +30,7 @@ fn is_out_of_range(x: Word60) -> bool
     upper == 0o3777 || upper == 0o4000
 }
 
-/// The upper twelve bits are 1777 or 6000: a result that has no value.
+/// Whether the upper twelve bits are 1777 or 6000: an indefinite result.
 #[inline(always)]
 fn is_indefinite(x: Word60) -> bool
     ensures { result ≡ is_indefinite x }
@@ -39,7 +39,7 @@ fn is_indefinite(x: Word60) -> bool
     upper == 0o1777 || upper == 0o6000
 }
 
-/// Bit 59 is 1.
+/// Whether bit 59 is 1.
 #[inline(always)]
 fn is_minus(x: Word60) -> bool
     ensures { result ≡ (bit x 59 == 1) }
@@ -64,7 +64,7 @@ fn x_holds(test: XTest, x: Word60) -> bool
     }
 }
 
-/// The position of a pattern of 18 bits in the order of two's complement, the least first.
+/// The rank of a pattern of 18 bits in the order of two's complement, lowest first.
 #[inline(always)]
 fn rank(b: Word18) -> u32
     ensures { result ≡ rank b }
@@ -100,7 +100,7 @@ fn logic(op: Logic, x: Word60, y: Word60) -> Word60
     }
 }
 
-/// Bit 17 is 1.
+/// Whether bit 17 is 1.
 #[inline(always)]
 fn is_negative(b: Word18) -> bool
     ensures { result ≡ is_negative b }
@@ -108,7 +108,7 @@ fn is_negative(b: Word18) -> bool
     b.get() >> 17 == 1
 }
 
-/// The number without its sign: of a negative one the complement.
+/// The number without its sign: the complement if it is negative.
 #[inline(always)]
 fn magnitude(b: Word18) -> u32
     ensures { result ≡ magnitude b }
@@ -120,7 +120,7 @@ fn magnitude(b: Word18) -> u32
     }
 }
 
-/// Shifted right by a nominal count. More than 63 bits leave +0.
+/// Shifts right by a nominal count. A count above 63 leaves +0.
 #[inline(always)]
 fn shifted_out(x: Word60, count: u32) -> Word60
     ensures { result ≡ shifted_out x count }
@@ -132,8 +132,8 @@ fn shifted_out(x: Word60, count: u32) -> Word60
     }
 }
 
-/// Shifted by the count in a B register, in the other direction where that is negative. A shift round the word goes by
-/// the low six bits of the magnitude.
+/// Shifts by the count in a B register, in the other direction if the count is negative. A circular shift uses the low
+/// six bits of the magnitude.
 #[inline(always)]
 fn shifted_nominally(direction: Direction, b: Word18, x: Word60) -> Word60
     ensures { result ≡ shifted_nominally direction b x }
@@ -149,7 +149,7 @@ fn shifted_nominally(direction: Direction, b: Word18, x: Word60) -> Word60
     }
 }
 
-/// Shifted by the instruction's own count, 0 to 63.
+/// Shifts by the instruction's own count, 0 to 63.
 #[inline(always)]
 fn shifted(direction: Direction, x: Word60, count: SixBits) -> Word60
     ensures { result ≡ shifted direction x count }
@@ -160,7 +160,7 @@ fn shifted(direction: Direction, x: Word60, count: SixBits) -> Word60
     }
 }
 
-/// The 18 bits of two registers that are added or subtracted.
+/// The sum or difference of two registers, in 18 bits.
 #[inline(always)]
 fn pair_value(pair: Pair, x: Word60, y: Word60) -> Word18
     ensures { result ≡ pair_value pair x y }
@@ -184,7 +184,7 @@ fn addends_value(addends: Addends, x: Word60, y: Word60) -> Word18
     }
 }
 
-/// What an increment instruction does with its 18 bits.
+/// The value of an increment instruction, from the 18 bits that it computes.
 #[inline(always)]
 fn increment_value(target: Target, i: Digit, value: Word18, outgoing: Word60) -> UnitValue
     ensures { result ≡ increment_value target i value outgoing }
@@ -200,7 +200,7 @@ fn increment_value(target: Target, i: Digit, value: Word18, outgoing: Word60) ->
     }
 }
 
-/// The answer of a branch.
+/// The value of a branch: its target if it is taken.
 #[inline(always)]
 fn branch_to(taken: bool, to: Word18) -> UnitValue
     ensures { result ≡ branch_to taken to }
@@ -208,7 +208,7 @@ fn branch_to(taken: bool, to: Word18) -> UnitValue
     UnitValue::Jump(if taken { Some(to) } else { None })
 }
 
-/// What the unit of an instruction computes from its operands. `PS` and `NO` have no unit, and no value.
+/// The value that the unit of an instruction computes from its operands. `PS` and `NO` have no unit and no value.
 #[inline(always)]
 pub fn value(instr: &Instr, operands: &Operands) -> UnitValue
     requires { IsSome (uses instr.now).unit }
@@ -251,8 +251,8 @@ pub fn value(instr: &Instr, operands: &Operands) -> UnitValue
 }
 
 impl UnitValue {
-    /// Where this answer of a unit sends the machine, and None where it stays in order. After a return jump that is
-    /// the word after the one that it stores.
+    /// The address that this value makes the machine jump to, or `None` if it continues in order. A return jump
+    /// continues at the word after the one it stores.
     #[inline(always)]
     pub fn destination(self) -> Option<Word18>
         ensures { result ≡ destination self }
@@ -265,8 +265,8 @@ impl UnitValue {
     }
 }
 
-/// The address that a branch goes to where it is taken, which for `RJ K` is K + 1. None is for a branch that is
-/// not taken, and for an instruction that is no branch.
+/// The target of a branch if it is taken; for `RJ K` that is K + 1. `None` if the branch isn't taken, or if the
+/// instruction isn't a branch.
 pub fn branch_taken(instr: &Instr, operands: &Operands) -> Option<Word18>
     ensures { result ≡ branch_of instr.now operands.now }
 {

@@ -1,12 +1,12 @@
-//! What the functional units compute: the value of an instruction, as a function of its operands
-//! alone, and where a branch goes by it.
+//! The computations of the functional units: the value of an instruction as a function of its operands alone, and the
+//! target of a branch.
 //!
-//! The operations are the machine's (Control Data 6400/6600 Reference Manual, publication
-//! 60100000). This project chose the order of `GE` and `LT` and the equality of `EQ` and `NE`
-//! (`BTest` of `instructions`), that a nominal shift to the right by more than 63 bits leaves +0,
-//! and the zeros of sums and the long shifts and masks (`word60`).
+//! The operations are the machine's (Control Data 6400/6600 Reference Manual, publication 60100000). This project chose
+//! the order of `GE` and `LT` and the equality of `EQ` and `NE` (`BTest` of `instructions`). It also chose that a
+//! nominal shift to the right by more than 63 bits leaves +0, and it chose the zeros of sums and the long shifts and
+//! masks (`word60`).
 //!
-//! Callers rely on `value`: for each instruction that has a unit it answers exactly `value_of` of `specs/Values`. Its
+//! Callers rely on `value`: for each instruction that has a unit it returns exactly `value_of` of `specs/Values`. The
 //! tests are in `crates/core_tests/src/unit_ops_tests.rt`. Begin with `value` in `compute`, next to that definition.
 #![tactic(auto)]
 
@@ -15,8 +15,8 @@ mod compute;
 pub use compute::{branch_taken, value};
 use word60::{Word18, Word60};
 
-/// What a unit reads. An operand of 18 bits stands in bits 17 to 0, and the bits above it do not count; an
-/// operand that the instruction does not have does not count either, and callers give 0.
+/// The inputs of a unit. An operand of 18 bits is in bits 17 to 0, and the bits above it don't count. An operand that
+/// the instruction doesn't have doesn't count either; callers pass 0.
 #[derive(Clone, Copy, Debug, PartialEq, Eq)]
 pub struct Operands {
     /// The left operand, or the only one.
@@ -29,20 +29,20 @@ pub struct Operands {
     pub place: Word18,
 }
 
-/// The value that a unit computes, by what the machine does with it.
+/// The value that a unit computes. The variant says what the machine does with it.
 #[derive(Clone, Copy, Debug, PartialEq, Eq)]
 pub enum UnitValue {
-    /// For Xi.
+    /// The new Xi.
     Word(Word60),
-    /// For A0 or Bi.
+    /// The new A0 or Bi.
     Index(Word18),
-    /// For Ai, and the address to load Xi from.
+    /// The new Ai, which is also the address to load Xi from.
     Load(Word18),
-    /// For Ai, and the address to store the word at.
+    /// The new Ai, which is also the address to store at, and the word to store.
     Store(Word18, Word60),
-    /// The address that a branch goes to, and None where it is not taken.
+    /// The target of a branch, or `None` if the branch isn't taken.
     Jump(Option<Word18>),
-    /// For a return jump: the address that a jump to `back` is stored at; the next instruction is in the word after it.
-    /// `back` is the address of the word after the return jump's. Both go on from 777777 to 0.
+    /// A return jump: stores a jump to `back` at the address `at`, and continues at `at` + 1. `back` is the address of
+    /// the word after the return jump's. Both sums wrap from 777777 to 0.
     Link { at: Word18, back: Word18 },
 }

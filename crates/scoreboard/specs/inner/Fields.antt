@@ -1,6 +1,5 @@
--- Questions to the fields of a board, and what an issue or a store event changes in the fields. A slot is the field of
--- one unit or of one load channel.
--- Source: Thornton, scoreboard; docs/scoreboard.md sets the fields beside his.
+-- Queries of the fields of a board, and changes of the fields. A slot is the field of one unit or of one load channel.
+-- Source: Thornton, scoreboard; docs/scoreboard.md compares the fields with his.
 use Rattle.std.specs.Prelude.{ℕ, Bool, false, ◌&&◌, ◌||◌, nat_lt, List, [], ◌∷◌, Option, Some, None, is_some, map}
 use Rattle.std.specs.Prelude.{slice_index_or}
 use Rattle.instructions.specs.declared.instr.Unit.TheVariants.{Increment1, Increment2}
@@ -15,26 +14,26 @@ use Rattle.instructions.specs.declared.instr.Unit.{Unit as FunctionalUnit}
 use Rattle.scoreboard.specs.Reservations.{reads_it, has_turn}
 use Rattle.scoreboard.specs.declared.issued.Issued.{Issued}
 
--- an instruction stands there, and it meets the test
+-- the slot has an instruction, and it meets the test
 unfoldable pub slot_is : (Reservation → Bool) → Option Issued → Bool
 slot_is test None = false
 slot_is test (Some x) = test x.reservation
 
--- its instruction has a lower number and has still to read the register
+-- the slot has an instruction with a lower number that has yet to read the register
 unfoldable pub slot_reads : ℕ → Reg → Option Issued → Bool
 slot_reads n r None = false
 slot_reads n r (Some x) = nat_lt x.number n && reads_it r x.reservation
 
--- its instruction has a lower number and a reference that has not come to its store event
+-- the slot has an instruction with a lower number whose reference has not yet had its store event
 unfoldable pub slot_has_turn : ℕ → Option Issued → Bool
 slot_has_turn n None = false
 slot_has_turn n (Some x) = nat_lt x.number n && has_turn x.reservation
 
--- what stands in the slot of the unit
+-- the content of the unit's slot
 abbrev pub slot_at : List (Option Issued) → FunctionalUnit → Option Issued
 slot_at units unit = slice_index_or units (unit_number unit) None
 
--- the slot of the unit is taken
+-- the unit's slot is taken
 abbrev pub is_taken : List (Option Issued) → FunctionalUnit → Bool
 is_taken units unit = is_some (slot_at units unit)
 
@@ -42,12 +41,12 @@ is_taken units unit = is_some (slot_at units unit)
 abbrev pub in_increment : (Option Issued → Bool) → List (Option Issued) → Bool
 in_increment test units = test (slot_at units Increment1) || test (slot_at units Increment2)
 
--- the first unit of a kind that is not taken
+-- the first unit of a kind whose slot isn't taken
 unfoldable pub free_for : (FunctionalUnit → Bool) → Option UnitKind → Option FunctionalUnit
 free_for taken None = None
 free_for taken (Some kind) = first_free taken (units_of kind)
 
--- the producers without that writer, where the unit is taken
+-- the producers without this writer; those of a free unit are unchanged
 unfoldable pub forget_in_taken : Writer → List (Option Issued) → List (List (Option Writer))
     → List (List (Option Writer))
 forget_in_taken w [] pss = pss

@@ -1,5 +1,5 @@
--- The fields of a board as what it stands for, and what always holds of them.
--- Source: Thornton, scoreboard, for the fields; the list that they stand for is ours.
+-- The fields of a board, the list of instructions that they represent, and the invariant.
+-- Source: Thornton, scoreboard, for the fields; the list that they represent is ours.
 use Rattle.std.specs.Prelude.{◌≡◌, ◌≢◌, ◌≤◌, ◌+◌, ℕ, true, false, ◌&&◌, List, [], ◌∷◌, ◌++◌, Option, Some, None, length}
 use Rattle.std.specs.Prelude.{slice_index_or}
 use Rattle.instructions.specs.declared.instr.Reg.{Reg}
@@ -18,15 +18,15 @@ use Rattle.scoreboard.specs.Issued.{number_of, writer_of, writer_before}
 use Rattle.instructions.specs.Order.{sort_by, somes, IsInSlots}
 use Rattle.scoreboard.specs.Writers.{IsRegister, writer_at}
 
--- what stands in the slots, units first
+-- the instructions in the slots, units first
 unfoldable pub in_slots : List (Option Issued) → List (Option Issued) → List Issued
 in_slots units channels = somes (units ++ channels)
 
--- what the board stands for: those in the slots, in the order of their numbers, and the last number
+-- the board that the fields represent: the instructions in the slots in the order of their numbers, and the last number
 abbrev pub standing_of : List (Option Issued) → List (Option Issued) → ℕ → Standing
 standing_of units channels last = record { issued = sort_by number_of (in_slots units channels); last = last }
 
--- units have the slots 0 to 9 by their numbers, the channels 10 to 17; there is no slot 18
+-- the slot of an occupancy: units have the slots 0 to 9 by their numbers, and channels 10 to 17; there is no slot 18
 unfoldable pub slot_in : FunctionalUnit → Occupancy → ℕ
 slot_in unit (Reserved has_read) = unit_number unit
 slot_in unit (Left (Some n)) = 10 + n
@@ -36,40 +36,40 @@ slot_in unit (Left None) = 18
 unfoldable pub slot_of : Issued → ℕ
 slot_of x = slot_in x.reservation.unit x.reservation.occupancy
 
--- two have neither the number nor a result still to come in common
+-- the two have different numbers, and no result still to come in common
 pub record IsOther (x y : Issued) : Type 0 where
   pub number : number_of x ≢ number_of y
   pub results : (r : Reg) → (comes r x.reservation && comes r y.reservation) ≡ false
 
--- it was issued to a unit of the kind that its instruction takes
+-- the instruction was issued to a unit of its kind
 abbrev pub IsOfKind : Issued → Type 0
 IsOfKind x = may_take (uses x.reservation.instr).unit x.reservation.unit ≡ true
 
--- each operand has its producer: who is to write the operand's register, if anybody is
+-- each operand has its producer: the writer of the operand's register, if it has one
 abbrev pub AreProducers : (Reg → Option Writer) → List Reg → List (Option Writer) → Type 0
 AreProducers f [] ps = Unit {0}
 AreProducers f (r ∷ rs) [] = ⊥
 AreProducers f (r ∷ rs) (p ∷ ps) = (p ≡ f r) × AreProducers f rs ps
 
--- what always holds of the fields of a board
+-- the invariant of the fields of a board
 pub record IsRight (units channels : List (Option Issued)) (producers : List (List (Option Writer)))
     (writers : Writers) (last : ℕ) : Type 0 where
-  -- ten units, eight channels, and producers for each of the ten units
+  -- there are ten units, eight channels, and producers for each of the ten units
   pub all_units : length units ≡ 10
   pub all_channels : length channels ≡ 8
   pub all_producers : length producers ≡ 10
-  -- a writer or none for each register
+  -- each register has a writer or none
   pub all_writers : (length writers.x ≡ 8) × (length writers.a ≡ 8) × (length writers.b ≡ 8)
-  -- each stands in its own slot
+  -- each instruction is in its own slot
   pub stands : IsInSlots slot_of 0 (units ++ channels)
-  -- no two have the number or a result still to come in common, and no number is above the last
+  -- no two instructions have a number or a result still to come in common, and no number is above the last
   pub apart : Pairs IsOther (in_slots units channels)
   pub counted : Each (λ x. x.number ≤ last) (in_slots units channels)
-  -- each was issued to a unit of its kind
+  -- each instruction was issued to a unit of its kind
   pub kinds : Each IsOfKind (in_slots units channels)
-  -- each register's writer is the writer of it among all
+  -- the writer of each register is its writer among all these instructions
   pub written : (r : Reg) → IsRegister r → writer_at writers r ≡ writer_of (in_slots units channels) r
-  -- each operand's producer is the writer of its register among those with a lower number
+  -- the producer of each operand is the writer of its register among the instructions with a lower number
   pub produced : (i : ℕ) (x : Issued) → slice_index_or units i None ≡ Some x
       → AreProducers (writer_before x.number (in_slots units channels)) (sources_of x.reservation.instr)
       (slice_index_or producers i [])

@@ -1,4 +1,4 @@
--- How far a run has come, as the code keeps it, and how it goes on.
+-- The progress of a run, as the code keeps it, and the changes by a turn.
 -- Source: ours.
 use Rattle.std.specs.Prelude.{ℕ, ◌≡◌, ◌≤◌, ◌<◌, ◌+◌, ◌-◌, ◌*◌, Bool, true, false, List, [], None, length, is_some}
 use Rattle.std.specs.Prelude.{if◌then◌else◌, ◌++◌, replicate}
@@ -12,7 +12,7 @@ use Rattle.sequential.specs.Replay.{Issued}
 use Rattle.sequential_run.specs.inner.Stepping.{StepsTo}
 use Rattle.sequential_run.specs.Turns.{Moment, begun, Ends, Exchanges, is_going, is_in_mid_word, next_turn, turns}
 
--- the moment at which a run is
+-- the moment that a run has reached
 unfoldable pub moment_of : Course → Moment
 moment_of c = record {
   state = c.state;
@@ -29,20 +29,21 @@ pub record IsBegun (memory : List ℕ) (start : ℕ) (after : List (ℕ × ℕ))
   pub counted : c.requests.issued ≡ 0
   pub idle : c.requests.is_waiting ≡ false
 
--- the requests know how many instructions were done, which are no more than the budget, and none waits among them where
--- none waits
+-- the invariant of a run: the requests have the number of instructions in the log, that number is within the budget,
+-- and they record a waiting request only if there is one
 pub record IsKept (budget : ℕ) (c : Course) : Type 0 where
   pub counted : c.requests.issued ≡ issued c.log.steps
   pub within : issued c.log.steps ≤ budget
   pub idle : is_some c.waiting ≡ false → c.requests.is_waiting ≡ false
 
--- nothing comes before an instruction: a request that waits can't have its exchange, or none waits and none is due
+-- an instruction comes next: the waiting request can't have its exchange, or no request waits, none is due and no free
+-- request is left
 pub record CanIssue (c : Course) : Type 0 where
   pub mid : is_some c.waiting ≡ true → is_in_mid_word c.state ≡ true
   pub free : is_some c.waiting ≡ false → c.free.items ≡ []
   pub due : is_some c.waiting ≡ false → IsDue c.requests.asks c.requests.issued None
 
--- at most so many instructions were done, as long as the machine ran without fault
+-- at most this many instructions were executed, all while the machine ran without a fault
 pub record IsIssued (count : ℕ) (c d : Course) : Type 0 where
   pub made : ℕ
   pub most : made ≤ count
@@ -52,22 +53,22 @@ pub record IsIssued (count : ℕ) (c d : Course) : Type 0 where
   pub requests : d.requests ≡ record c.requests { issued = c.requests.issued + made }
   pub same : (d.free ≡ c.free) × (d.waiting ≡ c.waiting)
 
--- how many turns a run has left at most: instructions, requests and their exchanges
+-- the most turns that a run can have left: instructions, requests and their exchanges
 unfoldable pub left_at : ℕ → Moment → ℕ
 left_at budget m = (budget - issued m.log) + 2 * (length m.asks + length m.free) + (if is_some m.waiting then 1 else 0)
 
--- some turns lead from one moment to another
+-- one or more turns lead from one moment to another
 pub record Goes (budget : ℕ) (m n : Moment) : Type 0 where
   pub count : ℕ
   pub reached : turns budget count m ≡ n
   pub less : left_at budget n < left_at budget m
 
--- a run goes on, or has ended
+-- the run has made turns, or it has ended
 abbrev pub Went : ℕ → Bool → Moment → Moment → Type 0
 Went budget true m n = Goes budget m n
 Went budget false m n = (next_turn budget m ≡ Ends) × (n ≡ m)
 
--- why a run doesn't go on: memory ran out, or the sixteen words of the exchange that comes next don't lie in memory
+-- the reason why a run can't continue: memory ran out, or the sixteen words of the next exchange aren't all in memory
 abbrev pub IsWhyRefused : ℕ → Moment → Refusal → Type 0
 IsWhyRefused budget m OutOfMemory = Unit {0}
 IsWhyRefused budget m PackageRange =
