@@ -11,13 +11,14 @@
 - Paths: a path that begins with a folder of the repository is a file or a folder there, in the files of crates and in
   pages. In the tools' sources this holds for tools and pages, since tests name decks and crates that they make. NAME
   stands for any name, and so does the crate in `crates/crate/`; `*` has to match something.
-- Links: the target of a link in a page is there. Targets elsewhere, in the web, aren't looked up.
+- Links: the target of a link in a page is there, with the section if one is named. Targets in the web aren't looked up.
 
 Run it after a change of names, or of where files are.
 """
 
 import re
 import subprocess
+from functools import cache
 
 from cdc6600.crates.crate import crates
 from cdc6600.crates.table import Table
@@ -50,7 +51,7 @@ OF_TOOLS = ("tools/", "docs/", "bench/", ".ci/")
 ANY_NAME = "Type::function"
 KINDS = (".rt", ".antt", ".edit", ".h", ".c", ".rs", ".py")
 LINK = re.compile(r"\]\(([^)\s]+)\)")
-ELSEWHERE = re.compile(r"[a-z]+:|#")
+ELSEWHERE = re.compile(r"[a-z]+:")
 
 # How the names of files of tests end.
 OF_TESTS = re.compile(r"_(?:tests|schedules)$")
@@ -183,12 +184,23 @@ def faults_of_paths(name, lines):
                 yield f"{name}:{number}: there is no {path}"
 
 
+@cache
+def anchors(page):
+    """What a link to a section of a page may end with."""
+    heads = re.findall(r"^#+ (.*)$", page.read_text(encoding="utf-8"), re.MULTILINE)
+    return {re.sub(r"[^\w -]", "", head.lower()).replace(" ", "-") for head in heads}
+
+
 def faults_of_links(page, lines):
     """The targets of a page's links that aren't there."""
     for number, line in enumerate(lines, 1):
-        for target in LINK.findall(line):
-            if not ELSEWHERE.match(target) and not (ROOT / page).parent.joinpath(target.partition("#")[0]).exists():
+        for target in (it for it in LINK.findall(line) if not ELSEWHERE.match(it)):
+            name, _, section = target.partition("#")
+            file = (ROOT / page).parent / name if name else ROOT / page
+            if not file.exists():
                 yield f"{page}:{number}: the link leads to no file: {target}"
+            elif section and section not in anchors(file):
+                yield f"{page}:{number}: the link leads to no section: {target}"
 
 
 def main():
