@@ -245,7 +245,7 @@ fn replay_asked_for<'a>(matches: &ArgMatches<'a>) -> Result<Replay<'a>, Refused>
 /// The request of words that `clap` accepted.
 ///
 /// # Errors
-/// The reason for refusing the words nevertheless.
+/// The reason, if the words are refused nevertheless.
 fn asked_for<'a>(matches: &ArgMatches<'a>) -> Result<Request<'a>, Refused> {
     let Some(subcommand) = matches.subcommand() else {
         return Err(Refused::NoCommand);

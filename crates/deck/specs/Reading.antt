@@ -12,8 +12,9 @@ use Rattle.instructions.specs.declared.refusal.DeckFault.TheVariants as faults
 use Rattle.instructions.specs.declared.refusal.Refusal.{Refusal}
 use Rattle.instructions.specs.declared.refusal.Refusal.TheVariants as refusals
 
--- the refusal when no deck is returned. The reading has the same faulty line and fault, and leaves the same bytes.
--- Otherwise memory ran out or a read failed, and nothing is claimed of the reading. No other refusal occurs
+-- the refusal if no deck is returned. Either it has the number and the fault of the reading's faulty line, and the
+-- reading leaves the same bytes. Or memory ran out or a read failed, and then nothing is claimed of the reading. No
+-- other refusal occurs
 abbrev pub GivesNoDeck : Refusal → Reading → List ℕ → Type 0
 GivesNoDeck refusal reading rest =
     ((n : ℕ) × (fault : DeckFault) × (refusal ≡ refusals.Deck n fault) × (reading ≡ Bad n fault rest))

@@ -11,8 +11,8 @@ use word60::Word60;
 /// The parcel of a pass, with which words are filled up.
 const PASS: u16 = 0o46000;
 
-/// The parcels of the instructions in a `code` line. There is always room: a line has at most 200 bytes, and the text
-/// of an instruction, with the space before it and the semicolon after it, has more bytes than the instruction has
+/// The parcels of the instructions in a `code` line. There is always room, because a line has at most 200 bytes. The
+/// text of an instruction, with the space before it and the semicolon after it, has more bytes than the instruction has
 /// parcels.
 pub type Parcels = ArrayVec<u16, 202>;
 

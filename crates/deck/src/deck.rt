@@ -18,8 +18,8 @@ pub struct AskLine {
     pub after: u32,
 }
 
-/// A deck: the words of memory, the absolute address of the first exchange package, the requests for later exchanges,
-/// the absolute addresses of the packages that are requested at any time, and the words to show.
+/// A deck: the words of memory, the package of the first exchange, the requests for later exchanges, and the words to
+/// show. `start` and `free` have the absolute addresses of packages. The packages of `free` are requested at any time.
 #[derive(Drop)]
 pub struct Deck {
     pub image: Image,

@@ -30,7 +30,7 @@ impl<T: Drop> LineList<T> {
     /// Creates an empty list.
     ///
     /// # Errors
-    /// `OutOfMemory`.
+    /// `OutOfMemory` if memory runs out.
     pub(crate) fn new(alloc: Global) -> Result<Self, Refusal>
         ensures { MatchResult result (λ list. list ≡ []) (λ refusal. refusal ≡ OutOfMemory) }
     {

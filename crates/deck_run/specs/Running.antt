@@ -36,7 +36,7 @@ PrintsRun (Err (faults.Refused refusals.OutOfMemory)) deck budget old new = Keep
 PrintsRun (Err faults.Stuck) deck budget old new = Keeps old new
 PrintsRun other deck budget old new = ⊥
 
--- the result of reading a deck and running it: `rest` is left of the deck's bytes
+-- the result of reading a deck and running it, where `rest` are the bytes left unread
 abbrev pub Runs : Result Status ProgramFault → Reading → ℕ → List ℕ → Option (List ℕ) → Option (List ℕ) → Type 0
 Runs (Err (faults.Refused (refusals.Deck m fault))) reading budget rest old new = (reading ≡ Bad m fault rest) × Keeps old new
 Runs (Err (faults.Refused refusals.Read)) reading budget rest old new = Keeps old new

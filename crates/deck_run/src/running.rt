@@ -17,8 +17,8 @@ use std::thread::Threads;
 use std::time::Clock;
 use unit_workers::{Gates, Open, Orders, run_threads};
 
-/// The orders of a run of this deck: the package of the `start` line, and the requests of the `ask` lines, each after a
-/// number of instructions or at any time.
+/// The orders of a run of this deck: the package of the `start` line, and the requests of the `ask` lines. A request is
+/// made after a number of instructions or at any time.
 ///
 /// # Errors
 /// Fails if memory runs out.
@@ -67,12 +67,12 @@ fn open_gates() -> Gates<Open> {
 }
 
 /// Boots a machine with a deck's memory and runs it to the end with threads, making the deck's requests for exchanges.
-/// The machine returned was led to its state by its log on that memory, and has exactly this budget. The log begins
-/// with the exchange for the deck's first package and fulfils the deck's requests.
+/// Returns a snapshot of the machine, which has exactly this budget. Its log leads from the deck's memory to its state,
+/// begins with the exchange for the deck's first package, and fulfils the deck's requests.
 ///
 /// # Errors
-/// `OutOfMemory` if memory runs out or a thread can't be started. `Stuck` if the machine refuses a step before the end
-/// of the run, could continue at the end, or has a log that doesn't fulfil the deck's requests.
+/// `OutOfMemory` if memory runs out or a thread can't be started. `Stuck` if the machine refuses a step before the
+/// run's end, could continue at the end, or has a log that doesn't fulfil the deck's requests.
 pub fn run<T: Threads + Wait + Clock + Sync>(
     rt: &T,
     alloc: Global,

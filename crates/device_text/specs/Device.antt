@@ -19,12 +19,12 @@ abbrev pub failed_after : {T E : Type 0} → Bool → Result T E → Bool
 failed_after before (Ok x) = before
 failed_after before (Err e) = true
 
--- whether bytes are to be flushed after a flush: none after a success, and as before after an error
+-- whether bytes remain to be flushed after a flush: no after a success, and as before after an error
 abbrev pub waits_after : {T E : Type 0} → Bool → Result T E → Bool
 waits_after before (Ok x) = false
 waits_after before (Err e) = before
 
--- unless a write failed, no bytes are to be flushed if none were before
+-- unless a write failed, no bytes remain to be flushed if none did before
 abbrev pub NothingWaits : Bool → Bool → Bool → Type 0
 NothingWaits failed before now = failed ≡ false → before ≡ false → now ≡ false
 

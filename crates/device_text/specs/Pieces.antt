@@ -1,4 +1,4 @@
--- The texts of the pieces that a printed line is made of: numbers, names, opcodes and the reason of a halt.
+-- The texts of the pieces that a printed line is made of: numbers, names, opcodes and the reason for a halt.
 -- Source: ours; the codes of opcodes and the names of the registers are the manual's.
 use Rattle.std.specs.Prelude.{ℕ, ◌+◌, List, [], ◌∷◌, codes, decimal, ◌==◌, if◌then◌else◌}
 use Rattle.std.specs.List.{flat_map, concat}
@@ -24,7 +24,7 @@ abbrev pub code_text : Op → List ℕ
 code_text (Plain f m) = (48 + f) ∷ (48 + m) ∷ []
 code_text (Extended f m i) = (48 + f) ∷ (48 + m) ∷ (48 + i) ∷ []
 
--- the reason of a halt: `stop`, `illegal CODE`, `straddle` or `fetch`
+-- the reason for a halt: `stop`, `illegal CODE`, `straddle` or `fetch`
 abbrev pub reason_text : Halt → List ℕ
 reason_text Stop = codes "stop"
 reason_text (Illegal op) = concat (codes "illegal " ∷ code_text op ∷ [])

@@ -8,7 +8,7 @@ use arrayvec::ArrayVec;
 /// A buffer for a line. The longest line has 200 bytes; one byte more is read of a line that is longer.
 pub type LineBuffer = ArrayVec<u8, 201>;
 
-/// What `read_line` read.
+/// The result of `read_line`.
 #[derive(Clone, Copy, Debug, PartialEq, Eq)]
 pub enum LineRead {
     /// A whole line of at most 200 bytes.

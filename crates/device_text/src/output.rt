@@ -17,7 +17,7 @@ pub trait Output {
     /// Whether a write or a flush has failed.
     ghost has_failed: { Self → Bool };
 
-    /// Whether some of the bytes written may not be flushed yet.
+    /// Whether some of the bytes written may still have to be flushed.
     ghost waits: { Self → Bool };
 
     /// The ghost name of the writer that the device borrows, or 0 if it borrows none.

@@ -145,7 +145,7 @@ DoesText text b c outcome old new = DoesLine (text_says text) b c outcome old ne
 abbrev pub idle_event : Processor → Event
 idle_event w = if is_none (allowed w events.Exchange) then events.Exchange else events.Issue
 
--- the event that is made next. If anything is pending it is the event that a drain would make
+-- the event that is made next: the event that a drain would make, or the one that is made if nothing is pending
 abbrev pub next_event : Processor → Event
 next_event w = unwrap_or (next_of w.pending w.busy) (idle_event w)
 
@@ -168,7 +168,7 @@ event_line (events.PpWrite a w) = concat (codes "ppwrite " ∷ trimmed (octal_te
 abbrev pub MakesNext : Booted → Booted → Outcome → List ℕ → List ℕ → Type 0
 MakesNext b c outcome old new = MakesEvent (next_event b.machine) (event_line (next_event b.machine)) b c outcome old new
 
--- a machine is drained, by this many events
+-- the machine is drained by this many events
 pub record IsDrainedBy (b c : Booted) (count : ℕ) : Type 0 where
   pub works : Works b.machine c.machine count
   pub drained : is_pending c.machine.pending ≡ false
@@ -176,7 +176,7 @@ pub record IsDrainedBy (b c : Booted) (count : ℕ) : Type 0 where
   pub reached : GoesOnByWork b.machine count c.machine
   pub deck : c.deck ≡ b.deck
 
--- ---- what is shown ----
+-- ---- reading a machine ----
 
 -- a call copies as much as fits of the dump of a drained machine. If memory runs out that is a prefix of the dump, or
 -- nothing
@@ -194,8 +194,8 @@ abbrev pub after_space : List ℕ → List ℕ
 after_space [] = []
 after_space (space ∷ text) = text
 
--- the outcome of a call that reads the log, and the bytes that it copies: as much of the log's text as fits, or of a
--- prefix if memory runs out
+-- the outcome of a call that reads the log, and the bytes that it copies. These are as much of the log's text as fits,
+-- or of a prefix of it if memory runs out
 abbrev pub IsLogged : Booted → Outcome → List ℕ → List ℕ → Type 0
 IsLogged b outcome old new = (found : Result (Unit {0}) WriteFailed) × (text : List ℕ)
     × Writes found (Some []) (Some text) (log_text (entries_of b.machine.log))
@@ -222,7 +222,7 @@ pub record HasRegisters (s : State) (r : Registers) : Type 0 where
   pub halt : r.halt ≡ halt_number s.halt
   pub fault : r.fault ≡ s.fault
 
--- a call copies the registers of the machine's state, drained or not
+-- a call copies the registers of the machine's state, even if the machine isn't drained
 abbrev pub TellsRegisters : Booted → ℕ → Registers → Type 0
 TellsRegisters b status new = (status ≡ 0) × HasRegisters b.machine.state new
 
@@ -230,8 +230,8 @@ TellsRegisters b status new = (status ≡ 0) × HasRegisters b.machine.state new
 abbrev pub words_from : List ℕ → ℕ → List ℕ
 words_from memory first = drop first memory
 
--- a call copies words of the memory of the machine's state, drained or not. It copies as many as fit, and returns how
--- many there are
+-- a call copies words of the memory of the machine's state, even if the machine isn't drained. It copies as many as
+-- fit, and returns how many there are
 abbrev pub TellsWords : Booted → ℕ → Outcome → List ℕ → List ℕ → Type 0
 TellsWords b first outcome old new = (new ≡ filled (words_from b.machine.state.memory first) old)
     × (outcome ≡ record { printed = length b.machine.state.memory - first; told = 0; status = 0 })

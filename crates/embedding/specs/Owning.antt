@@ -18,8 +18,8 @@ abbrev pub in_box : Option (Box Booted Global) → Option Booted
 in_box None = None
 in_box (Some b) = Some b.value
 
--- the pointer's property. With a machine it owns the block of memory that holds the machine, and the right to free that
--- block
+-- the memory that the pointer owns: with a machine, the block that holds the machine and the right to free that block,
+-- and otherwise nothing
 abbrev pub pointer_owns : Global → Ptr → Option the_row.Denot → Fml
 pointer_owns alloc p (Some machine) = box_owns (ghosts.dealloc_token alloc) the_row p machine
 pointer_owns alloc p None = ftrue

@@ -67,8 +67,8 @@ fn boot_within(
     }
 }
 
-/// Does the same with a budget of this many instructions, or refuses the number if no budget may have it. A machine
-/// that was in the handle is freed first.
+/// Boots a machine with the deck in these bytes and a budget of this many instructions, or refuses a number that no
+/// budget may have. A machine that was in the handle is freed first.
 pub fn boot_bytes(
     alloc: Global,
     machine: &mut MachineHandle,

@@ -78,7 +78,7 @@ fn run_within(
     }
 }
 
-/// Does the same with a budget of this many instructions, or refuses the number if no budget may have it.
+/// Runs the deck in these bytes with a budget of this many instructions, or refuses a number that no budget may have.
 pub fn run_bytes(
     alloc: Global,
     input: &[u8],
@@ -159,7 +159,8 @@ fn session(
     }
 }
 
-/// Does the same with a budget of this many instructions, or refuses the number if no budget may have it.
+/// Answers the events in these bytes with a budget of this many instructions, or refuses a number that no budget may
+/// have.
 pub fn session_of_bytes(
     alloc: Global,
     input: &[u8],

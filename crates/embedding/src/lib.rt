@@ -1,7 +1,7 @@
-//! The simulator as functions for C, or for a language that calls C. They do what the commands `run --sequential`,
-//! `list`, `replay` and `events` do, from bytes in memory to bytes in memory. Others keep a machine and drive it event
-//! by event. This crate is a static library: include/cdc6600.h declares its functions, and docs/embedding.md explains
-//! how to call them.
+//! The simulator as functions for C, or for a language that calls C. Some functions do what the commands `run
+//! --sequential`, `list`, `replay` and `events` do, from bytes in memory to bytes in memory. The others keep a machine
+//! and drive it event by event. This crate is a static library: include/cdc6600.h declares its functions, and
+//! docs/embedding.md explains how to call them.
 //!
 //! Callers rely on the contracts here, which say the same as those of `job_deck` and `sequential_job` for any reader
 //! and writer. A call copies as much of the text as fits, and that is the text that the command prints. No contract
@@ -236,7 +236,7 @@ pub extern "C" fn cdc6600_log(
     }
 }
 
-/// Reads the machine's registers as they are now, drained or not. Returns the status.
+/// Reads the registers as they are now, even if the machine isn't drained. Returns the status.
 #[unsafe(no_mangle)]
 pub extern "C" fn cdc6600_read_registers(
     alloc: Global,
@@ -257,8 +257,8 @@ pub extern "C" fn cdc6600_read_registers(
     }
 }
 
-/// Reads words of the machine's memory as they are now, drained or not, from an absolute address on. Copies as many as
-/// fit, and returns how many there are.
+/// Reads words of memory as they are now, even if the machine isn't drained, from an absolute address on. Copies as
+/// many words as fit, and returns how many there are.
 #[unsafe(no_mangle)]
 pub extern "C" fn cdc6600_read_words(
     alloc: Global,

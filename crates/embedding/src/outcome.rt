@@ -70,7 +70,7 @@ fn tell(fault: &ProgramFault, line: &mut [u8]) -> usize
     fill(text.as_slice(), line)
 }
 
-/// Copies the text of a command and its fault line, if any, to the caller, and returns how the command ended.
+/// Copies the output of a command, and its fault line if it has one, to the caller. Returns the outcome.
 pub fn hand_over(
     ended: Result<Status, ProgramFault>,
     text: &[u8],

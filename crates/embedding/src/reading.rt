@@ -27,8 +27,8 @@ pub struct Registers {
     pub em: u32,
     /// The number of the next parcel.
     pub parcel: u8,
-    /// The reason why the machine is halted: 0 if it runs, 1 for a stop, 2 for a refused opcode, 3 for a straddling
-    /// instruction, 4 for a fetch out of range.
+    /// The reason why the machine is halted. 0 means that it runs, 1 a stop, 2 a refused opcode, 3 a straddling
+    /// instruction, and 4 a fetch out of range.
     pub halt: u8,
     pub fault: bool,
 }
@@ -94,7 +94,7 @@ fn registers_of(state: &State) -> Registers
     }
 }
 
-/// Copies the registers of a machine as they are now, drained or not. Returns the status.
+/// Copies the registers as they are now, even if the machine isn't drained. Returns the status.
 pub fn show_registers(booted: &Booted, registers: &mut Registers) -> u8
     ensures { TellsRegisters booted.now result registers.new }
 {
@@ -115,7 +115,7 @@ fn copy_words(memory: &Storage, first: u32, words: &mut [u64]) -> usize
     there as usize
 }
 
-/// Copies words of a machine's memory as they are now, drained or not.
+/// Copies words of memory as they are now, even if the machine isn't drained.
 pub fn show_words(booted: &Booted, first: u32, words: &mut [u64]) -> Outcome
     ensures { TellsWords booted.now first result words.old words.new }
 {

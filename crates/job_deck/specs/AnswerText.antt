@@ -11,7 +11,8 @@ use Rattle.program_order.specs.declared.event.Done.TheVariants.{Issued, Word, Ma
 use Rattle.device_text.specs.Names.{register_text, unit_text}
 use Rattle.device_text.specs.Pieces.{reason_text}
 
--- what a refusal names: the reason of a halt, a unit, a register or a bank. No other refusal of an event names anything
+-- what a refusal names: the reason for a halt, a unit, a register or a bank. No other refusal of an event names
+-- anything
 abbrev pub named_text : Refusal → List ℕ
 named_text (refusals.Halted halt) = reason_text halt
 named_text (refusals.UnitBusy unit) = unit_text unit
@@ -21,8 +22,8 @@ named_text (refusals.ResultHeld register) = register_text register
 named_text (refusals.BankBusy bank) = decimal bank
 named_text other = []
 
--- the line of an answer: `ok`, or the refusal's number, its text and what it names. After `ok` comes the unit and the
--- number of a reservation that an issue made, or the word that a peripheral processor read
+-- the line of an answer: `ok`, or the refusal's number, its text and what it names. If an issue made a reservation,
+-- `ok` is followed by its unit and number. After a peripheral read, `ok` is followed by the word
 abbrev pub answer_line : Result Done Refusal → List ℕ
 answer_line (Ok (Issued (Some note))) =
     concat (codes "ok " ∷ unit_text note.unit ∷ codes " " ∷ decimal note.number ∷ codes "\n" ∷ [])

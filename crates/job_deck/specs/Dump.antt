@@ -1,4 +1,4 @@
--- The lines of a dump. An octal number has as many digits as its kind of number needs, and fields are one space apart.
+-- The lines of a dump. An octal number has as many digits as its kind requires, and fields are one space apart.
 -- Source: ours; the names of the registers are the manual's.
 use Rattle.std.specs.Prelude.{ℕ, zero, suc, ◌+◌, ◌-◌, Bool, true, false, List, [], ◌∷◌, Option, Some, None, codes}
 use Rattle.std.specs.Prelude.{decimal, slice_index, slice_index_or}
@@ -77,8 +77,8 @@ word_line memory a =
 abbrev pub show_lines : List ℕ → Show → List ℕ
 show_lines memory show = flat_map (word_line memory) (addresses (show.last + 1 - show.first) show.first)
 
--- a space and an entry of the log: `E` and octal digits, `I` and decimal digits, `R` and octal digits, or `W`, octal
--- digits, `=` and octal digits
+-- a space and an entry of the log, such as `E40`, `I10`, `R110` or `W110=5`. Addresses and words are octal, and counts
+-- are decimal
 abbrev pub spaced_entry : Entry → List ℕ
 spaced_entry (entries.Exchange a) = concat (codes " E" ∷ trimmed (octal_text 20 a) ∷ [])
 spaced_entry (entries.Issued n) = concat (codes " I" ∷ decimal n ∷ [])

@@ -65,8 +65,8 @@ listed image address = if slice_index_or image.placed address false
 abbrev pub listing : Placed → List ℕ
 listing image = flat_map (listed image) (addresses (length image.memory) 0)
 
--- what listing a deck answers, reads and writes. A success writes the listing, and a failed write leaves a prefix of
--- it. Any other error writes nothing
+-- the result of listing a deck, and the bytes that it reads and writes. A success writes the listing, and a failed
+-- write leaves a prefix of it. Any other error writes nothing
 abbrev pub Lists : Result (Unit {0}) Refusal → Reading → List ℕ → Option (List ℕ) → Option (List ℕ) → Type 0
 Lists (Ok x) (Good deck n after) rest old new = (rest ≡ after) × Appends old new (listing deck.image)
 Lists (Ok x) (Bad n fault after) rest old new = ⊥

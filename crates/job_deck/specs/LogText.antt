@@ -62,8 +62,8 @@ written_in left (address ∷ word ∷ []) =
     write_in left (number_without_leading_zeros 8 6 address) (word_without_leading_zeros word)
 written_in left (address ∷ word ∷ other ∷ more) = None
 
--- the entry of a field: `E` and one to six octal digits, `I` and one to eight decimal digits, `R` and one to six octal
--- digits, or `W`, one to six octal digits, `=` and one to twenty octal digits
+-- the entry of a field, such as `E40`, `I10`, `R110` or `W110=5`. An address has one to six octal digits, a count one
+-- to eight decimal digits, and a word one to twenty octal digits
 abbrev pub entry_in : Allowance → List ℕ → Option Entry
 entry_in left [] = None
 entry_in left (letter ∷ digits) =

@@ -55,8 +55,8 @@ Prints (Err refusals.Write) (Reaches state steps) shows old new =
 Prints (Err refusals.OutOfMemory) replayed shows old new = Keeps old new
 Prints other replayed shows old new = ⊥
 
--- the result of reading a deck and replaying a log on it: `rest` is left of the deck's bytes. A fault of the deck is
--- reported before one of the log
+-- the result of reading a deck and replaying a log on it, where `rest` are the bytes left unread. A fault of the deck
+-- is reported before one of the log
 abbrev pub Replays : Result (Option State) Refusal → Reading → List ℕ → List ℕ → Option (List ℕ) → Option (List ℕ)
     → Type 0
 Replays (Err (refusals.Deck m fault)) reading rest text old new = (reading ≡ Bad m fault rest) × Keeps old new

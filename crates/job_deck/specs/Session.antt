@@ -63,9 +63,9 @@ abbrev pub not_drained_text : Processor → List ℕ
 not_drained_text w = concat (codes "NOT DRAINED\n" ∷ log_line (entries_of w.log) ∷ [])
 
 -- a text that may be printed for a line. For an event it is the line of an answer. At `end` it is the dump, or the text
--- for a machine that isn't drained. At `drain` it is the dump of a machine to which at most forty accepted events lead,
--- none of them an issue, a request or an exchange. Any events that reach the first machine from boot reach that machine
--- with as many such events more
+-- for a machine that isn't drained. At `drain` it is the dump of a machine to which at most forty accepted events lead.
+-- None of them is an issue, a request or an exchange. Whenever events lead from boot to the first machine, as many more
+-- such events lead to the dumped machine
 abbrev pub IsReply : ScheduleLine → Processor → List Show → List ℕ → Type 0
 IsReply (Makes e) w shows text = (answer : Result Done Refusal) × IsAnswer w e answer × (text ≡ answer_line answer)
 IsReply Ends w shows text = IsDump w shows text ⊎ ((is_pending w.pending ≡ true) × (text ≡ not_drained_text w))

@@ -34,8 +34,8 @@ WritesCut old new text last =
 
 -- a session with machine w from line n on. After `Ok` all its text is written, and the bytes after its last line are
 -- left. At a fault, at a failed read, or if memory for the dump runs out, each earlier line has its whole answer.
--- Nothing is read past a fault. A failed write may cut off the reply to the last line read. IsLed is what holds of the
--- events, the answers and the machine so far. No other refusal occurs
+-- Nothing is read past a fault. A failed write may cut off the reply to the last line read. IsLed holds of the events,
+-- the answers and the machine so far. No other refusal occurs
 abbrev pub RunsSession : Result (Unit {0}) Refusal → (List Event → List (Result Done Refusal) → Processor → Type 0)
     → Processor
     → ℕ → List Show → List ℕ → List ℕ → Option (List ℕ) → Option (List ℕ) → Type 0

@@ -51,7 +51,7 @@ fn print_not_drained<O: Output>(output: &mut O, machine: &Machine) -> Result<(),
 /// Writes the end of a session: the machine's dump if the machine is drained, or `NOT DRAINED` and the log.
 ///
 /// # Errors
-/// As `put_drained`.
+/// As for `put_drained`.
 fn put_end<O: Output>(output: &mut O, machine: &Machine, deck: &Deck) -> Result<(), Refusal>
     ensures closed { Closes result (last_line false) machine.now deck.now.shows (O.contents output.old)
         (O.contents output.new) }

@@ -29,7 +29,7 @@ fn after(parcel: u8, item: &Decoded) -> u8
     }
 }
 
-/// An item and the separator before it; the first item of a word has none. The item is the text of a legal instruction,
+/// An item after its separator; the first item of a word has no separator. The item is the text of a legal instruction,
 /// or a question mark and the reason why there is none.
 fn separated(parcel: u8, item: &Decoded) -> [Piece<'static>; 3]
     ensures { text_of_all result ≡ separated parcel item.now }
@@ -145,7 +145,7 @@ pub fn list_to<I: Input, O: Output>(
 /// Lists a deck from any reader to any writer.
 ///
 /// # Errors
-/// As `list_to`.
+/// As for `list_to`.
 pub fn list<R: Read, W: Write>(alloc: Global, reader: &mut R, writer: &mut W) -> Result<(), Refusal>
     ensures { Moves (R.remaining reader.old) (R.remaining reader.new)
         (λ xs ys. Lists result (deck xs) ys (W.contents writer.old) (W.contents writer.new)) }

@@ -17,13 +17,13 @@ use word60::Word60;
 /// The entries that a log's text may still have after the entries read so far.
 #[derive(Clone, Copy, Drop)]
 pub struct Allowance {
-    /// Whether the last entry is a count: two counts may not follow each other.
+    /// Whether the last entry is a count. No count may follow another.
     after_count: bool,
-    /// How many more instructions all counts together may have.
+    /// The number of instructions that all further counts together may have.
     instructions: u64,
-    /// How many more exchanges may come.
+    /// The number of further exchanges that may come.
     exchanges: u32,
-    /// How many more peripheral accesses may come.
+    /// The number of further peripheral accesses that may come.
     accesses: u32,
 }
 
@@ -51,7 +51,7 @@ impl Allowance {
         }
     }
 
-    /// Parses the entry of a count. Accepts no 0, no count after a count, and none beyond the instructions that are
+    /// Parses the entry of a count. Rejects 0, a count after a count, and a count above the number of instructions
     /// left.
     fn count_entry(&self, digits: &[u8]) -> Option<Entry>
         ensures entry { result ≡ count_in self.now (number_without_leading_zeros 10 8 digits.now) }

@@ -19,7 +19,7 @@ use std::io::{Read, Write};
 ///
 /// # Errors
 /// `PackageRange` if the first refused step is an exchange whose words don't lie in memory. `PeripheralRange` if it is
-/// a peripheral access whose word doesn't. `OutOfMemory` if memory runs out. `Write` if a write fails.
+/// a peripheral access whose word doesn't lie in memory. `OutOfMemory` if memory runs out. `Write` if a write fails.
 fn print_replay<O: Output>(
     alloc: Global,
     output: &mut O,
@@ -43,9 +43,9 @@ fn print_replay<O: Output>(
     Ok(Some(state))
 }
 
-/// Reads a deck, replays the log in a text on the deck's memory and prints the machine's dump. The machine here
-/// executes one instruction at a time. Returns its final state, or `None` if the text isn't that of a log. A fault of
-/// the deck is reported before one of the log. The deck's `start` line isn't used.
+/// Reads a deck, replays the log in a text on the deck's memory and prints the machine's dump. The machine executes one
+/// instruction at a time. Returns its final state, or `None` if the text isn't that of a log. A fault of the deck is
+/// reported before one of the log. The deck's `start` line isn't used.
 ///
 /// # Errors
 /// `Deck` with the number of a faulty line and its fault. `PackageRange` or `PeripheralRange` if a step of the log is
@@ -74,7 +74,7 @@ pub fn replay_to<I: Input, O: Output>(
 /// Replays a log on a deck from any reader to any writer.
 ///
 /// # Errors
-/// As `replay_to`.
+/// As for `replay_to`.
 pub fn replay<R: Read, W: Write>(
     alloc: Global,
     reader: &mut R,

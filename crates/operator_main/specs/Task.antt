@@ -31,8 +31,8 @@ CarriesOut (works.Events budget) end input rest old new =
 CarriesOut works.List end input rest old new =
     (found : Result (Unit {0}) Refusal) × Lists found (deck input) rest old new × (end ≡ plain_end found)
 
--- the program carries out a task and ends like this. It reads the deck from these bytes, and appends the task's output
--- to its output. It may have read more bytes than the task needs
+-- the program carries out a task, with this end. It reads the deck from these bytes, and appends the task's output to
+-- its output. It may have read more bytes than the task needs
 pub record Performed (work : Task) (end : Result Status ProgramFault) (input old new : Option (List ℕ))
     : Type 0 where
   -- the bytes that the task doesn't need

@@ -192,7 +192,7 @@ const FILE_CASES: [(&[&str], &[u8], &[u8], u8); 8] = [
     (&["replay", "--log", "a"], b"", TWO_ADDS, 2),
 ];
 
-/// Either the log or the deck may be in a file. A bad log is refused after the deck is read.
+/// The log and the deck may each be in a file. A bad log is refused after the deck is read.
 #[test]
 fn replays_from_files(rt: HostRuntime) -> Result<(), Fail> {
     for (texts, bytes, input, status) in FILE_CASES {

@@ -1,4 +1,4 @@
-//! Shows at a terminal for how many seconds a long run or replay has been working.
+//! Shows at a terminal how many seconds a long run or replay has taken so far.
 
 use arrayvec::ArrayVec;
 use std::io::Write;

@@ -1,8 +1,8 @@
-//! The tasks of the program: what it can do with a deck.
+//! The tasks of the program.
 
 use operator_terms::Budget;
 
-/// The tasks of the program: what it can do with a deck.
+/// A task of the program: what it does with a deck.
 #[derive(Clone, Copy, Debug, Drop)]
 pub enum Task<'a> {
     /// Run the deck with threads, and issue at most this many instructions.

@@ -85,7 +85,7 @@ fn is_known(word: &[u8]) -> bool {
         || is_one_of(word, WITH_TWO.as_slice())
 }
 
-/// Whether a field is the kind of number that a line with this first word has in it, or the word `after`.
+/// Whether a field is a number of the kind that a line with this first word has in this field, or the word `after`.
 fn is_number(word: &[u8], at: usize, text: &[u8]) -> bool {
     if word == b"core".as_slice() {
         number(10, 6, text).is_some()
@@ -156,7 +156,7 @@ fn bad_byte(line: &[u8]) -> Option<Position<'_>>
     None
 }
 
-/// The position of a fault in a line, if there is a text in the line that the fault is about.
+/// The position of a fault in a line, if a part of the line can be found that is at fault.
 fn within(fault: DeckFault, line: &[u8]) -> Option<Position<'_>>
     ensures { IfSome result (λ position. IsPart line.now position.start position.text.now) }
 {

@@ -2,8 +2,8 @@
 
 use std::alloc::{AllocError, Global};
 
-/// The parts of a dump that differ between schedules: the lines before the registers, the registers that aren't +0 with
-/// their digits without leading zeros, the lines of the words shown, and the log.
+/// The parts of a dump that differ between schedules: the lines before the registers, the registers that aren't +0, the
+/// lines of the words shown, and the log. A register has its digits without leading zeros.
 #[derive(Clone, Copy, Drop)]
 pub struct Dump<'a> {
     pub begins: &'a str,

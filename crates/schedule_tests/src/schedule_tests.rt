@@ -130,8 +130,8 @@ fn expect_left(
     Ok(())
 }
 
-/// Drains the machine. Expects no snapshot before that unless nothing is pending, the schedule's number of events for
-/// the drain, and then a snapshot with the schedule's final state.
+/// Drains the machine, and expects that this takes the schedule's number of events. Expects that a snapshot before is
+/// refused if anything is pending, and that the snapshot after has the schedule's final state.
 fn expect_drained(
     rt: &(impl Abort + AllocGlobal),
     schedule: &Schedule,
@@ -235,7 +235,7 @@ fn stored_by_unit(schedule: &Schedule) -> [Option<(Unit, u64)>; 7] {
 }
 
 /// Makes an event by the call of its name, and also on a separate machine. Returns whether the answers are equal, and
-/// either both machines or neither are drained.
+/// both machines are drained or neither is.
 fn is_alike<K: Naming>(
     rt: &impl Wait,
     holder: &mut SeatHolder<K>,

@@ -9,7 +9,7 @@ use std::alloc::Global;
 use std::mem;
 use std::sync::Wait;
 
-/// What the holder has for a unit: its seat, or the token of the reservation that was claimed with the seat.
+/// A unit's seat, or the token of the reservation that was claimed with the seat.
 enum Held {
     Idle(Seat),
     Reserved(Reserved),

@@ -37,8 +37,8 @@ PrintsSequentialRun (Err refusals.Write) deck budget old new =
     × WritesFront old new (dump_text s (entries_of log) deck.shows)
 PrintsSequentialRun (Err refusal) deck budget old new = IsWhyNoJobRun deck budget refusal × Keeps old new
 
--- the result of reading a deck and running it: `rest` is left of the deck's bytes. No exchange is refused, because all
--- packages of an accepted deck lie in its memory
+-- the result of reading a deck and running it, where `rest` are the bytes left unread. No exchange is refused, because
+-- all packages of an accepted deck lie in its memory
 abbrev pub RunsSequentially : Result State Refusal → Reading → ℕ → List ℕ → Option (List ℕ) → Option (List ℕ) → Type 0
 RunsSequentially (Err (refusals.Deck m fault)) reading budget rest old new =
     (reading ≡ Bad m fault rest) × Keeps old new

@@ -93,8 +93,8 @@ fn unit_names(rt: HostRuntime) -> Result<(), Fail> {
     Ok(())
 }
 
-/// The result of each call of `read_line` on a text, with the line: a whole line, an empty one, one without a line end,
-/// and nothing after that.
+/// The result of each call of `read_line` on a text, with the line. The lines are a whole one, an empty one and one
+/// without a line end. Nothing follows them.
 const LINES: [(LineRead, &str); 4] = [
     (LineRead::Whole, "one"),
     (LineRead::Whole, ""),

@@ -15,7 +15,7 @@ use std::process::Abort;
 use std::test::Fail;
 
 /// A deck without its `end` line. Its packages, at 0, 20, 40 and 60, all start the same program of five `NO` and a
-/// stop, so a word ends after four instructions.
+/// stop. So a word ends after four instructions.
 const FOUR_PACKAGES: &str = "\
     core 256\n\
     at 1\nword 200000000000000\nword 20000000000000\n\

@@ -163,7 +163,7 @@ fn faulty_schedules(rt: HostRuntime) -> Result<(), Fail> {
     Ok(())
 }
 
-/// Schedules without an end, their answers, and the number of the missing line.
+/// Schedules without a last line, their answers, and the number of the missing line.
 const ENDLESS: [(&str, &str, u32); 3] = [
     (
         "finish add\nstore divide\naccept 3\nreturn 05\nbank 31\nexchange\n",
