@@ -7,9 +7,9 @@ use crate::box_parts::BoxParts;
 use std::alloc::Global;
 use std::marker::Model;
 
-/// A pointer that C keeps: to a machine on the heap, which it owns as a box does, or to nothing. Its type names no type
-/// that C doesn't know. Dropping it with a machine would leak the machine. Only `MachineHandle` has such a pointer, and
-/// never drops it with a machine.
+/// A pointer that C keeps: to a machine on the heap, which it owns as a box does, or to nothing. `address` points to
+/// bytes, because C doesn't know the type of a machine. Dropping the pointer with a machine would leak the machine.
+/// Only `MachineHandle` has such a pointer, and never drops it with a machine.
 #[repr(C)]
 #[derive(Drop)]
 pub struct OwnedPointer {
