@@ -5,7 +5,7 @@ use clap::{Arg, ArgAction, ArgMatches, Command, Error};
 use operator_terms::{Budget, LARGEST_BUDGET};
 use std::alloc::{AllocError, Global};
 
-/// The end of the text that `--help` prints for the program; those for its commands follow.
+/// The end of the text that `--help` prints for the program. The texts for its commands follow below.
 const AFTER_HELP: &str = "\
 Example:
   cdc6600 run < decks/two-adds.deck
@@ -49,38 +49,38 @@ Example:
 
 Exit status: 0 once all is listed, else 1, 2, 6 or 7 as cdc6600 --help names them.";
 
-/// What a deck is read from.
+/// The source from which a deck is read.
 #[derive(Clone, Copy, Debug, Drop, PartialEq, Eq)]
 pub enum Source<'a> {
     /// Standard input.
     Input,
-    /// The file of this name.
+    /// The file with this name.
     File(&'a str),
 }
 
-/// What the log and the deck of a replay are read from. Standard input is never both.
+/// The sources of the log and the deck of a replay. They are never both standard input.
 #[derive(Clone, Copy, Debug, Drop, PartialEq, Eq)]
 pub enum Replay<'a> {
-    /// The log is a word of the command line.
+    /// The log is an argument of the command line.
     Word { log: &'a str, deck: Source<'a> },
-    /// The log is in the file of this name.
+    /// The log is in the file with this name.
     File { log: &'a str, deck: Source<'a> },
-    /// The log is on standard input, and the deck is in the file of this name.
+    /// The log is read from standard input, and the deck from the file with this name.
     Input { deck: &'a str },
 }
 
-/// What the command line asks for.
+/// The request of a command line.
 #[derive(Clone, Copy, Debug, Drop, PartialEq, Eq)]
 pub enum Request<'a> {
-    /// To run a deck by threads, and to issue at most so many instructions.
+    /// Run a deck with threads, and issue at most this many instructions.
     Run(Budget),
-    /// To run a deck one instruction at a time, and to do at most so many instructions.
+    /// Run a deck one instruction at a time, and execute at most this many instructions.
     RunSequentially(Budget),
-    /// To go through a log on a deck.
+    /// Replay a log on a deck.
     Replay(Replay<'a>),
-    /// To answer the events of a schedule, and to issue at most so many instructions.
+    /// Answer the events of a schedule, and issue at most this many instructions.
     Events(Budget),
-    /// To list a deck's words.
+    /// List a deck's words.
     List,
 }
 
@@ -102,7 +102,7 @@ fn sequential_option<'a>(alloc: Global) -> Arg<'a> {
         .help("Does one instruction at a time, without threads")
 }
 
-/// `run`.
+/// The command `run`.
 fn run_command<'a>(alloc: Global) -> Result<Command<'a>, AllocError> {
     Command::new(alloc, "run")
         .about("Runs the deck on standard input and prints the machine's dump")
@@ -112,7 +112,7 @@ fn run_command<'a>(alloc: Global) -> Result<Command<'a>, AllocError> {
         .arg(budget_option(alloc))
 }
 
-/// `replay`.
+/// The command `replay`.
 fn replay_command<'a>(alloc: Global) -> Result<Command<'a>, AllocError> {
     let log = Arg::new(alloc, "LOG")
         .required_unless_present("log")?
@@ -136,7 +136,7 @@ fn replay_command<'a>(alloc: Global) -> Result<Command<'a>, AllocError> {
         .arg(deck_file)
 }
 
-/// `events`.
+/// The command `events`.
 fn events_command<'a>(alloc: Global) -> Result<Command<'a>, AllocError> {
     Command::new(alloc, "events")
         .about(
@@ -147,7 +147,7 @@ fn events_command<'a>(alloc: Global) -> Result<Command<'a>, AllocError> {
         .arg(budget_option(alloc))
 }
 
-/// `list`.
+/// The command `list`.
 fn list_command<'a>(alloc: Global) -> Command<'a> {
     Command::new(alloc, "list")
         .about("Prints the words of the deck on standard input with their instructions")
@@ -155,7 +155,7 @@ fn list_command<'a>(alloc: Global) -> Command<'a> {
         .after_help(AFTER_LIST)
 }
 
-/// The program, still without its commands.
+/// The command line of the program, without its commands.
 fn bare_program<'a>(alloc: Global) -> Command<'a> {
     Command::new(alloc, "cdc6600")
         .about("A CDC 6600 central processor with its scoreboard")
@@ -166,7 +166,7 @@ fn bare_program<'a>(alloc: Global) -> Command<'a> {
         .subcommand_required(true)
 }
 
-/// The command line that is accepted.
+/// The whole command line of the program.
 fn accepted<'a>(alloc: Global) -> Result<Command<'a>, AllocError> {
     bare_program(alloc)
         .subcommand(run_command(alloc)?)?
@@ -175,12 +175,12 @@ fn accepted<'a>(alloc: Global) -> Result<Command<'a>, AllocError> {
         .subcommand(list_command(alloc))
 }
 
-/// The budget of a command. `clap` accepts no other number.
+/// The budget of a command. `clap` accepts only numbers that a budget may have.
 fn budget(matches: &ArgMatches<'_>) -> Option<Budget> {
     Budget::new(matches.get_one::<u64>("budget")?)
 }
 
-/// What a name stands for: `-` is standard input.
+/// The source with this name: `-` is standard input.
 fn source_named(name: &str) -> Source<'_> {
     if name == "-" {
         Source::Input
@@ -189,10 +189,10 @@ fn source_named(name: &str) -> Source<'_> {
     }
 }
 
-/// Why words are refused that `clap` accepts.
+/// Reasons for refusing words that `clap` accepts.
 #[derive(Clone, Copy, Drop)]
 enum Refused {
-    /// They name no command. `clap` accepts no such words.
+    /// The words name no command. `clap` accepts no such words.
     NoCommand,
     /// The log and the deck would both be read from standard input.
     OneInput,
@@ -209,10 +209,10 @@ impl Refused {
     }
 }
 
-/// What the words after `run` ask for.
+/// The request of the words after `run`.
 ///
 /// # Errors
-/// They ask for nothing, which `clap` doesn't accept.
+/// `NoCommand` if the words have no budget. `clap` accepts no such words.
 fn run_asked_for<'a>(matches: &ArgMatches<'_>) -> Result<Request<'a>, Refused> {
     let budget = budget(matches).ok_or(Refused::NoCommand)?;
     if matches.get_flag("sequential") {
@@ -222,7 +222,7 @@ fn run_asked_for<'a>(matches: &ArgMatches<'_>) -> Result<Request<'a>, Refused> {
     }
 }
 
-/// What the words after `replay` ask for.
+/// The request of the words after `replay`.
 ///
 /// # Errors
 /// The log and the deck would both be read from standard input.
@@ -242,10 +242,10 @@ fn replay_asked_for<'a>(matches: &ArgMatches<'a>) -> Result<Replay<'a>, Refused>
     }
 }
 
-/// What the words that `clap` accepted ask for.
+/// The request of words that `clap` accepted.
 ///
 /// # Errors
-/// Why they are refused all the same.
+/// The reason, if the words are refused nevertheless.
 fn asked_for<'a>(matches: &ArgMatches<'a>) -> Result<Request<'a>, Refused> {
     let Some(subcommand) = matches.subcommand() else {
         return Err(Refused::NoCommand);
@@ -259,10 +259,10 @@ fn asked_for<'a>(matches: &ArgMatches<'a>) -> Result<Request<'a>, Refused> {
     }
 }
 
-/// Reads a command line, without the program's name.
+/// Parses a command line without the program's name.
 ///
 /// # Errors
-/// `clap`'s own: a refused command line, a request for help, or `OutOfMemory`.
+/// Errors of `clap`: a refused command line, a request for help, or `OutOfMemory`.
 pub fn read_arguments<'a>(alloc: Global, words: &'a [String]) -> Result<Request<'a>, Error> {
     let mut command = accepted(alloc)?;
     let matches = command.try_get_matches_from_mut(words)?;

@@ -1,9 +1,9 @@
-//! The command line of the program: what its words ask for.
+//! The command line of the program: parses its words as a request.
 //!
-//! Callers rely on `read_arguments`: it answers the `Request` of the words, or the error of `clap`, which reads them.
-//! What is proved is that it is safe and ends. Its contract says nothing of which words ask for what; its tests in
+//! Callers rely on `read_arguments`. It returns the `Request` of the words, or an error of `clap`, which parses them.
+//! It is proved to be safe and to return. Its contract says nothing about which words make which request; its tests in
 //! `crates/operator_main/src/command_tests.rt` and `tools/check pages` show that. `accepted` has the commands and their
-//! options, and `version` is what `--version` prints. Begin with `Request` in `arguments`.
+//! options, and `version` is the text that `--version` prints. Begin with `Request` in `arguments`.
 #![tactic(auto)]
 
 mod arguments;

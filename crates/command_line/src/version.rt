@@ -1,3 +1,3 @@
-/// What `--version` prints after the program's name. `tools/build-program` proves a copy of this file, in which the
-/// commit and the kit stand behind the number.
+/// The text that `--version` prints after the program's name. `tools/build-program` proves a copy of this file in which
+/// the commit and the kit's name follow the number.
 pub const VERSION: &str = "0.1.0";

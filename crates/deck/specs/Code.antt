@@ -9,34 +9,35 @@ use Rattle.instructions.specs.declared.instr.Instr.TheVariants.{Pass}
 use Rattle.instruction_table.specs.Table.{parcels_of}
 use Rattle.instruction_table.specs.Spelling.{instr_of}
 
--- ` TEXT; TEXT; TEXT`, what follows the word `code`: between the semicolons stand texts with a space before each
+-- the items of a `code` line, ` TEXT; TEXT; TEXT` after the word `code`: the parts between the semicolons, each with
+-- the space before its text
 abbrev pub items_of : List ℕ → List (List ℕ)
 items_of texts = slice_split (λ b. b == 59) texts
 
--- the instruction of a text with a space before it
+-- the instruction of an item: a space and the text of an instruction
 abbrev pub instr_in : List ℕ → Option Instr
 instr_in [] = None
 instr_in (b ∷ text) = if b == 32 then instr_of text else None
 
--- these parcels and then the others, if the others are those of instructions
+-- the parcels followed by the others, if the others come from instructions
 abbrev pub put_before : List ℕ → Option (List ℕ) → Option (List ℕ)
 put_before parcels more = option_map (λ others. parcels ++ others) more
 
--- the parcels of an item, if it is an instruction's
+-- the parcels of an item, if it is an instruction
 abbrev pub item_parcels : List ℕ → Option (List ℕ)
 item_parcels item = option_map parcels_of (instr_in item)
 
--- the parcels of all items, if each is an instruction's
+-- the parcels of all items, if each is an instruction
 abbrev pub parcels_in : List (List ℕ) → Option (List ℕ)
 parcels_in [] = Some []
 parcels_in (item ∷ more) = option_and_then (λ parcels. put_before parcels (parcels_in more)) (item_parcels item)
 
--- these items are what is found where the answer is yes; where it is no, nothing is
+-- these items were found if the answer is true, and nothing was found if it is false
 abbrev pub OptionalItems : Bool → List ℕ → Option (List ℕ) → Type 0
 OptionalItems false items found = found ≡ None
 OptionalItems true items found = found ≡ Some items
 
--- this one of the parcels, and where there are fewer, that of a pass
+-- the parcel at a position, or the parcel of a pass if there are fewer parcels
 abbrev pub parcel_or_pass : List ℕ → ℕ → ℕ
 parcel_or_pass parcels n = slice_index_or parcels n (slice_index (parcels_of Pass) 0)
 

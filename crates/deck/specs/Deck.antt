@@ -1,4 +1,4 @@
--- What a deck's lines say, and how they apply to a deck, one after another. Decks, lines and what a line does are the
+-- The meaning of a deck's lines, and their effects on a deck, one line after another. Decks, lines and results are the
 -- types of the code.
 -- Source: ours.
 use Rattle.std.specs.Prelude.{ℕ, ◌+◌, Bool, false, not, List, [], ◌∷◌, ◌++◌, length, Option, Some, None, is_some}
@@ -17,7 +17,7 @@ use Rattle.deck.specs.declared.parsing.Line.TheVariants as says
 use Rattle.instructions.specs.declared.refusal.DeckFault.{DeckFault}
 use Rattle.instructions.specs.declared.refusal.DeckFault.TheVariants as faults
 
--- what the fields say of a line that isn't a `code` line
+-- the line with these fields, if it isn't a `code` line
 abbrev pub parsed_fields : List (List ℕ) → Line (List ℕ)
 parsed_fields [] = says.Unknown
 parsed_fields (word ∷ []) = if bytes_eq word (codes "end") then says.End else says.Unknown
@@ -35,92 +35,93 @@ parsed_fields (word ∷ a ∷ b ∷ c ∷ []) =
     if bytes_eq word (codes "ask") && bytes_eq b (codes "after") then says.Ask a c else says.Unknown
 parsed_fields (word ∷ a ∷ b ∷ c ∷ d ∷ more) = says.Unknown
 
--- the first field is this word
+-- whether the first field is this word
 abbrev pub begins_with : List ℕ → List (List ℕ) → Bool
 begins_with word [] = false
 begins_with word (field ∷ more) = bytes_eq field word
 
--- what follows the word `code`, where it is more than a space; else the fault is `unknown`
+-- the `code` line with this text after the word `code`. The text has to be longer than a space, or the fault is
+-- `unknown`
 abbrev pub parsed_code : List ℕ → Line (List ℕ)
 parsed_code rest = if nat_lt 1 (length rest) then says.Code rest else says.Unknown
 
--- what a line says
+-- the line of a text
 abbrev pub parsed_line : List ℕ → Line (List ℕ)
 parsed_line text =
     if begins_with (codes "code") (fields_of text) then parsed_code (from_space text)
     else parsed_fields (fields_of text)
 
--- a deck after a line: it goes on, or it is whole
+-- a deck after a line: either more lines follow, or the deck is whole
 pub data Step : Type 0 where
   Goes : Draft → Step
   Ends : Deck → Step
 
--- what a line does to a deck: it goes on, it is whole, or the line is at fault
+-- the effect of a line on a deck: more lines follow, the deck is whole, or the line is at fault
 abbrev pub LineOutcome : Type 0
 LineOutcome = Result Step DeckFault
 
--- the deck goes on
+-- more lines of the deck follow
 abbrev pub goes_on : Draft → LineOutcome
 goes_on draft = Ok (Goes draft)
 
--- the fault where the test holds, else what follows
+-- the fault if the test holds, or else what follows
 abbrev pub refuse_if : Bool → DeckFault → LineOutcome → LineOutcome
 refuse_if bad fault next = if bad then Err fault else next
 
--- what follows with the number, or the fault `number` where there is none
+-- what follows with the number, or the fault `number` if there is no number
 abbrev pub with_number : Option ℕ → (ℕ → LineOutcome) → LineOutcome
 with_number None next = Err faults.Number
 with_number (Some n) next = next n
 
--- a memory size that isn't 32 to 131072: the fault is `size`
+-- whether a memory size isn't 32 to 131072 (fault `size`)
 abbrev pub is_no_size : ℕ → Bool
 is_no_size n = nat_lt n 32 || nat_lt 131072 n
 
--- a deck with a memory of so many words, and nothing else yet
+-- a deck with a memory of this many words and nothing else
 abbrev pub begun : ℕ → Draft
 begun n = record { image = blank n; next_address = 0; start = None; asks = []; free = []; shows = [] }
 
--- what a `core` line does as the first line; its faults are `unknown` for a wrong number of fields, `number` and
+-- the effect of a `core` line as the first line. Its faults are `unknown` for a wrong number of fields, `number` and
 -- `size`
 abbrev pub applied_core : Line (List ℕ) → LineOutcome
 applied_core (says.Core w) =
     with_number (number_of 10 6 w) (λ n. refuse_if (is_no_size n) faults.Size (goes_on (begun n)))
 applied_core other = Err faults.Unknown
 
--- the whole deck, whose first exchange package is at n
+-- the whole deck of a draft, with the first exchange package at n
 abbrev pub whole : Draft → ℕ → Deck
 whole d n = record { image = d.image; start = n; asks = d.asks; free = d.free; shows = d.shows }
 
--- what an `end` line does: the deck is whole, or the fault is `no start`
+-- the effect of an `end` line: the deck is whole, or the fault is `no start`
 abbrev pub ended : Draft → Option ℕ → LineOutcome
 ended d None = Err faults.NoStart
 ended d (Some n) = Ok (Ends (whole d n))
 
--- how many words memory has
+-- the number of words in memory
 abbrev pub size : Draft → ℕ
 size d = length d.image.memory
 
--- as many `ask` lines as a deck may have came
+-- whether the deck has as many `ask` lines as a deck may have
 abbrev pub has_all_asks : Draft → Bool
 has_all_asks d = nat_le 64 (length d.asks + length d.free)
 
--- a deck that has one more request for an exchange with the package at n, or its fault: `many`, and then `package`
+-- the deck with another request for an exchange with the package at n, or its fault: `many` comes before `package`
 abbrev pub with_request : Draft → ℕ → Draft → LineOutcome
 with_request d n next =
     refuse_if (has_all_asks d) faults.Many (refuse_if (not (package_fits n (size d))) faults.Package (goes_on next))
 
--- a word goes to the next address, which moves on by one
+-- the deck after a word is placed at the next address, which increases by one
 abbrev pub with_word : Draft → ℕ → Draft
 with_word d w = record d { image = placed_at d.image d.next_address w; next_address = d.next_address + 1 }
 
--- the texts of a `code` line give a word, or one is no instruction's (`instruction`), or they have more than four
--- parcels (`full`)
+-- the effect of a `code` line with these parcels: they make a word. If any text isn't that of an instruction the fault
+-- is `instruction`. If there are more than four parcels it is `full`
 abbrev pub coded : Draft → Option (List ℕ) → LineOutcome
 coded d None = Err faults.Instruction
 coded d (Some parcels) = refuse_if (nat_lt 4 (length parcels)) faults.Full (goes_on (with_word d (word_of parcels)))
 
--- what a later line does, or the first of its faults in this order: `unknown`, `number`, `size`, `repeated`, `many`,
--- `range`, `package`, `instruction`, `full`, `no start`
+-- the effect of a later line, or the first of its faults in this order: `unknown`, `number`, `size`, `repeated`,
+-- `many`, `range`, `package`, `instruction`, `full`, `no start`
 abbrev pub applied : Draft → Line (List ℕ) → LineOutcome
 applied d (says.Core w) =
     with_number (number_of 10 6 w) (λ n. refuse_if (is_no_size n) faults.Size (Err faults.Repeated))
@@ -150,40 +151,40 @@ applied d (says.AskFree a) =
 applied d says.End = ended d d.start
 applied d says.Unknown = Err faults.Unknown
 
--- what the first line does: its first field (`first`), and then what it says
+-- the effect of the first line. If its first field isn't `core` the fault is `first`
 abbrev pub applied_first : List ℕ → LineOutcome
 applied_first text =
     refuse_if (not (begins_with (codes "core") (fields_of text))) faults.First (applied_core (parsed_line text))
 
--- what a line does to the deck that the lines before it began, if it isn't the first
+-- the effect of a line on the deck of the lines before it, if there are any
 abbrev pub applied_to : Option Draft → List ℕ → LineOutcome
 applied_to None text = applied_first text
 applied_to (Some d) text = applied d (parsed_line text)
 
--- the same of a line that may be too long (`long`)
+-- the effect of a line that may be too long (`long`)
 abbrev pub applied_line : Option Draft → List ℕ → LineOutcome
 applied_line before text = refuse_if (nat_lt 200 (length text)) faults.Long (applied_to before text)
 
--- what reading a deck gives: the deck, the number of its `end` line and the bytes after it; or the number of a line,
--- its fault and the bytes that are left unread
+-- the reading of a deck. `Good` has the deck, the number of its `end` line and the bytes after that line. `Bad` has the
+-- number of a line, its fault and the bytes left unread
 pub data Reading : Type 0 where
   Good : Deck → ℕ → List ℕ → Reading
   Bad : ℕ → DeckFault → List ℕ → Reading
 
--- how reading goes on after line n, which leaves these bytes
+-- the reading that continues after line n, which leaves these bytes
 abbrev pub read_on : ℕ → LineOutcome → List ℕ → (Draft → Reading) → Reading
 read_on n (Ok (Goes draft)) rest next = next draft
 read_on n (Ok (Ends whole)) rest next = Good whole n rest
 read_on n (Err fault) rest next = Bad n fault rest
 
--- reading these bytes from line n on, as lines that come with the bytes after each: past line 10,000,000 the fault is
--- `lines`, and no more is read; where no line is left before that it is `no end`, and no byte is left
+-- the reading of these bytes from line n on. Each line comes with the bytes after it. Past line 10,000,000 the fault is
+-- `lines`, and nothing more is read. If no line is left before that the fault is `no end`, and no byte is left
 abbrev pub read_from : ℕ → Option Draft → List ℕ → List (List ℕ × List ℕ) → Reading
 read_from n before bytes [] = Bad n (if nat_lt 10000000 n then faults.Lines else faults.NoEnd) bytes
 read_from n before bytes (line ∷ lines) = if nat_lt 10000000 n then Bad n faults.Lines bytes
     else read_on n (applied_line before line.0) (left_after bytes line)
     (λ next. read_from (n + 1) (Some next) line.1 lines)
 
--- the deck that the bytes begin with
+-- the reading of the deck at the beginning of the bytes
 abbrev pub deck : List ℕ → Reading
 deck bytes = read_from 1 None bytes (lines_of bytes)

@@ -1,5 +1,5 @@
--- Decks: what their lines say and do. Reading says what reading a deck answers; ParsedLine, in inner, ties the parts of
--- a line to that.
+-- Decks: the meaning and the effect of their lines. Reading defines the results of reading a deck. ParsedLine, in
+-- inner, connects the parts of a line with the definitions that a reader checks.
 -- Source: ours.
 pub mod Image
 pub mod Code

@@ -1,2 +1,2 @@
--- What ties the parts of the code to the definitions that a reader checks. Source: ours.
+-- Definitions that connect the parts of the code with those that a reader checks. Source: ours.
 pub mod ParsedLine

@@ -21,16 +21,16 @@ use relocation::{LARGEST, SMALLEST, package_fits};
 use std::alloc::Global;
 use word60::{Word18, Word60};
 
-/// The most instructions that an `ask` line waits for.
+/// The largest number of instructions in an `ask` line.
 const LATEST_ASK: u64 = 10_000_000;
 
-/// The most parcels of a `code` line, which are those of a word.
+/// The largest number of parcels in a `code` line: as many as a word has.
 const MOST_PARCELS: usize = 4;
 
-/// The number of words that a `core` line gives memory.
+/// Parses the memory size of a `core` line.
 ///
 /// # Errors
-/// `Number`, and `Size` if it isn't 32 to 131,072.
+/// `Number` if the digits aren't a number. `Size` if the number isn't 32 to 131,072.
 fn memory_size(digits: &[u8]) -> Result<u32, DeckFault>
     ensures { MatchResult result
         (λ size. (number_of 10 6 digits.now ≡ Some size) × (is_no_size size ≡ false))
@@ -44,10 +44,10 @@ fn memory_size(digits: &[u8]) -> Result<u32, DeckFault>
     Ok(size)
 }
 
-/// The number of words of memory that a `core` line gives as the first line.
+/// The memory size of the first line, which has to be a `core` line.
 ///
 /// # Errors
-/// `Unknown`, `Number` and `Size`.
+/// `Unknown` if the line isn't a `core` line. `Number` and `Size` as for `memory_size`.
 #[tactic(auto, using(crate::proofs::Sizes::begins_sized))]
 fn core_size(line: Line<&[u8]>) -> Result<u32, DeckFault>
     ensures { Begins result (applied_core (line_with_bytes line.entry)) }
@@ -58,10 +58,10 @@ fn core_size(line: Line<&[u8]>) -> Result<u32, DeckFault>
     memory_size(size)
 }
 
-/// The number of words of memory, from the text of the first line.
+/// The memory size, from the text of the first line.
 ///
 /// # Errors
-/// `First`, `Unknown`, `Number` and `Size`.
+/// `First` if the line doesn't begin with `core`. `Unknown`, `Number` and `Size` as for `core_size`.
 pub fn first_size(text: &[u8]) -> Result<u32, DeckFault>
     ensures { Begins result (applied_first text.now) }
 {
@@ -72,10 +72,10 @@ pub fn first_size(text: &[u8]) -> Result<u32, DeckFault>
 }
 
 impl Draft {
-    /// A deck with a memory of so many words, and nothing else yet.
+    /// Creates a draft with a memory of this many words and nothing else.
     ///
     /// # Errors
-    /// `OutOfMemory`.
+    /// `OutOfMemory` if memory runs out.
     pub fn new(alloc: Global, words: u32) -> Result<Draft, Refusal>
         requires { is_memory_size words ≡ true }
         ensures { MatchResult result (λ draft. draft ≡ begun words) (λ refusal. refusal ≡ OutOfMemory) }
@@ -90,7 +90,7 @@ impl Draft {
         })
     }
 
-    /// The whole deck, whose first exchange package is at this address.
+    /// Completes the draft. The first exchange package is at this address.
     pub fn whole(self, start: u32) -> Deck
         ensures { result ≡ whole self start }
     {
@@ -103,7 +103,7 @@ impl Draft {
         }
     }
 
-    /// An `at` line.
+    /// Applies an `at` line.
     fn at_line(&mut self, address: &[u8]) -> Result<Flow, DeckFault>
         ensures { Answers result self.old self.new (applied self.old (says.At address.now)) }
     {
@@ -115,7 +115,7 @@ impl Draft {
         Ok(Flow::Goes)
     }
 
-    /// A `code` line.
+    /// Applies a `code` line.
     fn code_line(&mut self, texts: &[u8]) -> Result<Flow, DeckFault>
         requires { length texts.now ≤ 200 }
         ensures { Answers result self.old self.new (applied self.old (says.Code texts.now)) }
@@ -132,7 +132,7 @@ impl Draft {
         Ok(Flow::Goes)
     }
 
-    /// A `start` line.
+    /// Applies a `start` line.
     fn start_line(&mut self, address: &[u8]) -> Result<Flow, DeckFault>
         ensures { Answers result self.old self.new (applied self.old (says.Start address.now)) }
     {
@@ -147,7 +147,7 @@ impl Draft {
         Ok(Flow::Goes)
     }
 
-    /// A `show` line.
+    /// Applies a `show` line.
     fn show_line(&mut self, first: &[u8], last: &[u8]) -> Result<Flow, DeckFault>
         ensures { Answers result self.old self.new (applied self.old (says.Show first.now last.now)) }
     {
@@ -166,10 +166,10 @@ impl Draft {
         Ok(Flow::Goes)
     }
 
-    /// Whether one more request can be made, for the package at an absolute address.
+    /// Checks that the deck may have another request, for the package at an absolute address.
     ///
     /// # Errors
-    /// `Many`, and `Package`.
+    /// `Many` if the deck has 64 requests already. `Package` if the package doesn't lie in memory.
     fn check_request(&self, at: u32) -> Result<(), DeckFault>
         ensures goes { MatchResult result (λ _. (next : SomeDraft) → with_request self.now at next ≡ goes_on next)
             (λ fault. (next : SomeDraft) → with_request self.now at next ≡ Err fault) }
@@ -184,7 +184,7 @@ impl Draft {
         Ok(())
     }
 
-    /// A line `ask N after K`.
+    /// Applies a line `ask N after K`.
     fn ask_line(&mut self, address: &[u8], count: &[u8]) -> Result<Flow, DeckFault>
         ensures { Answers result self.old self.new (applied self.old (says.Ask address.now count.now)) }
     {
@@ -201,7 +201,7 @@ impl Draft {
         Ok(Flow::Goes)
     }
 
-    /// A line `ask N free`.
+    /// Applies a line `ask N free`.
     fn free_line(&mut self, address: &[u8]) -> Result<Flow, DeckFault>
         ensures { Answers result self.old self.new (applied self.old (says.AskFree address.now)) }
     {
@@ -211,10 +211,10 @@ impl Draft {
         Ok(Flow::Goes)
     }
 
-    /// Does what a line says that isn't the first.
+    /// Applies a line that isn't the first.
     ///
     /// # Errors
-    /// The fault of the line. Then the draft is as it was.
+    /// The fault of the line. The draft is then unchanged.
     pub fn apply(&mut self, text: &[u8]) -> Result<Flow, DeckFault>
         requires { length text.now ≤ 200 }
         ensures { Answers result self.old self.new (applied_line (Some self.old) text.now) }

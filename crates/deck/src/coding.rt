@@ -8,14 +8,15 @@ use instruction_table::{Instr, encode, read_bytes};
 use parcel::join;
 use word60::Word60;
 
-/// The parcel of a pass, which fills up a word.
+/// The parcel of a pass, with which words are filled up.
 const PASS: u16 = 0o46000;
 
-/// The parcels of the texts of a line. A line has at most 200 bytes, and a text of one instruction, with the
-/// space before it and the semicolon after it, has more bytes than the instruction has parcels.
+/// The parcels of the instructions in a `code` line. There is always room, because a line has at most 200 bytes. The
+/// text of an instruction, with the space before it and the semicolon after it, has more bytes than the instruction has
+/// parcels.
 pub type Parcels = ArrayVec<u16, 202>;
 
-/// The instruction of a text with a space before it.
+/// Parses a space and the text of an instruction.
 fn instr_in(item: &[u8]) -> Option<Instr>
     ensures { result ≡ instr_in item.now }
 {
@@ -25,7 +26,7 @@ fn instr_in(item: &[u8]) -> Option<Instr>
     }
 }
 
-/// Adds the parcels of an item's instruction; answers whether it is one.
+/// Adds the parcels of an item's instruction. Returns whether the item is an instruction.
 fn put_item(parcels: &mut Parcels, item: &[u8]) -> bool
     requires room { length parcels.old.items ≤ 200 }
     requires bits { All (λ p. p < 2 ^ 15) parcels.old.items }
@@ -43,8 +44,8 @@ fn put_item(parcels: &mut Parcels, item: &[u8]) -> bool
     true
 }
 
-/// The parcels of the instructions whose texts these are, with a space before each and semicolons between
-/// them. None where one is no instruction's text.
+/// The parcels of instructions from their texts, with a space before each text and semicolons between them. Returns
+/// `None` if any text isn't that of an instruction.
 pub fn parcels_in(texts: &[u8]) -> Option<Parcels>
     requires { length texts.now ≤ 200 }
     ensures parcels { MatchOption result (parcels_in (items_of texts.now) ≡ None)
@@ -65,7 +66,7 @@ pub fn parcels_in(texts: &[u8]) -> Option<Parcels>
     }
 }
 
-/// One of the parcels, and where there are fewer, that of a pass.
+/// The parcel at a position, or the parcel of a pass if there are fewer parcels.
 fn parcel_or_pass(parcels: &[u16], number: usize) -> u16
     requires { All (λ p. p < 2 ^ 15) parcels.now }
     ensures parcel { result ≡ parcel_or_pass parcels.now number }

@@ -2,7 +2,7 @@ use crate::Image;
 use crate::line_list::LineList;
 use word60::Word18;
 
-/// Addresses of words that are shown, the first and the last one too.
+/// The addresses of words to show, from the first to the last, both included.
 #[derive(Clone, Copy, Debug, Drop, PartialEq, Eq)]
 pub struct Show {
     pub first: Word18,
@@ -14,12 +14,12 @@ pub struct Show {
 pub struct AskLine {
     /// The absolute address of the package.
     pub at: u32,
-    /// How many instructions are issued before the exchange is asked for.
+    /// The number of instructions that are issued before the exchange is requested.
     pub after: u32,
 }
 
-/// A deck: the words of memory, the absolute address of the first exchange package, the requests for later
-/// exchanges, the absolute addresses of the packages that are asked for at any time, and what is shown.
+/// A deck: the words of memory, the package of the first exchange, the requests for later exchanges, and the words to
+/// show. `start` and `free` have the absolute addresses of packages. The packages of `free` are requested at any time.
 #[derive(Drop)]
 pub struct Deck {
     pub image: Image,
@@ -29,11 +29,11 @@ pub struct Deck {
     pub shows: LineList<Show>,
 }
 
-/// A deck whose `end` line hasn't come.
+/// A deck whose `end` line hasn't been read yet.
 #[derive(Drop)]
 pub struct Draft {
     pub image: Image,
-    /// Where the next word goes.
+    /// The address of the next word.
     pub next_address: u32,
     pub start: Option<u32>,
     pub asks: LineList<AskLine>,
@@ -41,11 +41,11 @@ pub struct Draft {
     pub shows: LineList<Show>,
 }
 
-/// What comes after a line that was taken.
+/// What follows an accepted line.
 #[derive(Clone, Copy, Debug, Drop, PartialEq, Eq)]
 pub enum Flow {
-    /// Another line.
+    /// Another line follows.
     Goes,
-    /// Nothing: the line was the `end` line. The first exchange package is at this address.
+    /// Nothing follows, because the line was the `end` line. The first exchange package is at this address.
     Ends(u32),
 }

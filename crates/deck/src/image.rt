@@ -11,7 +11,7 @@ use std::alloc::Global;
 use std::marker::Model;
 use word60::Word60;
 
-/// The words of memory, and which of them a deck has placed.
+/// The words of memory, and for each word whether the deck has placed it.
 #[derive(Drop)]
 pub struct Image {
     memory: Storage,
@@ -30,10 +30,10 @@ impl Model for Image {
 }
 
 impl Image {
-    /// A memory of so many words, all +0, none of them placed.
+    /// Creates a memory of this many words, all +0 and none of them placed.
     ///
     /// # Errors
-    /// `MemorySize` where the size isn't 32 to 131,072, and `OutOfMemory`.
+    /// `MemorySize` if the size isn't 32 to 131,072. `OutOfMemory` if memory runs out.
     pub fn new(alloc: Global, words: u32) -> Result<Image, Refusal>
         ensures { MatchResult result
             (λ image. (is_memory_size words ≡ true) × (image ≡ blank words))
@@ -46,7 +46,7 @@ impl Image {
         }
     }
 
-    /// How many words memory has.
+    /// The number of words in memory.
     pub fn size(&self) -> u32
         ensures value { result ≡ length self.now.memory }
         ensures range { IsMemorySize result }
@@ -61,7 +61,7 @@ impl Image {
         &self.memory
     }
 
-    /// Whether the deck has placed the word at an absolute address, which is below the size.
+    /// Whether the deck has placed the word at an absolute address. The address is below the size.
     pub fn is_placed(&self, address: u32) -> bool
         requires { address < length self.now.memory }
         ensures { result ≡ slice_index_or self.now.placed address false }
@@ -72,7 +72,7 @@ impl Image {
     /// Puts a word at an absolute address. Returns the address after it.
     ///
     /// # Errors
-    /// `Range` if the address isn't in memory. Then nothing changes.
+    /// `Range` if the address isn't in memory. The memory is then unchanged.
     pub fn put(&mut self, address: u32, word: Word60) -> Result<u32, DeckFault>
         ensures placed { MatchResult result
             (λ next. (address < length self.old.memory) × (next ≡ address + 1)

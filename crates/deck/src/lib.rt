@@ -1,9 +1,8 @@
-//! Decks: what stands in memory, where the package of the first exchange is, which exchanges come
-//! later, and which words are shown. A deck is lines of bytes; docs/formats.md has them and their
-//! faults.
+//! Decks. A deck gives the contents of memory, the package of the first exchange, the requests for later exchanges, and
+//! the words to show. A deck is lines of bytes; docs/formats.md has the lines and their faults.
 //!
-//! Callers rely on `read_deck`: it answers exactly the deck that the bytes are, or the first line at fault, and reads
-//! nothing past the deck's end or that fault. `applying` has what each line does. Its tests are in
+//! Callers rely on `read_deck`. It returns exactly the deck in the bytes, or the first faulty line, and reads nothing
+//! past the deck's end or that fault. `applying` has the effect of each line. Its tests are in
 //! `crates/text_tests/src/deck_tests.rt`. Begin with `Deck` in `deck` and `read_deck` in `reading`.
 #![tactic(auto)]
 

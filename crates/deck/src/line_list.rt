@@ -5,10 +5,11 @@ use instruction_table::Refusal;
 use std::alloc::Global;
 use std::marker::Model;
 
-/// How many lines of one kind a list has room for: `show` lines, or `ask` lines.
+/// The number of lines of one kind for which a list has room: `show` lines or `ask` lines.
 pub const LINES_OF_A_KIND: usize = 64;
 
-/// What the lines of one kind say, in the order of the lines. There is room for all of them from the beginning.
+/// The values of the lines of one kind, in the order of the lines. The list has room for all of them from the
+/// beginning.
 #[derive(Drop)]
 pub struct LineList<T> {
     values: Vec<T>,
@@ -26,10 +27,10 @@ impl<T> Model for LineList<T> {
 }
 
 impl<T: Drop> LineList<T> {
-    /// Nothing yet.
+    /// Creates an empty list.
     ///
     /// # Errors
-    /// `OutOfMemory`.
+    /// `OutOfMemory` if memory runs out.
     pub(crate) fn new(alloc: Global) -> Result<Self, Refusal>
         ensures { MatchResult result (λ list. list ≡ []) (λ refusal. refusal ≡ OutOfMemory) }
     {
@@ -39,14 +40,14 @@ impl<T: Drop> LineList<T> {
         }
     }
 
-    /// How many there are.
+    /// The number of values.
     pub(crate) fn len(&self) -> usize
         ensures { result ≡ length self.now }
     {
         self.values.len()
     }
 
-    /// One more.
+    /// Adds a value at the end.
     pub(crate) fn push(&mut self, value: T)
         requires { length self.old < 64 }
         ensures { self.new ≡ self.old ++ value ∷ [] }
@@ -54,7 +55,7 @@ impl<T: Drop> LineList<T> {
         self.values.push_reserved(value);
     }
 
-    /// All of them, the one of the first line first.
+    /// All values, in the order of the lines.
     pub fn as_slice(&self) -> &[T]
         ensures { result.now ≡ self.now }
     {

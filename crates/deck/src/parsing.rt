@@ -5,7 +5,7 @@ ghost use Rattle.deck.specs.inner.ParsedLine.{line_with_bytes};
 
 use device_text::first_part;
 
-/// A line by its fields, which are slices of the line; definitions have lists of bytes instead.
+/// A parsed line with its fields. In the code a field is a slice of the line; in definitions it is a list of bytes.
 #[derive(Clone, Copy)]
 pub enum Line<Field> {
     /// `core W`.
@@ -14,15 +14,15 @@ pub enum Line<Field> {
     At(Field),
     /// `word V`.
     Word(Field),
-    /// `code T; T`: what follows the word `code`, which is instruction texts, each with the space before it.
+    /// `code T; T`: the text after the word `code`. It has the texts of instructions, each after a space.
     Code(Field),
     /// `start N`.
     Start(Field),
     /// `show A B`.
     Show(Field, Field),
-    /// `ask N after K`: the address of the package, and how many instructions are issued before it is asked for.
+    /// `ask N after K`: the address of the package, and the number of instructions that are issued before the request.
     Ask(Field, Field),
-    /// `ask N free`: the address of the package that is asked for at any time.
+    /// `ask N free`: the address of the package that is requested at any time.
     AskFree(Field),
     /// `end`.
     End,
@@ -30,14 +30,14 @@ pub enum Line<Field> {
     Unknown,
 }
 
-/// Where the first blank is.
+/// The position of the first blank.
 fn blank_in(text: &[u8]) -> Option<usize>
     ensures { result ≡ position (λ b. b == 32) text.now }
 {
     text.iter().position(|byte| *byte == b' ')
 }
 
-/// What a line says that begins with the word `code`.
+/// Parses a line that begins with the word `code`.
 fn code_line(text: &[u8]) -> Line<&[u8]>
     ensures { line_with_bytes result ≡ parsed_code (from_space text.now) }
 {
@@ -47,7 +47,7 @@ fn code_line(text: &[u8]) -> Line<&[u8]>
     }
 }
 
-/// What a line of four fields or more says.
+/// Parses a line of four or more fields.
 #[tactic(auto, using(crate::proofs::Fields::too_many))]
 fn line_of_four<'a>(word: &[u8], first: &'a [u8], second: &[u8], rest: &'a [u8]) -> Line<&'a [u8]>
     ensures { line_with_bytes result ≡ parsed_fields (word.now ∷ first.now ∷ second.now ∷ fields_of rest.now) }
@@ -63,7 +63,7 @@ fn line_of_four<'a>(word: &[u8], first: &'a [u8], second: &[u8], rest: &'a [u8])
     Line::Unknown
 }
 
-/// What a line says.
+/// Parses a line of a deck.
 pub fn parse_line(text: &[u8]) -> Line<&[u8]>
     ensures { line_with_bytes result ≡ parsed_line text.now }
 {

@@ -1,3 +1,3 @@
--- What the program prints, and how it ends then.
+-- The output and the end of the program.
 -- Source: ours.
 pub mod Running

@@ -1,4 +1,4 @@
--- What the program prints of a run and of a replay, and how it ends then.
+-- The output of the program for a run and for a replay, and its end.
 -- Source: ours.
 use Rattle.std.specs.Prelude.{◌≡◌, ◌⊎◌, ℕ, Bool, true, false, List, Option, Some, None, Result, Ok, Err}
 use Rattle.std.specs.Io.KnownBytes.{Keeps, Appends}
@@ -19,12 +19,12 @@ use Rattle.operator_terms.specs.declared.fault.ProgramFault.TheVariants as fault
 use Rattle.operator_terms.specs.declared.status.Status.{Status}
 use Rattle.operator_terms.specs.Status.{status_of, fault_of}
 
--- why a run has no end: no memory is left, or the machine refused a step
+-- the faults with which a run fails: out of memory, or the machine refused a step
 abbrev pub EndsNoRun : ProgramFault → Type 0
 EndsNoRun fault = (fault ≡ faults.Refused refusals.OutOfMemory) ⊎ (fault ≡ faults.Stuck)
 
--- what is printed of a deck's run with a budget: the dump of the state to which some log leads, which also says how the
--- program ends, or at a failed write a beginning of such a dump; else nothing
+-- the result and the output of a deck's run with a budget. A success prints the dump of a state to which some log
+-- leads, and that state gives the status. A failed write leaves a prefix of such a dump. Any other fault prints nothing
 abbrev pub PrintsRun : Result Status ProgramFault → Deck → ℕ → Option (List ℕ) → Option (List ℕ) → Type 0
 PrintsRun (Ok status) deck budget old new =
     (log : List LogStep) × (s : State) × IsRun deck.image.memory deck.start (asks_after deck) deck.free budget log s
@@ -36,7 +36,7 @@ PrintsRun (Err (faults.Refused refusals.OutOfMemory)) deck budget old new = Keep
 PrintsRun (Err faults.Stuck) deck budget old new = Keeps old new
 PrintsRun other deck budget old new = ⊥
 
--- the same from a deck's bytes on, of which these are left
+-- the result of reading a deck and running it, where `rest` are the bytes left unread
 abbrev pub Runs : Result Status ProgramFault → Reading → ℕ → List ℕ → Option (List ℕ) → Option (List ℕ) → Type 0
 Runs (Err (faults.Refused (refusals.Deck m fault))) reading budget rest old new = (reading ≡ Bad m fault rest) × Keeps old new
 Runs (Err (faults.Refused refusals.Read)) reading budget rest old new = Keeps old new
@@ -44,36 +44,36 @@ Runs (Err (faults.Refused refusals.OutOfMemory)) reading budget rest old new = K
 Runs result (Good deck n after) budget rest old new = (rest ≡ after) × PrintsRun result deck budget old new
 Runs result (Bad n fault after) budget rest old new = ⊥
 
--- how the program ends after a sequential run: as the machine stands
+-- the end of the program after a sequential run, from the final state of the machine
 abbrev pub sequential_end : Result State Refusal → Result Status ProgramFault
 sequential_end (Ok s) = Ok (status_of s.fault s.halt)
 sequential_end (Err refusal) = Err (fault_of refusal)
 
--- what the sequential run of a deck prints and leaves of the deck's bytes, and how the program ends then
+-- the end of the program after a sequential run of a deck, with the output and the bytes left of the deck
 abbrev pub EndsSequentialRun : Result Status ProgramFault → Reading → ℕ → List ℕ → Option (List ℕ) → Option (List ℕ)
     → Type 0
 EndsSequentialRun result reading budget rest old new =
     (found : Result State Refusal) × RunsSequentially found reading budget rest old new
     × (result ≡ sequential_end found)
 
--- how the program ends after a replay: as the machine stands, or since the text was no log's
+-- the end of the program after a replay: from the final state of the machine, or because the text isn't that of a log
 abbrev pub replay_end : Result (Option State) Refusal → Result Status ProgramFault
 replay_end (Ok (Some s)) = Ok (status_of s.fault s.halt)
 replay_end (Ok None) = Err faults.BadLog
 replay_end (Err refusal) = Err (fault_of refusal)
 
--- what replaying the log of a text on a deck prints and leaves of the deck's bytes, and how the program ends then
+-- the end of the program after replaying the log in a text on a deck, with the output and the bytes left of the deck
 abbrev pub EndsReplay : Result Status ProgramFault → Reading → List ℕ → List ℕ → Option (List ℕ) → Option (List ℕ)
     → Type 0
 EndsReplay result reading rest text old new =
     (found : Result (Option State) Refusal) × Replays found reading rest text old new × (result ≡ replay_end found)
 
--- whether the program ends since a read failed
+-- whether the program ends because a read failed
 abbrev pub is_read_fault : Result Status ProgramFault → Bool
 is_read_fault (Err (faults.Refused refusals.Read)) = true
 is_read_fault other = false
 
--- whether the program ends since a write failed
+-- whether the program ends because a write failed
 abbrev pub is_write_fault : Result Status ProgramFault → Bool
 is_write_fault (Err (faults.Refused refusals.Write)) = true
 is_write_fault other = false

@@ -1,4 +1,4 @@
-//! A run of a deck by threads: a worker for each unit, one for memory, and this thread, which issues.
+//! Runs a deck with threads: a worker for each unit, one for memory, and this thread, which issues.
 ghost use Rattle.std.specs.Prelude.{◌≡◌, MatchResult, IfOk};
 ghost use Rattle.instructions.specs.declared.refusal.Refusal.TheVariants.{OutOfMemory};
 ghost use Rattle.program_order.specs.Processor.{boot_processor};
@@ -17,11 +17,11 @@ use std::thread::Threads;
 use std::time::Clock;
 use unit_workers::{Gates, Open, Orders, run_threads};
 
-/// What a run of this deck has to do: it starts with the package of `start`, and makes the requests of the `ask` lines,
-/// after so many instructions or at any time.
+/// The orders of a run of this deck: the package of the `start` line, and the requests of the `ask` lines. A request is
+/// made after a number of instructions or at any time.
 ///
 /// # Errors
-/// Memory ran out.
+/// Fails if memory runs out.
 fn orders(alloc: Global, deck: &Deck) -> Result<Orders, AllocError>
     ensures start { IfOk result (λ orders. orders.start ≡ deck.now.start) }
     ensures after { IfOk result (λ orders. orders.after.items ≡ asks_after deck.now) }
@@ -34,11 +34,11 @@ fn orders(alloc: Global, deck: &Deck) -> Result<Orders, AllocError>
     })
 }
 
-/// What `run_threads` gets for a run of a deck: a machine that was just booted with the deck's memory and the budget,
-/// and the deck's orders.
+/// Prepares the arguments of `run_threads` for a deck: a machine that was just booted with the deck's memory and the
+/// budget, and the deck's orders.
 ///
 /// # Errors
-/// `OutOfMemory`.
+/// `OutOfMemory` if memory runs out.
 fn prepared(alloc: Global, deck: &Deck, budget: Budget) -> Result<(Machine, Orders), Refusal>
     ensures machine { MatchResult result (λ made. made.0 ≡ boot_processor deck.now.image.memory budget)
         (λ refusal. refusal ≡ OutOfMemory) }
@@ -53,7 +53,7 @@ fn prepared(alloc: Global, deck: &Deck, budget: Budget) -> Result<(Machine, Orde
     Ok((machine, orders))
 }
 
-/// Gates that hold up nobody.
+/// Gates that delay no worker.
 fn open_gates() -> Gates<Open> {
     Gates {
         branch: Open,
@@ -66,13 +66,13 @@ fn open_gates() -> Gates<Open> {
     }
 }
 
-/// Boots a machine with a deck's memory and runs it to the end by threads, with the deck's requests for exchanges. The
-/// answered machine has come to its state by its log on that memory, and has just this budget; the log begins with the
-/// exchange for the deck's first package and fulfils the deck's requests.
+/// Boots a machine with a deck's memory and runs it to the end with threads, making the deck's requests for exchanges.
+/// Returns a snapshot of the machine, which has exactly this budget. Its log leads from the deck's memory to its state,
+/// begins with the exchange for the deck's first package, and fulfils the deck's requests.
 ///
 /// # Errors
-/// `OutOfMemory`, also where a thread couldn't be started, and `Stuck` where the machine refused a step before the
-/// run's end, or could go on there, or the log doesn't fulfil the deck's requests.
+/// `OutOfMemory` if memory runs out or a thread can't be started. `Stuck` if the machine refuses a step before the
+/// run's end, could continue at the end, or has a log that doesn't fulfil the deck's requests.
 pub fn run<T: Threads + Wait + Clock + Sync>(
     rt: &T,
     alloc: Global,

@@ -1,4 +1,4 @@
--- Texts as lines of bytes, and what calls do to the bytes of a device.
+-- Texts as lines of bytes, and the effect of calls on the bytes of a device.
 -- Source: ours.
 pub mod Device
 pub mod Putting

@@ -36,7 +36,7 @@ unit_named name =
     else if bytes_eq name (unit_text Increment2) then Some Increment2
     else None
 
--- a letter and a digit, as `X1`
+-- the name of a register: a letter and a digit, as in `X1`
 abbrev pub register_text : Reg → List ℕ
 register_text (X n) = 88 ∷ (48 + n) ∷ []
 register_text (A n) = 65 ∷ (48 + n) ∷ []

@@ -1,4 +1,4 @@
--- The texts of the pieces that a printed line is made of: numbers, names, opcodes, and why a machine is halted.
+-- The texts of the pieces that a printed line is made of: numbers, names, opcodes and the reason for a halt.
 -- Source: ours; the codes of opcodes and the names of the registers are the manual's.
 use Rattle.std.specs.Prelude.{ℕ, ◌+◌, List, [], ◌∷◌, codes, decimal, ◌==◌, if◌then◌else◌}
 use Rattle.std.specs.List.{flat_map, concat}
@@ -13,18 +13,18 @@ use Rattle.device_text.specs.declared.piece.Piece.{Piece}
 use Rattle.device_text.specs.declared.piece.Piece.TheVariants.{Text, Instruction, Opcode, Reason, UnitName, Register}
 use Rattle.device_text.specs.declared.piece.Piece.TheVariants.{Parcel, Index, Word, Address, ShortWord, Count}
 
--- digits without noughts in front, but with one digit at least
+-- the digits without leading zeros, but at least one digit
 abbrev pub trimmed : List ℕ → List ℕ
 trimmed [] = []
 trimmed (d ∷ []) = d ∷ []
 trimmed (d ∷ e ∷ more) = if d == 48 then trimmed (e ∷ more) else d ∷ e ∷ more
 
--- the code of an opcode that is refused has two octal digits, or three
+-- the code of a refused opcode: two octal digits or three
 abbrev pub code_text : Op → List ℕ
 code_text (Plain f m) = (48 + f) ∷ (48 + m) ∷ []
 code_text (Extended f m i) = (48 + f) ∷ (48 + m) ∷ (48 + i) ∷ []
 
--- why a machine is halted: `stop`, `illegal CODE`, `straddle` or `fetch`
+-- the reason for a halt: `stop`, `illegal CODE`, `straddle` or `fetch`
 abbrev pub reason_text : Halt → List ℕ
 reason_text Stop = codes "stop"
 reason_text (Illegal op) = concat (codes "illegal " ∷ code_text op ∷ [])
@@ -46,6 +46,6 @@ text_of (Address n) = trimmed (octal_text 20 n)
 text_of (ShortWord n) = trimmed (octal_text 20 n)
 text_of (Count n) = decimal n
 
--- the texts of some pieces, one after another
+-- the texts of several pieces, one after another
 abbrev pub text_of_all : List Piece → List ℕ
 text_of_all pieces = flat_map text_of pieces

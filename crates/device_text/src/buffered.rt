@@ -3,8 +3,8 @@ ghost use Rattle.std.specs.Prelude.{◌≡◌, false};
 use crate::input::{Input, ReadFailed};
 use std::io::BufRead;
 
-/// Any buffered reader, with a check of each read for failure. A byte is taken out of its buffer, which costs
-/// much less than a read of one byte.
+/// A buffered reader that records whether a read has failed. Taking a byte out of the reader's buffer costs much less
+/// than reading one byte.
 #[derive(Drop)]
 pub struct CheckedBufReader<'a, R> {
     reader: &'a mut R,

@@ -2,7 +2,7 @@ ghost use Rattle.std.specs.Prelude.{◌≡◌, ◌≤◌, ◌<◌, ◌^◌, IfSo
 ghost use Rattle.device_text.specs.Text.{number_of};
 ghost use Rattle.device_text.specs.Pieces.{trimmed};
 
-/// The number that the digits are, where there are 1 to `most` and all are of the base.
+/// Parses a number of 1 to `most` digits in the base.
 pub fn number(base: u32, most: usize, text: &[u8]) -> Option<u64>
     requires low { 2 ≤ base }
     requires high { base ≤ 10 }
@@ -21,7 +21,7 @@ pub fn number(base: u32, most: usize, text: &[u8]) -> Option<u64>
     Some(value)
 }
 
-/// The digits without noughts in front, but with one digit at least.
+/// The digits without leading zeros, but at least one digit.
 pub fn trim(digits: &[u8]) -> &[u8]
     ensures { result.now ≡ trimmed digits.now }
 {

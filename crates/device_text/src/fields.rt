@@ -2,7 +2,8 @@ ghost use Rattle.std.specs.Prelude.{◌≡◌, ◌==◌, ◌<◌, ◌+◌, ◌�
 ghost use Rattle.std.specs.List.{slice_split};
 ghost use Rattle.device_text.specs.Text.{other_parts};
 
-/// What stands before the first separator, and what comes after it. The parts between blanks are the fields of a line.
+/// Splits a text at its first separator. Returns the part before the separator, and the rest after it if there is a
+/// separator. The fields of a line are the parts between its blanks.
 pub fn first_part(text: &[u8], separator: u8) -> (&[u8], Option<&[u8]>)
     ensures parts { slice_split (λ b. b == separator) text.now ≡ result.0.now ∷ other_parts separator result.1 }
     ensures shorter { IfSome result.1 (λ rest. length result.0.now + length rest.now < length text.now) }

@@ -4,22 +4,22 @@ ghost use Rattle.device_text.specs.Device.{Moves, Takes, failed_after};
 
 use std::io::Read;
 
-/// A read answered an error.
+/// A read returned an error.
 #[derive(Clone, Copy, Debug, PartialEq, Eq)]
 pub struct ReadFailed;
 
-/// A device that gives bytes one after another, and tells whether a read failed so far.
+/// A device from which bytes are read one by one, and which records whether a read has failed.
 pub trait Input {
-    /// The bytes that are left, where they are known.
+    /// The bytes not read yet, if they are known.
     ghost remaining: { Self → Option (List ℕ) };
 
     /// Whether a read has failed.
     ghost has_failed: { Self → Bool };
 
-    /// Which reader it borrows; 0 where it borrows none.
+    /// The ghost name of the reader that the device borrows, or 0 if it borrows none.
     ghost lender: { Self → ℕ };
 
-    /// The next byte, or none at the end.
+    /// Reads the next byte. Returns `None` at the end.
     fn next_byte(&mut self) -> Result<Option<u8>, ReadFailed>
         ensures byte { IfOk result (λ byte. Moves (remaining self.old) (remaining self.new) (Takes byte)) }
         ensures err { OnErr result (Keeps (remaining self.old) (remaining self.new)) }
@@ -27,7 +27,7 @@ pub trait Input {
         ensures same { lender self.new ≡ lender self.old };
 }
 
-/// Any reader, with a check of each read for failure.
+/// A reader that records whether a read has failed.
 #[derive(Drop)]
 pub struct CheckedReader<'a, R> {
     reader: &'a mut R,
@@ -45,7 +45,7 @@ impl<'a, R: Read> CheckedReader<'a, R> {
         }
     }
 
-    /// The reader, whatever failed.
+    /// Returns the borrowed reader, even if a read has failed.
     pub fn into_inner(self) -> &'a mut R
         ensures { result ≡ self.entry.reader }
     {

@@ -1,8 +1,8 @@
-//! Texts as lines of bytes, whatever they say: inputs and outputs that tell whether they failed,
-//! lines, fields, numbers, names, and the pieces that printed lines are made of.
+//! Reading and writing lines of bytes, whatever their meaning. This crate has inputs and outputs that record failures,
+//! and reads lines, fields, numbers and names. It also has the pieces that printed lines are made of.
 //!
-//! Callers rely on `read_line` and `put_pieces`: the one reads a line to its end and nothing past it; the other writes
-//! exactly the text of the pieces, or a beginning of it where a write failed. Its tests are in
+//! Callers rely on `read_line` and `put_pieces`. `read_line` reads a line to its end and nothing past it. `put_pieces`
+//! writes exactly the text of the pieces, or a prefix of it if a write fails. Its tests are in
 //! `crates/text_tests/src/device_tests.rt`. Begin with `Input` and `Output`, the devices, in `input` and `output`; then
 //! `read_line` in `line` and `Piece` in `piece`.
 #![tactic(auto)]

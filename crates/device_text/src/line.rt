@@ -5,24 +5,24 @@ ghost use Rattle.device_text.specs.Line.{IsText, LineTaken, LineText};
 use crate::input::{Input, ReadFailed};
 use arrayvec::ArrayVec;
 
-/// The longest line has 200 bytes. Of a longer one a byte more is read.
+/// A buffer for a line. The longest line has 200 bytes; one byte more is read of a line that is longer.
 pub type LineBuffer = ArrayVec<u8, 201>;
 
-/// What a reading of a line found.
+/// The result of `read_line`.
 #[derive(Clone, Copy, Debug, PartialEq, Eq)]
 pub enum LineRead {
     /// A whole line of at most 200 bytes.
     Whole,
-    /// 201 bytes of a longer line, and no more of it.
+    /// The first 201 bytes of a longer line.
     Long,
-    /// Nothing: the input has ended.
+    /// Nothing, because the input has ended.
     Nothing,
 }
 
-/// Reads the next line, without its line end, and nothing past it.
+/// Reads the next line into a buffer, without its line end, and nothing past the line.
 ///
 /// # Errors
-/// Where a read fails; the line then has the bytes that were read before.
+/// Fails if a read fails. The buffer then has the bytes that were read before.
 pub fn read_line<I: Input>(input: &mut I, line: &mut LineBuffer) -> Result<LineRead, ReadFailed>
     ensures text { IfOk result (λ line_read. LineText line_read line.new.items) }
     ensures ok { IfOk result (λ line_read. Moves (I.remaining input.old) (I.remaining input.new)

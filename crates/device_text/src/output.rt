@@ -4,33 +4,33 @@ ghost use Rattle.device_text.specs.Device.{Writes, failed_after, waits_after};
 
 use std::io::Write;
 
-/// A write or a flush answered an error, or a write took no byte of some.
+/// A write or a flush returned an error, or a write took none of the bytes given to it.
 #[derive(Clone, Copy, Debug, PartialEq, Eq)]
 pub struct WriteFailed;
 
-/// A device that takes bytes at its end, and tells whether a write failed so far and whether bytes still wait to be
-/// handed on.
+/// A device to which bytes are appended. It records whether a write has failed, and whether bytes are still to be
+/// flushed.
 pub trait Output {
-    /// The bytes that it holds, where they are known.
+    /// The bytes written so far, if they are known.
     ghost contents: { Self → Option (List ℕ) };
 
-    /// Whether a write has failed.
+    /// Whether a write or a flush has failed.
     ghost has_failed: { Self → Bool };
 
-    /// Whether bytes that were put may not be handed on yet.
+    /// Whether some of the bytes written may still have to be flushed.
     ghost waits: { Self → Bool };
 
-    /// Which writer it borrows; 0 where it borrows none.
+    /// The ghost name of the writer that the device borrows, or 0 if it borrows none.
     ghost lender: { Self → ℕ };
 
-    /// Writes all the bytes. At an error a beginning of them was written.
+    /// Writes all the bytes. At an error a prefix of them was written.
     fn put(&mut self, bytes: &[u8]) -> Result<(), WriteFailed>
         ensures written { Writes result (contents self.old) (contents self.new) bytes.now }
         ensures failure { has_failed self.new ≡ failed_after (has_failed self.old) result }
         ensures waiting { waits self.new ≡ true }
         ensures same { lender self.new ≡ lender self.old };
 
-    /// Hands on what was written. Where it fails, what waited before still waits.
+    /// Flushes the bytes written. If the flush fails, bytes that were still to be flushed remain so.
     fn flush(&mut self) -> Result<(), WriteFailed>
         ensures bytes { Keeps (contents self.old) (contents self.new) }
         ensures failure { has_failed self.new ≡ failed_after (has_failed self.old) result }
@@ -38,7 +38,7 @@ pub trait Output {
         ensures same { lender self.new ≡ lender self.old };
 }
 
-/// Any writer, with a check of each write for failure.
+/// A writer that records whether a write or a flush has failed.
 #[derive(Drop)]
 pub struct CheckedWriter<'a, W> {
     writer: &'a mut W,
@@ -59,7 +59,7 @@ impl<'a, W: Write> CheckedWriter<'a, W> {
         }
     }
 
-    /// The writer, whatever failed.
+    /// Returns the borrowed writer, even if a write has failed.
     pub fn into_inner(self) -> &'a mut W
         ensures { result ≡ self.entry.writer }
     {

@@ -10,16 +10,16 @@ use instruction_table::{Halt, Instr, Op, ParcelNumber, Reg, Unit, spell};
 use itoa::Buffer;
 use word60::{Word18, Word60};
 
-/// A piece of a line.
+/// A piece of a printed line.
 #[derive(Clone, Copy, Drop)]
 pub enum Piece<'a> {
     /// These bytes.
     Text(&'a [u8]),
     /// The text of an instruction.
     Instruction(Instr),
-    /// The code of an opcode that is refused, two octal digits or three.
+    /// The code of a refused opcode: two octal digits or three.
     Opcode(Op),
-    /// Why a machine is halted.
+    /// The reason why a machine is halted.
     Reason(Halt),
     /// The name of a unit.
     UnitName(Unit),
@@ -31,9 +31,9 @@ pub enum Piece<'a> {
     Index(Word18),
     /// Twenty octal digits.
     Word(Word60),
-    /// One to twenty octal digits, as many as are needed.
+    /// An octal number without leading zeros: as many digits as it needs.
     Address(u32),
-    /// The same of a word.
+    /// A word in octal without leading zeros: one to twenty digits.
     ShortWord(Word60),
     /// Decimal digits.
     Count(u64),
@@ -49,7 +49,7 @@ fn put_opcode<O: Output>(output: &mut O, op: Op) -> Result<(), WriteFailed>
     }
 }
 
-/// Writes why a machine is halted.
+/// Writes the reason why a machine is halted.
 fn put_reason<O: Output>(output: &mut O, halt: Halt) -> Result<(), WriteFailed>
     ensures { Puts O.Output result output.old output.new (reason_text halt) }
 {

@@ -21,7 +21,7 @@ pub fn unit_name(unit: Unit) -> &'static [u8]
     }
 }
 
-/// The unit with this name.
+/// The unit with this name, if there is one.
 pub fn unit_named(name: &[u8]) -> Option<Unit>
     ensures { result ≡ unit_named name.now }
 {

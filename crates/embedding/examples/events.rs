@@ -12,7 +12,7 @@ mod declared {
         pub status: u8,
     }
 
-    // Since edition 2024 this is `unsafe extern`.
+    // From edition 2024 on this is `unsafe extern`.
     extern "C" {
         pub fn cdc6600_events(
             input: *const u8,
@@ -26,7 +26,7 @@ mod declared {
     }
 }
 
-/// The answers to a session, the fault line, if any, and the exit status.
+/// Returns the answers to a session, the fault line if there is one, and the exit status.
 fn events(session: &[u8], budget: u64) -> (Vec<u8>, Vec<u8>, u8) {
     let (mut answers, mut line) = (vec![0; 100], vec![0; 64]);
     loop {

@@ -1,4 +1,4 @@
-/* What the examples read and write: files of any length, with a line for each failure. */
+/* Reading and writing for the examples: files of any length, with a line for each failure. */
 #ifndef FILES_H
 #define FILES_H
 
@@ -6,17 +6,17 @@
 #include <stdio.h>
 #include <stdlib.h>
 
-/* The program's exit status where a read or a write fails. */
+/* The program's exit status if a read or a write fails. */
 #define FAILED_DEVICE 7
 
-/* Tells why the last call of the C library failed, and ends the program. */
+/* Reports why the last call of the C library failed, and exits. */
 static void fail(const char *name, int status)
 {
     perror(name);
     exit(status);
 }
 
-/* The block of memory, moved and made so large. */
+/* Resizes a block of memory, which may move. */
 static uint8_t *resized(uint8_t *block, size_t size)
 {
     uint8_t *larger = realloc(block, size);
@@ -26,7 +26,7 @@ static uint8_t *resized(uint8_t *block, size_t size)
     return larger;
 }
 
-/* Reads a file whole. */
+/* Reads a whole file. */
 static uint8_t *read_file(const char *name, size_t *length)
 {
     FILE *file = fopen(name, "rb");
@@ -51,7 +51,7 @@ static uint8_t *read_file(const char *name, size_t *length)
     return bytes;
 }
 
-/* Writes bytes to standard output, and hands them on. */
+/* Writes bytes to standard output and flushes it. */
 static void print(const uint8_t *bytes, size_t length)
 {
     if (fwrite(bytes, 1, length, stdout) < length || fflush(stdout) != 0) {

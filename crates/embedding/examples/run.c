@@ -1,9 +1,9 @@
 /* Runs a deck and prints the dump: `run DECK`. With a second argument, `run DECK LOG`, it replays that log on the deck.
- * A small buffer is tried first, and then one of the size that the call has answered. */
+ * It tries a small buffer first, and then one of the size that the call returned. */
 #include "files.h"
 #include <string.h>
 
-/* The dump after a run of the deck, or after the replay of a log if there is one. */
+/* Dumps the machine after a run of the deck, or after the replay of a log if there is one. */
 static struct cdc6600_outcome dump_of(const uint8_t *deck, size_t length, const char *log,
                                       uint8_t *dump, size_t capacity, uint8_t line[CDC6600_FAULT_LINE])
 {

@@ -1,5 +1,5 @@
-/* Boots a machine with a deck, asks for the exchange with the package at an address, and makes one event after another
- * until none can be made: `step DECK ADDRESS`. It prints each event with its answer, then the log, and the X registers
+/* Boots a machine with a deck, requests the exchange with the package at an address, and makes one event after another
+ * until none can be made: `step DECK ADDRESS`. It prints each event with its answer, then the log and the X registers
  * that aren't 0. */
 #include "files.h"
 #include <inttypes.h>
@@ -8,7 +8,7 @@
 /* The fault line of the last call. */
 static uint8_t line[CDC6600_FAULT_LINE];
 
-/* What a call has printed, if its status is 0. Else this ends the program with the fault line. */
+/* Returns the number of bytes that a call printed if its status is 0. Otherwise prints the fault line and exits. */
 static size_t printed(struct cdc6600_outcome outcome)
 {
     if (outcome.status != CDC6600_STOPPED) {
@@ -26,7 +26,7 @@ static void print_event(const uint8_t *event, size_t event_length, const uint8_t
     print(answer, answer_length);
 }
 
-/* Asks for an exchange. */
+/* Requests an exchange. */
 static void ask(struct cdc6600_machine *machine, const char *address)
 {
     uint8_t event[32], answer[CDC6600_ANSWER];
@@ -35,7 +35,7 @@ static void ask(struct cdc6600_machine *machine, const char *address)
                 printed(cdc6600_event(machine, event, length, answer, sizeof answer, line, sizeof line)));
 }
 
-/* Makes the next event. Answers whether the machine has made it. */
+/* Makes the next event. Returns whether the machine made it. */
 static bool make_next(struct cdc6600_machine *machine)
 {
     uint8_t lines[CDC6600_ANSWER];
@@ -57,7 +57,7 @@ static void print_log(struct cdc6600_machine *machine)
     free(log);
 }
 
-/* Prints the X registers that aren't 0. Answers the status. */
+/* Prints the X registers that aren't 0. Returns the status. */
 static uint8_t print_registers(struct cdc6600_machine *machine)
 {
     struct cdc6600_registers registers;

@@ -1,5 +1,4 @@
--- What calls from C hand over: as much of what a command prints as there is room for, how long it is, and the exit
--- status.
+-- The results of calls from C: as much of a command's output as fits, the length of that output, and the exit status.
 -- Source: ours.
 use Rattle.std.specs.Prelude.{◌≡◌, ◌≤◌, ◌⊎◌, ℕ, ◌++◌, List, [], length, take, drop, min, Option, Some, None}
 use Rattle.std.specs.Prelude.{Result, Ok, Err, IsUtf8, false}
@@ -19,91 +18,93 @@ use Rattle.operator_terms.specs.declared.status.Status.{Status}
 use Rattle.operator_terms.specs.declared.status.Status.TheVariants.{Stopped, Usage}
 use Rattle.embedding.specs.declared.outcome.Outcome.{Outcome}
 
--- why a command ends at this refusal: it writes to memory, so a write fails where memory runs out
+-- the fault of a command that ends at this refusal. Commands write to memory here, so a failed write means that memory
+-- ran out
 abbrev pub fault_in_memory : Refusal → ProgramFault
 fault_in_memory refusals.Write = faults.Refused refusals.OutOfMemory
 fault_in_memory other = fault_of other
 
--- the exit status of a command that ends so
+-- the exit status of a command with this end
 abbrev pub end_code : Result Status ProgramFault → ℕ
 end_code (Ok status) = code_of status
 end_code (Err fault) = code_of (fault_status fault)
 
--- as much of a text as there is room for, and the bytes after it as they were
+-- a buffer with as much of a text as fits, and the bytes after that as they were
 abbrev pub filled : List ℕ → List ℕ → List ℕ
 filled text room = take (min (length text) (length room)) text ++ drop (min (length text) (length room)) room
 
--- a fault line comes after a fault alone, and has at most 64 bytes
+-- the length of the fault line. Only a fault has a fault line, of at most 64 bytes
 abbrev pub IsTold : Result Status ProgramFault → ℕ → Type 0
 IsTold (Ok status) told = told ≡ 0
 IsTold (Err fault) told = told ≤ 64
 
--- a call hands over this text and this end
+-- a call has the outcome of a command with this output and this end
 pub record HandsOver (outcome : Outcome) (ended : Result Status ProgramFault) (text old new : List ℕ) : Type 0 where
-  -- as much of the text as there is room for
+  -- as much of the text as fits was copied
   pub output : new ≡ filled text old
   pub printed : outcome.printed ≡ length text
   pub told : IsTold ended outcome.told
   pub status : outcome.status ≡ end_code ended
 
--- how a command ends that says nothing of the machine
+-- the end of a command whose status says nothing about the machine
 abbrev pub plain_end : Result (Unit {0}) Refusal → Result Status ProgramFault
 plain_end (Ok x) = Ok Stopped
 plain_end (Err refusal) = Err (fault_in_memory refusal)
 
--- how a replay ends
+-- the end of a replay
 abbrev pub replay_end : Result (Option State) Refusal → Result Status ProgramFault
 replay_end (Ok (Some s)) = Ok (status_of s.fault s.halt)
 replay_end (Ok None) = Err faults.BadLog
 replay_end (Err refusal) = Err (fault_in_memory refusal)
 
--- how a sequential run ends
+-- the end of a sequential run
 abbrev pub run_end : Result State Refusal → Result Status ProgramFault
 run_end (Ok s) = Ok (status_of s.fault s.halt)
 run_end (Err refusal) = Err (fault_in_memory refusal)
 
--- what a call hands over that lists the deck of these bytes; no read of them fails
+-- the outcome of a call that lists the deck in these bytes, and the bytes that it copies. No read fails
 abbrev pub IsListed : List ℕ → Outcome → List ℕ → List ℕ → Type 0
 IsListed input outcome old new =
     (found : Result (Unit {0}) Refusal) × (rest : List ℕ) × (text : List ℕ)
     × Lists found (deck input) rest (Some []) (Some text) × (is_read_failure found ≡ false)
     × HandsOver outcome (plain_end found) text old new
 
--- what a call hands over that replays the log of this text on the deck of these bytes
+-- the outcome of a call that replays the log in this text on the deck in these bytes, and the bytes that it copies
 abbrev pub Replayed : List ℕ → List ℕ → Outcome → List ℕ → List ℕ → Type 0
 Replayed input log outcome old new =
     (found : Result (Option State) Refusal) × (rest : List ℕ) × (text : List ℕ)
     × Replays found (deck input) rest log (Some []) (Some text) × (is_read_failure found ≡ false)
     × HandsOver outcome (replay_end found) text old new
 
--- the same for the bytes of a log: bytes that aren't a text are no log
+-- the same for the bytes of a log. Bytes that aren't UTF-8 are a bad log
 abbrev pub IsReplayed : List ℕ → List ℕ → Outcome → List ℕ → List ℕ → Type 0
 IsReplayed input log outcome old new =
     Replayed input log outcome old new ⊎ (¬ (IsUtf8 log) × HandsOver outcome (Err faults.BadLog) [] old new)
 
--- what a call hands over that runs the deck of these bytes one instruction at a time
+-- the outcome of a call that runs the deck in these bytes one instruction at a time, and the bytes that it copies
 abbrev pub Ran : List ℕ → ℕ → Outcome → List ℕ → List ℕ → Type 0
 Ran input budget outcome old new =
     (found : Result State Refusal) × (rest : List ℕ) × (text : List ℕ)
     × RunsSequentially found (deck input) budget rest (Some []) (Some text) × (is_read_failure found ≡ false)
     × HandsOver outcome (run_end found) text old new
 
--- a number that may be no budget is refused
+-- the outcome of a call with a number that no budget may have
 abbrev pub RefusesBudget : ℕ → Outcome → List ℕ → List ℕ → Type 0
 RefusesBudget budget outcome old new =
     ¬ ((1 ≤ budget) × (budget ≤ 10000000)) × HandsOver outcome (Ok Usage) [] old new
 
--- the same for any number as a budget
+-- the same for any number as the budget
 abbrev pub HasRun : List ℕ → ℕ → Outcome → List ℕ → List ℕ → Type 0
 HasRun input budget outcome old new = Ran input budget outcome old new ⊎ RefusesBudget budget outcome old new
 
--- what a call hands over that answers the events of the schedule after the deck of these bytes
+-- the outcome of a call that answers the events of the schedule after the deck in these bytes, and the bytes that it
+-- copies
 abbrev pub Performed : List ℕ → ℕ → Outcome → List ℕ → List ℕ → Type 0
 Performed input budget outcome old new =
     (found : Result (Unit {0}) Refusal) × (rest : List ℕ) × (text : List ℕ)
     × Performs found budget (deck input) rest (Some []) (Some text) × (is_read_failure found ≡ false)
     × HandsOver outcome (plain_end found) text old new
 
--- the same for any number as a budget
+-- the same for any number as the budget
 abbrev pub IsSession : List ℕ → ℕ → Outcome → List ℕ → List ℕ → Type 0
 IsSession input budget outcome old new = Performed input budget outcome old new ⊎ RefusesBudget budget outcome old new

@@ -1,4 +1,4 @@
--- What the calls that keep a machine for C answer, and what they leave of it.
+-- The calls that keep a machine for C: their results, and their effect on the machine.
 -- Source: ours.
 use Rattle.std.specs.Prelude.{◌≡◌, ◌⊎◌, ℕ, true, false, if◌then◌else◌, List, [], ◌∷◌, ◌++◌, length, drop}
 use Rattle.std.specs.Prelude.{Option, Some, None, is_none, unwrap_or, Result, Ok, Err, codes, decimal, ⊤, ◌-◌}
@@ -42,7 +42,8 @@ use Rattle.embedding.specs.Embedding.{HandsOver, RefusesBudget, fault_in_memory,
 
 -- ---- handles ----
 
--- a call on a handle: without a machine there is none afterwards and it does nothing, and with one it does this to it
+-- a call on a handle. Without a machine there is none after the call either, and `nothing` holds. With a machine,
+-- `done` relates the machine before the call to the one after it
 abbrev pub OnMachine : Option Booted → Option Booted → Type 0 → (Booted → Booted → Type 0) → Type 0
 OnMachine None None nothing done = nothing
 OnMachine None (Some c) nothing done = ⊥
@@ -53,7 +54,7 @@ OnMachine (Some b) (Some c) nothing done = done b c
 abbrev pub silent : ℕ → Outcome
 silent status = record { printed = 0; told = 0; status = status }
 
--- nothing is handed over, with this status
+-- no byte is copied to the caller, and the call has this status
 abbrev pub IsSilent : ℕ → Outcome → List ℕ → List ℕ → Type 0
 IsSilent status outcome old new = (outcome ≡ silent status) × (new ≡ old)
 
@@ -61,18 +62,18 @@ IsSilent status outcome old new = (outcome ≡ silent status) × (new ≡ old)
 abbrev pub no_machine : ℕ
 no_machine = 8
 
--- the status of a call that wants a drained machine, where it isn't drained
+-- the status of a call that needs a drained machine, if the machine isn't drained
 abbrev pub not_drained : ℕ
 not_drained = 9
 
--- the machine isn't drained, and nothing is handed over
+-- the machine isn't drained, and no byte is copied to the caller
 abbrev pub IsNotDrained : Booted → Outcome → List ℕ → List ℕ → Type 0
 IsNotDrained b outcome old new = (is_pending b.machine.pending ≡ true) × IsSilent not_drained outcome old new
 
 -- ---- boot ----
 
--- what booting comes to, where the deck reads so: a machine that has just been booted with the deck's memory, and the
--- deck; or the deck's fault; or memory runs out
+-- the result of booting with this reading of a deck. It is a machine that was just booted with the deck's memory, and
+-- the deck. Otherwise it is the fault of the deck, or memory ran out
 abbrev pub Boots : Result Booted Refusal → ℕ → Reading → Type 0
 Boots (Ok b) budget (Good d n after) = (b.deck ≡ d) × (b.machine ≡ boot_processor d.image.memory budget)
     × IsReached d.image.memory budget [] [] b.machine
@@ -81,73 +82,74 @@ Boots (Err (refusals.Deck m fault)) budget reading = (rest : List ℕ) × (readi
 Boots (Err refusals.OutOfMemory) budget reading = ⊤
 Boots (Err other) budget reading = ⊥
 
--- the machine that is there after it
+-- the machine that the handle has after booting
 abbrev pub kept_of : Result Booted Refusal → Option Booted
 kept_of (Ok b) = Some b
 kept_of (Err refusal) = None
 
--- how the call ends
+-- the end of a call that boots
 abbrev pub boot_end : Result Booted Refusal → Result Status ProgramFault
 boot_end (Ok b) = Ok Stopped
 boot_end (Err refusal) = Err (fault_in_memory refusal)
 
--- what a call answers and leaves that boots a machine with the deck of these bytes
+-- the outcome of a call that boots a machine with the deck in these bytes, and the machine that it leaves
 abbrev pub BootsWithin : List ℕ → ℕ → Outcome → Option Booted → Type 0
 BootsWithin input budget outcome new = (found : Result Booted Refusal) × Boots found budget (deck input)
     × (new ≡ kept_of found) × HandsOver outcome (boot_end found) [] [] []
 
--- the same for any number as a budget
+-- the same for any number as the budget
 abbrev pub HasBooted : List ℕ → ℕ → Outcome → Option Booted → Type 0
 HasBooted input budget outcome new =
     BootsWithin input budget outcome new ⊎ ((new ≡ None) × RefusesBudget budget outcome [] [])
 
 -- ---- events ----
 
--- how a call ends that writes to memory
+-- the end of a call that writes to memory, where a failed write means that memory ran out
 abbrev pub written_end : Result (Unit {0}) WriteFailed → Result Status ProgramFault
 written_end (Ok x) = Ok Stopped
 written_end (Err failed) = Err (faults.Refused refusals.OutOfMemory)
 
--- a call hands over this text; where memory runs out a beginning of it
+-- a call copies as much of this text as fits, or of a prefix of it if memory runs out
 abbrev pub HandsOverText : List ℕ → Outcome → List ℕ → List ℕ → Type 0
 HandsOverText all outcome old new = (found : Result (Unit {0}) WriteFailed) × (text : List ℕ)
     × Writes found (Some []) (Some text) all × HandsOver outcome (written_end found) text old new
 
--- the event is made or refused as `program_order` defines it, and this text with the line of its answer is handed over
+-- the event is made or refused as `program_order` defines it. The call copies to the caller this text and the line of
+-- the answer
 abbrev pub MakesEvent : Event → List ℕ → Booted → Booted → Outcome → List ℕ → List ℕ → Type 0
 MakesEvent e front b c outcome old new = (answer : Result Done Refusal) × IsAnswer b.machine e answer
     × (c ≡ record b { machine = settled b.machine e answer }) × GoesOn b.machine (e ∷ []) (answer ∷ []) c.machine
     × HandsOverText (front ++ answer_line answer) outcome old new
 
--- the line is refused, and the machine stays as it is
+-- the line is refused, and the machine is unchanged
 abbrev pub RefusesLine : ProgramFault → Booted → Booted → Outcome → List ℕ → List ℕ → Type 0
 RefusesLine fault b c outcome old new = (c ≡ b) × HandsOver outcome (Err fault) [] old new
 
--- what a call does with a line of a schedule: an event is made, and any other line refused. `end` and `drain` say no
--- event
+-- the effect of a call with a line of a schedule. An event is made or refused. Any other line is refused as a line, and
+-- so are `end` and `drain`, which say no event
 abbrev pub DoesLine : ScheduleLine → Booted → Booted → Outcome → List ℕ → List ℕ → Type 0
 DoesLine (Makes e) b c outcome old new = MakesEvent e [] b c outcome old new
 DoesLine Ends b c outcome old new = RefusesLine (faults.Refused (refusals.Deck 1 line_faults.Unknown)) b c outcome old new
 DoesLine Drains b c outcome old new = RefusesLine (faults.Refused (refusals.Deck 1 line_faults.Unknown)) b c outcome old new
 DoesLine (Faulty fault) b c outcome old new = RefusesLine (faults.Refused (refusals.Deck 1 fault)) b c outcome old new
 
--- what a text says as the one line of a schedule
+-- the meaning of a text as the only line of a schedule
 abbrev pub text_says : List ℕ → ScheduleLine
 text_says text = line_says 1 ((text, []) ∷ [])
 
--- a call makes the event that this text says
+-- the effect of a call with the text of a line of a schedule
 abbrev pub DoesText : List ℕ → Booted → Booted → Outcome → List ℕ → List ℕ → Type 0
 DoesText text b c outcome old new = DoesLine (text_says text) b c outcome old new
 
--- the event that is made with nothing pending: the exchange that was asked for, if it may be made, and else an issue
+-- the event that is made if nothing is pending: the requested exchange if that may be made, or else an issue
 abbrev pub idle_event : Processor → Event
 idle_event w = if is_none (allowed w events.Exchange) then events.Exchange else events.Issue
 
--- the event that is made next: what a drain would make, if something is pending
+-- the event that is made next: the event that a drain would make, or the one that is made if nothing is pending
 abbrev pub next_event : Processor → Event
 next_event w = unwrap_or (next_of w.pending w.busy) (idle_event w)
 
--- the line of a schedule that says an event
+-- the schedule line of an event
 abbrev pub event_line : Event → List ℕ
 event_line events.Issue = codes "issue\n"
 event_line (events.Read u) = concat (codes "read " ∷ unit_text u ∷ codes "\n" ∷ [])
@@ -162,11 +164,11 @@ event_line (events.PpRead a) = concat (codes "ppread " ∷ trimmed (octal_text 2
 event_line (events.PpWrite a w) = concat (codes "ppwrite " ∷ trimmed (octal_text 20 a) ∷ codes " "
     ∷ trimmed (octal_text 20 w) ∷ codes "\n" ∷ [])
 
--- a call makes the next event, and hands over the line that says it and the line of its answer
+-- a call makes the next event, and copies its schedule line and the line of its answer to the caller
 abbrev pub MakesNext : Booted → Booted → Outcome → List ℕ → List ℕ → Type 0
 MakesNext b c outcome old new = MakesEvent (next_event b.machine) (event_line (next_event b.machine)) b c outcome old new
 
--- a machine is drained by so many events
+-- the machine is drained by this many events
 pub record IsDrainedBy (b c : Booted) (count : ℕ) : Type 0 where
   pub works : Works b.machine c.machine count
   pub drained : is_pending c.machine.pending ≡ false
@@ -174,30 +176,32 @@ pub record IsDrainedBy (b c : Booted) (count : ℕ) : Type 0 where
   pub reached : GoesOnByWork b.machine count c.machine
   pub deck : c.deck ≡ b.deck
 
--- ---- what is shown ----
+-- ---- reading a machine ----
 
--- the dump of a drained machine, or a beginning of it where memory runs out
+-- a call copies as much as fits of the dump of a drained machine. If memory runs out that is a prefix of the dump, or
+-- nothing
 abbrev pub DumpsText : Booted → Outcome → List ℕ → List ℕ → Type 0
 DumpsText b outcome old new =
     ((all : List ℕ) × IsDump b.machine b.deck.shows all × HandsOverText all outcome old new)
     ⊎ HandsOver outcome (Err (faults.Refused refusals.OutOfMemory)) [] old new
 
--- what a call hands over that dumps a machine
+-- the outcome of a call that dumps a machine, and the bytes that it copies
 abbrev pub IsDumped : Booted → Outcome → List ℕ → List ℕ → Type 0
 IsDumped b outcome old new = IsNotDrained b outcome old new ⊎ DumpsText b outcome old new
 
--- the text of the log in its line of the dump, without the space before it
+-- a text without the space at its beginning
 abbrev pub after_space : List ℕ → List ℕ
 after_space [] = []
 after_space (space ∷ text) = text
 
--- what a call hands over that tells the log; where memory runs out a beginning of it
+-- the outcome of a call that reads the log, and the bytes that it copies. These are as much of the log's text as fits,
+-- or of a prefix of it if memory runs out
 abbrev pub IsLogged : Booted → Outcome → List ℕ → List ℕ → Type 0
 IsLogged b outcome old new = (found : Result (Unit {0}) WriteFailed) × (text : List ℕ)
     × Writes found (Some []) (Some text) (log_text (entries_of b.machine.log))
     × HandsOver outcome (written_end found) (after_space text) old new
 
--- why a machine is halted, as a number; 0 while it runs
+-- the number of the reason why a machine is halted, or 0 if it runs
 abbrev pub halt_number : Option Halt → ℕ
 halt_number None = 0
 halt_number (Some halts.Stop) = 1
@@ -218,16 +222,16 @@ pub record HasRegisters (s : State) (r : Registers) : Type 0 where
   pub halt : r.halt ≡ halt_number s.halt
   pub fault : r.fault ≡ s.fault
 
--- a call answers the registers of the machine's state, drained or not
+-- a call copies the registers of the machine's state, even if the machine isn't drained
 abbrev pub TellsRegisters : Booted → ℕ → Registers → Type 0
 TellsRegisters b status new = (status ≡ 0) × HasRegisters b.machine.state new
 
--- the words of a memory from an address on; none where that is past its end
+-- the words of a memory from an address on, or none if the address is past the end
 abbrev pub words_from : List ℕ → ℕ → List ℕ
 words_from memory first = drop first memory
 
--- a call hands over words of the memory of the machine's state, drained or not: as many as there is room for, and how
--- many there are
+-- a call copies words of the memory of the machine's state, even if the machine isn't drained. It copies as many as
+-- fit, and returns how many there are
 abbrev pub TellsWords : Booted → ℕ → Outcome → List ℕ → List ℕ → Type 0
 TellsWords b first outcome old new = (new ≡ filled (words_from b.machine.state.memory first) old)
     × (outcome ≡ record { printed = length b.machine.state.memory - first; told = 0; status = 0 })

@@ -1,5 +1,4 @@
--- What calls from C hand over; what those do that keep a machine; what a pointer
--- owns that C keeps; and the version.
+-- The results of calls from C, the calls that keep a machine, the ownership of a pointer that C keeps, and the version.
 -- Source: ours.
 pub mod Embedding
 pub mod Keeping

@@ -1,4 +1,4 @@
--- What a pointer that C keeps owns: the same as a box of a machine, or nothing.
+-- The ownership of a pointer that C keeps: it owns a machine as a box does, or nothing.
 -- Source: ours.
 use base.Fml.{Fml, ftrue}
 use base.Stored.{Coded}
@@ -18,16 +18,17 @@ abbrev pub in_box : Option (Box Booted Global) → Option Booted
 in_box None = None
 in_box (Some b) = Some b.value
 
--- what the pointer owns: with a machine, the block of memory that has it and the right to free that
+-- the memory that the pointer owns: with a machine, the block that holds the machine and the right to free that block,
+-- and otherwise nothing
 abbrev pub pointer_owns : Global → Ptr → Option the_row.Denot → Fml
 pointer_owns alloc p (Some machine) = box_owns (ghosts.dealloc_token alloc) the_row p machine
 pointer_owns alloc p None = ftrue
 
--- how the checker stores such a machine, or none
+-- the form in which the checker stores a machine or none
 abbrev pub coded_machine : Coded (Option the_row.Denot)
 coded_machine = coded_option the_row.coded
 
--- the machine in a box, or why there is none
+-- the machine in a box, or the refusal
 abbrev pub unboxed : Result (Box Booted Global) Refusal → Result Booted Refusal
 unboxed (Ok b) = Ok b.value
 unboxed (Err refusal) = Err refusal

@@ -13,17 +13,17 @@ use machine::Machine;
 use operator_terms::{Budget, Status};
 use std::alloc::Global;
 
-/// A machine that was booted with the memory of a deck, and the deck.
+/// A machine booted with the memory of a deck, and the deck.
 #[derive(Drop)]
 pub struct Booted {
     pub machine: Machine,
     pub deck: Deck,
 }
 
-/// Boots a machine with the memory of the deck that these bytes are.
+/// Boots a machine with the memory of the deck in these bytes.
 ///
 /// # Errors
-/// `Deck` with a line and its fault, and `OutOfMemory`.
+/// `Deck` with the number of a faulty line and its fault. `OutOfMemory` if memory runs out.
 fn boot(alloc: Global, input: &[u8], budget: Budget) -> Result<Booted, Refusal>
     ensures { Boots result budget (deck input.now) }
 {
@@ -33,10 +33,10 @@ fn boot(alloc: Global, input: &[u8], budget: Budget) -> Result<Booted, Refusal>
     Ok(Booted { machine, deck })
 }
 
-/// The same in a box.
+/// Boots a machine in a box.
 ///
 /// # Errors
-/// As `boot`.
+/// As for `boot`, and `OutOfMemory` if there is no memory for the box.
 fn boot_boxed(alloc: Global, input: &[u8], budget: Budget) -> Result<Box<Booted>, Refusal>
     ensures { Boots (unboxed result) budget (deck input.now) }
 {
@@ -47,7 +47,7 @@ fn boot_boxed(alloc: Global, input: &[u8], budget: Budget) -> Result<Box<Booted>
     }
 }
 
-/// Boots a machine with the deck of these bytes, into a handle without a machine.
+/// Boots a machine with the deck in these bytes, into a handle without a machine.
 fn boot_within(
     alloc: Global,
     machine: &mut MachineHandle,
@@ -67,7 +67,8 @@ fn boot_within(
     }
 }
 
-/// The same with a budget of so many instructions, if that may be one. A machine that was there is freed.
+/// Boots a machine with the deck in these bytes and a budget of this many instructions, or refuses a number that no
+/// budget may have. A machine that was in the handle is freed first.
 pub fn boot_bytes(
     alloc: Global,
     machine: &mut MachineHandle,

@@ -4,7 +4,7 @@ ghost use Rattle.std.specs.Box.Ownership.{box_owns};
 use std::alloc::Allocator;
 use std::marker::Model;
 
-/// A box, taken apart into its pointer and its allocator.
+/// A box split into its pointer and its allocator.
 pub struct BoxParts<T, A: Allocator> {
     pub pointer: *mut T,
     pub alloc: A,
@@ -16,7 +16,7 @@ impl<T, A: Allocator> Model for BoxParts<T, A> {
 }
 
 impl<T, A: Allocator> BoxParts<T, A> {
-    /// Takes a box apart.
+    /// Splits a box.
     pub fn of(value: Box<T, A>) -> BoxParts<T, A>
     where
         T: Drop,
@@ -26,7 +26,7 @@ impl<T, A: Allocator> BoxParts<T, A> {
         BoxParts { pointer, alloc }
     }
 
-    /// Puts the box together again.
+    /// Joins the parts into the box again.
     pub fn into_box(self) -> Box<T, A>
         ensures { result.value ≡ self.value }
     {

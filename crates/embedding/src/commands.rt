@@ -11,8 +11,8 @@ use operator_terms::{Budget, ProgramFault, Status, end_status};
 use sequential_job::run_to;
 use std::alloc::Global;
 
-/// Hands over what a command has printed until this was refused. It writes to memory, so a write fails where memory
-/// runs out.
+/// Copies to the caller the text that a command printed before this refusal. Commands write to memory here, so a failed
+/// write means that memory ran out.
 pub fn hand_over_refusal(
     refusal: Refusal,
     text: &[u8],
@@ -28,14 +28,14 @@ pub fn hand_over_refusal(
     hand_over(Err(fault), text, output, line)
 }
 
-/// Hands over that the command line is refused, because no budget has so many instructions.
+/// Refuses a number of instructions that no budget may have. The status is that of a refused command line.
 pub fn refuse_budget(output: &mut [u8], line: &mut [u8]) -> Outcome
     ensures { HandsOver result (Ok Usage) [] output.old output.new }
 {
     hand_over(Ok(Status::Usage), &[], output, line)
 }
 
-/// Lists the deck that these bytes are.
+/// Lists the deck in these bytes.
 pub fn list_bytes(alloc: Global, input: &[u8], output: &mut [u8], line: &mut [u8]) -> Outcome
     ensures { IsListed input.now result output.old output.new }
 {
@@ -51,7 +51,7 @@ pub fn list_bytes(alloc: Global, input: &[u8], output: &mut [u8], line: &mut [u8
     }
 }
 
-/// Runs the deck that these bytes are, one instruction at a time.
+/// Runs the deck in these bytes, one instruction at a time.
 fn run_within(
     alloc: Global,
     input: &[u8],
@@ -78,7 +78,7 @@ fn run_within(
     }
 }
 
-/// The same with a budget of so many instructions, if that may be one.
+/// Runs the deck in these bytes with a budget of this many instructions, or refuses a number that no budget may have.
 pub fn run_bytes(
     alloc: Global,
     input: &[u8],
@@ -94,7 +94,7 @@ pub fn run_bytes(
     }
 }
 
-/// Replays the log of this text on the deck that these bytes are.
+/// Replays the log in a text on the deck in these bytes.
 fn replay_text(
     alloc: Global,
     input: &[u8],
@@ -116,7 +116,7 @@ fn replay_text(
     }
 }
 
-/// Replays the log that these bytes are, if they are a text.
+/// Replays the log in these bytes. Bytes that aren't a text are a bad log.
 pub fn replay_bytes(
     alloc: Global,
     input: &[u8],
@@ -132,7 +132,7 @@ pub fn replay_bytes(
     }
 }
 
-/// Answers the events of the deck and schedule that these bytes are.
+/// Answers the events of the deck and schedule in these bytes.
 fn session(
     alloc: Global,
     input: &[u8],
@@ -159,7 +159,8 @@ fn session(
     }
 }
 
-/// The same with a budget of so many instructions, if that may be one.
+/// Answers the events in these bytes with a budget of this many instructions, or refuses a number that no budget may
+/// have.
 pub fn session_of_bytes(
     alloc: Global,
     input: &[u8],

@@ -64,7 +64,7 @@ fn with_address(word: &'static [u8], address: u32) -> [Piece<'static>; 5]
     ]
 }
 
-/// The line of a schedule that says an event.
+/// The schedule line of an event.
 fn event_pieces(event: Event) -> [Piece<'static>; 5]
     ensures { text_of_all result ≡ event_line event }
 {
@@ -89,7 +89,7 @@ fn event_pieces(event: Event) -> [Piece<'static>; 5]
     }
 }
 
-/// Writes the line of a schedule that says an event, and the line of its answer.
+/// Writes the schedule line of an event and the line of its answer.
 pub fn put_event<O: Output>(
     output: &mut O,
     event: Event,

@@ -2,7 +2,7 @@ ghost use Rattle.std.specs.Prelude.{◌≡◌, Some, false};
 
 use job_deck::{Input, ReadFailed};
 
-/// The bytes of a caller as an input. It doesn't fail.
+/// The bytes of a caller as an input. No read of them fails.
 #[derive(Drop)]
 pub struct InputBytes<'a> {
     left: &'a [u8],

@@ -1,11 +1,12 @@
-//! The functions that a program in C, or in a language that calls C, gets of the machine: what the commands `run
-//! --sequential`, `list`, `replay` and `events` do, from bytes in memory to bytes in memory. This crate is a static
-//! library; include/cdc6600.h declares its functions, and docs/embedding.md says how they are called.
+//! The simulator as functions for C, or for a language that calls C. Some functions do what the commands `run
+//! --sequential`, `list`, `replay` and `events` do, from bytes in memory to bytes in memory. The others keep a machine
+//! and drive it event by event. This crate is a static library: include/cdc6600.h declares its functions, and
+//! docs/embedding.md explains how to call them.
 //!
-//! Callers rely on what the contracts here say, as those of `job_deck` and `sequential_job` say it of any reader and
-//! writer: the text of which a call hands over as much as there is room for is the one that the command prints. No
-//! contract holds a caller in C to anything. The functions of `commands` do the work. Its tests are `tools/check
-//! embedding`, and those of the commands, in `crates/text_tests/src/session_tests.rt`. Begin with `cdc6600_list`.
+//! Callers rely on the contracts here, which say the same as those of `job_deck` and `sequential_job` for any reader
+//! and writer. A call copies as much of the text as fits, and that is the text that the command prints. No contract
+//! binds a caller in C. The functions of `commands` do the work. Its tests are `tools/check embedding`, and those of
+//! the commands, in `crates/text_tests/src/session_tests.rt`. Begin with `cdc6600_list`.
 #![tactic(auto)]
 
 ghost use Rattle.std.specs.Prelude.{◌≡◌, None, false, length, not};
@@ -46,7 +47,7 @@ pub extern "C" fn cdc6600_list(
     commands::list_bytes(alloc, input, output, line)
 }
 
-/// Runs a deck, one instruction at a time, with at most so many instructions, and dumps the machine.
+/// Runs a deck, one instruction at a time and at most `budget` instructions, and dumps the machine.
 #[unsafe(no_mangle)]
 pub extern "C" fn cdc6600_run(
     alloc: Global,
@@ -60,7 +61,7 @@ pub extern "C" fn cdc6600_run(
     commands::run_bytes(alloc, input, budget, output, line)
 }
 
-/// Goes through a log on a deck, one instruction at a time, and dumps the machine.
+/// Replays a log on a deck, one instruction at a time, and dumps the machine.
 #[unsafe(no_mangle)]
 pub extern "C" fn cdc6600_replay(
     alloc: Global,
@@ -74,7 +75,7 @@ pub extern "C" fn cdc6600_replay(
     commands::replay_bytes(alloc, input, log, output, line)
 }
 
-/// Answers the events of the schedule after a deck, with at most so many instructions.
+/// Answers the events of the schedule after a deck. Issues at most `budget` instructions.
 #[unsafe(no_mangle)]
 pub extern "C" fn cdc6600_events(
     alloc: Global,
@@ -88,7 +89,7 @@ pub extern "C" fn cdc6600_events(
     commands::session_of_bytes(alloc, input, budget, output, line)
 }
 
-/// Hands over the version of the program, and answers its length.
+/// Copies the version of the program to `output`, as much as fits, and returns its length.
 #[unsafe(no_mangle)]
 pub extern "C" fn cdc6600_version(output: &mut [u8]) -> usize
     ensures text { output.new ≡ filled version output.old }
@@ -97,8 +98,8 @@ pub extern "C" fn cdc6600_version(output: &mut [u8]) -> usize
     outcome::fill_version(output)
 }
 
-/// Boots a machine with the memory of a deck, which issues at most so many instructions. A machine that the handle had
-/// is freed, also where none is booted.
+/// Boots a machine with the memory of a deck. The machine will issue at most `budget` instructions. A machine that the
+/// handle had before is freed, even if none is booted.
 #[unsafe(no_mangle)]
 pub extern "C" fn cdc6600_boot(
     alloc: Global,
@@ -112,7 +113,7 @@ pub extern "C" fn cdc6600_boot(
     booted::boot_bytes(alloc, machine, input, budget, line)
 }
 
-/// Makes the event that a text says as a line of a schedule, or refuses it, and answers it.
+/// Makes or refuses the event that a schedule line says, and answers it.
 #[unsafe(no_mangle)]
 pub extern "C" fn cdc6600_event(
     alloc: Global,
@@ -135,8 +136,9 @@ pub extern "C" fn cdc6600_event(
     }
 }
 
-/// Makes the next event: what a drain would make; with nothing pending the exchange that was asked for, if it may be
-/// made, and else an issue. Answers the line that says the event, and that of its answer.
+/// Makes the next event and answers it. That is the event that a drain would make. If nothing is pending it is the
+/// requested exchange, if that may be made, or else an issue. The output is the schedule line of the event and the line
+/// of its answer.
 #[unsafe(no_mangle)]
 pub extern "C" fn cdc6600_next(
     alloc: Global,
@@ -158,7 +160,7 @@ pub extern "C" fn cdc6600_next(
     }
 }
 
-/// Drains the machine, and answers how many events that took; 0 without a machine.
+/// Drains the machine and returns the number of events that this took, or 0 if there is no machine.
 #[unsafe(no_mangle)]
 pub extern "C" fn cdc6600_drain(alloc: Global, machine: &mut MachineHandle) -> u32
     ensures { OnMachine machine.old.owned.machine machine.new.owned.machine (result ≡ 0)
@@ -174,7 +176,7 @@ pub extern "C" fn cdc6600_drain(alloc: Global, machine: &mut MachineHandle) -> u
     }
 }
 
-/// Whether there is a machine, and it is drained.
+/// Whether there is a machine and it is drained.
 #[unsafe(no_mangle)]
 pub extern "C" fn cdc6600_is_drained(alloc: Global, machine: &mut MachineHandle) -> bool
     ensures { OnMachine machine.old.owned.machine machine.new.owned.machine (result ≡ false)
@@ -190,7 +192,7 @@ pub extern "C" fn cdc6600_is_drained(alloc: Global, machine: &mut MachineHandle)
     }
 }
 
-/// Dumps the machine, if it is drained.
+/// Dumps the machine if it is drained.
 #[unsafe(no_mangle)]
 pub extern "C" fn cdc6600_dump(
     alloc: Global,
@@ -212,7 +214,7 @@ pub extern "C" fn cdc6600_dump(
     }
 }
 
-/// Answers the text of the machine's log.
+/// Copies the text of the machine's log to `output`.
 #[unsafe(no_mangle)]
 pub extern "C" fn cdc6600_log(
     alloc: Global,
@@ -234,7 +236,7 @@ pub extern "C" fn cdc6600_log(
     }
 }
 
-/// Tells the registers of the machine, as the effects made so far have left them. Answers the status.
+/// Reads the registers as they are now, even if the machine isn't drained. Returns the status.
 #[unsafe(no_mangle)]
 pub extern "C" fn cdc6600_read_registers(
     alloc: Global,
@@ -255,8 +257,8 @@ pub extern "C" fn cdc6600_read_registers(
     }
 }
 
-/// Tells words of the machine's memory from an absolute address on, as the effects made so far have left them: as many
-/// as there is room for, and how many there are.
+/// Reads words of memory as they are now, even if the machine isn't drained, from an absolute address on. Copies as
+/// many words as fit, and returns how many there are.
 #[unsafe(no_mangle)]
 pub extern "C" fn cdc6600_read_words(
     alloc: Global,
@@ -278,7 +280,7 @@ pub extern "C" fn cdc6600_read_words(
     }
 }
 
-/// Frees the machine, if there is one.
+/// Frees the machine if there is one.
 #[unsafe(no_mangle)]
 pub extern "C" fn cdc6600_free(alloc: Global, machine: &mut MachineHandle)
     ensures { machine.new.owned.machine ≡ None }

@@ -7,8 +7,8 @@ use crate::box_parts::BoxParts;
 use crate::owned_pointer::OwnedPointer;
 use std::alloc::{AllocError, Global};
 
-/// What C keeps of a machine: a pointer that owns it, and whether there is one. It can't be dropped, so no call forgets
-/// a machine.
+/// The handle of a machine that C keeps: a pointer that owns the machine, and whether there is one. A handle can't be
+/// dropped, so no call leaks a machine.
 #[repr(C)]
 pub struct MachineHandle {
     owned: OwnedPointer,
@@ -37,7 +37,7 @@ impl MachineHandle {
         }
     }
 
-    /// The machine of a handle, if there is one.
+    /// The machine of the handle, if there is one.
     fn into_machine(self) -> Option<Box<Booted>>
         ensures { in_box result ≡ self.owned.machine }
     {
@@ -57,7 +57,7 @@ impl MachineHandle {
         std::mem::replace(self, MachineHandle::empty(alloc)).into_machine()
     }
 
-    /// Puts a machine into the handle. One that was there is freed.
+    /// Puts a machine into the handle. A machine that was in it is freed.
     pub fn put(&mut self, machine: Box<Booted>)
         ensures { self.new.owned.machine ≡ Some machine.value }
     {

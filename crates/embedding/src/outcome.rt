@@ -7,31 +7,31 @@ use arrayvec::ArrayVec;
 use operator_terms::{ProgramFault, Status};
 use std::io::Write;
 
-/// More bytes than a fault line has.
+/// A buffer size that is more than the bytes of a fault line.
 const FAULT_LINE: usize = 64;
 
 /// The status of a call on a handle without a machine. The program has no such exit status.
 pub const NO_MACHINE: u8 = 8;
 
-/// The status of a call that wants a drained machine, where it isn't drained.
+/// The status of a call that needs a drained machine, if the machine isn't drained.
 pub const NOT_DRAINED: u8 = 9;
 
-/// The number of the program's version, as it prints it.
+/// The number of the program's version, as the program prints it.
 const VERSION_NUMBER: &str = "0.1.0";
 
-/// What a call comes to. The bytes are counted whether there was room for them or not.
+/// The outcome of a call. The bytes are counted even if they didn't fit.
 #[repr(C)]
 #[derive(Clone, Copy, Drop)]
 pub struct Outcome {
-    /// How many bytes the command prints.
+    /// The number of bytes that the command prints.
     pub printed: usize,
-    /// How many bytes its fault line has; 0 where there is none.
+    /// The number of bytes of its fault line, or 0 if there is none.
     pub told: usize,
     /// The exit status of the program.
     pub status: u8,
 }
 
-/// Copies as much of a text as there is room for. Answers how many bytes it has.
+/// Copies as much of a text as fits. Returns the length of the text.
 fn fill(text: &[u8], room: &mut [u8]) -> usize
     ensures bytes { room.new ≡ filled text.now room.old }
     ensures needed { result ≡ length text.now }
@@ -42,7 +42,7 @@ fn fill(text: &[u8], room: &mut [u8]) -> usize
     needed
 }
 
-/// Hands over the version, as much of it as there is room for. Answers how many bytes it has.
+/// Copies as much of the version as fits. Returns the length of the version.
 pub fn fill_version(output: &mut [u8]) -> usize
     ensures bytes { output.new ≡ filled version output.old }
     ensures needed { result ≡ length version }
@@ -61,7 +61,7 @@ pub fn silent(status: u8) -> Outcome
     }
 }
 
-/// Writes the fault line, as far as there is room for it. Answers how many bytes it has.
+/// Writes as much of the fault line as fits. Returns the length of the line.
 fn tell(fault: &ProgramFault, line: &mut [u8]) -> usize
     ensures { result ≤ 64 }
 {
@@ -70,7 +70,7 @@ fn tell(fault: &ProgramFault, line: &mut [u8]) -> usize
     fill(text.as_slice(), line)
 }
 
-/// Hands over what a command has printed, with how it ended.
+/// Copies the output of a command, and its fault line if it has one, to the caller. Returns the outcome.
 pub fn hand_over(
     ended: Result<Status, ProgramFault>,
     text: &[u8],

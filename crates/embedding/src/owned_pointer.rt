@@ -7,8 +7,9 @@ use crate::box_parts::BoxParts;
 use std::alloc::Global;
 use std::marker::Model;
 
-/// A pointer that C keeps: to a machine on the heap, which it owns as a box does, or to nothing. It names no type that C
-/// doesn't know. Dropped with a machine, it would leak that; only `MachineHandle` has one, and never drops it so.
+/// A pointer that C keeps: to a machine on the heap, which it owns as a box does, or to nothing. `address` points to
+/// bytes, because C doesn't know the type of a machine. Dropping the pointer with a machine would leak the machine.
+/// Only `MachineHandle` has such a pointer, and never drops it with a machine.
 #[repr(C)]
 #[derive(Drop)]
 pub struct OwnedPointer {
@@ -43,7 +44,7 @@ impl OwnedPointer {
         }
     }
 
-    /// The box's parts again.
+    /// The parts of the box.
     pub fn into_parts(self) -> BoxParts<Booted, Global>
         requires { is_some self.machine ≡ true }
         ensures { Some result.value ≡ self.machine }

@@ -27,13 +27,13 @@ pub struct Registers {
     pub em: u32,
     /// The number of the next parcel.
     pub parcel: u8,
-    /// Why the machine is halted: 0 it runs, 1 a stop, 2 an opcode that is refused, 3 a straddling instruction, 4 a
-    /// fetch out of range.
+    /// The reason why the machine is halted. 0 means that it runs, 1 a stop, 2 a refused opcode, 3 a straddling
+    /// instruction, and 4 a fetch out of range.
     pub halt: u8,
     pub fault: bool,
 }
 
-/// Why a machine is halted, as a number.
+/// The number of the reason why a machine is halted.
 fn halt_number(halt: &Option<Halt>) -> u8
     ensures { result ≡ halt_number halt.now }
 {
@@ -60,7 +60,7 @@ fn a_numbers(a: &[Word18; 8]) -> [u32; 8]
     a.map(|index| index.get())
 }
 
-/// The B registers as numbers, B0 too.
+/// The B registers as numbers, including B0.
 fn b_numbers(b: &[Word18; 7]) -> [u32; 8]
     ensures { result ≡ 0 ∷ b.now }
 {
@@ -94,7 +94,7 @@ fn registers_of(state: &State) -> Registers
     }
 }
 
-/// Tells the registers of a machine, as the effects made so far have left them. Answers the status.
+/// Copies the registers as they are now, even if the machine isn't drained. Returns the status.
 pub fn show_registers(booted: &Booted, registers: &mut Registers) -> u8
     ensures { TellsRegisters booted.now result registers.new }
 {
@@ -102,8 +102,7 @@ pub fn show_registers(booted: &Booted, registers: &mut Registers) -> u8
     Status::Stopped.code()
 }
 
-/// Copies words of a memory from an address on, as many as there are and as there is room for. Answers how many there
-/// are.
+/// Copies words of a memory from an address on, as many as there are and as fit. Returns how many there are.
 fn copy_words(memory: &Storage, first: u32, words: &mut [u64]) -> usize
     ensures words { words.new ≡ filled (words_from memory.now first) words.old }
     ensures count { result ≡ length memory.now - first }
@@ -116,7 +115,7 @@ fn copy_words(memory: &Storage, first: u32, words: &mut [u64]) -> usize
     there as usize
 }
 
-/// Tells words of a machine's memory, as the effects made so far have left them.
+/// Copies words of memory as they are now, even if the machine isn't drained.
 pub fn show_words(booted: &Booted, first: u32, words: &mut [u64]) -> Outcome
     ensures { TellsWords booted.now first result words.old words.new }
 {

@@ -17,7 +17,7 @@ use operator_terms::ProgramFault;
 use sequential::Entry;
 use std::alloc::Global;
 
-/// Hands over the dump of a state after its log.
+/// Copies the dump of a snapshot to the caller.
 fn show_snapshot(
     alloc: Global,
     snapshot: &Snapshot,
@@ -36,7 +36,7 @@ fn show_snapshot(
     hand_over(written_end(written), text.as_slice(), output, line)
 }
 
-/// Hands over the dump of a machine, if it is drained.
+/// Copies the dump of a machine to the caller if the machine is drained.
 pub fn show_dump(alloc: Global, booted: &Booted, output: &mut [u8], line: &mut [u8]) -> Outcome
     ensures { IsDumped booted.now result output.old output.new }
 {
@@ -54,7 +54,7 @@ pub fn show_dump(alloc: Global, booted: &Booted, output: &mut [u8], line: &mut [
     }
 }
 
-/// An entry of a log with a space before it.
+/// A space and one entry of a log.
 fn spaced_entry(entry: Entry) -> [Piece<'static>; 4]
     ensures { text_of_all result ≡ spaced_entry entry }
 {
@@ -96,7 +96,7 @@ fn put_entries<O: Output>(output: &mut O, entries: &[Entry]) -> Result<(), Write
     Ok(())
 }
 
-/// Writes the text of a log with a space before it.
+/// Writes a space and the text of a log.
 fn put_log<O: Output>(output: &mut O, entries: &[Entry]) -> Result<(), WriteFailed>
     ensures { Puts O.Output result output.old output.new (log_text entries.now) }
 {
@@ -106,7 +106,7 @@ fn put_log<O: Output>(output: &mut O, entries: &[Entry]) -> Result<(), WriteFail
     }
 }
 
-/// A text without the space before it.
+/// A text without the space at its beginning.
 fn after_space(text: &[u8]) -> &[u8]
     ensures { result.now ≡ after_space text.now }
 {
@@ -116,7 +116,7 @@ fn after_space(text: &[u8]) -> &[u8]
     }
 }
 
-/// Hands over the text of a machine's log.
+/// Copies the text of a machine's log to the caller.
 pub fn show_log(alloc: Global, booted: &Booted, output: &mut [u8], line: &mut [u8]) -> Outcome
     ensures { IsLogged booted.now result output.old output.new }
 {

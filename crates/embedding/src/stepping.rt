@@ -17,13 +17,13 @@ use job_deck::{CheckedWriter, ScheduleLine, WriteFailed, parse_schedule_line, pu
 use machine::{Answer, Event, Machine};
 use operator_terms::{ProgramFault, Status};
 
-/// More bytes than the line of an event and that of its answer have.
+/// A buffer size that is more than the bytes of an event's line and its answer's line together.
 const LINES: usize = 128;
 
-/// The most bytes of a line of a schedule.
+/// The largest number of bytes in a line of a schedule.
 const LONGEST_LINE: usize = 200;
 
-/// How a call ends that writes to memory.
+/// The end of a call that writes to memory. A failed write there means that memory ran out.
 pub fn written_end(written: Result<(), WriteFailed>) -> Result<Status, ProgramFault>
     ensures { result ≡ written_end written }
 {
@@ -33,7 +33,7 @@ pub fn written_end(written: Result<(), WriteFailed>) -> Result<Status, ProgramFa
     }
 }
 
-/// Hands over the line of an answer.
+/// Copies the line of an answer to the caller.
 fn show_answer(answer: &Answer, output: &mut [u8], line: &mut [u8]) -> Outcome
     ensures { HandsOverText (answer_line answer.now) result output.old output.new }
 {
@@ -45,7 +45,7 @@ fn show_answer(answer: &Answer, output: &mut [u8], line: &mut [u8]) -> Outcome
     hand_over(written_end(written), text.as_slice(), output, line)
 }
 
-/// Hands over the line of a schedule that says an event, and the line of its answer.
+/// Copies the schedule line of an event and the line of its answer to the caller.
 fn show_event(event: Event, answer: &Answer, output: &mut [u8], line: &mut [u8]) -> Outcome
     ensures { HandsOverText (event_line event ++ answer_line answer.now) result output.old output.new }
 {
@@ -56,7 +56,7 @@ fn show_event(event: Event, answer: &Answer, output: &mut [u8], line: &mut [u8])
     hand_over(written_end(written), text.as_slice(), output, line)
 }
 
-/// Makes an event, and hands over the line of its answer.
+/// Makes an event and copies the line of its answer to the caller.
 fn make_event(booted: &mut Booted, event: Event, output: &mut [u8], line: &mut [u8]) -> Outcome
     ensures { MakesEvent event [] booted.old booted.new result output.old output.new }
 {
@@ -64,7 +64,7 @@ fn make_event(booted: &mut Booted, event: Event, output: &mut [u8], line: &mut [
     show_answer(&answer, output, line)
 }
 
-/// What a text says as the one line of a schedule.
+/// Parses a text as the only line of a schedule.
 fn line_said(text: &[u8]) -> ScheduleLine
     ensures { result ≡ text_says text.now }
 {
@@ -74,7 +74,7 @@ fn line_said(text: &[u8]) -> ScheduleLine
     parse_schedule_line(text)
 }
 
-/// Refuses a line for this fault.
+/// Refuses a line because of a fault.
 fn refuse_line(fault: DeckFault, output: &mut [u8], line: &mut [u8]) -> Outcome
     ensures { HandsOver result (Err (Refused (RefusedLine 1 fault))) [] output.old output.new }
 {
@@ -82,7 +82,7 @@ fn refuse_line(fault: DeckFault, output: &mut [u8], line: &mut [u8]) -> Outcome
     hand_over(Err(ProgramFault::Refused(refusal)), &[], output, line)
 }
 
-/// Makes the event that a text says as a line of a schedule.
+/// Makes or refuses the event that a schedule line says.
 pub fn do_line(booted: &mut Booted, text: &[u8], output: &mut [u8], line: &mut [u8]) -> Outcome
     ensures { DoesText text.now booted.old booted.new result output.old output.new }
 {
@@ -94,7 +94,7 @@ pub fn do_line(booted: &mut Booted, text: &[u8], output: &mut [u8], line: &mut [
     }
 }
 
-/// Makes the exchange that was asked for, if it may be made, and else an issue.
+/// Makes the requested exchange if that may be made, or else an issue.
 #[tactic(auto, unfolding(program_order::specs::Run::settled))]
 fn exchange_or_issue(machine: &mut Machine) -> (Event, Answer)
     ensures event { result.0 ≡ idle_event machine.old }
@@ -112,8 +112,8 @@ fn exchange_or_issue(machine: &mut Machine) -> (Event, Answer)
     }
 }
 
-/// Makes the next event: what a drain would make; with nothing pending the exchange that was asked for, if it may be
-/// made, and else an issue.
+/// Makes the next event. That is the event that a drain would make. If nothing is pending it is the requested exchange,
+/// if that may be made, or else an issue.
 fn make_next_event(machine: &mut Machine) -> (Event, Answer)
     ensures event { result.0 ≡ next_event machine.old }
     ensures answer { IsAnswer machine.old result.0 result.1 }
@@ -122,7 +122,7 @@ fn make_next_event(machine: &mut Machine) -> (Event, Answer)
 {
     match machine.next_work() {
         Some(event) => {
-            // A copy, since the proof of a tuple takes no value that was passed on.
+            // A copy, because the proof of a tuple accepts no value that was passed to a call.
             let made = event;
             let answer = machine.apply(made);
             (event, answer)
@@ -131,7 +131,7 @@ fn make_next_event(machine: &mut Machine) -> (Event, Answer)
     }
 }
 
-/// Makes the next event, and hands over the line that says it and that of its answer.
+/// Makes the next event and copies its schedule line and the line of its answer to the caller.
 pub fn make_next(booted: &mut Booted, output: &mut [u8], line: &mut [u8]) -> Outcome
     ensures { MakesNext booted.old booted.new result output.old output.new }
 {
@@ -139,7 +139,7 @@ pub fn make_next(booted: &mut Booted, output: &mut [u8], line: &mut [u8]) -> Out
     show_event(event, &answer, output, line)
 }
 
-/// Drains the machine. Answers how many events that took.
+/// Drains the machine. Returns the number of events that this took.
 pub fn drain(booted: &mut Booted) -> u32
     ensures { IsDrainedBy booted.old booted.new result }
 {

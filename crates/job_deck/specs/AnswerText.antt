@@ -11,8 +11,8 @@ use Rattle.program_order.specs.declared.event.Done.TheVariants.{Issued, Word, Ma
 use Rattle.device_text.specs.Names.{register_text, unit_text}
 use Rattle.device_text.specs.Pieces.{reason_text}
 
--- what a refusal names: why the machine is halted, a unit, a register or a bank; of the others none that refuses an
--- event names something
+-- what a refusal names: the reason for a halt, a unit, a register or a bank. No other refusal of an event names
+-- anything
 abbrev pub named_text : Refusal → List ℕ
 named_text (refusals.Halted halt) = reason_text halt
 named_text (refusals.UnitBusy unit) = unit_text unit
@@ -22,8 +22,8 @@ named_text (refusals.ResultHeld register) = register_text register
 named_text (refusals.BankBusy bank) = decimal bank
 named_text other = []
 
--- the line of an answer: `ok`, with a reservation's unit and number where an issue made one, and with the word that a
--- peripheral processor read; or the refusal's number, what it says and what it names
+-- the line of an answer: `ok`, or the refusal's number, its text and what it names. If an issue made a reservation,
+-- `ok` is followed by its unit and number. After a peripheral read, `ok` is followed by the word
 abbrev pub answer_line : Result Done Refusal → List ℕ
 answer_line (Ok (Issued (Some note))) =
     concat (codes "ok " ∷ unit_text note.unit ∷ codes " " ∷ decimal note.number ∷ codes "\n" ∷ [])

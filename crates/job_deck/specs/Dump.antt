@@ -1,4 +1,4 @@
--- The lines of a dump: octal numbers of as many digits as their kind has, and one space between fields.
+-- The lines of a dump. An octal number has as many digits as its kind requires, and fields are one space apart.
 -- Source: ours; the names of the registers are the manual's.
 use Rattle.std.specs.Prelude.{ℕ, zero, suc, ◌+◌, ◌-◌, Bool, true, false, List, [], ◌∷◌, Option, Some, None, codes}
 use Rattle.std.specs.Prelude.{decimal, slice_index, slice_index_or}
@@ -14,7 +14,7 @@ use Rattle.sequential.specs.declared.state.State.{State}
 use Rattle.device_text.specs.Pieces.{reason_text, trimmed}
 use Rattle.deck.specs.declared.deck.Show.{Show}
 
--- the held word in twenty digits, or `none` where it isn't fetched yet
+-- the held word in twenty digits, or `none` if it isn't fetched yet
 abbrev pub held_text : Option ℕ → List ℕ
 held_text None = codes "none"
 held_text (Some word) = octal_text 20 word
@@ -29,7 +29,7 @@ abbrev pub halt_text : Option Halt → List ℕ
 halt_text None = codes "HALT running"
 halt_text (Some halt) = concat (codes "HALT " ∷ reason_text halt ∷ [])
 
--- the second half of that line: `address` for an address fault, or `none`
+-- the second half of the line `HALT h FAULT f`: `address` for an address fault, or `none`
 abbrev pub fault_text : Bool → List ℕ
 fault_text true = codes " FAULT address\n"
 fault_text false = codes " FAULT none\n"
@@ -39,11 +39,11 @@ abbrev pub area_line : Area → List ℕ
 area_line area = concat (codes "RA " ∷ octal_text 6 area.ra ∷ codes " FL " ∷ octal_text 6 area.fl ∷ codes " EM "
     ∷ octal_text 6 area.mode ∷ codes "\n" ∷ [])
 
--- a number in six digits, with a space before it
+-- a space and a number in six digits
 abbrev pub spaced_index : ℕ → List ℕ
 spaced_index n = concat (codes " " ∷ octal_text 6 n ∷ [])
 
--- a line of a name and numbers of six digits each
+-- a line with a name and numbers of six digits
 abbrev pub index_line : List ℕ → List ℕ → List ℕ
 index_line name indexes = concat (name ∷ flat_map spaced_index indexes ∷ codes "\n" ∷ [])
 
@@ -51,7 +51,7 @@ index_line name indexes = concat (name ∷ flat_map spaced_index indexes ∷ cod
 abbrev pub x_line : List ℕ → ℕ → List ℕ
 x_line x n = concat (codes "X" ∷ decimal n ∷ codes " " ∷ octal_text 20 (slice_index x n) ∷ codes "\n" ∷ [])
 
--- a, a + 1, and so on, n of them
+-- n addresses in sequence, from a on
 abbrev pub addresses : ℕ → ℕ → List ℕ
 addresses zero a = []
 addresses (suc n) a = a ∷ addresses n (a + 1)
@@ -73,12 +73,12 @@ abbrev pub word_line : List ℕ → ℕ → List ℕ
 word_line memory a =
     concat (codes "M " ∷ octal_text 6 a ∷ codes " " ∷ octal_text 20 (slice_index_or memory a 0) ∷ codes "\n" ∷ [])
 
--- the words from the first to the last, both shown
+-- the lines of the words from the first to the last address of a `show` line, both included
 abbrev pub show_lines : List ℕ → Show → List ℕ
 show_lines memory show = flat_map (word_line memory) (addresses (show.last + 1 - show.first) show.first)
 
--- an entry of the log with a space before it: `E` and octal digits, `I` and decimal digits, `R` and octal digits, or
--- `W`, octal digits, `=` and octal digits
+-- a space and an entry of the log, such as `E40`, `I10`, `R110` or `W110=5`. Addresses and words are octal, and counts
+-- are decimal
 abbrev pub spaced_entry : Entry → List ℕ
 spaced_entry (entries.Exchange a) = concat (codes " E" ∷ trimmed (octal_text 20 a) ∷ [])
 spaced_entry (entries.Issued n) = concat (codes " I" ∷ decimal n ∷ [])
@@ -86,7 +86,7 @@ spaced_entry (entries.PpRead a) = concat (codes " R" ∷ trimmed (octal_text 20 
 spaced_entry (entries.PpWrite a w) =
     concat (codes " W" ∷ trimmed (octal_text 20 a) ∷ codes "=" ∷ trimmed (octal_text 20 w) ∷ [])
 
--- the entries of the log, or `none` where there are none
+-- the entries of the log, each after a space. An empty log is `none`, after a space too
 abbrev pub log_text : List Entry → List ℕ
 log_text [] = codes " none"
 log_text (entry ∷ more) = flat_map spaced_entry (entry ∷ more)
@@ -95,7 +95,7 @@ log_text (entry ∷ more) = flat_map spaced_entry (entry ∷ more)
 abbrev pub log_line : List Entry → List ℕ
 log_line log = concat (codes "LOG" ∷ log_text log ∷ codes "\n" ∷ [])
 
--- the state, the words of each `show` line, and the log
+-- the whole dump: the state, the registers, the words of each `show` line, and the log
 unfoldable pub dump_text : State → List Entry → List Show → List ℕ
 dump_text s log shows =
     concat (state_lines s ∷ register_lines s.registers ∷ flat_map (show_lines s.memory) shows ∷ log_line log ∷ [])

@@ -1,5 +1,5 @@
--- What the program prints and answers, and what it reads besides decks. SessionResult says what a session answers;
--- SessionParts, in inner, ties the answers of its parts to that.
+-- The texts that the program prints and answers, and those that it reads besides decks. SessionResult defines the
+-- results of a session. SessionParts, in inner, relates the results of its parts to them.
 -- Source: ours.
 pub mod Dump
 pub mod Listing

@@ -1,4 +1,4 @@
--- The lines of a listing: each word that a deck placed, with what its parcels say.
+-- The lines of a listing: each word that a deck placed, with its instructions.
 -- Source: ours; the texts and the codes of the instructions are the manual's.
 use Rattle.std.specs.Prelude.{◌≡◌, Bool, true, Option, Result, Ok, Err, ℕ, zero, suc, ◌+◌, ◌==◌, if◌then◌else◌, false}
 use Rattle.std.specs.Prelude.{List, [], ◌∷◌, ◌++◌, codes, length, nat_lt, slice_index_or}
@@ -17,34 +17,34 @@ use Rattle.deck.specs.Image.{Placed}
 use Rattle.device_text.specs.Pieces.{code_text}
 use Rattle.job_deck.specs.Dump.{addresses}
 
--- a legal instruction's text; or `?` and the code of an opcode that is refused; or `?straddle`
+-- the text of an item: a legal instruction's text, or `?` and the code of a refused opcode, or `?straddle`
 abbrev pub item_text : Decoded → List ℕ
 item_text (Legal instr next) = spelling instr
 item_text (Refused op) = codes "?" ++ code_text op
 item_text Straddle = codes "?straddle"
 
--- the parcel after an item; an opcode that is refused counts as one parcel
+-- the parcel after an item. A refused opcode counts as one parcel, and so does an instruction that straddles words
 abbrev pub after : ℕ → Decoded → ℕ
 after parcel (Legal instr next) = next
 after parcel (Refused op) = parcel + 1
 after parcel Straddle = parcel + 1
 
--- what stands before an item: nothing before the first
+-- the separator before an item: nothing before the first
 abbrev pub separator : ℕ → List ℕ
 separator parcel = if parcel == 0 then [] else codes "; "
 
--- an item with what stands before it
+-- an item after its separator
 abbrev pub separated : ℕ → Decoded → List ℕ
 separated parcel item = separator parcel ++ item_text item
 
--- the items of a word from a parcel on, at most so many
+-- at most this many items of a word, from a parcel on
 abbrev pub items_from : ℕ → ℕ → ℕ → List ℕ
 items_from zero word parcel = []
 items_from (suc more) word parcel = if nat_lt parcel 4
     then separated parcel (reading_at word parcel) ++ items_from more word (after parcel (reading_at word parcel))
     else []
 
--- the items of a word, which has at most four
+-- all items of a word; it has at most four
 unfoldable pub items_text : ℕ → List ℕ
 items_text word = items_from 4 word 0
 
@@ -56,7 +56,7 @@ placed_word address word = concat (octal_text 6 address ∷ codes " " ∷ octal_
 abbrev pub listed_word : ℕ → ℕ → List ℕ
 listed_word address word = concat (placed_word address word ∷ items_text word ∷ codes "\n" ∷ [])
 
--- the line of a word that the deck placed; the others have none
+-- the line of the word at an address, if the deck placed that word, or else nothing
 abbrev pub listed : Placed → ℕ → List ℕ
 listed image address = if slice_index_or image.placed address false
     then listed_word address (slice_index_or image.memory address 0) else []
@@ -65,7 +65,8 @@ listed image address = if slice_index_or image.placed address false
 abbrev pub listing : Placed → List ℕ
 listing image = flat_map (listed image) (addresses (length image.memory) 0)
 
--- what listing a deck answers, reads and writes: its listing, or at a failed write a beginning of it; else nothing
+-- the result of listing a deck, and the bytes that it reads and writes. A success writes the listing, and a failed
+-- write leaves a prefix of it. Any other error writes nothing
 abbrev pub Lists : Result (Unit {0}) Refusal → Reading → List ℕ → Option (List ℕ) → Option (List ℕ) → Type 0
 Lists (Ok x) (Good deck n after) rest old new = (rest ≡ after) × Appends old new (listing deck.image)
 Lists (Ok x) (Bad n fault after) rest old new = ⊥
@@ -76,7 +77,7 @@ Lists (Err refusals.Write) (Good deck n after) rest old new = (rest ≡ after) �
 Lists (Err refusals.Write) (Bad n fault after) rest old new = ⊥
 Lists (Err other) reading rest old new = ⊥
 
--- whether the answer is that a write failed (`E23`)
+-- whether the result is a failed write (`E23`)
 abbrev pub is_write_failure : {T : Type 0} → Result T Refusal → Bool
 is_write_failure (Err refusals.Write) = true
 is_write_failure other = false

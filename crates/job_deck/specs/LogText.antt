@@ -1,4 +1,4 @@
--- What a log's text says.
+-- The steps that the text of a log lists.
 -- Source: ours.
 use Rattle.std.specs.Prelude.{◌≡◌, ℕ, ◌-◌, Bool, true, false, ◌||◌, ◌==◌, nat_lt, if◌then◌else◌, List, [], ◌∷◌, ◌++◌}
 use Rattle.std.specs.Prelude.{Option, Some, None, codes, option_map, option_and_then}
@@ -13,47 +13,48 @@ use Rattle.sequential.specs.Replay.{LogStep}
 use Rattle.device_text.specs.Text.{fields_of, number_of}
 use Rattle.job_deck.specs.declared.logs.Allowance.{Allowance}
 
--- at first: at most 10,000,000 instructions, 1,000,000 exchanges and 1,000,000 peripheral accesses
+-- the allowance at the beginning of a log: 10,000,000 instructions, 1,000,000 exchanges and 1,000,000 peripheral
+-- accesses
 abbrev pub whole_allowance : Allowance
 whole_allowance =
     record { after_count = false; instructions = 10000000; exchanges = 1000000; accesses = 1000000 }
 
--- a leading zero: a nought and a digit after it
+-- whether a 0 comes before another digit
 abbrev pub has_leading_zero : List ℕ → Bool
 has_leading_zero [] = false
 has_leading_zero (d ∷ []) = false
 has_leading_zero (d ∷ e ∷ more) = d == 48
 
--- the number that the digits are, without leading zeros
+-- the number that digits without leading zeros denote, if there are no more digits than allowed
 abbrev pub number_without_leading_zeros : ℕ → ℕ → List ℕ → Option ℕ
 number_without_leading_zeros base most digits = if has_leading_zero digits then None else number_of base most digits
 
--- the entry of an exchange, if its address is a number and one more exchange may come
+-- the entry of an exchange, if its address is a number and another exchange may come
 abbrev pub exchange_in : Allowance → Option ℕ → Option Entry
 exchange_in left None = None
 exchange_in left (Some n) = if left.exchanges == 0 then None else Some (Exchange n)
 
--- the entry of a count, which isn't 0, doesn't stand beside another, and is at most what is left of the instructions
+-- the entry of a count, unless the count is 0, follows another count or is more than the instructions that are left
 abbrev pub count_in : Allowance → Option ℕ → Option Entry
 count_in left None = None
 count_in left (Some n) = if left.after_count || (n == 0) || nat_lt left.instructions n then None else Some (Count n)
 
--- the word that the digits are, without leading zeros
+-- the word that at most twenty octal digits without leading zeros denote
 abbrev pub word_without_leading_zeros : List ℕ → Option ℕ
 word_without_leading_zeros digits = if has_leading_zero digits then None else from_octal 20 digits
 
--- the entry of a word that was read, if its address is a number and one more access may come
+-- the entry of a peripheral read, if its address is a number and another access may come
 abbrev pub read_in : Allowance → Option ℕ → Option Entry
 read_in left None = None
 read_in left (Some a) = if left.accesses == 0 then None else Some (PpRead a)
 
--- the entry of a word that was written, if address and word are numbers and one more access may come
+-- the entry of a peripheral write, if its address and its word are numbers and another access may come
 abbrev pub write_in : Allowance → Option ℕ → Option ℕ → Option Entry
 write_in left None word = None
 write_in left (Some a) None = None
 write_in left (Some a) (Some w) = if left.accesses == 0 then None else Some (PpWrite a w)
 
--- the same by the parts between the signs `=`, of which there is one
+-- the entry of a peripheral write, from its parts between `=` signs: there have to be two parts
 abbrev pub written_in : Allowance → List (List ℕ) → Option Entry
 written_in left [] = None
 written_in left (address ∷ []) = None
@@ -61,8 +62,8 @@ written_in left (address ∷ word ∷ []) =
     write_in left (number_without_leading_zeros 8 6 address) (word_without_leading_zeros word)
 written_in left (address ∷ word ∷ other ∷ more) = None
 
--- the entry of a field: `E` and one to six octal digits, `I` and one to eight decimal digits, `R` and one to six octal
--- digits, or `W`, one to six octal digits, `=` and one to twenty octal digits
+-- the entry of a field, such as `E40`, `I10`, `R110` or `W110=5`. An address has one to six octal digits, a count one
+-- to eight decimal digits, and a word one to twenty octal digits
 abbrev pub entry_in : Allowance → List ℕ → Option Entry
 entry_in left [] = None
 entry_in left (letter ∷ digits) =
@@ -72,25 +73,25 @@ entry_in left (letter ∷ digits) =
     else if letter == 87 then written_in left (slice_split (λ b. b == 61) digits)
     else None
 
--- how many instructions an entry stands for
+-- how many issued instructions an entry counts
 abbrev pub entry_count : Entry → ℕ
 entry_count (Exchange n) = 0
 entry_count (Count n) = n
 entry_count (PpRead a) = 0
 entry_count (PpWrite a w) = 0
 
--- what may come after an entry
+-- the allowance after an entry
 abbrev pub spent : Allowance → Entry → Allowance
 spent left (Exchange n) = record left { after_count = false; exchanges = left.exchanges - 1 }
 spent left (Count n) = record left { after_count = true; instructions = left.instructions - n }
 spent left (PpRead a) = record left { after_count = false; accesses = left.accesses - 1 }
 spent left (PpWrite a w) = record left { after_count = false; accesses = left.accesses - 1 }
 
--- these steps and then the others, if the others are steps of a log
+-- the steps followed by the others, if the others are valid
 abbrev pub put_steps : List LogStep → Option (List LogStep) → Option (List LogStep)
 put_steps steps more = option_map (λ others. steps ++ others) more
 
--- the steps of entries, if each field is one that may come
+-- the steps of a list of fields, if each field is an entry that may come
 abbrev pub steps_in : Allowance → List (List ℕ) → Option (List LogStep)
 steps_in left [] = Some []
 steps_in left (field ∷ more) =
@@ -101,7 +102,7 @@ steps_in left (field ∷ more) =
 unfoldable pub log_in : List ℕ → Option (List LogStep)
 log_in text = if bytes_eq text (codes "none") then Some [] else steps_in whole_allowance (fields_of text)
 
--- a log with these steps, if there are some
+-- the log that was read has these steps. `None` means that the text isn't that of a log
 abbrev pub LogHas : Option Log → Option (List LogStep) → Type 0
 LogHas None steps = steps ≡ None
 LogHas (Some log) steps = steps ≡ Some log.steps

@@ -1,4 +1,4 @@
--- What replaying a log on a deck answers and writes.
+-- The results and the output of replaying a log on a deck.
 -- Source: ours.
 use Rattle.std.specs.Prelude.{◌≡◌, ℕ, List, Option, Some, None, Result, Ok, Err}
 use Rattle.std.specs.Io.KnownBytes.{Keeps, Appends}
@@ -14,34 +14,34 @@ use Rattle.device_text.specs.Device.{WritesFront}
 use Rattle.job_deck.specs.Dump.{dump_text}
 use Rattle.job_deck.specs.LogText.{log_in}
 
--- what going through a log's text gives
+-- the outcome of replaying the text of a log
 pub data Replayed : Type 0 where
-  -- the text is no log's: `bad log`
+  -- the text isn't that of a log: `bad log`
   BadLog : Replayed
-  -- one of these steps from that state on is refused: `E19 package range` or `E27 peripheral range`
+  -- from this state, one of these steps is refused: `E19 package range` or `E27 peripheral range`
   Undefined : State → List LogStep → Replayed
-  -- the state after these steps, and the steps
+  -- the final state, and the steps that led to it
   Reaches : State → List LogStep → Replayed
 
--- the state after these steps from that one on, if none of them is refused
+-- the outcome of these steps from a state: the final state, if no step is refused
 abbrev pub reached : State → List LogStep → Option State → Replayed
 reached start steps None = Undefined start steps
 reached start steps (Some state) = Reaches state steps
 
--- what the steps give on this memory, if the text was that of a log
+-- the outcome of replaying on this memory the steps of a text, if the text is that of a log
 abbrev pub replayed_steps : List ℕ → Option (List LogStep) → Replayed
 replayed_steps memory None = BadLog
 replayed_steps memory (Some steps) = reached (boot memory) steps (replay (boot memory) steps)
 
--- the machine that was booted with the deck's memory goes through the log of this text
+-- the outcome of replaying the text of a log on a machine that was booted with the deck's memory
 abbrev pub replayed : Deck → List ℕ → Replayed
 replayed deck text = replayed_steps deck.image.memory (log_in text)
 
--- the first of the steps that is refused is refused for that
+-- the first of the steps to be refused is refused for this reason
 abbrev pub IsRefusedFor : State → List LogStep → Refusal → Type 0
 IsRefusedFor start steps refusal = (end : State) × IsRefusedAt start steps end refusal
 
--- the dump of the state that is reached, or at a failed write a beginning of it; else nothing
+-- a success prints the dump of the final state, and a failed write leaves a prefix of it. Nothing else prints anything
 abbrev pub Prints : Result (Option State) Refusal → Replayed → List Show → Option (List ℕ) → Option (List ℕ) → Type 0
 Prints (Ok None) BadLog shows old new = Keeps old new
 Prints (Ok (Some s)) (Reaches state steps) shows old new =
@@ -55,7 +55,8 @@ Prints (Err refusals.Write) (Reaches state steps) shows old new =
 Prints (Err refusals.OutOfMemory) replayed shows old new = Keeps old new
 Prints other replayed shows old new = ⊥
 
--- the same from a deck's bytes on, of which these are left; a fault of the deck comes before one of the log
+-- the result of reading a deck and replaying a log on it, where `rest` are the bytes left unread. A fault of the deck
+-- is reported before one of the log
 abbrev pub Replays : Result (Option State) Refusal → Reading → List ℕ → List ℕ → Option (List ℕ) → Option (List ℕ)
     → Type 0
 Replays (Err (refusals.Deck m fault)) reading rest text old new = (reading ≡ Bad m fault rest) × Keeps old new

@@ -1,4 +1,4 @@
--- What a session answers, reads and writes.
+-- The result of a session, and the bytes that it reads and writes.
 -- Source: ours.
 use Rattle.std.specs.Prelude.{◌≡◌, ◌⊎◌, ℕ, ◌+◌, ◌≤◌, length, List, ◌∷◌, ◌++◌, Option, Result, Ok, Err}
 use Rattle.std.specs.Io.KnownBytes.{Keeps, Appends}
@@ -16,26 +16,26 @@ use Rattle.job_deck.specs.Schedule.{line_says, left_after_line}
 use Rattle.job_deck.specs.Session.{IsLast, IsReply, Session}
 use Rattle.job_deck.specs.declared.schedule.ScheduleLine.TheVariants.{Faulty}
 
--- the first line was taken, and these are the bytes after it
+-- the first line was read, and `rest` are the bytes after it
 abbrev pub IsTaken : List (List ℕ × List ℕ) → List ℕ → Type 0
 IsTaken lines rest = (line : List ℕ) × (lines ≡ (line, rest) ∷ lines_of rest)
 
--- the bytes of xs before line n were read, and these are the lines from there on; line n is at fault, and no more was
--- read
+-- line n is at fault, and nothing was read past it. The bytes of xs before line n were read, and `lines` are the lines
+-- from line n on
 abbrev pub IsRefused : ℕ → List (List ℕ × List ℕ) → List ℕ → List ℕ → Type 0
 IsRefused n lines xs rest =
     (read : List ℕ) × (bytes : List ℕ) × (xs ≡ read ++ bytes) × (lines ≡ lines_of bytes)
     × (rest ≡ left_after_line n bytes lines)
 
--- the first text was written, and a beginning of the second
+-- the first text was written, and a prefix of the second
 abbrev pub WritesCut : Option (List ℕ) → Option (List ℕ) → List ℕ → List ℕ → Type 0
 WritesCut old new text last =
     (front : List ℕ) × (rest : List ℕ) × (last ≡ front ++ rest) × Appends old new (text ++ front)
 
--- a session with machine w from line n on. An `Ok` has written it all, and leaves what follows its last line. At a
--- fault, at a failed read and where memory for the dump is wanting, each earlier line has its whole answer; nothing is
--- read past a fault. A failed write has cut the reply to the line that was read last. IsLed is what holds of the
--- events, the answers and the machine so far. No other refusal comes
+-- a session with machine w from line n on. After `Ok` all its text is written, and the bytes after its last line are
+-- left. At a fault, at a failed read, or if memory for the dump runs out, each earlier line has its whole answer.
+-- Nothing is read past a fault. A failed write may cut off the reply to the last line read. IsLed holds of the events,
+-- the answers and the machine so far. No other refusal occurs
 abbrev pub RunsSession : Result (Unit {0}) Refusal → (List Event → List (Result Done Refusal) → Processor → Type 0)
     → Processor
     → ℕ → List Show → List ℕ → List ℕ → Option (List ℕ) → Option (List ℕ) → Type 0
@@ -56,12 +56,12 @@ RunsSession (Err refusals.Write) IsLed w n shows xs rest old new =
     × IsTaken s.left rest × WritesCut old new s.text text
 RunsSession (Err other) IsLed w n shows xs rest old new = ⊥
 
--- nothing was written, and nothing read of the bytes after the deck
+-- nothing was written, and none of the bytes after the deck was read
 abbrev pub HasNotBegun : List ℕ → List ℕ → Option (List ℕ) → Option (List ℕ) → Type 0
 HasNotBegun after rest old new = (length after ≤ length rest) × Keeps old new
 
--- the session of the machine that was booted with the deck's memory, from the line after the deck on: the events that
--- its lines said, with the answers that were printed, lead from boot to its machine
+-- the session of a machine that was booted with the deck's memory, from the line after the deck on. The events of its
+-- lines and the printed answers lead from boot to its machine
 abbrev pub RunsSessionFromBoot : Result (Unit {0}) Refusal → ℕ → Deck → ℕ → List ℕ → List ℕ → Option (List ℕ)
     → Option (List ℕ) → Type 0
 RunsSessionFromBoot result budget deck n after rest old new =
@@ -69,7 +69,7 @@ RunsSessionFromBoot result budget deck n after rest old new =
     after rest
     old new
 
--- the same of a deck with its schedule; memory may run out and a read may fail before the session begins
+-- the session of a deck and its schedule. Memory may run out and a read may fail before the session begins
 abbrev pub Performs : Result (Unit {0}) Refusal → ℕ → Reading → List ℕ → Option (List ℕ) → Option (List ℕ) → Type 0
 Performs (Ok x) budget (Good deck n after) rest old new = RunsSessionFromBoot (Ok x) budget deck n after rest old new
 Performs (Ok x) budget (Bad n fault after) rest old new = ⊥

@@ -7,14 +7,14 @@ use device_text::{Output, Piece, WriteFailed, put_pieces};
 use instruction_table::Refusal;
 use machine::{Answer, Done, Note};
 
-/// Writes the number of a refusal and what it says.
+/// Writes the label of a refusal: its number and its text.
 fn put_label<O: Output>(output: &mut O, refusal: &Refusal) -> Result<(), WriteFailed>
     ensures { Puts O.Output result output.old output.new (label_of refusal.now) }
 {
     output.put(refusal.label().as_bytes())
 }
 
-/// Writes what a refusal names. No other refusal of an event names anything.
+/// Writes the unit, register, bank or halt that a refusal names. No other refusal of an event names anything.
 fn put_named<O: Output>(output: &mut O, refusal: &Refusal) -> Result<(), WriteFailed>
     ensures { Puts O.Output result output.old output.new (named_text refusal.now) }
 {
@@ -49,7 +49,7 @@ fn put_named<O: Output>(output: &mut O, refusal: &Refusal) -> Result<(), WriteFa
     }
 }
 
-/// Writes the line of a refusal: its number, what it says, and what it names.
+/// Writes the line of a refusal: its number, its text, and what it names.
 fn put_refusal<O: Output>(output: &mut O, refusal: &Refusal) -> Result<(), WriteFailed>
     ensures { Puts O.Output result output.old output.new (answer_line (Err refusal.now)) }
 {
@@ -83,7 +83,7 @@ fn put_line<O: Output>(output: &mut O, answer: &Answer) -> Result<(), WriteFaile
     }
 }
 
-/// Writes the line of an answer and hands it on.
+/// Writes the line of an answer and flushes the output.
 pub fn put_answer<O: Output>(output: &mut O, answer: &Answer) -> Result<(), WriteFailed>
     ensures puts { Puts O.Output result output.old output.new (answer_line answer.now) }
     ensures handed_on { OnOk result (O.waits output.new ≡ false) }

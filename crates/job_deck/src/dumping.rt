@@ -18,7 +18,7 @@ use sequential::{Entry, Log, ProgramPosition, State};
 use std::io::Write;
 use word60::{Word18, Word60};
 
-/// The held word, if there is one.
+/// The text of the held word, or `none`.
 fn held_piece(held: &Option<Word60>) -> Piece<'static>
     ensures { text_of result ≡ held_text held.now }
 {
@@ -28,7 +28,7 @@ fn held_piece(held: &Option<Word60>) -> Piece<'static>
     }
 }
 
-/// The line of P, the next parcel and the held word.
+/// The line with P, the next parcel and the held word.
 fn place_line(position: &ProgramPosition) -> [Piece<'static>; 7]
     ensures { text_of_all result ≡ place_line position.now }
 {
@@ -43,7 +43,7 @@ fn place_line(position: &ProgramPosition) -> [Piece<'static>; 7]
     ]
 }
 
-/// Why the machine is halted: the first half of the `HALT` line.
+/// The first half of the `HALT` line: why the machine is halted, or `running`.
 fn halt_text(halt: &Option<Halt>) -> [Piece<'static>; 2]
     ensures { text_of_all result ≡ halt_text halt.now }
 {
@@ -53,7 +53,7 @@ fn halt_text(halt: &Option<Halt>) -> [Piece<'static>; 2]
     }
 }
 
-/// Whether the fault flag is set: the rest of the `HALT` line.
+/// The second half of the `HALT` line: whether the fault flag is set.
 fn fault_text(fault: bool) -> [Piece<'static>; 1]
     ensures { text_of_all result ≡ fault_text fault }
 {
@@ -64,7 +64,7 @@ fn fault_text(fault: bool) -> [Piece<'static>; 1]
     })]
 }
 
-/// The part of memory that the program has.
+/// The line with RA, FL and the exit mode.
 fn area_line(area: &Area) -> [Piece<'static>; 7]
     ensures { text_of_all result ≡ area_line area.now }
 {
@@ -79,14 +79,14 @@ fn area_line(area: &Area) -> [Piece<'static>; 7]
     ]
 }
 
-/// A number of six digits with a space before it.
+/// A space and a number of six octal digits.
 fn spaced_index(index: Word18) -> [Piece<'static>; 2]
     ensures { text_of_all result ≡ spaced_index index }
 {
     [Piece::Text(b" "), Piece::Index(index)]
 }
 
-/// Writes numbers of six digits, with a space before each.
+/// Writes numbers of six octal digits, with a space before each.
 fn put_indexes<O: Output>(output: &mut O, indexes: &[Word18]) -> Result<(), WriteFailed>
     ensures { Puts O.Output result output.old output.new (flat_map spaced_index indexes.now) }
 {
@@ -96,7 +96,7 @@ fn put_indexes<O: Output>(output: &mut O, indexes: &[Word18]) -> Result<(), Writ
     Ok(())
 }
 
-/// Writes a line of a name and such numbers.
+/// Writes a line with a name and numbers of six octal digits.
 fn put_index_line<O: Output>(
     output: &mut O,
     name: &[u8],
@@ -109,7 +109,7 @@ fn put_index_line<O: Output>(
     output.put(b"\n")
 }
 
-/// The line of an X register.
+/// The line of one X register.
 fn x_line(x: &[Word60; 8], number: u8) -> [Piece<'static>; 5]
     requires { number < 8 }
     ensures { text_of_all result ≡ x_line x.now number }
@@ -123,7 +123,7 @@ fn x_line(x: &[Word60; 8], number: u8) -> [Piece<'static>; 5]
     ]
 }
 
-/// Writes X0 to X7, one a line.
+/// Writes X0 to X7, one per line.
 fn put_x_lines<O: Output>(output: &mut O, x: &[Word60; 8]) -> Result<(), WriteFailed>
     ensures { Puts O.Output result output.old output.new (x_lines x.now) }
 {
@@ -153,7 +153,7 @@ fn put_registers<O: Output>(output: &mut O, registers: &RegisterFile) -> Result<
     put_x_lines(output, &registers.x)
 }
 
-/// The word at an address, +0 where the memory has none.
+/// The word at an address, or +0 if the address is past the end of the memory.
 fn word_at(memory: &Storage, address: Word18) -> Word60
     ensures { result ≡ slice_index_or memory.now address 0 }
 {
@@ -164,7 +164,7 @@ fn word_at(memory: &Storage, address: Word18) -> Word60
     }
 }
 
-/// The line of a word in memory.
+/// The line of one word of memory.
 fn word_line(memory: &Storage, address: Word18) -> [Piece<'static>; 5]
     ensures { text_of_all result ≡ word_line memory.now address }
 {
@@ -197,7 +197,7 @@ fn put_shows<O: Output>(output: &mut O, memory: &Storage, shows: &[Show]) -> Res
     Ok(())
 }
 
-/// An entry of a log with a space before it.
+/// A space and one entry of a log.
 fn spaced_entry(entry: Entry) -> [Piece<'static>; 4]
     ensures { text_of_all result ≡ spaced_entry entry }
 {
@@ -239,7 +239,7 @@ fn put_entries<O: Output>(output: &mut O, entries: &[Entry]) -> Result<(), Write
     Ok(())
 }
 
-/// Writes the text of a log with a space before it.
+/// Writes a space and the text of a log.
 fn put_log<O: Output>(output: &mut O, entries: &[Entry]) -> Result<(), WriteFailed>
     ensures { Puts O.Output result output.old output.new (log_text entries.now) }
 {
@@ -258,7 +258,7 @@ pub fn put_log_line<O: Output>(output: &mut O, entries: &[Entry]) -> Result<(), 
     output.put(b"\n")
 }
 
-/// Writes a machine's state, the words that are shown and the log.
+/// Writes a dump: the machine's state, the words of the `show` lines, and the log.
 fn put_dump<O: Output>(
     output: &mut O,
     state: &State,
@@ -273,10 +273,11 @@ fn put_dump<O: Output>(
     put_log_line(output, entries)
 }
 
-/// Writes a machine's state, the words that the deck shows and the log, and hands them on.
+/// Writes a dump and flushes the output. The dump has the machine's state, the words of the deck's `show` lines, and
+/// the log.
 ///
 /// # Errors
-/// Where a write or the flush fails; a beginning of the text is then written.
+/// Fails if a write or the flush fails. The output then has a prefix of the text.
 pub fn dump_to<O: Output>(
     output: &mut O,
     state: &State,
@@ -291,10 +292,10 @@ pub fn dump_to<O: Output>(
     output.flush()
 }
 
-/// The same to any writer.
+/// Writes the same dump to any writer.
 ///
 /// # Errors
-/// `Write` where a write or the flush fails; a beginning of the text is then written.
+/// `Write` if a write or the flush fails. The writer then has a prefix of the text.
 pub fn dump<W: Write>(state: &State, log: &Log, deck: &Deck, writer: &mut W) -> Result<(), Refusal>
     ensures written { Writes result (W.contents writer.old) (W.contents writer.new)
         (dump_text state.now (entries_of log.now.steps) deck.now.shows) }

@@ -12,10 +12,10 @@ use device_text::{Output, WriteFailed};
 use instruction_table::Refusal;
 use machine::Machine;
 
-/// Writes the dump of a drained machine and hands it on.
+/// Writes the dump of a drained machine and flushes the output.
 ///
 /// # Errors
-/// `OutOfMemory` where the machine's state can't be copied, and `Write` where a write fails.
+/// `OutOfMemory` if there is no memory for a copy of the machine's state. `Write` if a write fails.
 fn put_drained<O: Output>(output: &mut O, machine: &Machine, deck: &Deck) -> Result<(), Refusal>
     requires { is_pending machine.now.pending ≡ false }
     ensures closed { Dumps result machine.now deck.now.shows (O.contents output.old)
@@ -31,7 +31,7 @@ fn put_drained<O: Output>(output: &mut O, machine: &Machine, deck: &Deck) -> Res
     }
 }
 
-/// Writes that a machine isn't drained, and its log.
+/// Writes the line `NOT DRAINED` and the machine's log.
 fn put_not_drained<O: Output>(output: &mut O, machine: &Machine) -> Result<(), WriteFailed>
     ensures { Puts O.Output result output.old output.new (not_drained_text machine.now) }
 {
@@ -39,7 +39,7 @@ fn put_not_drained<O: Output>(output: &mut O, machine: &Machine) -> Result<(), W
     put_log_line(output, machine.log().entries())
 }
 
-/// Writes that a machine isn't drained, and its log, and hands it on.
+/// Writes the line `NOT DRAINED` and the machine's log, and flushes the output.
 fn print_not_drained<O: Output>(output: &mut O, machine: &Machine) -> Result<(), WriteFailed>
     ensures puts { Puts O.Output result output.old output.new (not_drained_text machine.now) }
     ensures handed_on { OnOk result (O.waits output.new ≡ false) }
@@ -48,10 +48,10 @@ fn print_not_drained<O: Output>(output: &mut O, machine: &Machine) -> Result<(),
     output.flush()
 }
 
-/// Writes the end of a session: the dump of a drained machine, or that it isn't drained.
+/// Writes the end of a session: the machine's dump if the machine is drained, or `NOT DRAINED` and the log.
 ///
 /// # Errors
-/// As `put_drained`.
+/// As for `put_drained`.
 fn put_end<O: Output>(output: &mut O, machine: &Machine, deck: &Deck) -> Result<(), Refusal>
     ensures closed { Closes result (last_line false) machine.now deck.now.shows (O.contents output.old)
         (O.contents output.new) }
@@ -67,10 +67,11 @@ fn put_end<O: Output>(output: &mut O, machine: &Machine, deck: &Deck) -> Result<
     Ok(())
 }
 
-/// Writes what the last line of a schedule says: `drain` drains the machine first.
+/// Carries out the last line of a schedule. `drain` drains the machine and dumps it. `end` writes the end of the
+/// session for the machine as it is.
 ///
 /// # Errors
-/// `OutOfMemory` where the state of a drained machine can't be copied, and `Write` where a write fails.
+/// `OutOfMemory` if there is no memory for a copy of a drained machine's state. `Write` if a write fails.
 pub fn finish<O: Output>(
     output: &mut O,
     machine: &mut Machine,

@@ -1,11 +1,11 @@
-//! Texts of the machine: it prints memory, machines and logs, reads logs and replays them, and
-//! holds sessions, in which a schedule says a machine's events line by line and each line is
-//! answered. All texts are lines of bytes; docs/formats.md has them. Decks and devices are those of
-//! the crates below, which this crate hands on.
+//! The texts of the machine. This crate prints memory, machines and logs, and reads and replays logs. It also runs
+//! sessions: a schedule says a machine's events line by line, and the session answers each line. All texts are lines of
+//! bytes, in the formats of docs/formats.md. The crate re-exports the items for decks and devices of the crates below
+//! it.
 //!
-//! Callers rely on `events`: it answers each line as `program_order` allows, before it reads the next, and the events
-//! of the lines with the printed answers lead from boot to the machine that it dumps. `dump` in `dumping` prints a
-//! machine. Its tests are in `crates/text_tests/src/session_tests.rt` and `crates/text_tests/src/printing_tests.rt`.
+//! Callers rely on `events`: it answers each line as `program_order` allows, before it reads the next line. The events
+//! of the lines and their printed answers lead from boot to the machine that `events` dumps. `dump` in `dumping` prints
+//! a machine. Its tests are in `crates/text_tests/src/session_tests.rt` and `crates/text_tests/src/printing_tests.rt`.
 //! Begin with `events` in `session`.
 #![tactic(auto)]
 

@@ -17,7 +17,7 @@ use std::alloc::Global;
 use std::io::{Read, Write};
 use word60::{Word18, Word60};
 
-/// The parcel after an item; an opcode that is refused counts as one parcel.
+/// The parcel after an item. A refused opcode counts as one parcel, and so does an instruction that straddles words.
 fn after(parcel: u8, item: &Decoded) -> u8
     requires { parcel < 4 }
     ensures { result ≡ after parcel item.now }
@@ -29,8 +29,8 @@ fn after(parcel: u8, item: &Decoded) -> u8
     }
 }
 
-/// An item with what stands before it, which is nothing before the first: a legal instruction's text, or a question
-/// mark and why there is none.
+/// An item after its separator; the first item of a word has no separator. The item is the text of a legal instruction,
+/// or a question mark and the reason why there is none.
 fn separated(parcel: u8, item: &Decoded) -> [Piece<'static>; 3]
     ensures { text_of_all result ≡ separated parcel item.now }
 {
@@ -56,7 +56,7 @@ fn put_items<O: Output>(output: &mut O, word: Word60) -> Result<(), WriteFailed>
     Ok(())
 }
 
-/// The address of a word and the word itself.
+/// The address of a word and the word, with a space after each.
 fn placed_word(address: Word18, word: Word60) -> [Piece<'static>; 4]
     ensures { text_of_all result ≡ placed_word address word }
 {
@@ -95,10 +95,10 @@ fn put_listed<O: Output>(output: &mut O, image: &Image, address: u32) -> Result<
     }
 }
 
-/// Writes the words that a deck placed, in order of address, each with what its parcels say.
+/// Writes the words that a deck placed, in order of address, each with its instructions.
 ///
 /// # Errors
-/// Where a write fails; a beginning of the text is then written.
+/// Fails if a write fails. The output then has a prefix of the text.
 fn put_listing<O: Output>(output: &mut O, image: &Image) -> Result<(), WriteFailed>
     ensures { Puts O.Output result output.old output.new (listing image.now) }
 {
@@ -108,7 +108,7 @@ fn put_listing<O: Output>(output: &mut O, image: &Image) -> Result<(), WriteFail
     Ok(())
 }
 
-/// Writes the listing and hands it on.
+/// Writes the listing and flushes the output.
 fn print_listing<O: Output>(output: &mut O, image: &Image) -> Result<(), WriteFailed>
     ensures puts { Puts O.Output result output.old output.new (listing image.now) }
     ensures handed_on { OnOk result (O.waits output.new ≡ false) }
@@ -117,11 +117,11 @@ fn print_listing<O: Output>(output: &mut O, image: &Image) -> Result<(), WriteFa
     output.flush()
 }
 
-/// Reads a deck, and writes the words that it places, in order of address, each with what its parcels say.
+/// Reads a deck and lists the words that it places, in order of address, each with its instructions.
 ///
 /// # Errors
-/// `Deck` with a line and its fault, `OutOfMemory`, and `Read` and `Write` where the device fails. At a failed write a
-/// beginning of the text was written; at the others nothing was.
+/// `Deck` with the number of a faulty line and its fault. `OutOfMemory` if memory runs out. `Read` or `Write` if the
+/// device fails. After a failed write the output has a prefix of the text; at any other error nothing was written.
 pub fn list_to<I: Input, O: Output>(
     alloc: Global,
     input: &mut I,
@@ -142,10 +142,10 @@ pub fn list_to<I: Input, O: Output>(
     Ok(())
 }
 
-/// The same from any reader to any writer.
+/// Lists a deck from any reader to any writer.
 ///
 /// # Errors
-/// As `list_to`.
+/// As for `list_to`.
 pub fn list<R: Read, W: Write>(alloc: Global, reader: &mut R, writer: &mut W) -> Result<(), Refusal>
     ensures { Moves (R.remaining reader.old) (R.remaining reader.new)
         (λ xs ys. Lists result (deck xs) ys (W.contents writer.old) (W.contents writer.new)) }

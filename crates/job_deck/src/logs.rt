@@ -14,21 +14,21 @@ use sequential::{Entry, Log};
 use std::alloc::Global;
 use word60::Word60;
 
-/// What may still come in a log's text.
+/// The entries that a log's text may still have after the entries read so far.
 #[derive(Clone, Copy, Drop)]
 pub struct Allowance {
-    /// The entry before is a count, and no count may follow it.
+    /// Whether the last entry is a count. No count may follow another.
     after_count: bool,
-    /// How many instructions, all counts together.
+    /// The number of instructions that all further counts together may have.
     instructions: u64,
-    /// How many exchanges.
+    /// The number of further exchanges that may come.
     exchanges: u32,
-    /// How many peripheral accesses.
+    /// The number of further peripheral accesses that may come.
     accesses: u32,
 }
 
 impl Allowance {
-    /// At most 10,000,000 instructions, 1,000,000 exchanges and 1,000,000 peripheral accesses.
+    /// The allowance at the beginning: 10,000,000 instructions, 1,000,000 exchanges and 1,000,000 peripheral accesses.
     fn whole() -> Allowance
         ensures { result ≡ whole_allowance }
     {
@@ -40,7 +40,7 @@ impl Allowance {
         }
     }
 
-    /// An exchange, if one may come.
+    /// Parses the entry of an exchange, if another may come.
     fn exchange_entry(&self, digits: &[u8]) -> Option<Entry>
         ensures entry { result ≡ exchange_in self.now (number_without_leading_zeros 8 6 digits.now) }
         ensures within { IfSome result (λ entry. entry_count entry ≤ self.now.instructions) }
@@ -51,7 +51,8 @@ impl Allowance {
         }
     }
 
-    /// A count, if it may come.
+    /// Parses the entry of a count. Rejects 0, a count after a count, and a count above the number of instructions
+    /// left.
     fn count_entry(&self, digits: &[u8]) -> Option<Entry>
         ensures entry { result ≡ count_in self.now (number_without_leading_zeros 10 8 digits.now) }
         ensures within { IfSome result (λ entry. entry_count entry ≤ self.now.instructions) }
@@ -64,7 +65,7 @@ impl Allowance {
         }
     }
 
-    /// A word that was read, if one more access may come.
+    /// Parses the entry of a peripheral read, if another access may come.
     fn read_entry(&self, digits: &[u8]) -> Option<Entry>
         ensures entry { result ≡ read_in self.now (number_without_leading_zeros 8 6 digits.now) }
         ensures within { IfSome result (λ entry. entry_count entry ≤ self.now.instructions) }
@@ -75,7 +76,7 @@ impl Allowance {
         }
     }
 
-    /// A word that was written, if one more access may come.
+    /// Builds the entry of a peripheral write from the text of its address and of its word, if another access may come.
     fn write_entry(&self, address: &[u8], word: &[u8]) -> Option<Entry>
         ensures entry { result ≡ write_in self.now (number_without_leading_zeros 8 6 address.now)
             (word_without_leading_zeros word.now) }
@@ -88,7 +89,7 @@ impl Allowance {
         }
     }
 
-    /// The same for what follows its letter.
+    /// Parses the entry of a peripheral write, after its letter: an address, `=` and a word.
     fn written_entry(&self, digits: &[u8]) -> Option<Entry>
         ensures entry { result ≡ written_in self.now (slice_split (λ b. b == 61) digits.now) }
         ensures within { IfSome result (λ entry. entry_count entry ≤ self.now.instructions) }
@@ -102,7 +103,7 @@ impl Allowance {
         }
     }
 
-    /// The entry of a field, if it may come.
+    /// Parses a field as an entry, if that entry may come.
     fn entry(&self, field: &[u8]) -> Option<Entry>
         ensures entry { result ≡ entry_in self.now field.now }
         ensures within { IfSome result (λ entry. entry_count entry ≤ self.now.instructions) }
@@ -116,7 +117,7 @@ impl Allowance {
         }
     }
 
-    /// What may come after a peripheral access.
+    /// The allowance after a peripheral access.
     fn without_access(self) -> Allowance
         ensures { result ≡ record self { after_count = false; accesses = self.accesses - 1 } }
     {
@@ -127,7 +128,7 @@ impl Allowance {
         }
     }
 
-    /// What may come after an entry.
+    /// The allowance after an entry.
     fn spent(self, entry: &Entry) -> Allowance
         ensures { result ≡ spent self entry.now }
     {
@@ -148,14 +149,14 @@ impl Allowance {
     }
 }
 
-/// Whether a nought stands in front of another digit.
+/// Whether the first of several digits is 0.
 fn has_leading_zero(digits: &[u8]) -> bool
     ensures { result ≡ has_leading_zero digits.now }
 {
     digits.len() > 1 && digits[0] == b'0'
 }
 
-/// An address of one to six octal digits without leading zeros.
+/// Parses an address of one to six octal digits without leading zeros.
 fn octal_without_leading_zeros(digits: &[u8]) -> Option<u32>
     ensures value { result ≡ number_without_leading_zeros 8 6 digits.now }
 {
@@ -168,7 +169,7 @@ fn octal_without_leading_zeros(digits: &[u8]) -> Option<u32>
     }
 }
 
-/// A word of one to twenty octal digits without leading zeros.
+/// Parses a word of one to twenty octal digits without leading zeros.
 fn word_without_leading_zeros(digits: &[u8]) -> Option<Word60>
     ensures value { result ≡ word_without_leading_zeros digits.now }
 {
@@ -178,7 +179,7 @@ fn word_without_leading_zeros(digits: &[u8]) -> Option<Word60>
     Word60::from_octal(digits)
 }
 
-/// A number of one to eight decimal digits without leading zeros.
+/// Parses a number of one to eight decimal digits without leading zeros.
 fn decimal_without_leading_zeros(digits: &[u8]) -> Option<u64>
     ensures value { result ≡ number_without_leading_zeros 10 8 digits.now }
 {
@@ -191,7 +192,7 @@ fn decimal_without_leading_zeros(digits: &[u8]) -> Option<u64>
 /// Adds an entry to a log.
 ///
 /// # Errors
-/// `OutOfMemory`.
+/// `OutOfMemory` if memory runs out.
 #[tactic(auto, using(sequential::proofs::Entries::last_run_within), unfolding(sequential::specs::Log::steps_of))]
 fn add_entry(log: &mut Log, entry: &Entry) -> Result<(), Refusal>
     requires { issued log.old.steps + entry_count entry.now < 2 ^ 64 }
@@ -210,10 +211,10 @@ fn add_entry(log: &mut Log, entry: &Entry) -> Result<(), Refusal>
     Ok(())
 }
 
-/// Reads entries with one space between them.
+/// Parses entries with one space between them. Returns `None` if the text isn't such a list.
 ///
 /// # Errors
-/// `OutOfMemory`.
+/// `OutOfMemory` if memory runs out.
 fn read_entries(alloc: Global, text: &[u8]) -> Result<Option<Log>, Refusal>
     ensures { MatchResult result (λ found. LogHas found (steps_in whole_allowance (fields_of text.now)))
         (λ refusal. refusal ≡ OutOfMemory) }
@@ -237,14 +238,19 @@ fn read_entries(alloc: Global, text: &[u8]) -> Result<Option<Log>, Refusal>
     }
 }
 
-/// Reads the text of a log, as a dump has it: `none`, or entries with one space between them. An entry is
-/// `E` and an address of one to six octal digits, or `I` and a decimal count that isn't 0, without leading
-/// zeros; no two counts stand side by side. `R` and such an address is a peripheral processor's reading, `W` with such
-/// an address, `=` and a word of one to twenty octal digits its writing. There are at most 10,000,000 instructions,
-/// 1,000,000 exchanges and 1,000,000 peripheral accesses. None where the text isn't that of a log.
+/// Parses the text of a log, as a dump prints it: `none`, or entries with one space between them. Returns `None` if the
+/// text isn't that of a log.
+///
+/// These are the entries, without leading zeros:
+/// - `E` and an address of one to six octal digits: an exchange.
+/// - `I` and a decimal count that isn't 0: instructions issued. Two counts never follow each other.
+/// - `R` and an address of one to six octal digits: a read by a peripheral processor.
+/// - `W`, such an address, `=` and a word of one to twenty octal digits: a write by a peripheral processor.
+///
+/// A log has at most 10,000,000 instructions, 1,000,000 exchanges and 1,000,000 peripheral accesses.
 ///
 /// # Errors
-/// `OutOfMemory`.
+/// `OutOfMemory` if memory runs out.
 #[tactic(auto, unfolding(crate::specs::LogText::log_in))]
 pub fn read_log(alloc: Global, text: &str) -> Result<Option<Log>, Refusal>
     ensures { MatchResult result (λ found. LogHas found (log_in text.now)) (λ refusal. refusal ≡ OutOfMemory) }

@@ -14,12 +14,12 @@ use sequential::State;
 use std::alloc::Global;
 use std::io::{Read, Write};
 
-/// Boots a machine with a deck's memory, goes through the log of a text and prints the machine's dump.
-/// None where the text isn't that of a log.
+/// Boots a machine with a deck's memory, replays the log in a text and prints the machine's dump. Returns `None` if the
+/// text isn't that of a log.
 ///
 /// # Errors
-/// `PackageRange` where the first refused step is an exchange whose words don't lie in memory, `PeripheralRange` where
-/// it is a peripheral access whose word doesn't, `OutOfMemory`, and `Write` where a write fails.
+/// `PackageRange` if the first refused step is an exchange whose words don't lie in memory. `PeripheralRange` if it is
+/// a peripheral access whose word doesn't lie in memory. `OutOfMemory` if memory runs out. `Write` if a write fails.
 fn print_replay<O: Output>(
     alloc: Global,
     output: &mut O,
@@ -43,14 +43,14 @@ fn print_replay<O: Output>(
     Ok(Some(state))
 }
 
-/// Reads a deck, boots the machine that does one instruction at a time with its memory, goes through the
-/// log of a text and prints the machine's dump. Answers the machine's state, or None where the text isn't
-/// that of a log. The deck is judged first; its `start` line isn't used.
+/// Reads a deck, replays the log in a text on the deck's memory and prints the machine's dump. The machine executes one
+/// instruction at a time. Returns its final state, or `None` if the text isn't that of a log. A fault of the deck is
+/// reported before one of the log. The deck's `start` line isn't used.
 ///
 /// # Errors
-/// `Deck` with a line and its fault, `PackageRange` or `PeripheralRange` where a step of the log is refused,
-/// `OutOfMemory`, and `Read` and `Write` where the device fails. At a failed write a beginning of the dump was written;
-/// at the others nothing was.
+/// `Deck` with the number of a faulty line and its fault. `PackageRange` or `PeripheralRange` if a step of the log is
+/// refused. `OutOfMemory` if memory runs out. `Read` or `Write` if the device fails. After a failed write the output
+/// has a prefix of the dump; at any other error nothing was written.
 pub fn replay_to<I: Input, O: Output>(
     alloc: Global,
     input: &mut I,
@@ -71,10 +71,10 @@ pub fn replay_to<I: Input, O: Output>(
     print_replay(alloc, output, &deck, text)
 }
 
-/// The same from any reader to any writer.
+/// Replays a log on a deck from any reader to any writer.
 ///
 /// # Errors
-/// As `replay_to`.
+/// As for `replay_to`.
 pub fn replay<R: Read, W: Write>(
     alloc: Global,
     reader: &mut R,

@@ -8,34 +8,34 @@ use instruction_table::DeckFault;
 use machine::Event;
 use word60::Word60;
 
-/// What a line of a schedule says.
+/// The meaning of one line of a schedule.
 #[derive(Clone, Copy, Debug, Drop, PartialEq, Eq)]
 pub enum ScheduleLine {
-    /// This event is to be made.
+    /// The machine is to make this event.
     Makes(Event),
-    /// It was the last line.
+    /// The schedule ends here.
     Ends,
-    /// It was the last line, and the machine is to be drained.
+    /// The schedule ends here, and the machine is to be drained.
     Drains,
     /// The line is refused.
     Faulty(DeckFault),
 }
 
-/// The number of a place, a channel or a bank.
+/// Parses the number of a place, a channel or a bank: one or two decimal digits.
 fn small_number(digits: &[u8]) -> Option<u8>
     ensures { result ≡ number_of 10 2 digits.now }
 {
     Some(number(10, 2, digits)? as u8)
 }
 
-/// An absolute address.
+/// Parses an absolute address: one to six octal digits.
 fn address(digits: &[u8]) -> Option<u32>
     ensures { result ≡ number_of 8 6 digits.now }
 {
     Some(number(8, 6, digits)? as u32)
 }
 
-/// What a line of one field says.
+/// Parses a line of one field.
 fn line_of_one_field(word: &[u8]) -> ScheduleLine
     ensures { result ≡ line_of_one_field word.now }
 {
@@ -52,7 +52,7 @@ fn line_of_one_field(word: &[u8]) -> ScheduleLine
     }
 }
 
-/// What a line of two fields says that names no unit.
+/// Parses a line of two fields of which the second is a number.
 fn line_with_number(word: &[u8], field: &[u8]) -> ScheduleLine
     ensures { result ≡ line_with_number word.now field.now }
 {
@@ -75,7 +75,7 @@ fn line_with_number(word: &[u8], field: &[u8]) -> ScheduleLine
     }
 }
 
-/// What a line of two fields says.
+/// Parses a line of two fields.
 fn line_of_two_fields(word: &[u8], field: &[u8]) -> ScheduleLine
     ensures { result ≡ line_of_two_fields word.now field.now }
 {
@@ -94,7 +94,7 @@ fn line_of_two_fields(word: &[u8], field: &[u8]) -> ScheduleLine
     }
 }
 
-/// What a line of three fields says.
+/// Parses a line of three fields.
 fn line_of_three_fields(word: &[u8], field: &[u8], other: &[u8]) -> ScheduleLine
     ensures { result ≡ line_of_three_fields word.now field.now other.now }
 {
@@ -110,7 +110,7 @@ fn line_of_three_fields(word: &[u8], field: &[u8], other: &[u8]) -> ScheduleLine
     }
 }
 
-/// What a line says by its first two fields and what comes after them.
+/// Parses a line from its first two fields and the text after them.
 fn line_of_more_fields(word: &[u8], field: &[u8], rest: &[u8]) -> ScheduleLine
     ensures { result ≡ line_of_fields (word.now ∷ field.now ∷ fields_of rest.now) }
 {
@@ -120,7 +120,7 @@ fn line_of_more_fields(word: &[u8], field: &[u8], rest: &[u8]) -> ScheduleLine
     }
 }
 
-/// What a line says by its first field and what comes after it.
+/// Parses a line from its first field and the text after it, if there is any.
 fn line_of_fields(word: &[u8], rest: Option<&[u8]>) -> ScheduleLine
     ensures { result ≡ line_of_fields (word.now ∷ other_parts 32 rest.entry) }
 {
@@ -133,7 +133,7 @@ fn line_of_fields(word: &[u8], rest: Option<&[u8]>) -> ScheduleLine
     }
 }
 
-/// What a line says.
+/// Parses a line of a schedule.
 pub fn parse_schedule_line(text: &[u8]) -> ScheduleLine
     ensures { result ≡ schedule_line text.now }
 {

@@ -1,4 +1,4 @@
--- What the program does, and how it ends.
+-- The work of the program, and its end.
 -- Source: ours.
 pub mod Task
 pub mod Request

@@ -1,4 +1,4 @@
--- What a request comes to, where its deck and its log are in files or on the standard input.
+-- The result of a request whose deck and log are in files or on standard input.
 -- Source: ours.
 use Rattle.std.specs.Prelude.{◌≡◌, ◌==◌, ◌⊎◌, ◌-◌, ℕ, List, length, take, get_or, Option, Some, None, Result, Err, ⊤}
 use Rattle.std.specs.Prelude.{IsUtf8, codes, if◌then◌else◌}
@@ -19,44 +19,44 @@ use Rattle.deck_run.specs.Running.{EndsReplay}
 use Rattle.operator_main.specs.declared.task.Task.TheVariants as works
 use Rattle.operator_main.specs.Task.{Performed}
 
--- the bytes of a source, if they are known: those of the standard input, or of the file of a name
+-- the bytes of a source, if they are known: the bytes of standard input, or of the file with a name
 abbrev pub source_bytes : (List ℕ → Option (List ℕ)) → Source → Option (List ℕ) → Option (List ℕ)
 source_bytes files sources.Input input = input
 source_bytes files (sources.File name) input = files name.now
 
--- the bytes without the line end at their end
+-- the bytes without a line end at their end
 abbrev pub without_line_end : List ℕ → List ℕ
 without_line_end bytes =
     if get_or bytes (length bytes - 1) 0 == 10 then take (length bytes - 1) bytes else bytes
 
--- the text of the log of these bytes. Bytes that are no text are no log
+-- the text of the log in these bytes. Bytes that aren't a text aren't a log
 abbrev pub IsTextOf : List ℕ → List ℕ → Type 0
 IsTextOf bytes text =
     (text ≡ without_line_end bytes) ⊎ ((text ≡ codes "no log") × ¬ (IsUtf8 (without_line_end bytes)))
 
--- the same where the bytes may not be known
+-- the same if the bytes may be unknown
 abbrev pub IsLogIn : Option (List ℕ) → List ℕ → Type 0
 IsLogIn None text = ⊤
 IsLogIn (Some bytes) text = IsTextOf bytes text
 
--- how the program ends, and what it prints, if it goes through the log of this text on the deck of these bytes
+-- the end and the output of the program if it replays the log in this text on the deck in these bytes
 abbrev pub ReplaysOn : List ℕ → Result Status ProgramFault → Option (List ℕ) → Option (List ℕ) → Option (List ℕ)
     → Type 0
 ReplaysOn text end bytes old new =
     (rest : Option (List ℕ)) × Moves bytes rest (λ xs ys. EndsReplay end (deck xs) ys text old new)
 
--- the log can't be read, or there is no memory for it
+-- the log can't be read or there is no memory for it, and nothing is printed
 abbrev pub LacksLog : Result Status ProgramFault → Option (List ℕ) → Option (List ℕ) → Type 0
 LacksLog end old new =
     ((end ≡ Err (faults.Refused refusals.Read)) ⊎ (end ≡ Err (faults.Refused refusals.OutOfMemory))) × Keeps old new
 
--- the same for a log that is among these bytes
+-- the end and the output of the program if it replays the log in some bytes, which may be unknown
 abbrev pub ReplaysLogIn : Option (List ℕ) → Result Status ProgramFault → Option (List ℕ) → Option (List ℕ)
     → Option (List ℕ) → Type 0
 ReplaysLogIn log end bytes old new =
     ((text : List ℕ) × IsLogIn log text × ReplaysOn text end bytes old new) ⊎ LacksLog end old new
 
--- the same for the log and the deck of a replay, over these files and this input
+-- the same for the log and the deck of a replay request, with these files and this input
 abbrev pub ReplaysFrom : (List ℕ → Option (List ℕ)) → Replay → Result Status ProgramFault → Option (List ℕ)
     → Option (List ℕ) → Option (List ℕ) → Type 0
 ReplaysFrom files (replays.Word log source) end input old new =
@@ -65,7 +65,7 @@ ReplaysFrom files (replays.File log source) end input old new =
     ReplaysLogIn (files log.now) end (source_bytes files source input) old new
 ReplaysFrom files (replays.Input source) end input old new = ReplaysLogIn input end (files source.now) old new
 
--- how the program ends at a request, and what it prints
+-- the end and the output of the program for a request
 abbrev pub Answers : (List ℕ → Option (List ℕ)) → Request → Result Status ProgramFault → Option (List ℕ)
     → Option (List ℕ) → Option (List ℕ) → Type 0
 Answers files (requests.Run budget) end input old new = Performed (works.Run budget) end input old new

@@ -1,4 +1,4 @@
--- What the program does with a deck.
+-- The tasks of the program.
 -- Source: ours.
 use Rattle.std.specs.Prelude.{◌≡◌, ℕ, List, Option, Result, Ok, Err}
 use Rattle.instructions.specs.declared.refusal.Refusal.{Refusal}
@@ -14,12 +14,12 @@ use Rattle.deck_run.specs.Running.{Runs, EndsSequentialRun, EndsReplay}
 use Rattle.operator_main.specs.declared.task.Task.{Task}
 use Rattle.operator_main.specs.declared.task.Task.TheVariants as works
 
--- how the program ends after a session or a listing: all is written, or it says why not
+-- the end of the program after a session or a listing: everything was written, or there was a fault
 abbrev pub plain_end : Result (Unit {0}) Refusal → Result Status ProgramFault
 plain_end (Ok x) = Ok Stopped
 plain_end (Err refusal) = Err (fault_of refusal)
 
--- how the program ends its work, what that leaves of these bytes, and what it prints
+-- the end of the program after a task, the bytes that the task leaves, and its output
 abbrev pub CarriesOut : Task → Result Status ProgramFault → List ℕ → List ℕ → Option (List ℕ) → Option (List ℕ)
     → Type 0
 CarriesOut (works.Run budget) end input rest old new = Runs end (deck input) budget rest old new
@@ -31,10 +31,10 @@ CarriesOut (works.Events budget) end input rest old new =
 CarriesOut works.List end input rest old new =
     (found : Result (Unit {0}) Refusal) × Lists found (deck input) rest old new × (end ≡ plain_end found)
 
--- the program does its work and ends so: it reads the deck from these bytes, and its output then holds what is printed
--- after what it held before. More of the bytes may have been read than the work takes
+-- the program carries out a task, with this end. It reads the deck from these bytes, and appends the task's output to
+-- its output. It may have read more bytes than the task needs
 pub record Performed (work : Task) (end : Result Status ProgramFault) (input old new : Option (List ℕ))
     : Type 0 where
-  -- the bytes that the work doesn't take
+  -- the bytes that the task doesn't need
   pub rest : Option (List ℕ)
   pub carried_out : Moves input rest (λ xs ys. CarriesOut work end xs ys old new)

@@ -1,5 +1,5 @@
-//! Calls of the four commands, with all that it prints, and what the command line may be. decks/ has further
-//! calls.
+//! Tests of calls of the four commands with their whole output, and of the command lines that are accepted. decks/ has
+//! more calls.
 
 use super::program::program;
 use super::progress::{may_take_long, show};
@@ -11,7 +11,7 @@ use std::test::Fail;
 use std::thread::Threads;
 use std::time::Clock;
 
-/// The lines of the deck's words.
+/// The listing of the deck.
 const TWO_ADDS_LIST: &[u8] = b"\
     000040 00000000000000000000 PS; PS; PS; PS\n\
     000041 00000100000000000000 PS; BX0 X0; PS; PS\n\
@@ -78,7 +78,8 @@ fn commands(rt: HostRuntime) -> Result<(), Fail> {
     Ok(())
 }
 
-/// Arguments, the exit status, and how what is printed begins, at status 0 to standard output.
+/// Arguments, the exit status, and the beginning of the text printed. The text goes to standard output if the status is
+/// 0, and to the fault stream otherwise.
 type Usage<'a> = (&'a [&'a str], u8, &'a str);
 
 const USAGES: [Usage<'static>; 24] = [
@@ -112,7 +113,8 @@ const USAGES: [Usage<'static>; 24] = [
     (&["events", "--sequential"], 2, "error: "),
 ];
 
-/// The exit status, what is printed and what is told with these arguments, and how much of the input is left.
+/// Calls the program with these arguments. Returns the exit status, the output, the text on the fault stream, and the
+/// number of input bytes left.
 fn left_by(
     rt: &(impl Abort + AllocGlobal + Threads + Wait + Clock + Sync),
     arguments: &[&str],
@@ -134,7 +136,7 @@ fn left_by(
     Ok((status, output, faults, input.len()))
 }
 
-/// A run and a replay may take long; nothing is shown of work that has ended.
+/// A run and a replay may take long. Nothing is shown for work that has ended.
 #[test]
 fn shows_nothing_at_the_end(rt: HostRuntime) -> Result<(), Fail> {
     for (command, is_long) in [("run", true), ("replay", true), ("events", false)].iter() {
@@ -147,7 +149,7 @@ fn shows_nothing_at_the_end(rt: HostRuntime) -> Result<(), Fail> {
     Ok(())
 }
 
-/// Nothing is read of a deck.
+/// No byte of a deck is read.
 #[test]
 fn usage(rt: HostRuntime) -> Result<(), Fail> {
     for (arguments, status, begins) in &USAGES {
@@ -167,8 +169,8 @@ fn usage(rt: HostRuntime) -> Result<(), Fail> {
     Ok(())
 }
 
-/// Calls of `replay` with the name of a file, and how they end. The file has these bytes, and standard input has the
-/// others.
+/// Calls of `replay` with the name of a file: the arguments, the bytes of the file, the bytes of standard input, and
+/// the exit status.
 const FILE_CASES: [(&[&str], &[u8], &[u8], u8); 8] = [
     (&["replay", "--log", "a"], b"E40 I6", TWO_ADDS, 0),
     (&["replay", "--log=a"], b"E40 I6\n", TWO_ADDS, 0),
@@ -190,7 +192,7 @@ const FILE_CASES: [(&[&str], &[u8], &[u8], u8); 8] = [
     (&["replay", "--log", "a"], b"", TWO_ADDS, 2),
 ];
 
-/// A log and a deck may each be in a file. Otherwise the log is refused after the deck.
+/// The log and the deck may each be in a file. A bad log is refused after the deck is read.
 #[test]
 fn replays_from_files(rt: HostRuntime) -> Result<(), Fail> {
     for (texts, bytes, input, status) in FILE_CASES {

@@ -6,7 +6,7 @@ use std::io;
 use std::io::{ErrorKind, Read, Write};
 use std::test::Fail;
 
-/// Bytes in memory that come a few a read; the reads fail from one on.
+/// A reader of bytes in memory, a few per read. Reads fail from read number `fails_from` on.
 #[derive(Drop)]
 struct Failing<'a> {
     bytes: &'a [u8],
@@ -27,7 +27,7 @@ impl Read for Failing<'_> {
     }
 }
 
-/// Takes one byte a call; the calls fail from one on.
+/// A writer that takes one byte per call. Calls fail from call number `fails_from` on.
 #[derive(Drop)]
 struct Dripping {
     bytes: Vec<u8>,
@@ -128,7 +128,7 @@ fn failing_writes(rt: HostRuntime) -> Result<(), Fail> {
     Ok(())
 }
 
-/// A fault stream that takes nothing changes no status, and help that can't be written is a fault.
+/// A failing fault stream changes no status. Help that can't be written is a fault.
 #[test]
 fn failing_faults(rt: HostRuntime) -> Result<(), Fail> {
     for (text, input, status) in [
@@ -162,7 +162,7 @@ fn failing_faults(rt: HostRuntime) -> Result<(), Fail> {
     Ok(())
 }
 
-/// Takes whole lines and counts the calls that brought them.
+/// A writer that takes all bytes of each call and counts the calls.
 #[derive(Drop)]
 struct Counting {
     bytes: Vec<u8>,
@@ -183,7 +183,7 @@ impl Write for Counting {
     }
 }
 
-/// A fault line is written in one call, so that those of programs that run side by side don't mix.
+/// A fault line is written in one call, so that the lines of programs that run at the same time don't mix.
 #[test]
 fn tells_a_fault_at_once(rt: HostRuntime) -> Result<(), Fail> {
     let words = words(rt.alloc(), ["list"].as_slice())?;

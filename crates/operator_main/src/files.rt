@@ -1,4 +1,4 @@
-//! Files that the program reads.
+//! The files that the program reads.
 ghost use Rattle.std.specs.Prelude.{◌≡◌, ℕ, List, Option, None, Some, IfOk, IfSome};
 
 use std::io::Read;
@@ -9,19 +9,19 @@ use std::{fs, io};
 pub trait Opener {
     type Opened: Read + Drop;
 
-    /// The bytes of the file of a name, if they are known.
+    /// The bytes of the file with a name, if they are known.
     ghost contents: { Self → List ℕ → Option (List ℕ) };
 
-    /// Opens the file of this name.
+    /// Opens the file with this name.
     ///
     /// # Errors
-    /// The system's.
+    /// The errors of the system.
     fn open(&self, name: &str) -> io::Result<Self::Opened>
         ensures { IfOk result (λ file. IfSome (contents self.now name.now)
             (λ bytes. Self.Opened.remaining file ≡ Some bytes)) };
 }
 
-/// The files of the system. Nothing is known of their bytes.
+/// The files of the system. Nothing is known about their bytes.
 #[derive(Clone, Copy, Drop)]
 pub struct SystemFiles<'a, R>(pub &'a R);
 

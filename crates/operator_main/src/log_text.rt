@@ -9,10 +9,10 @@ use operator_terms::ProgramFault;
 use std::alloc::Global;
 use std::io::{ErrorKind, Read};
 
-/// What stands for bytes that are no text. It is no log.
+/// The substitute for bytes that aren't a text. It isn't the text of a log.
 const NO_LOG: &str = "no log";
 
-/// The bytes without the line end at their end.
+/// The bytes without a line end at their end.
 fn without_line_end(bytes: &[u8]) -> &[u8]
     ensures { result.now ≡ without_line_end bytes.now }
 {
@@ -22,10 +22,10 @@ fn without_line_end(bytes: &[u8]) -> &[u8]
     }
 }
 
-/// All bytes of a reader.
+/// Reads all bytes of a reader.
 ///
 /// # Errors
-/// `Read`, and `OutOfMemory`.
+/// `Read` if a read fails. `OutOfMemory` if memory runs out.
 pub fn read_all<R: Read>(alloc: Global, reader: &mut R) -> Result<Vec<u8>, ProgramFault>
     ensures bytes { IfOk result (λ bytes. IfSome (R.remaining reader.old) (λ left. bytes.items ≡ left)) }
     ensures fault { IfErr result (λ fault. (fault ≡ Refused Read) ⊎ (fault ≡ Refused OutOfMemory)) }
@@ -40,7 +40,7 @@ pub fn read_all<R: Read>(alloc: Global, reader: &mut R) -> Result<Vec<u8>, Progr
     }
 }
 
-/// The text of a log of these bytes. A line end at their end isn't part of it.
+/// The text of the log in these bytes, without a line end at their end.
 pub fn text_of(bytes: &[u8]) -> &str
     ensures { IsTextOf bytes.now result.now }
 {

@@ -1,13 +1,13 @@
-//! The program `cdc6600`: it runs a deck and prints the machine's dump, replays a log on one,
-//! answers the events of a schedule, or lists a deck's words.
+//! The program `cdc6600`. It runs a deck and prints the machine's dump, replays a log on a deck, answers the events of
+//! a schedule, or lists a deck's words.
 //!
-//! `main` hands the words of the command line to `program::program` and exits with the status that it returns. The
-//! contract of `program` says what it does with its input, its output and its fault stream, and that the exit status is
-//! that of what it did; which words ask for what is no part of it. `main` puts a buffer before its output, so that not
-//! each piece that is printed costs a call of the system. `progress` shows at a terminal that a long run goes on.
+//! `main` calls `program::program` with the words of the command line and exits with the status that it returns. The
+//! contract of `program` says what it does with its input, its output and its fault stream, and that the exit status
+//! matches that. It doesn't say which words make which request. `main` buffers the output, so that printing a piece
+//! takes no system call. `progress` shows at a terminal that a long run is still going.
 //!
-//! Its tests call `program`; their first table is `CASES` in `command_tests`, a call of each command with all that it
-//! prints. Begin with `program::program`.
+//! Its tests call `program`. Their first table is `CASES` in `command_tests`: a call of each command with its whole
+//! output. Begin with `program::program`.
 #![tactic(auto)]
 
 mod files;
@@ -24,7 +24,7 @@ use std::process::ExitCode;
 use std::sync::atomic::{AtomicU64, Ordering};
 use std::{env, thread};
 
-/// Why the program ends if there is no memory for its arguments or its buffers.
+/// The fault with which the program ends if there is no memory for its arguments or its buffers.
 const NO_MEMORY: ProgramFault = ProgramFault::Refused(Refusal::OutOfMemory);
 
 fn main(rt: HostRuntime) -> ExitCode {
@@ -40,7 +40,7 @@ fn main(rt: HostRuntime) -> ExitCode {
     let Ok(mut output) = BufWriter::new(rt.alloc(), rt.stdout()) else {
         return ExitCode::from(program::report_fault(&mut stderr, NO_MEMORY, b""));
     };
-    // Somebody who types a deck isn't told how long that takes.
+    // Progress isn't shown while the deck is being typed at a terminal.
     let is_shown = progress::may_take_long(words.as_slice())
         && stderr.is_terminal()
         && !rt.stdin().is_terminal();

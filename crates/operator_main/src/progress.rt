@@ -1,4 +1,4 @@
-//! What somebody at a terminal sees while a run or a replay takes long: for how many seconds it has gone on.
+//! Shows at a terminal how many seconds a long run or replay has taken so far.
 
 use arrayvec::ArrayVec;
 use std::io::Write;
@@ -6,16 +6,16 @@ use std::sync::Wait;
 use std::sync::atomic::{AtomicU64, Ordering};
 use std::time::Duration;
 
-/// For how many seconds nothing is shown.
+/// The number of seconds after which the first progress is shown.
 const QUIET: u64 = 3;
 
-/// After a day it stays as it was shown last.
+/// The number of seconds after which the progress is no longer updated: one day.
 const MOST: u64 = 86_400;
 
-/// More bytes than what is shown has.
+/// A buffer size that is more than the bytes of the line shown.
 const PROGRESS_LINE: usize = 32;
 
-/// Whether these words of a command line ask for what may take long.
+/// Whether the request in these words of a command line may take long.
 pub fn may_take_long(words: &[String]) -> bool {
     match words.first() {
         Some(command) => command.as_str() == "run" || command.as_str() == "replay",
@@ -23,9 +23,10 @@ pub fn may_take_long(words: &[String]) -> bool {
     }
 }
 
-/// Shows each second on a terminal how long the work takes, until it has ended, which is told by another number than 0,
-/// and then clears the line. What the program prints meanwhile begins where this line does, and is longer. The line
-/// begins with room for the `^C` that a terminal shows if the user interrupts the program.
+/// Shows on a terminal, every second, how long the work has taken so far, and clears that line when the work ends. The
+/// work ends when `ended` isn't 0. Any output that the program prints meanwhile begins at the same column as the line
+/// and is longer, so it overwrites the line. The line begins with room for the `^C` that a terminal shows if the user
+/// interrupts the program.
 pub fn show<R: Wait, F: Write>(rt: &R, terminal: &mut F, ended: &AtomicU64) {
     for second in 1..MOST {
         ended.park_timeout(rt, 0, Duration::from_secs(1));

@@ -1,18 +1,18 @@
-//! What the program does with a deck.
+//! The tasks of the program.
 
 use operator_terms::Budget;
 
-/// What the program does with a deck.
+/// A task of the program: what it does with a deck.
 #[derive(Clone, Copy, Debug, Drop)]
 pub enum Task<'a> {
-    /// It runs the deck by threads, and issues at most so many instructions.
+    /// Run the deck with threads, and issue at most this many instructions.
     Run(Budget),
-    /// It runs the deck one instruction at a time, and does at most so many instructions.
+    /// Run the deck one instruction at a time, and execute at most this many instructions.
     RunSequentially(Budget),
-    /// It goes through the log of this text on the deck.
+    /// Replay the log in this text on the deck.
     Replay(&'a str),
-    /// It answers the events of the schedule after the deck, and issues at most so many instructions.
+    /// Answer the events of the schedule after the deck, and issue at most this many instructions.
     Events(Budget),
-    /// It lists the deck's words.
+    /// List the deck's words.
     List,
 }

@@ -1,4 +1,4 @@
-//! What the tests share: calls of the program, and a deck.
+//! Fixtures shared by the tests: calls of the program, and a deck.
 
 ghost use Rattle.std.specs.Prelude.{Some};
 
@@ -20,7 +20,7 @@ pub fn words(alloc: Global, texts: &[&str]) -> Result<Vec<String>, AllocError> {
     Ok(all)
 }
 
-/// The files of a test: one of this name with these bytes.
+/// The files of a test: one file with this name and these bytes.
 #[derive(Clone, Copy, Drop)]
 pub struct OneFile<'a> {
     pub name: &'a str,
@@ -41,13 +41,14 @@ impl<'a> Opener for OneFile<'a> {
     }
 }
 
-/// No file has this name, since no word of a command line holds a zero.
+/// Files of which none can be named, because no word of a command line contains a zero byte.
 pub const NO_FILES: OneFile<'static> = OneFile {
     name: "\0",
     bytes: b"",
 };
 
-/// The program's status with these arguments and this input, what it prints and what it says of faults.
+/// Calls the program with these arguments and this input. Returns the exit status, the output and the text on the fault
+/// stream.
 pub fn called(
     rt: &(impl Abort + AllocGlobal + Threads + Wait + Clock + Sync),
     texts: &[&str],
@@ -69,21 +70,21 @@ pub fn called(
     Ok((status, output, faults))
 }
 
-/// A call of the program, and how it ends.
+/// A call of the program and its expected end.
 #[derive(Clone, Copy, Drop)]
 pub struct Case<'a> {
-    /// What it shows.
+    /// The subject of the case.
     pub name: &'a str,
     pub arguments: &'a [&'a str],
     pub input: &'a [u8],
     /// The exit status.
     pub status: u8,
     pub printed: &'a [u8],
-    /// What it says of faults.
+    /// The text on the fault stream.
     pub told: &'a [u8],
 }
 
-/// The call ends as the case says.
+/// Expects that the call ends as the case says.
 pub fn expect(
     rt: &(impl Abort + AllocGlobal + Threads + Wait + Clock + Sync),
     case: &Case<'_>,
@@ -112,7 +113,7 @@ pub const TWO_ADDS: &[u8] = b"\
     show 100 101\n\
     end\n";
 
-/// What its run prints.
+/// The output of that deck's run.
 pub const TWO_ADDS_DUMP: &[u8] = b"\
     P 000001 PARCEL 3 HELD 36312374214600000000\n\
     HALT stop FAULT none\n\

@@ -1,3 +1,3 @@
--- How the program ends.
+-- The end of the program.
 -- Source: ours.
 pub mod Status

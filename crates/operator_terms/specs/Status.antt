@@ -1,4 +1,4 @@
--- How the program ends: its exit status, and why it ends without its whole output.
+-- The end of the program: its exit status, and the reasons for ending without its whole output.
 -- Source: ours.
 use Rattle.std.specs.Prelude.{ℕ, Bool, true, false, Option, Some, None}
 use Rattle.instructions.specs.declared.refusal.Halt.{Halt}
@@ -11,7 +11,7 @@ use Rattle.operator_terms.specs.declared.status.Status.{Status}
 use Rattle.operator_terms.specs.declared.status.Status.TheVariants.{Stopped, Refused, Usage, Halted, AddressFault}
 use Rattle.operator_terms.specs.declared.status.Status.TheVariants.{Running, OutOfMemory, Device}
 
--- how a machine stands at its end: a fault wins over a halt, and without either it still runs
+-- the status for a machine at its end. A fault wins over a halt, and without either the machine still runs
 abbrev pub status_of : Bool → Option Halt → Status
 status_of true halt = AddressFault
 status_of false None = Running
@@ -31,8 +31,8 @@ code_of Running = 5
 code_of OutOfMemory = 6
 code_of Device = 7
 
--- why the program ends at this refusal: `E20`, `E19`, `E27`, `E21`, `E22` or `E23`; the other refusals
--- never come
+-- the fault with which the program ends at this refusal: `E20`, `E19`, `E27`, `E21`, `E22` or `E23`. The other refusals
+-- never occur
 abbrev pub fault_of : Refusal → ProgramFault
 fault_of (refusals.Deck line fault) = faults.Refused (refusals.Deck line fault)
 fault_of refusals.PackageRange = faults.Refused refusals.PackageRange
@@ -42,7 +42,7 @@ fault_of refusals.Read = faults.Refused refusals.Read
 fault_of refusals.Write = faults.Refused refusals.Write
 fault_of other = faults.Stuck
 
--- how the program ends where it prints a fault line
+-- the status with which the program ends if it prints a fault line
 abbrev pub fault_status : ProgramFault → Status
 fault_status (faults.Refused (refusals.Deck line fault)) = Refused
 fault_status (faults.Refused refusals.PackageRange) = Usage

@@ -5,7 +5,7 @@ use std::marker::Model;
 /// The largest budget.
 pub const LARGEST_BUDGET: u64 = 10_000_000;
 
-/// How many instructions a machine issues at most, 1 to 10,000,000.
+/// The largest number of instructions that a machine may issue: 1 to 10,000,000.
 #[derive(Clone, Copy, Debug, Drop, PartialEq, Eq)]
 pub struct Budget {
     instructions: u64,
@@ -24,7 +24,7 @@ impl Model for Budget {
 }
 
 impl Budget {
-    /// The budget of so many instructions; None for none and above 10,000,000.
+    /// The budget of this many instructions, or `None` if the number is 0 or above 10,000,000.
     pub fn new(instructions: u64) -> Option<Budget>
         ensures { SomeIff result ((1 ≤ instructions) × (instructions ≤ 10000000)) instructions }
     {

@@ -1,9 +1,9 @@
-//! What the program and its operator tell each other: the budget that the command line may name, the
-//! faults that it tells, and its exit statuses. All of this is this project's choice;
-//! docs/formats.md has the texts and the numbers.
+//! The terms between the program and its operator: the budgets that the command line may have, the faults that the
+//! program reports, and its exit statuses. All of this is this project's choice; docs/formats.md has the texts and the
+//! numbers.
 //!
-//! Callers rely on `end_status`: it answers exactly the status that `specs/Status` gives to a machine's fault and halt,
-//! where a fault wins over a halt. `fault` has why the program may end without its output. Its tests are in
+//! Callers rely on `end_status`. It returns exactly the status that `specs/Status` gives to a machine's fault and halt,
+//! where a fault wins over a halt. `fault` has the reasons why the program may end without its output. Its tests are in
 //! `crates/text_tests/src/operator_terms_tests.rt`. Begin with `Status` in `status`.
 #![tactic(auto)]
 

@@ -4,20 +4,20 @@ ghost use Rattle.operator_terms.specs.Status.{status_of};
 use instruction_table::Halt;
 use sequential::State;
 
-/// How the program ends, by its exit status.
+/// The exit statuses of the program.
 #[derive(Clone, Copy, Debug, Drop, PartialEq, Eq)]
 pub enum Status {
-    /// The program of the deck stopped, or all that was asked for is written.
+    /// The program of the deck stopped, or everything requested was written.
     Stopped = 0,
-    /// The deck is refused.
+    /// The deck or the schedule is refused.
     Refused = 1,
-    /// The command line is refused, or the log on it.
+    /// The command line is refused, or the log.
     Usage = 2,
-    /// An opcode that is refused, an instruction across a word's end or a fetch out of range halted it.
+    /// A refused opcode, an instruction across a word's end or a fetch out of range halted the machine.
     Halted = 3,
-    /// An address was out of range while that sets the fault flag.
+    /// An address was out of range, and the exit mode made that a fault.
     AddressFault = 4,
-    /// The budget is used up.
+    /// The machine still runs: the budget is used up, or the end of the log is reached.
     Running = 5,
     /// Memory ran out.
     OutOfMemory = 6,
@@ -36,7 +36,7 @@ impl Status {
     }
 }
 
-/// The status of a machine that has come to its end. A fault wins over a halt.
+/// The status for a machine at its end. A fault wins over a halt.
 pub fn end_status(state: &State) -> Status
     ensures { result ≡ status_of state.now.fault state.now.halt }
 {

@@ -1,3 +1,3 @@
--- Where the fault of a refused line is.
+-- The position of the fault in a refused line.
 -- Source: ours.
 pub mod Position

@@ -1,11 +1,11 @@
-//! The fields of a line, which blanks separate.
+//! The fields of a line, separated by blanks.
 ghost use Rattle.std.specs.Prelude.{◌≤◌, length, IfSome};
 ghost use Rattle.refused_line.specs.Position.{IsPart};
 
 use crate::position::{Cause, Position};
 use device_text::first_part;
 
-/// How many fields a line has.
+/// Counts the fields of a line.
 pub fn count(line: &[u8]) -> usize {
     let mut fields = 1usize;
     for byte in line {
@@ -16,14 +16,14 @@ pub fn count(line: &[u8]) -> usize {
     fields
 }
 
-/// Where in a line this ending of it begins.
+/// The position at which this ending of a line begins.
 pub fn start_of(line: &[u8], ending: &[u8]) -> usize
     ensures { result ≤ length line.now }
 {
     line.len().saturating_sub(ending.len())
 }
 
-/// Where the field of this number begins. The first has the number 0.
+/// The position at which a field begins. Fields are numbered from 0.
 fn start(line: &[u8], number: usize) -> Option<usize>
     ensures { IfSome result (λ start. start ≤ length line.now) }
 {
@@ -34,7 +34,7 @@ fn start(line: &[u8], number: usize) -> Option<usize>
     Some(start_of(line, ending))
 }
 
-/// The text of a line from this byte on, up to a separator.
+/// The text of a line from a byte on, up to a separator.
 fn text_from(line: &[u8], start: usize, separator: u8) -> &[u8]
     requires { start ≤ length line.now }
     ensures { IsPart line.now start result.now }
@@ -46,7 +46,7 @@ fn text_from(line: &[u8], start: usize, separator: u8) -> &[u8]
     }
 }
 
-/// The position of what is in a line from this byte on, up to a separator.
+/// The position of the text from a byte on, up to a separator.
 pub fn position_from(line: &[u8], start: usize, separator: u8, cause: Cause) -> Position<'_>
     requires { start ≤ length line.now }
     ensures { IsPart line.now result.start result.text.now }
@@ -58,7 +58,7 @@ pub fn position_from(line: &[u8], start: usize, separator: u8, cause: Cause) -> 
     }
 }
 
-/// The position of the field of this number.
+/// The position of the field with this number.
 pub fn field(line: &[u8], number: usize) -> Option<Position<'_>>
     ensures { IfSome result (λ position. IsPart line.now position.start position.text.now) }
 {
@@ -66,7 +66,7 @@ pub fn field(line: &[u8], number: usize) -> Option<Position<'_>>
     Some(position_from(line, start, b' ', Cause::Text))
 }
 
-/// The end of a line, as the position of this cause.
+/// The position of the end of a line, with this cause.
 pub fn end(line: &[u8], cause: Cause) -> Position<'_>
     ensures { IsPart line.now result.start result.text.now }
 {

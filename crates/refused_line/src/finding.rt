@@ -1,4 +1,4 @@
-//! Where the fault of a line is.
+//! Finds the position of the fault in a line.
 ghost use Rattle.std.specs.Prelude.{◌≡◌, ◌↔◌, None, IfSome};
 ghost use Rattle.refused_line.specs.Position.{IsOfNoLine, IsPart};
 
@@ -8,21 +8,21 @@ use crate::texts::text_at_fault;
 use device_text::number;
 use instruction_table::DeckFault;
 
-/// The words of lines with one field.
+/// The first words of lines with one field.
 const ALONE: [&str; 4] = ["end", "drain", "issue", "exchange"];
 
-/// Those of lines with two fields, of which the second is a number.
+/// The first words of lines with two fields, the second of which is a number.
 const WITH_NUMBER: [&str; 8] = [
     "core", "at", "word", "start", "accept", "return", "bank", "ppread",
 ];
 
-/// Those of lines with two fields, of which the second is a unit.
+/// The first words of lines with two fields, the second of which is a unit.
 const WITH_UNIT: [&str; 3] = ["read", "finish", "store"];
 
-/// Those of lines with three fields.
+/// The first words of lines with three fields.
 const WITH_TWO: [&str; 2] = ["show", "ppwrite"];
 
-/// Those of lines whose number is decimal and has at most two digits.
+/// The first words of lines whose number is decimal and has at most two digits.
 const SMALL: [&str; 3] = ["accept", "return", "bank"];
 
 /// Whether a field is one of these words.
@@ -35,7 +35,8 @@ fn is_one_of(field: &[u8], words: &[&str]) -> bool {
     false
 }
 
-/// The number of the field at which a line with this first word and so many fields is unknown, though the word is known.
+/// The number of the field at fault in an unknown line of `fields` fields that begins with a known word. If the number
+/// of fields is wrong, that is the first field too many or the first one missing.
 fn unknown_number(word: &[u8], fields: usize) -> usize {
     if is_one_of(word, WITH_UNIT.as_slice()) && fields == 2 {
         return 1;
@@ -50,12 +51,14 @@ fn unknown_number(word: &[u8], fields: usize) -> usize {
     if fields == wanted { 0 } else { wanted }
 }
 
-/// The same for a line that begins with `ask`: its third field is `after` or `free`, and a fourth follows `after`.
+/// The number of the field at fault in an unknown line that begins with `ask`. Its third field has to be `after` or
+/// `free`, and a fourth field follows `after`.
 fn unknown_number_of_ask(fields: usize) -> usize {
     if fields > 4 { 4 } else { 2 }
 }
 
-/// The position in a line that is unknown: its first field, or the first one that isn't as its first field wants it.
+/// The position of the fault in an unknown line: its first field, or the first field that doesn't fit a known first
+/// field.
 fn unknown(line: &[u8]) -> Option<Position<'_>>
     ensures { IfSome result (λ position. IsPart line.now position.start position.text.now) }
 {
@@ -73,7 +76,7 @@ fn unknown(line: &[u8]) -> Option<Position<'_>>
     }
 }
 
-/// Whether lines begin with this word.
+/// Whether a valid line may begin with this word.
 fn is_known(word: &[u8]) -> bool {
     word == b"code".as_slice()
         || is_one_of(word, ALONE.as_slice())
@@ -82,7 +85,7 @@ fn is_known(word: &[u8]) -> bool {
         || is_one_of(word, WITH_TWO.as_slice())
 }
 
-/// Whether a field is a number as a line with this first word has it there, or the word `after`.
+/// Whether a field is a number of the kind that a line with this first word has in this field, or the word `after`.
 fn is_number(word: &[u8], at: usize, text: &[u8]) -> bool {
     if word == b"core".as_slice() {
         number(10, 6, text).is_some()
@@ -97,7 +100,7 @@ fn is_number(word: &[u8], at: usize, text: &[u8]) -> bool {
     }
 }
 
-/// The position of the first field that isn't a number, or else of the last one, which is too large.
+/// The position of the first field that isn't a number, or else of the last field, whose number is too large.
 fn bad_number(line: &[u8]) -> Option<Position<'_>>
     ensures { IfSome result (λ position. IsPart line.now position.start position.text.now) }
 {
@@ -112,8 +115,8 @@ fn bad_number(line: &[u8]) -> Option<Position<'_>>
     field(line, fields.saturating_sub(1))
 }
 
-/// The position of the address that is out of range: that of an `at` line, one of a `show` line, or the first field of a
-/// line whose word has no address in memory.
+/// The position of the address that is out of range: the address of an `at` line or one of the addresses of a `show`
+/// line. For any other line, the position of the first field.
 fn bad_range(line: &[u8]) -> Option<Position<'_>>
     ensures { IfSome result (λ position. IsPart line.now position.start position.text.now) }
 {
@@ -153,7 +156,7 @@ fn bad_byte(line: &[u8]) -> Option<Position<'_>>
     None
 }
 
-/// The position of a fault in a line, if the line has what the fault is about.
+/// The position of a fault in a line, if a part of the line can be found that is at fault.
 fn within(fault: DeckFault, line: &[u8]) -> Option<Position<'_>>
     ensures { IfSome result (λ position. IsPart line.now position.start position.text.now) }
 {
@@ -176,8 +179,8 @@ fn within(fault: DeckFault, line: &[u8]) -> Option<Position<'_>>
     }
 }
 
-/// The position of a fault in the line that is refused for it: by default its first field. There is none if no line is
-/// refused, since too many lines were read or the input has ended.
+/// Finds the position of a fault in the line that has it. If no better position is known, that is the line's first
+/// field. Returns `None` if the fault is in no line: too many lines were read, or the input has ended.
 pub fn find(fault: DeckFault, line: &[u8]) -> Option<Position<'_>>
     ensures part { IfSome result (λ position. IsPart line.now position.start position.text.now) }
     ensures none { result ≡ None ↔ IsOfNoLine fault }

@@ -1,10 +1,10 @@
-//! Where the faults of lines are found, and how that is printed.
+//! Tests of the positions of faults, and of their printed form.
 
 use crate::find;
 use instruction_table::DeckFault;
 use std::test::Fail;
 
-/// A fault, a line that is refused for it, and the position that is printed.
+/// A fault, a line that has the fault, and the printed position.
 type Row<'a> = (DeckFault, &'a [u8], &'a str);
 
 const ROWS: [Row<'static>; 33] = [
@@ -92,7 +92,7 @@ fn faults_and_positions(rt: HostRuntime) -> Result<(), Fail> {
     Ok(())
 }
 
-/// A text is cut, bytes that aren't printable have escapes, and instructions of floating point are told.
+/// A long text is cut off, unprintable bytes are escaped, and floating-point instructions are named as such.
 #[test]
 fn texts_as_they_are_printed(rt: HostRuntime) -> Result<(), Fail> {
     let rows: [(&[u8], &str); 4] = [

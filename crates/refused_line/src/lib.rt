@@ -1,9 +1,9 @@
-//! Where the fault of a refused line is: its column, and the text that is there. The program adds both to its fault
-//! line, for whoever wrote the deck. Nothing else depends on them.
+//! Finds the fault in a refused line: its column and the text there. The program adds both to its fault line, to help
+//! the author of the deck. Nothing else depends on them.
 //!
-//! Callers rely on `find`: the text that it answers is that of the line at the column that it answers. Which column
-//! that is for which fault is shown by the tests in `finding_tests` and by the rows of decks/pages/refusals.md.
-//! Begin with `find` in `finding`; `fields` and `texts` have what a line is taken apart by.
+//! Callers rely on `find`: the text that it returns is the text of the line at the column that it returns. The tests in
+//! `finding_tests` and the rows of decks/pages/refusals.md show which column belongs to which fault. Begin with `find`
+//! in `finding`; `fields` and `texts` split lines.
 #![tactic(auto)]
 
 mod fields;

@@ -1,42 +1,42 @@
-//! A position in a line, and how it is printed.
+//! A position in a line, and its printed form.
 
 use std::fmt;
 use std::fmt::{Display, Formatter, Write};
 
-/// How many bytes of a text are shown at most.
+/// The largest number of bytes of a text that is printed.
 const MOST_SHOWN_BYTES: usize = 32;
 
-/// What is wrong at a position.
+/// The cause of a fault at a position.
 #[derive(Clone, Copy, Debug, Drop, PartialEq, Eq)]
 pub enum Cause {
-    /// The text that is there.
+    /// The text is at fault.
     Text,
-    /// The text that is there: an instruction of floating point, which this machine doesn't have.
+    /// The text is a floating-point instruction, which this machine doesn't have.
     FloatingPoint,
-    /// The carriage return at the line's end, which isn't part of a line end here.
+    /// A carriage return is at the end of the line. It isn't part of a line end here.
     CarriageReturn,
-    /// A blank at the line's beginning, at its end or after another one.
+    /// A blank is at the beginning of the line, at its end or after another blank.
     Blank,
-    /// The text that is there has no blank before it.
+    /// The text has no blank before it.
     NoBlank,
-    /// The line ends there, and a field is missing.
+    /// The line ends here, and a field is missing.
     LineEnd,
-    /// The line is longer than a line may be.
+    /// The line is too long.
     Length,
 }
 
-/// Where the fault of a line is.
+/// The position of the fault in a line.
 #[derive(Clone, Copy, Debug, Drop, PartialEq, Eq)]
 pub struct Position<'a> {
-    /// How many bytes of the line are before it.
+    /// The number of bytes before the fault in the line.
     pub start: usize,
-    /// The text that is there: a field or the text of an instruction, up to its end.
+    /// The text at fault: a field or the text of an instruction, up to its end.
     pub text: &'a [u8],
     pub cause: Cause,
 }
 
 impl Position<'_> {
-    /// The text as it is printed: cut if it is long, with an escape for each byte that isn't printable.
+    /// Prints the text. A long text is cut off, and unprintable bytes are escaped.
     fn shown<W: Write>(&self, f: &mut Formatter<W>) -> fmt::Result {
         let shown = self.text.len().min(MOST_SHOWN_BYTES);
         let rest = if shown < self.text.len() { ".." } else { "" };

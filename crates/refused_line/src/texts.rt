@@ -7,13 +7,13 @@ use crate::position::{Cause, Position};
 use device_text::first_part;
 use instruction_table::{encode, read_bytes};
 
-/// How many bytes are before the first text: `code` and a blank.
+/// The number of bytes before the first text: `code` and a blank.
 const BEFORE: usize = 5;
 
-/// How many parcels a word has.
+/// The number of parcels in a word.
 const PARCELS_OF_A_WORD: usize = 4;
 
-/// Whether a text begins as the instructions of floating point do.
+/// Whether a text begins like a floating-point instruction.
 fn is_floating_point(text: &[u8]) -> bool {
     match text {
         [first, b'X', ..] => b"FDRNZUP".contains(first),
@@ -21,7 +21,7 @@ fn is_floating_point(text: &[u8]) -> bool {
     }
 }
 
-/// What is wrong with a text that is no instruction.
+/// The cause of the fault in a text that isn't an instruction.
 fn cause_of(text: &[u8]) -> Cause {
     if is_floating_point(text) {
         Cause::FloatingPoint
@@ -30,7 +30,7 @@ fn cause_of(text: &[u8]) -> Cause {
     }
 }
 
-/// The position of the first text that is no instruction, or that doesn't fit into the word.
+/// The position of the first text that isn't an instruction, doesn't fit into the word, or has no blank before it.
 pub fn text_at_fault(line: &[u8]) -> Option<Position<'_>>
     ensures { IfSome result (λ position. IsPart line.now position.start position.text.now) }
 {

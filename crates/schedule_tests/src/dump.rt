@@ -1,9 +1,9 @@
-//! Texts of dumps, by what is not the same in each.
+//! Builds the texts of dumps from the parts in which the dumps differ.
 
 use std::alloc::{AllocError, Global};
 
-/// What a dump has that isn't the same in each: the lines before the registers, the registers that aren't +0
-/// with their digits from the first that isn't 0 on, the words that are shown, and the log.
+/// The parts of a dump that differ between schedules: the lines before the registers, the registers that aren't +0, the
+/// lines of the words shown, and the log. A register has its digits without leading zeros.
 #[derive(Clone, Copy, Drop)]
 pub struct Dump<'a> {
     pub begins: &'a str,
@@ -12,7 +12,7 @@ pub struct Dump<'a> {
     pub log: &'a str,
 }
 
-/// Digits with zeros before them.
+/// Writes digits after as many zeros as the width needs.
 fn put_octal(text: &mut Vec<u8>, digits: &str, width: usize) -> Result<(), AllocError> {
     for _ in digits.len()..width {
         text.push(b'0')?;
@@ -20,7 +20,7 @@ fn put_octal(text: &mut Vec<u8>, digits: &str, width: usize) -> Result<(), Alloc
     text.extend_from_slice(digits.as_bytes())
 }
 
-/// A register's digits.
+/// Writes the digits of a register.
 fn put_register(
     text: &mut Vec<u8>,
     dump: Dump<'_>,
@@ -35,7 +35,7 @@ fn put_register(
     put_octal(text, "", width)
 }
 
-/// The line of the A or B registers.
+/// Writes the line of the A or B registers.
 fn put_indexes(
     text: &mut Vec<u8>,
     dump: Dump<'_>,
@@ -50,7 +50,7 @@ fn put_indexes(
     text.extend_from_slice(b"\n")
 }
 
-/// The lines of the X registers.
+/// Writes the lines of the X registers.
 fn put_words(text: &mut Vec<u8>, dump: Dump<'_>) -> Result<(), AllocError> {
     for register in ["X0", "X1", "X2", "X3", "X4", "X5", "X6", "X7"] {
         text.extend_from_slice(register.as_bytes())?;
@@ -61,7 +61,7 @@ fn put_words(text: &mut Vec<u8>, dump: Dump<'_>) -> Result<(), AllocError> {
     Ok(())
 }
 
-/// The lines of all registers.
+/// Writes the lines of all registers.
 fn put_registers(text: &mut Vec<u8>, dump: Dump<'_>) -> Result<(), AllocError> {
     let a = ["A0", "A1", "A2", "A3", "A4", "A5", "A6", "A7"];
     put_indexes(text, dump, "A", a)?;

@@ -1,10 +1,9 @@
-//! Worked schedules: lists of events from boot on, each with its answer, and all that they leave.
-//! The crate hands out nothing.
+//! Worked schedules: lists of events from boot on, each event with its answer, and the final state of the machine. This
+//! crate exports nothing.
 //!
-//! Each schedule is made in every way in which events are made: as the lines of a session, one by one, as one list, and
-//! by the calls of a machine under its lock. `schedule` has what a row says, and `schedule_tests` makes each row.
-//! `tools/check schedules` gives the same rows to the program. Begin with the table `SCHEDULES` in
-//! `register_schedules`.
+//! Each schedule is made in every way of making events: as the lines of a session, one by one, as one list, and by the
+//! calls of a machine under its lock. `schedule` defines a row, and `schedule_tests` makes each row. `tools/check
+//! schedules` gives the same rows to the program. Begin with the table `SCHEDULES` in `register_schedules`.
 #![tactic(auto)]
 
 #[cfg(test)]

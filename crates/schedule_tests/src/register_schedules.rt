@@ -1,4 +1,4 @@
-//! Worked schedules of instructions that read and set registers alone.
+//! Worked schedules of instructions that only read and set registers.
 
 use super::dump::Dump;
 use super::schedule::Schedule;

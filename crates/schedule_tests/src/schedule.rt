@@ -1,24 +1,25 @@
-//! What a worked schedule has. The schedules stand by subject in register_schedules.rt, reference_schedules.rt,
-//! branch_schedules.rt and exchange_schedules.rt. schedule_tests.rt makes each of them by each way in which events are
-//! made, and `tools/check schedules` gives them to the program.
+//! The data of a worked schedule. The schedules are in register_schedules.rt, reference_schedules.rt,
+//! branch_schedules.rt and exchange_schedules.rt, by subject. `schedule_tests` makes each schedule in every way of
+//! making events, and `tools/check schedules` gives them to the program.
 
 use super::dump::Dump;
 
-/// Events from boot on with their answers, and all that they leave.
+/// Events from boot on, their answers, and the final state of the machine.
 #[derive(Clone, Copy, Drop)]
 pub struct Schedule {
-    /// What it shows.
+    /// The subject of the schedule.
     pub name: &'static str,
-    /// The deck whose memory is booted.
+    /// The deck with whose memory the machine is booted.
     pub deck: &'static str,
-    /// How many instructions may be issued.
+    /// The number of instructions that the machine may issue.
     pub budget: u64,
-    /// The lines of events, each with the line that answers it.
+    /// The lines of events, each with the line of its answer.
     pub steps: &'static [(&'static str, &'static str)],
-    /// How many events a drain then makes.
+    /// The number of events that a drain makes after them.
     pub left: u32,
-    /// What the drained machine shows.
+    /// The dump of the drained machine.
     pub dump: Dump<'static>,
-    /// The words of memory that aren't +0 then, but for the status of the booted machine at 47 (octal).
+    /// The words of the drained machine's memory that aren't +0, except for the status of the booted machine at 47
+    /// (octal).
     pub memory: &'static [(u32, &'static str)],
 }

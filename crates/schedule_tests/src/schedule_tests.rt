@@ -1,5 +1,5 @@
-//! Each worked schedule by each way in which events are made: as the lines of a session, one by one, as one list, and
-//! by the calls of a machine under its lock.
+//! Makes each worked schedule in every way of making events: as the lines of a session, one by one, as one list, and by
+//! the calls of a machine under its lock.
 
 ghost use Rattle.std.specs.Prelude.{◌≡◌};
 
@@ -42,7 +42,7 @@ fn answers_of(alloc: Global, schedule: &Schedule) -> Result<Vec<u8>, AllocError>
     Ok(answers)
 }
 
-/// What the session prints: the answers, and what the drained machine shows.
+/// The output of the session: the answers, and the dump of the drained machine.
 fn printed_by(alloc: Global, schedule: &Schedule) -> Result<Vec<u8>, AllocError> {
     let mut printed = answers_of(alloc, schedule)?;
     let dump = dump_text(alloc, schedule.dump)?;
@@ -50,7 +50,7 @@ fn printed_by(alloc: Global, schedule: &Schedule) -> Result<Vec<u8>, AllocError>
     Ok(printed)
 }
 
-/// The events that the lines say.
+/// The events of the lines.
 fn events_of(alloc: Global, schedule: &Schedule) -> Result<Vec<Event>, Fail> {
     let mut events = Vec::new(alloc);
     for (line, _) in schedule.steps {
@@ -62,7 +62,7 @@ fn events_of(alloc: Global, schedule: &Schedule) -> Result<Vec<Event>, Fail> {
     Ok(events)
 }
 
-/// The lines that answers have in a session.
+/// The lines of answers in a session.
 fn text_of(alloc: Global, answers: &[Answer]) -> Result<Vec<u8>, Fail> {
     let mut text = Vec::new(alloc);
     let mut output = CheckedWriter::new(&mut text);
@@ -81,15 +81,15 @@ fn deck_of(alloc: Global, schedule: &Schedule) -> Result<Deck, Fail> {
     }
 }
 
-/// A machine that was booted with the memory of a deck.
+/// A machine booted with the memory of a deck.
 fn booted(alloc: Global, deck: &Deck, schedule: &Schedule) -> Result<Machine, Fail> {
     let memory = deck.image.memory().copy()?;
     let budget = schedule.budget.min(10_000_000);
     Ok(Machine::boot(alloc, memory, budget)?)
 }
 
-/// A memory of so many words in which these stand, and the status of the booted machine at 47 (octal), where no other
-/// word stands there.
+/// A memory of `size` words that holds these words, and the status of the booted machine at 47 (octal) unless another
+/// word is there.
 fn memory_of(alloc: Global, size: u32, words: &[(u32, &str)]) -> Result<Storage, Refusal> {
     let mut memory = Storage::new(alloc, size)?;
     memory.store(0o47 % size, Word60::from_bits(1 << 36));
@@ -108,7 +108,7 @@ fn is_same(one: &Storage, other: &Storage) -> bool {
     (0..words).all(|address| one.load(address) == other.load(address)) && one.size() == other.size()
 }
 
-/// The drained machine shows what the schedule leaves, and was booted with the deck's memory and the schedule's budget.
+/// Expects the final state of the schedule, the deck's memory as the boot memory, and the schedule's budget.
 fn expect_left(
     rt: &(impl Abort + AllocGlobal),
     schedule: &Schedule,
@@ -130,8 +130,8 @@ fn expect_left(
     Ok(())
 }
 
-/// A snapshot is given only when the machine is drained, which takes as many events as the schedule says; it shows
-/// what is left.
+/// Drains the machine, and expects that this takes the schedule's number of events. Expects that a snapshot before is
+/// refused if anything is pending, and that the snapshot after has the schedule's final state.
 fn expect_drained(
     rt: &(impl Abort + AllocGlobal),
     schedule: &Schedule,
@@ -152,7 +152,7 @@ fn expect_drained(
     expect_left(rt, schedule, deck, &snapshot)
 }
 
-/// The answers have the lines that the schedule says.
+/// Expects answers with the lines of the schedule.
 fn expect_answers(
     rt: &(impl Abort + AllocGlobal),
     schedule: &Schedule,
@@ -164,7 +164,7 @@ fn expect_answers(
     Ok(())
 }
 
-/// One event after another.
+/// Makes one event after another.
 fn expect_events(
     rt: &(impl Abort + AllocGlobal),
     schedule: &Schedule,
@@ -179,7 +179,7 @@ fn expect_events(
     expect_drained(rt, schedule, deck, &mut machine)
 }
 
-/// All events as one list.
+/// Makes all events as one list.
 fn expect_one_run(
     rt: &(impl Abort + AllocGlobal),
     schedule: &Schedule,
@@ -193,7 +193,7 @@ fn expect_one_run(
     expect_drained(rt, schedule, deck, &mut machine)
 }
 
-/// The lines of a session, and a drain.
+/// Runs the lines as a session that ends with a drain.
 fn expect_lines(rt: &(impl Abort + AllocGlobal), schedule: &Schedule) -> Result<(), Fail> {
     let session = session_of(rt.alloc(), schedule)?;
     let wanted = printed_by(rt.alloc(), schedule)?;
@@ -209,7 +209,7 @@ fn expect_lines(rt: &(impl Abort + AllocGlobal), schedule: &Schedule) -> Result<
     Ok(())
 }
 
-/// How many reservations the schedule stores with a unit.
+/// The number of reservations of one unit that the schedule stores.
 fn stored_with(schedule: &Schedule, store: &str) -> u64 {
     let mut stored = 0u64;
     for step in schedule.steps {
@@ -220,7 +220,7 @@ fn stored_with(schedule: &Schedule, store: &str) -> u64 {
     stored
 }
 
-/// What the seats are to tell: each its unit, and how many reservations were stored with it.
+/// The expected answers of the seats: for each seat its unit and the number of reservations stored with it.
 fn stored_by_unit(schedule: &Schedule) -> [Option<(Unit, u64)>; 7] {
     [
         (Unit::Branch, "store branch"),
@@ -234,8 +234,8 @@ fn stored_by_unit(schedule: &Schedule) -> [Option<(Unit, u64)>; 7] {
     .map(|(unit, store)| Some((unit, stored_with(schedule, store))))
 }
 
-/// Makes an event by the call of its name, and on a machine of its own. Whether the answers are the same, and both
-/// machines drained or neither.
+/// Makes an event by the call of its name, and also on a separate machine. Returns whether the answers are equal, and
+/// both machines are drained or neither is.
 fn is_alike<K: Naming>(
     rt: &impl Wait,
     holder: &mut SeatHolder<K>,
@@ -245,7 +245,7 @@ fn is_alike<K: Naming>(
     holder.call(rt, *event) == machine.apply(*event) && holder.drained(rt) == machine.drained()
 }
 
-/// How many of the events are alike.
+/// The number of events with equal results on both machines.
 fn count_alike<K: Naming>(
     rt: &(impl AllocGlobal + Wait),
     schedule: &Schedule,
@@ -262,7 +262,8 @@ fn count_alike<K: Naming>(
     Ok(alike)
 }
 
-/// How many of the events are alike, and what the seats and the snapshot tell after them; the seats are left.
+/// The number of events with equal results on both machines, the answers of the seats and the final snapshot. Leaves
+/// the seats.
 fn told_by<K: Naming>(
     rt: &(impl AllocGlobal + Wait),
     schedule: &Schedule,
@@ -275,7 +276,8 @@ fn told_by<K: Naming>(
     Ok((alike?, stored, snapshot?))
 }
 
-/// The calls of a locked machine, beside its progress word. The schedule leaves nothing pending.
+/// Makes the events by the calls of a locked machine, with `ground` as its progress word. The schedule leaves nothing
+/// pending.
 fn expect_calls_beside<K: Naming>(
     rt: &(impl Abort + AllocGlobal + Wait),
     schedule: &Schedule,
@@ -296,7 +298,7 @@ fn expect_calls_beside<K: Naming>(
     expect_left(rt, schedule, deck, &snapshot)
 }
 
-/// The same beside a progress word of its own.
+/// Makes the events by the calls of a locked machine, with a new progress word.
 fn expect_calls(
     rt: &(impl Abort + AllocGlobal + Wait),
     schedule: &Schedule,
@@ -306,7 +308,7 @@ fn expect_calls(
     expect_calls_beside::<Brand>(rt, schedule, deck, ground)
 }
 
-/// A schedule by each way.
+/// Makes a schedule in every way.
 fn expect_each(rt: &(impl Abort + AllocGlobal + Wait), schedule: &Schedule) -> Result<(), Fail> {
     expect_lines(rt, schedule)?;
     let deck = deck_of(rt.alloc(), schedule)?;
@@ -318,7 +320,7 @@ fn expect_each(rt: &(impl Abort + AllocGlobal + Wait), schedule: &Schedule) -> R
     Ok(())
 }
 
-/// Each of the schedules.
+/// Makes each of the schedules.
 fn expect_all(rt: &(impl Abort + AllocGlobal + Wait), schedules: &[Schedule]) -> Result<(), Fail> {
     for schedule in schedules {
         expect_each(rt, schedule)?;
@@ -326,7 +328,7 @@ fn expect_all(rt: &(impl Abort + AllocGlobal + Wait), schedules: &[Schedule]) ->
     Ok(())
 }
 
-/// Instructions that read and set registers alone.
+/// Instructions that only read and set registers.
 #[test]
 fn registers(rt: HostRuntime) -> Result<(), Fail> {
     expect_all(&rt, register_schedules::SCHEDULES.as_slice())

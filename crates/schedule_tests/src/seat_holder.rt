@@ -1,4 +1,4 @@
-//! For the tests: a machine under its lock with all its seats, whose events are made by the calls of `Shared`.
+//! For the tests: a machine under its lock with all its seats. Its events are made by the calls of `Shared`.
 
 ghost use Rattle.std.specs.Prelude.{◌≡◌, ◌<◌, IfSome};
 
@@ -9,23 +9,23 @@ use std::alloc::Global;
 use std::mem;
 use std::sync::Wait;
 
-/// What is held for a unit: its seat, or the token of the reservation that was taken on with it.
+/// A unit's seat, or the token of the reservation that was claimed with the seat.
 enum Held {
     Idle(Seat),
     Reserved(Reserved),
     Computed(Computed),
     Finished(Finished),
-    /// Nothing, while a call has it.
+    /// Nothing, because a call has the seat or the token.
     Lent,
 }
 
-/// What is held, with the answer of a call.
+/// The seat or token after a call, and the call's answer.
 type Step = (Held, Answer);
 
 const MADE: Answer = Ok(Done::Made);
 
 impl Held {
-    /// The seat is left; None where there is none or a reservation isn't stored.
+    /// Leaves the seat. Returns `None` if there is no seat or its reservation isn't stored.
     fn leave(self) -> Option<(Unit, u64)> {
         match self {
             Held::Idle(seat) => Some((seat.unit(), seat.leave())),
@@ -46,7 +46,7 @@ impl Held {
         }
     }
 
-    /// Reads, and computes at once.
+    /// Reads the operands and computes the result.
     fn read<K: Naming, R: Wait>(self, rt: &R, shared: &Shared<K>) -> Step {
         match self {
             Held::Reserved(token) => match shared.read(rt, token) {
@@ -83,14 +83,14 @@ fn abandoned(seat: Seat) -> Option<(Unit, u64)> {
     None
 }
 
-/// A machine under its lock, what its user has seen, and what is held for each of its units in use.
+/// A machine under its lock, the part of its log that its user has seen, and the seat or token of each unit in use.
 pub struct SeatHolder<K: Naming> {
     shared: Shared<K>,
     seen: Seen<K>,
     held: [Held; 7],
 }
 
-/// Where what is held for a unit in use stands.
+/// The index in `held` of a unit in use.
 fn place_of(unit: Unit) -> Option<usize>
     ensures { IfSome result (λ position. position < 7) }
 {
@@ -106,7 +106,7 @@ fn place_of(unit: Unit) -> Option<usize>
     }
 }
 
-/// The answer of a call that gives nothing.
+/// The answer of a call that returns nothing.
 fn made(called: Result<(), Refusal>) -> Answer {
     match called {
         Ok(()) => MADE,
@@ -140,7 +140,7 @@ impl<K: Naming> SeatHolder<K> {
         Ok(SeatHolder { shared, seen, held })
     }
 
-    /// Lends what is held for a unit to a call.
+    /// Takes out the seat or token of a unit for a call.
     fn lend(&mut self, unit: Unit) -> Held {
         match place_of(unit) {
             Some(position) => mem::replace(&mut self.held[position], Held::Lent),
@@ -148,7 +148,7 @@ impl<K: Naming> SeatHolder<K> {
         }
     }
 
-    /// Takes back what the call left, and answers what it answered.
+    /// Puts back the seat or token after a call, and returns the call's answer.
     fn take_back(&mut self, unit: Unit, step: Step) -> Answer {
         let (held, answer) = step;
         let left = match place_of(unit) {
@@ -159,7 +159,7 @@ impl<K: Naming> SeatHolder<K> {
         answer
     }
 
-    /// Issues, and claims a reservation at once with the seat of its unit.
+    /// Issues an instruction, and claims its reservation, if there is one, with the seat of its unit.
     fn issue<R: Wait>(&mut self, rt: &R) -> Answer {
         match self.shared.issue(rt, &mut self.seen) {
             Ok(Some(note)) => {
@@ -171,7 +171,7 @@ impl<K: Naming> SeatHolder<K> {
         }
     }
 
-    /// Makes the event of a unit with the token that is held for it.
+    /// Makes the event of a unit with the unit's token.
     fn work<R: Wait>(&mut self, rt: &R, unit: Unit, event: Event) -> Answer {
         let held = self.lend(unit);
         let step = match event {
@@ -207,12 +207,13 @@ impl<K: Naming> SeatHolder<K> {
         self.shared.drained(rt)
     }
 
-    /// What the drained machine shows.
+    /// The snapshot of the drained machine.
     pub fn snapshot<R: Wait>(&mut self, rt: &R) -> Result<Snapshot, Refusal> {
         self.shared.snapshot(rt, &mut self.seen)
     }
 
-    /// Leaves the seats: how many reservations were stored with each, in the order of the units' numbers.
+    /// Leaves the seats. Returns each unit and the number of reservations stored with its seat, in the order of the
+    /// units' numbers.
     pub fn leave(self) -> [Option<(Unit, u64)>; 7] {
         let SeatHolder { shared, seen, held } = self;
         drop(seen);

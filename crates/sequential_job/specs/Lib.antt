@@ -1,2 +1,2 @@
--- What a sequential run of a deck prints. Source: ours.
+-- The result and the output of a sequential run of a deck. Source: ours.
 pub mod Running

@@ -1,4 +1,4 @@
--- What a sequential run of a deck prints, and how it ends.
+-- The result and the output of a sequential run of a deck.
 -- Source: ours.
 use Rattle.std.specs.Prelude.{◌≡◌, ℕ, List, map, Option, Result, Ok, Err}
 use Rattle.std.specs.Io.KnownBytes.{Keeps, Appends}
@@ -17,7 +17,8 @@ use Rattle.job_deck.specs.Dump.{dump_text}
 abbrev pub asks_after : Deck → List (ℕ × ℕ)
 asks_after deck = map (λ ask. (ask.at, ask.after)) deck.asks
 
--- the sequential run of a deck with a budget ends with this log in this state, and they have what every run promises
+-- the sequential run of a deck with this budget ends with this log in this state. Log and state also have the
+-- properties that every run promises
 pub record IsJobRun (deck : Deck) (budget : ℕ) (log : List LogStep) (s : State) : Type 0 where
   pub sequential : IsSequentialRun deck.image.memory deck.start (asks_after deck) deck.free budget log s
   pub promised : IsRun deck.image.memory deck.start (asks_after deck) deck.free budget log s
@@ -26,8 +27,8 @@ pub record IsJobRun (deck : Deck) (budget : ℕ) (log : List LogStep) (s : State
 abbrev pub IsWhyNoJobRun : Deck → ℕ → Refusal → Type 0
 IsWhyNoJobRun deck budget refusal = IsWhyNoRun deck.image.memory deck.start (asks_after deck) deck.free budget refusal
 
--- what is printed of a deck's sequential run: the dump of the state and the log with which it ends, or at a failed
--- write a beginning of that dump; else nothing
+-- the output of a deck's sequential run. A success prints the dump of the final state and log, and a failed write
+-- leaves a prefix of it. Any other refusal prints nothing and is why the run has no end
 abbrev pub PrintsSequentialRun : Result State Refusal → Deck → ℕ → Option (List ℕ) → Option (List ℕ) → Type 0
 PrintsSequentialRun (Ok s) deck budget old new =
     (log : List LogStep) × IsJobRun deck budget log s × Appends old new (dump_text s (entries_of log) deck.shows)
@@ -36,8 +37,8 @@ PrintsSequentialRun (Err refusals.Write) deck budget old new =
     × WritesFront old new (dump_text s (entries_of log) deck.shows)
 PrintsSequentialRun (Err refusal) deck budget old new = IsWhyNoJobRun deck budget refusal × Keeps old new
 
--- the same from a deck's bytes on, of which these are left. No exchange is refused: all packages of a judged deck lie
--- in its memory
+-- the result of reading a deck and running it, where `rest` are the bytes left unread. No exchange is refused, because
+-- all packages of an accepted deck lie in its memory
 abbrev pub RunsSequentially : Result State Refusal → Reading → ℕ → List ℕ → Option (List ℕ) → Option (List ℕ) → Type 0
 RunsSequentially (Err (refusals.Deck m fault)) reading budget rest old new =
     (reading ≡ Bad m fault rest) × Keeps old new

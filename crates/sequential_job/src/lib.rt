@@ -1,10 +1,10 @@
-//! What a sequential run does with a deck: it reads the deck, runs it one instruction at a time, and prints the
-//! machine's dump. It starts no thread and takes no lock, so a library for C has it as well as the program.
-//! docs/formats.md has the texts.
+//! Runs decks sequentially: reads a deck, runs it one instruction at a time and prints the machine's dump. A sequential
+//! run starts no thread and takes no lock, so the C library offers it as well as the program. docs/formats.md has the
+//! texts.
 //!
-//! Callers rely on `run_to`: the dump that it prints is that of the log and the state with which the sequential run of
-//! the deck ends, and both follow from deck and budget alone. Its tests are in
-//! `crates/text_tests/src/sequential_run_tests.rt`. Begin with `run_to` in `running`.
+//! Callers rely on `run_to`. It prints the dump of the log and the state with which the sequential run of the deck
+//! ends. Both follow from deck and budget alone. Its tests are in `crates/text_tests/src/sequential_run_tests.rt`.
+//! Begin with `run_to` in `running`.
 #![tactic(auto)]
 
 mod running;

@@ -1,4 +1,4 @@
-//! A deck, its sequential run, and the dump.
+//! Runs a deck sequentially and prints the dump.
 ghost use Rattle.std.specs.Prelude.{◌≡◌, ◌||◌, map, IfOk, MatchResult, OnOk, false};
 ghost use Rattle.deck.specs.Deck.{deck};
 ghost use Rattle.deck.specs.Reading.{is_read_failure};
@@ -17,11 +17,11 @@ use sequential_run::CompletedRun;
 use std::alloc::{AllocError, Global};
 use std::io::{Read, Write};
 
-/// The requests of the deck's lines `ask N after K`, each as the absolute address N of its package and the number K of
-/// instructions, in the order of the lines.
+/// The requests of the deck's lines `ask N after K`, in the order of the lines. A request has the absolute address N of
+/// its package and the number K of instructions.
 ///
 /// # Errors
-/// Memory ran out.
+/// Fails if memory runs out.
 #[tactic(auto, using(std::proofs::lemmas::List::map_more))]
 pub fn asks_after(alloc: Global, deck: &Deck) -> Result<Vec<Ask>, AllocError>
     ensures { IfOk result (λ asks. asks.items ≡ asks_after deck.now) }
@@ -33,10 +33,10 @@ pub fn asks_after(alloc: Global, deck: &Deck) -> Result<Vec<Ask>, AllocError>
     Ok(after)
 }
 
-/// Runs a deck with at most `budget` instructions.
+/// Runs a deck for at most `budget` instructions.
 ///
 /// # Errors
-/// `OutOfMemory`, and `PackageRange` if the sixteen words of an exchange that comes next don't all lie in memory.
+/// `OutOfMemory` if memory runs out. `PackageRange` if the sixteen words of the next exchange don't all lie in memory.
 fn run_deck(alloc: Global, deck: &Deck, budget: u64) -> Result<CompletedRun, Refusal>
     ensures { MatchResult result (λ ended. IsJobRun deck.now budget ended.log.steps ended.state)
         (λ refusal. IsWhyNoJobRun deck.now budget refusal) }
@@ -57,10 +57,10 @@ fn run_deck(alloc: Global, deck: &Deck, budget: u64) -> Result<CompletedRun, Ref
     )
 }
 
-/// Runs a deck, prints the machine's dump and hands it on.
+/// Runs a deck, prints the machine's dump and flushes the output.
 ///
 /// # Errors
-/// As `run_deck`, and `Write` if a write fails.
+/// As for `run_deck`, and `Write` if a write fails.
 fn print_run<O: Output>(
     alloc: Global,
     output: &mut O,
@@ -78,12 +78,12 @@ fn print_run<O: Output>(
     Ok(ended.state)
 }
 
-/// Reads a deck, runs it one instruction at a time, at most `budget` instructions, prints the machine's dump and hands
-/// it on. Returns the final state of the machine.
+/// Reads a deck, runs it for at most `budget` instructions, one at a time, prints the machine's dump and flushes the
+/// output. Returns the final state of the machine.
 ///
 /// # Errors
-/// `Deck` with a line and its fault, `OutOfMemory`, and `Read` and `Write` if the device fails. At a failed write a
-/// beginning of the dump was written; at the others nothing was.
+/// `Deck` with the number of a faulty line and its fault. `OutOfMemory` if memory runs out. `Read` or `Write` if the
+/// device fails. After a failed write the output has a prefix of the dump; at any other error nothing was written.
 pub fn run_to<I: Input, O: Output>(
     alloc: Global,
     input: &mut I,
@@ -104,10 +104,10 @@ pub fn run_to<I: Input, O: Output>(
     print_run(alloc, output, &deck, budget)
 }
 
-/// The same from any reader to any writer.
+/// Runs a deck from any reader and prints the dump to any writer.
 ///
 /// # Errors
-/// As `run_to`.
+/// As for `run_to`.
 pub fn run<R: Read, W: Write>(
     alloc: Global,
     reader: &mut R,

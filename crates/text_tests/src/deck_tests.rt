@@ -1,4 +1,4 @@
-//! Decks that are read, and those that are refused.
+//! Tests of decks that are accepted and of decks that are refused.
 
 use crate::fixtures::{FOUR_WORDS, joined};
 use deck::{AskLine, Deck, read_deck, read_deck_from};
@@ -7,7 +7,7 @@ use instruction_table::{DeckFault, Refusal};
 use std::process::Abort;
 use std::test::Fail;
 
-/// The word at 2 of a deck's image; 0 where the deck is refused or holds no such word.
+/// The word at address 2 of a deck's image, or 0 if the deck is refused or its memory has no such word.
 fn word_at_2(read: Result<Deck, Refusal>) -> u64 {
     match read {
         Ok(deck) => {
@@ -21,7 +21,7 @@ fn word_at_2(read: Result<Deck, Refusal>) -> u64 {
     }
 }
 
-/// The word that a `code` line of these texts puts at 2.
+/// Expects that a `code` line with these texts puts this word at address 2.
 fn expect_coded(rt: &(impl Abort + AllocGlobal), texts: &str, word: u64) -> Result<(), Fail> {
     let deck = joined(
         rt.alloc(),
@@ -32,7 +32,7 @@ fn expect_coded(rt: &(impl Abort + AllocGlobal), texts: &str, word: u64) -> Resu
     Ok(())
 }
 
-/// The line and the fault of a deck that is refused.
+/// Expects that a deck is refused with this line number and fault.
 fn expect_refused(
     rt: &(impl Abort + AllocGlobal),
     texts: &[&str],
@@ -46,7 +46,7 @@ fn expect_refused(
     Ok(())
 }
 
-/// Whether the deck is refused so.
+/// Whether a deck is refused with this line number and fault.
 fn is_refused(read: &Result<Deck, Refusal>, line: u32, fault: DeckFault) -> bool {
     match read {
         Err(refusal) => *refusal == Refusal::Deck { line, fault },
@@ -54,7 +54,7 @@ fn is_refused(read: &Result<Deck, Refusal>, line: u32, fault: DeckFault) -> bool
     }
 }
 
-/// The texts of a `code` line, and the word that they make.
+/// The texts of a `code` line and the word that they make.
 const CODES: [(&str, u64); 5] = [
     ("NO", 0o46000_46000_46000_46000),
     ("NO; SX1 B0+5; NO", 0o46000_71100_00005_46000),
@@ -74,7 +74,7 @@ fn codes(rt: HostRuntime) -> Result<(), Fail> {
     Ok(())
 }
 
-/// The texts of a `code` line that is refused.
+/// The texts of a refused `code` line.
 const FAULTY_CODES: [(&str, DeckFault); 11] = [
     ("", DeckFault::Unknown),
     (" ", DeckFault::Instruction),
@@ -108,7 +108,7 @@ fn codes_past_memory(rt: HostRuntime) -> Result<(), Fail> {
     expect_refused(&rt, [deck].as_slice(), 4, DeckFault::Range)
 }
 
-/// Requests that are refused.
+/// Refused requests.
 const FAULTY_ASKS: [(&str, DeckFault); 24] = [
     ("ask", DeckFault::Unknown),
     ("ask 40", DeckFault::Unknown),
@@ -144,7 +144,7 @@ fn faulty_asks(rt: HostRuntime) -> Result<(), Fail> {
     Ok(())
 }
 
-/// The line after 64 requests.
+/// A line that follows 64 requests, and its fault.
 const ASKS_TOO_MANY: [(&str, DeckFault); 7] = [
     ("end\n", DeckFault::NoStart),
     ("ask 40 after 3\n", DeckFault::Many),
@@ -155,7 +155,7 @@ const ASKS_TOO_MANY: [(&str, DeckFault); 7] = [
     ("ask 8 free\n", DeckFault::Number),
 ];
 
-/// A deck of 64 requests, and the line that follows them.
+/// Adds one more line to a deck with 64 requests.
 #[test]
 fn many_asks(rt: HostRuntime) -> Result<(), Fail> {
     let mut asks = Vec::from_slice(rt.alloc(), ["core 256\n"].as_slice())?;
@@ -171,7 +171,7 @@ fn many_asks(rt: HostRuntime) -> Result<(), Fail> {
     Ok(())
 }
 
-/// A deck of requests, with the largest address, count and number of digits too.
+/// A deck with requests, including the largest address, count and number of digits.
 const ASKS: &str = "\
     core 256\n\
     ask 000360 after 10000000\n\
@@ -182,7 +182,7 @@ const ASKS: &str = "\
     ask 000000 free\n\
     end\n";
 
-/// Whether a deck is read, with these requests in its order.
+/// Whether a deck is accepted and has these requests in this order.
 fn has_asks(read: &Result<Deck, Refusal>, asks: &[AskLine], free: &[u32]) -> bool {
     match read {
         Ok(deck) => deck.asks.as_slice() == asks && deck.free.as_slice() == free,
@@ -190,7 +190,7 @@ fn has_asks(read: &Result<Deck, Refusal>, asks: &[AskLine], free: &[u32]) -> boo
     }
 }
 
-/// Requests stand in the deck's order.
+/// Requests keep the deck's order.
 #[test]
 fn asks(rt: HostRuntime) -> Result<(), Fail> {
     let mut input = ASKS.as_bytes();
@@ -207,7 +207,7 @@ fn asks(rt: HostRuntime) -> Result<(), Fail> {
     Ok(())
 }
 
-/// The address of the package that a deck starts with; None where it is refused.
+/// The address of the package that a deck starts with, or `None` if the deck is refused.
 fn start_of(read: Result<Deck, Refusal>) -> Option<u32> {
     match read {
         Ok(deck) => Some(deck.start),

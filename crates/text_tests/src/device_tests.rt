@@ -1,4 +1,4 @@
-//! Numbers, fields, lines and pieces, by devices that fail too.
+//! Tests of numbers, fields, lines and pieces, including devices that fail.
 
 ghost use Rattle.std.specs.Prelude.{Some};
 
@@ -14,7 +14,7 @@ use std::io::{ErrorKind, Write};
 use std::process::Abort;
 use std::test::Fail;
 
-/// Takes one byte a call, fails once it holds so many, and counts those that a flush handed on.
+/// A writer that takes one byte per call, fails once it has `most` bytes, and counts the flushed bytes.
 #[derive(Drop)]
 struct Dripping {
     bytes: Vec<u8>,
@@ -44,7 +44,7 @@ impl Write for Dripping {
     }
 }
 
-/// The base, the digits, of which there may be six, and the number.
+/// The base, the digits and the number. There may be at most six digits.
 const NUMBERS: [(u32, &str, Option<u64>); 7] = [
     (10, "0", Some(0)),
     (10, "000256", Some(256)),
@@ -63,7 +63,7 @@ fn numbers(rt: HostRuntime) -> Result<(), Fail> {
     Ok(())
 }
 
-/// A text, its first field, and what stands after the space.
+/// A text, its first field and the text after the space.
 const FIELDS: [(&str, &str, Option<&str>); 5] = [
     ("", "", None),
     ("end", "end", None),
@@ -72,7 +72,7 @@ const FIELDS: [(&str, &str, Option<&str>); 5] = [
     ("at ", "at", Some("")),
 ];
 
-/// Whether a text has this first field, and this stands after the space.
+/// Whether a text has this first field and this rest after the space.
 fn has_fields(text: &str, first: &str, rest: Option<&str>) -> bool {
     let (field, more) = first_part(text.as_bytes(), b' ');
     field == first.as_bytes() && more == rest.map(|rest| rest.as_bytes())
@@ -93,7 +93,8 @@ fn unit_names(rt: HostRuntime) -> Result<(), Fail> {
     Ok(())
 }
 
-/// What is taken of a text call by call, and the line: an empty one, one without an end, and nothing after it.
+/// The result of each call of `read_line` on a text, with the line. The lines are a whole one, an empty one and one
+/// without a line end. Nothing follows them.
 const LINES: [(LineRead, &str); 4] = [
     (LineRead::Whole, "one"),
     (LineRead::Whole, ""),
@@ -101,7 +102,7 @@ const LINES: [(LineRead, &str); 4] = [
     (LineRead::Nothing, ""),
 ];
 
-/// The lines of a text.
+/// Expects the lines of the text.
 fn expect_lines<I: Input>(rt: &impl Abort, input: &mut I) -> Result<(), Fail> {
     let mut line = ArrayVec::new();
     for (took, text) in &LINES {
@@ -111,7 +112,7 @@ fn expect_lines<I: Input>(rt: &impl Abort, input: &mut I) -> Result<(), Fail> {
     Ok(())
 }
 
-/// Lines by a reader and by a buffered one.
+/// Reads the lines from a plain reader and from a buffered one.
 #[test]
 fn lines(rt: HostRuntime) -> Result<(), Fail> {
     let mut bytes = b"one\n\nlast".as_slice();
@@ -120,7 +121,7 @@ fn lines(rt: HostRuntime) -> Result<(), Fail> {
     expect_lines(&rt, &mut CheckedBufReader::new(&mut buffered))
 }
 
-/// A line of so many sevens, and a text after it.
+/// A line of `length` sevens and a text after it.
 fn sevens(alloc: Global, length: u32) -> Result<Vec<u8>, AllocError> {
     let mut text = Vec::new(alloc);
     for _ in 0..length {
@@ -130,7 +131,7 @@ fn sevens(alloc: Global, length: u32) -> Result<Vec<u8>, AllocError> {
     Ok(text)
 }
 
-/// A line of 200 bytes is whole, and of a longer one 201 bytes are taken.
+/// A line of 200 bytes is whole. Of a longer line 201 bytes are read.
 #[test]
 fn long_lines(rt: HostRuntime) -> Result<(), Fail> {
     for (length, took) in [(200u32, LineRead::Whole), (201, LineRead::Long)] {
@@ -146,7 +147,7 @@ fn long_lines(rt: HostRuntime) -> Result<(), Fail> {
     Ok(())
 }
 
-/// What a writer takes before it fails is a beginning of the pieces, and a flush hands it on.
+/// The bytes that a writer takes before it fails are a prefix of the pieces' text, and a flush delivers them.
 #[test]
 fn pieces(rt: HostRuntime) -> Result<(), Fail> {
     let line = b"longadd 100 18446744073709551615".as_slice();

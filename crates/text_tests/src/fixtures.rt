@@ -1,4 +1,4 @@
-//! What the tests share: devices that fail, texts and decks.
+//! Fixtures shared by the tests: devices that fail, texts and decks.
 
 ghost use Rattle.std.specs.Prelude.{Some};
 
@@ -6,7 +6,7 @@ use std::alloc::{AllocError, Global};
 use std::io;
 use std::io::{ErrorKind, Read, Write};
 
-/// Bytes in memory that come a few a read; the reads fail from one on.
+/// A reader of bytes in memory, a few per read. Reads fail from read number `fails_from` on.
 #[derive(Drop)]
 pub struct Failing<'a> {
     pub bytes: &'a [u8],
@@ -27,7 +27,7 @@ impl Read for Failing<'_> {
     }
 }
 
-/// Takes one byte a call; the calls fail from one on.
+/// A writer that takes one byte per call. Calls fail from call number `fails_from` on.
 #[derive(Drop)]
 pub struct Dripping {
     pub bytes: Vec<u8>,
@@ -57,7 +57,7 @@ impl Write for Dripping {
     }
 }
 
-/// Texts one after another.
+/// Several texts, one after another.
 pub fn joined(alloc: Global, texts: &[&str]) -> Result<Vec<u8>, AllocError> {
     let mut all = Vec::new(alloc);
     for text in texts {
@@ -66,7 +66,7 @@ pub fn joined(alloc: Global, texts: &[&str]) -> Result<Vec<u8>, AllocError> {
     Ok(all)
 }
 
-/// A deck of four words.
+/// A deck with four words.
 pub const FOUR_WORDS: &str = "\
     core 256\n\
     at 100\n\

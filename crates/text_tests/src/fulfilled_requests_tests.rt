@@ -1,4 +1,4 @@
-//! Logs that fulfil the requests of their run, and logs that don't.
+//! Tests of logs that fulfil the requests of their run, and of logs that don't.
 
 use exchange_requests::{are_fulfilled, in_order};
 use job_deck::read_log;
@@ -6,26 +6,26 @@ use std::alloc::AllocError;
 use std::process::Abort;
 use std::test::Fail;
 
-/// A log of a run that starts with the package at 0 and has requests for those at 20 after 4 instructions and at 40
-/// after 6, and at any time for those at 60 and then at 20; whether it ends in the middle of a word; and whether it
-/// fulfils these requests.
+/// A log, whether the run ends in the middle of a word, and whether the log fulfils the requests of the run. The run
+/// starts with the package at 0. It requests the package at 20 after 4 instructions and the one at 40 after 6. At any
+/// time, it also requests the package at 60 and then the one at 20.
 const LOGS: [(&str, bool, bool); 24] = [
     ("E0 I4 E20 I2 E40 E60 E20 I1", false, true),
-    // Each exchange is at the end of the word, which has at most three instructions more.
+    // Each due exchange is made at the end of the word, at most three instructions later.
     ("E0 E60 E20 I7 E20 E40", false, true),
     ("E0 E60 E20 I8 E20 E40", false, false),
     ("E0 E60 E20 I3 E20 I3 E40", false, false),
-    // A request at any time may come first, and then the one that is due follows it at once.
+    // A request at any time may be made first. The request that is due then follows at once.
     ("E0 E60 I5 E20 E20 I1 E40 I9", false, true),
     ("E0 I5 E60 E20 I1 E40 E20 I9", false, true),
     ("E0 I5 E60 I1 E20 E40 E20", false, false),
     ("E0 I5 E60 E20 E20 I1 E40", false, true),
-    // Which request the first of two like exchanges was made for is seen by what follows.
+    // Later entries show which request the first of two equal exchanges was made for.
     ("E0 E60 I4 E20 E20 I2 E40", false, true),
     ("E0 E60 I6 E20 E20 E40", false, true),
     ("E0 E60 I6 E20 E40 E20", false, true),
     ("E0 E60 I6 E20 E40", false, false),
-    // One is lost, doubled, turned round, of another package, or first.
+    // An exchange is missing, doubled, out of order, with another package, or at the beginning.
     ("E0 I4 E20 I2 E60 E20", false, false),
     ("E0 I4 E20 E20 I2 E40 E60", false, false),
     ("E0 I4 E20 I2 E40 E60 E20 E20", false, false),
@@ -33,7 +33,7 @@ const LOGS: [(&str, bool, bool); 24] = [
     ("E0 I4 E20 I2 E40 E100 E20", false, false),
     ("E60 E0 I4 E20 I2 E40 E20", false, false),
     ("none", false, false),
-    // At the end none is left, and none that is due; in the middle of a word one may wait.
+    // At the end no request at any time is left, and none is due. In the middle of a word requests may still wait.
     ("E0 E60 E20 I3", false, true),
     ("E0 E60 E20 I5", false, false),
     ("E0 E60 E20 I5", true, true),

@@ -1,4 +1,5 @@
-//! A caller that knows from the contract of `events` alone what led to a session's machine, and so what it is.
+//! A caller that knows only the contract of `events`. From it the caller knows which events led to a session's machine,
+//! and so that the machine is faithful to them.
 
 ghost use Rattle.std.specs.Prelude.{◌≡◌, ◌≤◌, ◌+◌, ◌++◌, ℕ, List, OnOk, Result};
 ghost use Rattle.std.specs.Io.KnownBytes.{Appends};
@@ -22,8 +23,8 @@ use std::alloc::Global;
 use std::io::{Read, Write};
 use std::test::Fail;
 
-/// Runs a session to its last line. Its lines say events, the lines that are written first are the answers to them,
-/// and the machine to which those lead from the deck's memory is faithful to them.
+/// Runs a session to its last line. Its lines say events, and the first lines written are the answers to them. The
+/// events and answers lead from the deck's memory to a machine that is faithful to them.
 fn faithful_session<R: Read, W: Write>(
     alloc: Global,
     reader: &mut R,
@@ -45,7 +46,7 @@ fn faithful_session<R: Read, W: Write>(
     Ok(())
 }
 
-/// An exchange and an issue, and a drain.
+/// A session with an exchange, an issue and a drain.
 #[test]
 fn to_its_end(rt: HostRuntime) -> Result<(), Fail> {
     let mut input = "\

@@ -1,4 +1,4 @@
-//! Exit statuses, the texts of faults, and budgets.
+//! Tests of exit statuses, the texts of faults, and budgets.
 
 use instruction_table::{DeckFault, Digit, Halt, Op, Refusal};
 use operator_terms::{Budget, LARGEST_BUDGET, ProgramFault, end_status};
@@ -9,7 +9,7 @@ use std::alloc::{AllocError, Global};
 use std::process::Abort;
 use std::test::Fail;
 
-/// The exit status of a machine that ended so.
+/// The exit status of a machine with this halt and fault flag.
 fn ended_code(alloc: Global, halt: Option<Halt>, fault: bool) -> Result<u8, AllocError> {
     let Ok(memory) = Storage::new(alloc, 32) else {
         return Err(AllocError);
@@ -44,7 +44,7 @@ fn statuses(rt: HostRuntime) -> Result<(), Fail> {
     Ok(())
 }
 
-/// The text of a fault.
+/// Expects the text of a fault.
 fn expect_text(
     rt: &(impl Abort + AllocGlobal),
     fault: &ProgramFault,
@@ -55,7 +55,7 @@ fn expect_text(
     Ok(())
 }
 
-/// Faults of other kinds than a deck's, and their texts.
+/// Faults that aren't faults of a deck, and their texts.
 const FAULT_TEXTS: [(ProgramFault, &str); 5] = [
     (
         ProgramFault::Refused(Refusal::PackageRange),
@@ -78,7 +78,7 @@ fn fault_texts(rt: HostRuntime) -> Result<(), Fail> {
     Ok(())
 }
 
-/// Faults of a deck, and their texts at line 10000001.
+/// Faults of a deck, and their texts for line 10000001.
 const DECK_FAULT_TEXTS: [(DeckFault, &str); 14] = [
     (DeckFault::Lines, "E20 line 10000001: lines"),
     (DeckFault::Long, "E20 line 10000001: long"),

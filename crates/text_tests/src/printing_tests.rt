@@ -1,4 +1,4 @@
-//! Listings, dumps and logs.
+//! Tests of listings, dumps and logs.
 
 use crate::fixtures::{Dripping, FOUR_WORDS, Failing, joined};
 use instruction_table::Refusal;
@@ -15,7 +15,7 @@ const FOUR_LINES: &str = "\
     000100 71100000057120000003 SX1 B0+5; SX2 B0+3\n\
     000101 36312374214600000000 IX3 X1+X2; IX4 X2-X1; NO; PS\n";
 
-/// Whether a deck is listed so.
+/// Whether the listing of a deck has these lines.
 fn is_listed(alloc: Global, deck: &[u8], lines: &[u8]) -> bool {
     let mut input = deck;
     let mut output = Vec::new(alloc);
@@ -29,7 +29,7 @@ fn lists(rt: HostRuntime) -> Result<(), Fail> {
     Ok(())
 }
 
-/// The listing of a deck of one word at 0.
+/// Expects the listing of a deck with one word, at address 0.
 fn expect_listed(rt: &(impl Abort + AllocGlobal), word: &str, items: &str) -> Result<(), Fail> {
     let deck = joined(
         rt.alloc(),
@@ -40,7 +40,7 @@ fn expect_listed(rt: &(impl Abort + AllocGlobal), word: &str, items: &str) -> Re
     Ok(())
 }
 
-/// A word with what is refused in it, and its items.
+/// A word with refused instructions, and its items.
 const REFUSED_CODES: [(&str, &str); 4] = [
     ("20301301234600046000", "LX3 1; ?30; NO; NO"),
     ("46000460004600071100", "NO; NO; NO; ?straddle"),
@@ -100,7 +100,7 @@ fn lists_to_failing_writers(rt: HostRuntime) -> Result<(), Fail> {
     Ok(())
 }
 
-/// The dump of a booted machine that has done nothing.
+/// The dump of a machine just after boot.
 #[test]
 fn dumps(rt: HostRuntime) -> Result<(), Fail> {
     let mut input = b"core 32\nstart 0\nshow 0 1\nend\n".as_slice();
@@ -120,7 +120,7 @@ fn dumps(rt: HostRuntime) -> Result<(), Fail> {
     Ok(())
 }
 
-/// A text, how many entries its log has, and how many instructions.
+/// The text of a log, the number of its entries and the number of its instructions.
 const LOGS: [(&str, usize, u64); 6] = [
     ("none", 0, 0),
     ("E40 I4", 2, 4),
@@ -145,7 +145,7 @@ fn reads_logs(rt: HostRuntime) -> Result<(), Fail> {
     Ok(())
 }
 
-/// Texts that are no logs.
+/// Texts that aren't logs.
 const NO_LOGS: [&str; 35] = [
     "",
     " ",

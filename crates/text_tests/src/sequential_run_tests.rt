@@ -1,4 +1,5 @@
-//! Sequential runs: of decks, by memory and requests, and by callers that know a run by contract alone.
+//! Tests of sequential runs: of decks, of a memory with requests, and by callers that know a run from the contract
+//! alone.
 
 ghost use Rattle.std.specs.Prelude.{◌≡◌, ◌+◌, ◌<◌, ◌^◌, length, IfSome, IfOk};
 ghost use Rattle.sequential_run.specs.Made.{IsMadeByEvents};
@@ -13,8 +14,8 @@ use std::alloc::{AllocError, Global};
 use std::process::Abort;
 use std::test::Fail;
 
-/// A deck without its `end`. Its packages, at 0, 20, 40 and 60, all have the same program of five `NO` and a stop, so
-/// a word ends after four instructions.
+/// A deck without its `end` line. Its packages, at 0, 20, 40 and 60, all start the same program of five `NO` and a
+/// stop. So a word ends after four instructions.
 const FOUR_PACKAGES: &str = "\
     core 256\n\
     at 1\nword 200000000000000\nword 20000000000000\n\
@@ -24,7 +25,7 @@ const FOUR_PACKAGES: &str = "\
     at 200\ncode NO; NO; NO; NO\ncode NO; PS\n\
     start 0\n";
 
-/// Requests, a budget, and the log.
+/// Lines with requests, a budget, and the log of the run.
 const RUNS: [(&str, u64, &str); 8] = [
     ("end\n", 1_000_000, "\nLOG E0 I6\n"),
     ("ask 20 after 1\nend\n", 1_000_000, "\nLOG E0 I4 E20 I6\n"),
@@ -48,7 +49,7 @@ const RUNS: [(&str, u64, &str); 8] = [
     ),
 ];
 
-/// Runs the deck of four packages with these lines.
+/// Runs the deck of four packages with these lines, and expects this log.
 fn expect_log(
     rt: &(impl Abort + AllocGlobal),
     lines: &str,
@@ -74,7 +75,7 @@ fn runs_of_decks(rt: HostRuntime) -> Result<(), Fail> {
     Ok(())
 }
 
-/// Nothing is printed of a deck that isn't read whole.
+/// Nothing is printed if the deck can't be read to its end.
 #[test]
 fn run_of_failing_reader(rt: HostRuntime) -> Result<(), Fail> {
     let mut input = Failing {
@@ -88,7 +89,8 @@ fn run_of_failing_reader(rt: HostRuntime) -> Result<(), Fail> {
     Ok(())
 }
 
-/// Two runs with the same memory, first package, requests and budget. They have the same log and the same final state.
+/// Runs the same memory, first package, requests and budget twice. Both runs have the same log and the same final
+/// state.
 fn runs_twice(
     alloc: Global,
     memory: Storage,
@@ -113,7 +115,7 @@ fn runs_twice(
     Some((first, second))
 }
 
-/// A run whose log the machine with instructions in flight makes too.
+/// A run whose log a machine with several instructions in flight can also make.
 fn runs_as_by_events(
     alloc: Global,
     memory: Storage,
@@ -133,8 +135,8 @@ fn runs_as_by_events(
     }
 }
 
-/// The first exchange of a booted memory of zeros is with an empty package: a field length of 0, so that the first
-/// fetch is out of range. The exchange with a package that doesn't lie in memory is refused.
+/// The first exchange of a booted memory of zeros loads an empty package. Its field length is 0, so the first fetch is
+/// out of range. An exchange with a package that doesn't lie in memory is refused.
 #[test]
 fn runs_by_memory(rt: HostRuntime) -> Result<(), Fail> {
     let (Ok(memory), Ok(other), Ok(third)) = (

@@ -1,4 +1,4 @@
-//! Sessions: what is answered, handed on and left unread.
+//! Tests of sessions: their answers, the output before a failure, and the input that is left unread.
 
 use crate::fixtures::{Dripping, Failing, joined};
 use instruction_table::{DeckFault, Refusal};
@@ -8,7 +8,7 @@ use std::io::Read;
 use std::process::Abort;
 use std::test::Fail;
 
-/// A deck of ten lines: a package at 40, and a program of two increments and two sums.
+/// A deck of ten lines: a package at 40, and a program of two increments, a sum and a difference.
 const DECK: &str = "\
     core 256\n\
     at 41\n\
@@ -52,7 +52,7 @@ const BOOTED: &str = "\
     X7 00000000000000000000\n\
     LOG none\n";
 
-/// Whether a session from a reader ends so, and has written these bytes by then.
+/// Whether a session from a reader has this result and writes these bytes.
 fn session_ends_so<R: Read>(
     alloc: Global,
     reader: &mut R,
@@ -64,7 +64,7 @@ fn session_ends_so<R: Read>(
     result == wanted && output.as_slice() == written
 }
 
-/// The session of a deck with its schedule, which writes these texts and leaves the rest.
+/// Expects that the session of a deck and its schedule writes these texts and leaves the rest unread.
 fn expect_session(
     rt: &(impl Abort + AllocGlobal),
     deck: &str,
@@ -97,7 +97,7 @@ fn drains_two_sums(rt: HostRuntime) -> Result<(), Fail> {
     )
 }
 
-/// The same three instructions, gone through one at a time.
+/// A replay of the session's three instructions, one at a time.
 #[test]
 fn replays_two_sums(rt: HostRuntime) -> Result<(), Fail> {
     let mut input = DECK.as_bytes();
@@ -125,7 +125,7 @@ fn ends_where_it_stands(rt: HostRuntime) -> Result<(), Fail> {
     Ok(())
 }
 
-/// A schedule that is refused at a line after the deck's ten, after these answers.
+/// Expects that a schedule is refused at this line and with this fault, after these answers. The deck has ten lines.
 fn expect_fault(
     rt: &(impl Abort + AllocGlobal),
     schedule: &str,
@@ -140,7 +140,7 @@ fn expect_fault(
     Ok(())
 }
 
-/// Schedules after the deck, their answers, and the line at fault.
+/// Schedules after the deck, their answers, and the number and fault of the faulty line.
 const FAULTY: [(&str, &str, u32, DeckFault); 11] = [
     ("", "", 11, DeckFault::NoEnd),
     ("issue\n", "E1 halted stop\n", 12, DeckFault::NoEnd),
@@ -163,7 +163,7 @@ fn faulty_schedules(rt: HostRuntime) -> Result<(), Fail> {
     Ok(())
 }
 
-/// Schedules that come to no end, and their answers.
+/// Schedules without a last line, their answers, and the number of the missing line.
 const ENDLESS: [(&str, &str, u32); 3] = [
     (
         "finish add\nstore divide\naccept 3\nreturn 05\nbank 31\nexchange\n",
@@ -190,7 +190,7 @@ fn endless_schedules(rt: HostRuntime) -> Result<(), Fail> {
     Ok(())
 }
 
-/// Whether a session ends with a read that fails, this one, and has written these answers by then.
+/// Whether a session fails at read number `fails_from` after writing these answers.
 fn fails_after(alloc: Global, bytes: &[u8], fails_from: u64, answers: &str) -> bool {
     let mut input = Failing {
         bytes,
@@ -200,7 +200,7 @@ fn fails_after(alloc: Global, bytes: &[u8], fails_from: u64, answers: &str) -> b
     session_ends_so(alloc, &mut input, Err(Refusal::Read), answers.as_bytes())
 }
 
-/// Each line is answered before the next is read.
+/// Each line is answered before the next line is read.
 #[test]
 fn answers_before_a_failing_read(rt: HostRuntime) -> Result<(), Fail> {
     let bytes = joined(rt.alloc(), [DECK, "issue\nissue\n"].as_slice())?;

@@ -1,11 +1,11 @@
--- What a line of a deck says, by the parts into which the program takes it apart.
+-- A line of a deck as the parts into which the program splits it.
 -- Source: ours.
 use Rattle.std.specs.Prelude.{ℕ, List}
 use Rattle.std.specs.Borrow.{Bor}
 use Rattle.deck.specs.declared.parsing.Line.{Line}
 use Rattle.deck.specs.declared.parsing.Line.TheVariants as says
 
--- the line with the bytes of its fields instead of what refers to them
+-- the line with the bytes of its fields instead of references to them
 abbrev pub line_with_bytes : Line (Bor (List ℕ)) → Line (List ℕ)
 line_with_bytes (says.Core w) = says.Core w.now
 line_with_bytes (says.At a) = says.At a.now

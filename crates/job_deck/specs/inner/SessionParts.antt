@@ -1,4 +1,4 @@
--- What the parts of a session answer, read and write.
+-- The results of the parts of a session, and the bytes that they read and write.
 -- Source: ours.
 use Rattle.std.specs.Prelude.{◌≡◌, ℕ, Bool, true, false, List, [], ◌∷◌, ◌++◌, Option, Result, Ok, Err}
 use Rattle.std.specs.Io.KnownBytes.{Keeps, Appends}
@@ -22,7 +22,8 @@ use Rattle.job_deck.specs.declared.schedule.ScheduleLine.{ScheduleLine}
 use Rattle.job_deck.specs.declared.schedule.ScheduleLine.TheVariants.{Makes, Ends, Drains, Faulty}
 use Rattle.job_deck.specs.SessionResult.{IsRefused, IsTaken, WritesCut}
 
--- line n was read, and says this; a line that isn't at fault was taken, and past one at fault nothing
+-- line n was read, and this is its meaning. The whole line was read unless it is at fault. Nothing was read past a line
+-- at fault
 abbrev pub ReadsScheduleLine : ℕ → ScheduleLine → List ℕ → List ℕ → Type 0
 ReadsScheduleLine n (Makes e) xs ys = (line_says n (lines_of xs) ≡ Makes e) × IsTaken (lines_of xs) ys
     × ((part : List ℕ) × (xs ≡ part ++ ys))
@@ -31,21 +32,21 @@ ReadsScheduleLine n Drains xs ys = (line_says n (lines_of xs) ≡ Drains) × IsT
 ReadsScheduleLine n (Faulty fault) xs ys =
     (line_says n (lines_of xs) ≡ Faulty fault) × (ys ≡ left_after_line n xs (lines_of xs))
 
--- the event was made or refused, which leads on from whatever led to the machine, and the line of its answer was
--- written
+-- the event was made or refused, and the line of its answer was written. The step extends any sequence of events that
+-- led to the machine
 abbrev pub IsMade : {X : Type 0} → output.Ghosts X → Result (Unit {0}) WriteFailed → Processor → Processor → Event → X
     → X → Type 0
 IsMade device result w v event old new = (answer : Result Done Refusal) × IsAnswer w event answer
     × (v ≡ settled w event answer) × GoesOn w (event ∷ []) (answer ∷ []) v
     × Puts device result old new (answer_line answer)
 
--- what the last line says: whether the machine is drained first
+-- the meaning of the last line: `drain` if the machine is drained first, or else `end`
 abbrev pub last_line : Bool → ScheduleLine
 last_line true = Drains
 last_line false = Ends
 
--- the lines that say events were answered, up to the last line; or to a fault, a failed read or a failed write.
--- Whatever led to the first machine leads, with these events and their answers more, to the last
+-- the lines that say events were answered, up to the last line, a fault, a failed read or a failed write. These events
+-- and their answers extend any sequence that led to the first machine, and lead to the last machine
 abbrev pub AnswersLines : Result Bool Refusal → Processor → Processor → ℕ → List ℕ → List ℕ → Option (List ℕ)
     → Option (List ℕ) → Type 0
 AnswersLines (Ok drains) w v n xs rest old new =
@@ -62,7 +63,7 @@ AnswersLines (Err refusals.Write) w v n xs rest old new =
     × WritesCut old new s.text (answer_line answer)
 AnswersLines (Err other) w v n xs rest old new = ⊥
 
--- the dump of a drained machine; where its state couldn't be copied nothing
+-- the dump of a drained machine, or nothing if there is no memory for a copy of its state
 abbrev pub Dumps : Result (Unit {0}) Refusal → Processor → List Show → Option (List ℕ) → Option (List ℕ)
     → Type 0
 Dumps (Ok x) w shows old new = (text : List ℕ) × IsDump w shows text × Appends old new text
@@ -70,7 +71,7 @@ Dumps (Err refusals.OutOfMemory) w shows old new = Keeps old new
 Dumps (Err refusals.Write) w shows old new = (text : List ℕ) × IsDump w shows text × WritesFront old new text
 Dumps (Err other) w shows old new = ⊥
 
--- what the last line writes
+-- the output for the last line of a schedule
 abbrev pub Closes : Result (Unit {0}) Refusal → ScheduleLine → Processor → List Show → Option (List ℕ)
     → Option (List ℕ) → Type 0
 Closes (Ok x) said w shows old new = (text : List ℕ) × IsReply said w shows text × Appends old new text
