@@ -14,20 +14,20 @@ use instruction_table::{DeckFault, Refusal};
 use std::alloc::Global;
 use std::io::Read;
 
-/// The most lines of a deck, with those of the schedule that may follow.
+/// The most lines of a deck and the schedule that may follow it.
 pub const MOST_LINES: u32 = 10_000_000;
 
-/// What a line gives, or its fault with its number.
+/// Adds the number of a line to its fault.
 ///
 /// # Errors
-/// `Deck` with the number and the fault.
+/// `Deck` with the number and the fault, if the line has a fault.
 pub fn with_line_number<T>(line: u32, found: Result<T, DeckFault>) -> Result<T, Refusal>
     ensures { MatchResult found (λ x. result ≡ Ok x) (λ fault. result ≡ Err (RefusedLine line fault)) }
 {
     found.map_err(|fault| Refusal::Deck { line, fault })
 }
 
-/// Reads line `number`, of at most 200 bytes.
+/// Reads line `number`. A line has at most 200 bytes.
 fn next_line<I: Input>(input: &mut I, line: &mut LineBuffer, number: u32) -> Result<(), Refusal>
     ensures text { OnOk result (length line.new.items ≤ 200) }
     ensures ok { OnOk result (Moves (I.remaining input.old) (I.remaining input.new)
@@ -46,7 +46,7 @@ fn next_line<I: Input>(input: &mut I, line: &mut LineBuffer, number: u32) -> Res
     }
 }
 
-/// Reads the first line, and begins a deck with it.
+/// Reads the first line and begins a deck with it.
 ///
 /// # Errors
 /// As `read_deck_from`.
@@ -70,13 +70,12 @@ fn first_draft<I: Input>(
     Draft::new(alloc, size)
 }
 
-/// Reads a deck to the end of its `end` line, and nothing past it. Returns the number of that line too, since a
-/// schedule may follow. `line` has each line in turn. If the refusal is a line's fault it has that line, or the
-/// beginning of it.
+/// Reads a deck up to the end of its `end` line. Returns the deck and the number of that line, because a schedule may
+/// follow. `line` is the buffer of each line in turn. After a fault it holds the refused line, or its beginning.
 ///
 /// # Errors
-/// A line and its fault, want of memory, and a failed read. Nothing is read past a line at fault, and of a line that
-/// is too long only its first 201 bytes.
+/// `Deck` with the number of a line and its fault; nothing after the refused line is read, and of a line that is too
+/// long only the first 201 bytes. `OutOfMemory` if memory runs out. `Read` if a read fails.
 pub fn read_deck_from<I: Input>(
     alloc: Global,
     input: &mut I,
@@ -101,10 +100,10 @@ pub fn read_deck_from<I: Input>(
     with_line_number(MOST_LINES + 1, Err(DeckFault::Lines))
 }
 
-/// Reads a deck to the end of its `end` line, and nothing past it.
+/// Reads a deck from any reader, up to the end of its `end` line.
 ///
 /// # Errors
-/// `Deck` with the line and its fault, and nothing is read past that; `OutOfMemory`, and `Read` where a read fails.
+/// As `read_deck_from`.
 pub fn read_deck<R: Read>(alloc: Global, reader: &mut R) -> Result<Deck, Refusal>
     ensures { Moves (R.remaining reader.old) (R.remaining reader.new) (λ xs ys. GivesDeck result (deck xs) ys) }
 {

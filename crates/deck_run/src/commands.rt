@@ -13,11 +13,11 @@ use std::sync::Wait;
 use std::thread::Threads;
 use std::time::Clock;
 
-/// Runs a deck, prints the machine's dump and hands it on.
+/// Runs a deck by threads, prints the machine's dump and flushes it.
 ///
 /// # Errors
-/// `OutOfMemory`, also where a thread couldn't be started, `Stuck`, and `Write`. At a failed write a beginning of a
-/// dump was written; at the others nothing was.
+/// `OutOfMemory` if memory runs out or a thread can't be started. `Stuck` if the machine refuses a step of the run.
+/// `Write` if a write fails; then a beginning of a dump may have been written. Nothing is written after other errors.
 fn print_run<T: Threads + Wait + Clock + Sync, O: Output>(
     rt: &T,
     alloc: Global,
@@ -38,13 +38,13 @@ fn print_run<T: Threads + Wait + Clock + Sync, O: Output>(
     }
 }
 
-/// Reads a deck, runs it with at most `budget` instructions, prints the machine's dump and hands it on. Replaying the
-/// dump's log on the same deck prints the same dump.
+/// Reads a deck, runs it by threads with at most `budget` instructions, prints the machine's dump and flushes it.
+/// Replaying the dump's log on the same deck prints the same dump.
 ///
 /// # Errors
-/// `Deck` with a line and its fault, `Read`, `OutOfMemory`, also where a thread couldn't be started, `Stuck` where the
-/// machine refused a step before the run's end, and `Write`. At a failed write a beginning of a dump was written; at
-/// the others nothing was.
+/// `Deck` with a line and its fault. `Read` if a read fails. `OutOfMemory` if memory runs out or a thread can't be
+/// started. `Stuck` if the machine refuses a step before the end of the run. `Write` if a write fails; then a beginning
+/// of a dump may have been written. Nothing is written after other errors.
 pub fn run_deck<T: Threads + Wait + Clock + Sync, I: Input, O: Output>(
     rt: &T,
     alloc: Global,
@@ -65,12 +65,12 @@ pub fn run_deck<T: Threads + Wait + Clock + Sync, I: Input, O: Output>(
     print_run(rt, alloc, output, &deck, budget)
 }
 
-/// Reads a deck, runs it one instruction at a time, at most `budget` instructions, prints the machine's dump and hands
-/// it on.
+/// Reads a deck, runs it one instruction at a time with at most `budget` instructions, prints the machine's dump and
+/// flushes it.
 ///
 /// # Errors
-/// `Deck` with a line and its fault, `OutOfMemory`, `Read`, and `Write`. At a failed write a beginning of the dump was
-/// written; at the others nothing was.
+/// `Deck` with a line and its fault. `OutOfMemory` if memory runs out. `Read` if a read fails. `Write` if a write fails;
+/// then a beginning of the dump may have been written. Nothing is written after other errors.
 pub fn run_deck_sequentially<I: Input, O: Output>(
     alloc: Global,
     input: &mut I,
@@ -90,12 +90,13 @@ pub fn run_deck_sequentially<I: Input, O: Output>(
     Ok(end_status(&state))
 }
 
-/// Goes through a log on a deck, prints the dump and hands it on.
+/// Executes a log on a deck, one instruction at a time, prints the dump and flushes it.
 ///
 /// # Errors
-/// `Deck` with a line and its fault, `BadLog`, `PackageRange` where the words of an exchange of the log don't lie in
-/// memory, `PeripheralRange` where the word of an access doesn't, `OutOfMemory`, `Read`, and `Write`. At a failed write
-/// a beginning of the dump was written; at the others nothing was.
+/// `Deck` with a line and its fault. `BadLog` if the text isn't a log. `PackageRange` if the package of an exchange in
+/// the log doesn't lie in memory, `PeripheralRange` if the word of a peripheral access doesn't. `OutOfMemory` if memory
+/// runs out. `Read` if a read fails. `Write` if a write fails; then a beginning of the dump may have been written.
+/// Nothing is written after other errors.
 pub fn replay_log<I: Input, O: Output>(
     alloc: Global,
     input: &mut I,

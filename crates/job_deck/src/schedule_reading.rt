@@ -7,12 +7,11 @@ use crate::schedule::{ScheduleLine, parse_schedule_line};
 use device_text::{Input, LineBuffer, LineRead, Output, ReadFailed, read_line};
 use instruction_table::DeckFault;
 
-/// Reads line `number` of a schedule that comes after line `before`, and nothing past it, into a buffer. Returns what
-/// it says or what is wrong with it. Past the first line the printed answers must have been handed on; it takes the
-/// output only for that.
+/// Reads line `number` of a schedule that begins after line `before` into a buffer, and parses it. Before each line but
+/// the first, the answers must have been flushed; the function takes the output only for this requirement.
 ///
 /// # Errors
-/// A read failed.
+/// `ReadFailed` if a read fails.
 pub fn read_schedule_line<I: Input, O: Output>(
     input: &mut I,
     output: &O,

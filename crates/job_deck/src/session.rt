@@ -20,7 +20,7 @@ use machine::{Event, Machine};
 use std::alloc::Global;
 use std::io::{Read, Write};
 
-/// Makes an event or refuses it, and writes and hands on the line of its answer.
+/// Makes an event or refuses it, writes the line of the answer, and flushes it.
 fn make<O: Output>(output: &mut O, machine: &mut Machine, event: Event) -> Result<(), WriteFailed>
     ensures made { IsMade O.Output result machine.old machine.new event output.old output.new }
     ensures handed_on { OnOk result (O.waits output.new ≡ false) }
@@ -29,11 +29,11 @@ fn make<O: Output>(output: &mut O, machine: &mut Machine, event: Event) -> Resul
     put_answer(output, &answer)
 }
 
-/// Answers the lines of a schedule that say events, each before the next is read, up to the last line.
-/// They come after line `before`. Answers whether the machine is to be drained.
+/// Answers the events of a schedule that begins after line `before`, each before the next line is read, up to the last
+/// line. Returns whether that line asks for a drain.
 ///
 /// # Errors
-/// A line and its fault, and a failed read or write.
+/// `Deck` with a line and its fault. `Read` or `Write` if a device fails.
 fn answer_lines<I: Input, O: Output>(
     input: &mut I,
     output: &mut O,
@@ -62,11 +62,11 @@ fn answer_lines<I: Input, O: Output>(
     with_line_number(MOST_LINES + 1, Err(DeckFault::Lines))
 }
 
-/// Runs a session: answers the lines of a schedule that come after line `before`, and does what the last
-/// one says.
+/// Runs a session: answers the events of the schedule after line `before`, and carries out its last line.
 ///
 /// # Errors
-/// A line and its fault, want of memory for the dump, and a failed read or write.
+/// `Deck` with a line and its fault. `OutOfMemory` if there is no memory for the dump. `Read` or `Write` if a device
+/// fails.
 fn run_session<I: Input, O: Output>(
     input: &mut I,
     output: &mut O,
@@ -90,10 +90,10 @@ fn run_session<I: Input, O: Output>(
     finish(output, machine, deck, drains)
 }
 
-/// A machine that was just booted with the deck's memory, which issues at most `budget` instructions.
+/// Boots a machine with the deck's memory. It issues at most `budget` instructions.
 ///
 /// # Errors
-/// `OutOfMemory`.
+/// `OutOfMemory` if memory runs out.
 pub fn booted(alloc: Global, deck: &Deck, budget: u64) -> Result<Machine, Refusal>
     requires { budget ≤ 10000000 }
     ensures machine { MatchResult result (λ machine. machine ≡ boot_processor deck.now.image.memory budget)
@@ -104,13 +104,13 @@ pub fn booted(alloc: Global, deck: &Deck, budget: u64) -> Result<Machine, Refusa
     Machine::boot(alloc, memory, budget)
 }
 
-/// Reads a deck and the schedule that follows it, makes the schedule's events on a machine that is booted
-/// with the deck's memory and issues at most `budget` instructions, and answers each line before the next
-/// is read. The last line is followed by the dump of the drained machine.
+/// Reads a deck and the schedule after it, and makes the schedule's events on a machine that is booted with the deck's
+/// memory and issues at most `budget` instructions. Each line is answered before the next is read. The dump of the
+/// drained machine follows the last answer.
 ///
 /// # Errors
-/// `Deck` with a line and its fault, `OutOfMemory`, and `Read` and `Write` where a device fails. The
-/// earlier lines have their answers; only a failed write may have cut one.
+/// `Deck` with a line and its fault. `OutOfMemory` if memory runs out. `Read` or `Write` if a device fails. The earlier
+/// lines have been answered; only a failed write may have cut an answer short.
 pub fn events_to<I: Input, O: Output>(
     alloc: Global,
     input: &mut I,
@@ -133,7 +133,7 @@ pub fn events_to<I: Input, O: Output>(
     run_session(input, output, line, &mut machine, &deck, lines)
 }
 
-/// The same from any reader to any writer.
+/// Does the work of `events_to` from any reader to any writer.
 ///
 /// # Errors
 /// As `events_to`.

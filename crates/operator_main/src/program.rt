@@ -32,10 +32,10 @@ use std::sync::Wait;
 use std::thread::Threads;
 use std::time::Clock;
 
-/// More bytes than a fault line has, which with the position of a fault in a refused line has at most 229.
+/// More bytes than a fault line has: with the position in a refused line it has at most 229.
 const FAULT_LINE_WITH_POSITION: usize = 256;
 
-/// The fault line, with the position of the fault if a line was refused, which then is `line`.
+/// The fault line. If a line was refused, it is `line`, and the fault line has the position of the fault in it.
 fn fault_line(fault: &ProgramFault, line: &[u8]) -> ArrayVec<u8, FAULT_LINE_WITH_POSITION> {
     let mut text = ArrayVec::new();
     let _ = write!(text, "cdc6600: {fault}");
@@ -48,7 +48,7 @@ fn fault_line(fault: &ProgramFault, line: &[u8]) -> ArrayVec<u8, FAULT_LINE_WITH
     text
 }
 
-/// Writes the fault line to the fault stream, in one write, so that the lines of programs that run side by side don't
+/// Writes the fault line to the fault stream in one write, so that the lines of programs that run side by side don't
 /// mix. If a line was refused, it is `line`. Returns the exit status.
 pub fn report_fault<F: Write>(faults: &mut F, fault: ProgramFault, line: &[u8]) -> u8
     ensures status { result ≡ exit_code (Err fault) }
@@ -62,7 +62,7 @@ pub fn report_fault<F: Write>(faults: &mut F, fault: ProgramFault, line: &[u8]) 
     fault.exit_code()
 }
 
-/// The answer where the arguments can't be had: they are no text, or there is no memory for them.
+/// Reports that the arguments can't be read: one isn't UTF-8, or memory ran out. Returns the exit status.
 pub fn report_bad_argument<F: Write>(faults: &mut F, error: io::Error) -> u8
     ensures memory { error_kind error ≡ IoErrorKind.OutOfMemory → result ≡ exit_code (Err (Refused OutOfMemory)) }
     ensures refused { error_kind error ≢ IoErrorKind.OutOfMemory → result ≡ exit_code (Ok Usage) }
@@ -74,17 +74,17 @@ pub fn report_bad_argument<F: Write>(faults: &mut F, error: io::Error) -> u8
     Status::Usage.code()
 }
 
-/// Writes the text of `clap` and hands it on.
+/// Writes the text of `clap` and flushes it.
 ///
 /// # Errors
-/// A write or the flush failed.
+/// The error of the write or of the flush that failed.
 fn put_text<W: Write>(output: &mut W, error: &Error) -> io::Result<()> {
     write!(output, "{error}")?;
     output.flush()
 }
 
-/// The answer to a command line that names no task: `clap`'s text, to the output where help was asked
-/// for.
+/// Writes `clap`'s text for a command line without a task: to the output if help or the version was asked for, otherwise
+/// to the fault stream. Returns the exit status.
 fn report_usage<W: Write, F: Write>(output: &mut W, faults: &mut F, error: Error) -> u8
     ensures { EndsWith result
         (λ end. EndsUnasked (kind_of error) end (W.contents output.old) (W.contents output.new))
@@ -103,10 +103,10 @@ fn report_usage<W: Write, F: Write>(output: &mut W, faults: &mut F, error: Error
     }
 }
 
-/// Does a task on the deck of an input.
+/// Carries out a task on the deck of an input.
 ///
 /// # Errors
-/// As the function that does it.
+/// As the function of the task: `run_deck`, `run_deck_sequentially`, `replay_log`, `events_to` or `list_to`.
 fn carry_out<T: Threads + Wait + Clock + Sync, I: Input, O: Output>(
     rt: &T,
     alloc: Global,
@@ -136,8 +136,8 @@ fn carry_out<T: Threads + Wait + Clock + Sync, I: Input, O: Output>(
     }
 }
 
-/// Does a task on an input, and reports its fault if there is one. A buffer before the input saves a system call for
-/// each byte. Returns the exit status.
+/// Carries out a task on an input and reports its fault. A buffered reader saves a system call for each byte. Returns the
+/// exit status.
 fn perform<T: Threads + Wait + Clock + Sync, R: Read, W: Write, F: Write>(
     rt: &T,
     alloc: Global,
@@ -165,16 +165,16 @@ fn perform<T: Threads + Wait + Clock + Sync, R: Read, W: Write, F: Write>(
     }
 }
 
-/// A file that can't be opened.
+/// A file that couldn't be opened, and why.
 struct Unopened<'a> {
     name: &'a str,
     error: io::Error,
 }
 
-/// Opens the file of a name.
+/// Opens a file by its name.
 ///
 /// # Errors
-/// The name with the system's error.
+/// The name and the system's error if the file can't be opened.
 fn open<'a, D: Opener>(files: &D, name: &'a str) -> Result<D::Opened, Unopened<'a>>
     ensures { IfOk result (λ file. IfSome (D.contents files.now name.now)
         (λ bytes. D.Opened.remaining file ≡ Some bytes)) }
@@ -185,10 +185,10 @@ fn open<'a, D: Opener>(files: &D, name: &'a str) -> Result<D::Opened, Unopened<'
     }
 }
 
-/// Goes through the log of a text on the deck of a source.
+/// Replays the log of a text on the deck of a source.
 ///
 /// # Errors
-/// The deck's file can't be opened.
+/// The deck's file if it can't be opened.
 fn replay_text<'a, T: Threads + Wait + Clock + Sync, D: Opener, R: Read, W: Write, F: Write>(
     rt: &T,
     alloc: Global,
@@ -215,10 +215,10 @@ fn replay_text<'a, T: Threads + Wait + Clock + Sync, D: Opener, R: Read, W: Writ
     }
 }
 
-/// Goes through a log on a deck. All files are opened before anything is read.
+/// Replays a log on a deck. All files are opened before anything is read.
 ///
 /// # Errors
-/// A file can't be opened.
+/// The file that can't be opened.
 fn replay_from<'a, T: Threads + Wait + Clock + Sync, D: Opener, R: Read, W: Write, F: Write>(
     rt: &T,
     alloc: Global,
@@ -267,10 +267,10 @@ fn replay_from<'a, T: Threads + Wait + Clock + Sync, D: Opener, R: Read, W: Writ
     }
 }
 
-/// Does what is asked for.
+/// Carries out a request.
 ///
 /// # Errors
-/// A file can't be opened.
+/// The file that can't be opened.
 fn answer<'a, T: Threads + Wait + Clock + Sync, D: Opener, R: Read, W: Write, F: Write>(
     rt: &T,
     alloc: Global,
@@ -298,10 +298,10 @@ fn answer<'a, T: Threads + Wait + Clock + Sync, D: Opener, R: Read, W: Write, F:
     Ok(perform(rt, alloc, &task, input, output, faults))
 }
 
-/// The whole program, over its arguments without the program's name, the files that they name, its input, output and
-/// fault stream. It answers the exit status, which a failed write to the fault stream doesn't change. It
-/// writes its output piece by piece, so a caller for whom each write is dear puts a buffer before it.
-/// It flushes the output after each answer of a session and at a good end.
+/// Runs the program with these arguments, of which the program's name is none, the files that they name, and its input,
+/// output and fault stream. Returns the exit status, which a failed write to the fault stream doesn't change. The output
+/// is written piece by piece, so it should be buffered. It is flushed after each answer of a session, and at the end if
+/// no fault occurred.
 pub fn program<T: Threads + Wait + Clock + Sync, D: Opener, R: Read, W: Write, F: Write>(
     rt: &T,
     alloc: Global,

@@ -7,13 +7,13 @@ use thiserror::Error;
 /// Why the program ends without its output.
 #[derive(Clone, Copy, Debug, Drop, Error, PartialEq, Eq)]
 pub enum ProgramFault {
-    /// The deck, an access of the log, memory or a device: the refusals for which the program has a status.
+    /// The deck, an access of the log, memory or a device was refused.
     #[error("{0}")]
     Refused(Refusal),
-    /// The log on the command line isn't one.
+    /// The log to replay isn't the text of a log.
     #[error("bad log")]
     BadLog,
-    /// The machine refused a step of a run. As far as is known it never does, since the deck was judged.
+    /// The machine refused a step of a run. No contract excludes it, but no run has done it: decks are judged first.
     #[error("the machine refused a step of the run")]
     Stuck,
 }
