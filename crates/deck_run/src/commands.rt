@@ -69,8 +69,8 @@ pub fn run_deck<T: Threads + Wait + Clock + Sync, I: Input, O: Output>(
 /// flushes it.
 ///
 /// # Errors
-/// `Deck` with a line and its fault. `OutOfMemory` if memory runs out. `Read` if a read fails. `Write` if a write fails;
-/// then a beginning of the dump may have been written. Nothing is written after other errors.
+/// `Deck` with a line and its fault. `OutOfMemory` if memory runs out. `Read` if a read fails. `Write` if a write
+/// fails; then a beginning of the dump may have been written. Nothing is written after other errors.
 pub fn run_deck_sequentially<I: Input, O: Output>(
     alloc: Global,
     input: &mut I,

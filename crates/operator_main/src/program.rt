@@ -83,8 +83,8 @@ fn put_text<W: Write>(output: &mut W, error: &Error) -> io::Result<()> {
     output.flush()
 }
 
-/// Writes `clap`'s text for a command line without a task: to the output if help or the version was asked for, otherwise
-/// to the fault stream. Returns the exit status.
+/// Writes `clap`'s text for a command line without a task: to the output if help or the version was asked for,
+/// otherwise to the fault stream. Returns the exit status.
 fn report_usage<W: Write, F: Write>(output: &mut W, faults: &mut F, error: Error) -> u8
     ensures { EndsWith result
         (λ end. EndsUnasked (kind_of error) end (W.contents output.old) (W.contents output.new))
@@ -136,8 +136,8 @@ fn carry_out<T: Threads + Wait + Clock + Sync, I: Input, O: Output>(
     }
 }
 
-/// Carries out a task on an input and reports its fault. A buffered reader saves a system call for each byte. Returns the
-/// exit status.
+/// Carries out a task on an input and reports its fault. A buffered reader saves a system call for each byte. Returns
+/// the exit status.
 fn perform<T: Threads + Wait + Clock + Sync, R: Read, W: Write, F: Write>(
     rt: &T,
     alloc: Global,
@@ -299,9 +299,9 @@ fn answer<'a, T: Threads + Wait + Clock + Sync, D: Opener, R: Read, W: Write, F:
 }
 
 /// Runs the program with these arguments, of which the program's name is none, the files that they name, and its input,
-/// output and fault stream. Returns the exit status, which a failed write to the fault stream doesn't change. The output
-/// is written piece by piece, so it should be buffered. It is flushed after each answer of a session, and at the end if
-/// no fault occurred.
+/// output and fault stream. Returns the exit status, which a failed write to the fault stream doesn't change. The
+/// output is written piece by piece, so it should be buffered. It is flushed after each answer of a session, and at the
+/// end if no fault occurred.
 pub fn program<T: Threads + Wait + Clock + Sync, D: Opener, R: Read, W: Write, F: Write>(
     rt: &T,
     alloc: Global,
