@@ -1,2 +1,2 @@
--- What ties the fields of the code to the definitions that a reader checks. Source: ours.
+-- What connects the fields of the code with the definitions that a reader checks. Source: ours.
 pub mod LockInvariant
