@@ -36,7 +36,7 @@ pub record Flight : Type 0 where
 abbrev pub flight_of : List Pending → Queue → Standing → Flight
 flight_of ms queue standing = record { pending = ms; busy = queue.busy; last = standing.last }
 
--- ---- what is left of a unit's instruction after its store event ----
+-- ---- the rest of a unit's instruction after its store event ----
 
 -- a reference in range enters a place; a load out of range has +0 in its channel; of a store out of range nothing is
 -- left
@@ -50,19 +50,19 @@ unfoldable pub relocated : Bounds → Option ProgramReference → Option Relocat
 relocated b None = None
 relocated b (Some r) = Some (record { address = absolute b r.address; access = r.access })
 
--- what is left of an instruction with this reference, if it makes one
+-- the rest of an instruction with this reference, if it makes one
 unfoldable pub outstanding_of : ℕ → Option Relocated → Option Outstanding
 outstanding_of place None = None
 outstanding_of place (Some r) = entering place r.address r.access
 
 -- the reference fits an instruction of this shape
 pub record IsRestOf (shape : Shape) (rest : Option Relocated) : Type 0 where
-  -- what is still to return is the load of this shape, through the channel of its X register
+  -- the load that is still to return, if any, is this shape's, in the channel of its X register
   pub returns : left_to_return (outstanding_of 0 rest) ≡ channel_of shape
   -- only an instruction with a reference leaves one that enters the hopper
   pub refers : enters (outstanding_of 0 rest) ≡ true → has_reference shape ≡ true
 
--- what is left of an accepted reference: a load has its word from memory in its channel
+-- the rest of an instruction after its reference was accepted: a load has its word from memory in its channel
 abbrev pub left_by : List ℕ → ℕ → Access → Option Outstanding
 left_by memory a (Load n) = Some (Accepted n (slice_index_or memory a 0))
 left_by memory a (Store w) = None

@@ -46,7 +46,7 @@ arrival_in c (After (Accepted n word)) = if n == c then Some (record { channel =
 unfoldable pub arrival_at : ℕ → Pending → Option Arrival
 arrival_at c m = arrival_in c m.phase
 
--- the instruction that was found, with the answer to what was looked for
+-- the instruction that was found, with the answer of the search
 unfoldable pub located : {K : Type 0} → Option (Found Pending K) → Option (Located K)
 located None = None
 located (Some f) = Some (record { pending = f.item; answer = f.answer })
@@ -94,7 +94,7 @@ unfoldable pub kept : Pending → Option Outstanding → List Pending
 kept m None = []
 kept m (Some l) = in_phase m (After l) ∷ []
 
--- what is left is a reference that enters the hopper
+-- the rest is a reference that enters the hopper
 unfoldable pub enters : Option Outstanding → Bool
 enters None = false
 enters (Some (Entered place a access)) = true

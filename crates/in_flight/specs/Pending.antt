@@ -43,7 +43,7 @@ returning (Entered place a (Load n)) = Some n
 returning (Entered place a (Store word)) = None
 returning (Accepted n word) = Some n
 
--- the X register to which what is left still has to return
+-- the X register to which the rest still has to return
 unfoldable pub left_to_return : Option Outstanding → Option ℕ
 left_to_return None = None
 left_to_return (Some l) = returning l

@@ -99,7 +99,8 @@ store_conflicts ms earlier i entering =
 
 -- ---- the events of memory ----
 
--- E13, bank busy; E14, older at address: an older reference to the same address waits, and one of the two is a store
+-- E13, bank busy; E14, older at address: an older reference to the same address waits, and at least one of the two is
+-- a store
 unfoldable pub accept_tests : List Bool → List Pending → Reference → List Test
 accept_tests busy earlier entry =
     record { fails = slice_index_or busy (bank_of entry.address) false; refusal = BankBusy (bank_of entry.address) }

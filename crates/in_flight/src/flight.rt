@@ -214,9 +214,9 @@ impl InFlight {
         }
     }
 
-    /// Takes the unit's instruction out of its unit. What is left of it waits: a reference in range in the
-    /// lowest-numbered free place of the hopper, a load out of range with +0 in its channel. Returns what is left.
-    /// `None` if nothing is left, or if no instruction holds the unit.
+    /// Takes the unit's instruction out of its unit. The rest of it waits: a reference in range in the lowest-numbered
+    /// free place of the hopper, a load out of range with +0 in its channel. Returns the rest. `None` if there is none,
+    /// or if no instruction holds the unit.
     pub fn leave(&mut self, unit: Unit, rest: &Option<Relocated>) -> Option<Outstanding>
         requires apart { Pairs IsApart self.old.pending }
         requires rest { IfSome (located (seek (stage_at unit) self.old.pending))

@@ -17,7 +17,7 @@ pub enum Stage {
     Finished(UnitValue),
 }
 
-/// What is left of an instruction after its store event.
+/// The rest of an instruction after its store event.
 #[derive(Clone, Copy, Debug, Drop, PartialEq, Eq)]
 pub enum Outstanding {
     /// A reference that waits in a place of the hopper (0 to 3): the place, the absolute address and the access to the

@@ -11,7 +11,7 @@ use crate::{Arrival, Outstanding, Pending, Phase, Stage};
 use instruction_table::Unit;
 use std::marker::Model;
 
-/// A pending instruction that was found, with the answer to what was looked for.
+/// A pending instruction that was found, with the answer of the search.
 #[derive(Clone, Copy, Drop)]
 pub struct Located<K> {
     pub pending: Pending,
@@ -148,7 +148,7 @@ impl Slots {
         }
     }
 
-    /// Takes the instruction that holds the unit out of it. What is left of it goes to its place or its channel.
+    /// Takes the instruction out of the unit that it holds. The rest of it goes to its place or its channel.
     pub fn leave(&mut self, unit: Unit, later: &Option<Outstanding>)
         requires { HasRoom later.now self.old }
         ensures { self.new ≡ replaced (seek (stage_at unit) self.old) self.old (λ m. kept m later.now) }
@@ -169,7 +169,7 @@ impl Slots {
         }
     }
 
-    /// Takes the instruction in a place out of it. What is left of it goes to its channel.
+    /// Takes the instruction out of a place of the hopper. The rest of it goes to its channel.
     pub fn accept(&mut self, place: u8, later: &Option<Outstanding>)
         requires place { place < 4 }
         requires room { HasRoom later.now self.old }

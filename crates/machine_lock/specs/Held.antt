@@ -13,7 +13,7 @@ pub record Kept : Type 0 where
   pub processor : Processor
   pub is_ended : Bool
 
--- this machine, its users told to end if they were before
+-- the same, with this machine; whether its users were told to end is unchanged
 abbrev pub with_processor : Kept → Processor → Kept
 with_processor k w = record k { processor = w }
 

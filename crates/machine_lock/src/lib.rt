@@ -2,7 +2,7 @@
 //! lock while it makes an event; a unit computes without the lock.
 //!
 //! Callers rely on `Shared::snapshot`: the state that it returns is the replay of the snapshot's own log on the boot
-//! memory, and that log begins with the steps that the caller had seen. Every other call that takes a `Seen` updates it
+//! memory. That log begins with the steps that the caller had seen. Every other call that takes a `Seen` updates it
 //! with what the caller has then seen of the log.
 //!
 //! `locked_machine` defines the machine while its lock is held, and the invariant of the lock. `Seen` and `Naming` come

@@ -196,8 +196,8 @@ impl<K: Naming> LockedMachine<K> {
         Ok(())
     }
 
-    /// Makes the exchange that was asked for, and then asks for the one with the package at the absolute address
-    /// `next`, if there is one, as `Shared::exchange_and_ask` does.
+    /// Makes the exchange that was asked for, and then asks for the next one, as `Shared::exchange_and_ask` does.
+    /// `next` is the absolute address of its package, if there is one.
     ///
     /// # Errors
     /// Any refusal of an exchange. Within `Ok`, any refusal of a request.
@@ -327,8 +327,8 @@ impl<K: Naming> LockedMachine<K> {
         finished
     }
 
-    /// Stores the result of the token's reservation, as `Shared::store` does. Also returns what is left of the
-    /// instruction: its reference, in a place of the hopper or in its load channel.
+    /// Stores the result of the token's reservation, as `Shared::store` does. Also returns the rest of the instruction:
+    /// its reference, in a place of the hopper or in its load channel.
     ///
     /// # Errors
     /// `ResultHeld`, `HopperFull`, `OutOfTurn` or `Stranger`, with the token.

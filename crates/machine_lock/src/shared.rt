@@ -68,8 +68,8 @@ fn leave_all(seats: [Seat; 7]) {
     let _ = PerUnit::from_array(seats).map(|seat| seat.leave());
 }
 
-/// A machine that several threads drive, and its progress word. Each call acquires the lock, calls the method of
-/// `LockedMachine` with the same name, and releases the lock.
+/// A machine that several threads drive, and its progress word. A call that makes an event acquires the lock, calls the
+/// method of `LockedMachine` with the same name, and releases the lock.
 ///
 /// No contract here names the machine's state when the lock is acquired, because other threads may have changed it. The
 /// methods of `LockedMachine` state in full what an event answers and which machine it leaves. The contracts here speak

@@ -107,7 +107,8 @@ fn arrival_in(pending: &Pending, given: u8) -> Option<Arrival> {
     }
 }
 
-/// Whether a reference that entered later waits for this one: both are to one absolute address, and one of them stores.
+/// Whether a reference that entered later waits for this one: both are to one absolute address, and at least one of
+/// them stores.
 fn holds_back(pending: &Pending, later: &Reference) -> bool {
     match (pending.phase, later.access) {
         (Phase::After(Outstanding::Entered(_, _, Access::Load(_))), Access::Load(_)) => false,
@@ -434,7 +435,7 @@ impl ListMachine {
         Ok(Done::Made)
     }
 
-    /// What is left of an instruction after its store event.
+    /// The rest of an instruction after its store event.
     fn rest_of(&self, instr: &Instr, value: &UnitValue) -> Option<Phase> {
         let place = place_for(self.pending.as_slice()).unwrap_or(0);
         let Some(reference) = Work::of(instr, value).reference else {
@@ -456,7 +457,7 @@ impl ListMachine {
         }
     }
 
-    /// Whether what is left of the instruction would enter the hopper and no place there is free.
+    /// Whether the rest of the instruction would enter the hopper and no place there is free.
     fn finds_no_place(&self, instr: &Instr, value: &UnitValue) -> bool {
         match self.rest_of(instr, value) {
             Some(Phase::After(Outstanding::Entered(_, _, _))) => {
@@ -518,7 +519,7 @@ impl ListMachine {
         }
     }
 
-    /// Makes a reference in memory, and returns what is left of it.
+    /// Makes a reference in memory, and returns the rest of its instruction.
     fn perform(&mut self, entry: &Reference) -> Option<Phase> {
         if entry.address >= self.state.memory.size() {
             return None;

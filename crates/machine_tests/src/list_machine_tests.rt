@@ -118,9 +118,9 @@ const CONFLICTS: [Program; 6] = [
 ///
 /// two-adds-code.deck has the words of two-adds.deck.
 ///
-/// The counts are those of all ten rounds, in the order of `Event`. If no exchange is asked for in between, the first
-/// count is ten times the number after `I` in the deck's dump, as `LOG E40 I6` in decks/run/two-adds.dump, because each
-/// round reaches the program's end. The program of endless.deck has no end.
+/// The counts are those of all ten rounds, in the order of `Event`. If no exchange is asked for in between, each round
+/// reaches the program's end. The first count is then ten times the number after `I` in the log of the deck's dump:
+/// decks/run/two-adds.dump has `LOG E40 I6`. The program of endless.deck has no end.
 const DECKS: [Program; 18] = [
     // A sum and a difference.
     Program {

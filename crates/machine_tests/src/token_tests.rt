@@ -26,8 +26,8 @@ struct Program<'a> {
     number: u64,
 }
 
-/// The call that is due for a token, the program of the token's machine, the program of the machine to which it is
-/// offered, and that second machine's X1 and X2 at the end.
+/// The call that is due for a token, and the program of the token's machine. Then the program of the machine to which
+/// the token is offered, and that machine's X1 and X2 at the end.
 type Offer = (
     Due,
     Program<'static>,

@@ -17,14 +17,14 @@ use Rattle.in_flight.specs.declared.pending.Phase.TheVariants.{Before, After}
 use Rattle.in_flight.specs.declared.pending.Stage.{Stage}
 use Rattle.in_flight.specs.declared.pending.Stage.TheVariants.{Unread, Read, Finished}
 
--- the value of an instruction: if its operands aren't read yet, it reads the registers as they are; later it uses its
--- operands, or has its value already
+-- the value of an instruction: computed from the registers if its operands aren't read yet, from its operands if they
+-- were read, or the value that it has already
 unfoldable pub value_at : Instr → ℕ → Stage → RegisterFile → UnitValue
 value_at instr at Unread g = value_of instr (operands instr at g)
 value_at instr at (Read os) g = value_of instr os
 value_at instr at (Finished v) g = v
 
--- the effect of what is left after the store event: a reference, or a word on its way to its register
+-- the effect of the rest after the store event: a reference, or a word on its way to its register
 unfoldable pub do_outstanding : State → Outstanding → State
 do_outstanding s (Entered place a access) = access_at s a access
 do_outstanding s (Accepted n word) = write s (X n) word

@@ -1,4 +1,4 @@
--- What every run of events promises of the machine. Source: ours.
+-- The promises about the machine after every run of events. Source: ours.
 use Rattle.std.specs.Prelude.{◌≡◌, ℕ, Bool, true, false, not, ◌&&◌, List, [], ◌∷◌, ◌++◌, Option, Some, None, Result}
 use Rattle.std.specs.Prelude.{Ok, Err, slice_index_or}
 use Rattle.std.specs.List.{list_any, list_all}

@@ -1,4 +1,4 @@
--- What holds of the machine at every moment. Source: ours.
+-- The invariant of the machine, which holds at every moment. Source: ours.
 use Rattle.std.specs.Prelude.{◌≡◌, ◌≤◌, true, ℕ, Option, Some, None, length}
 use Rattle.relocation.specs.Relocation.{package_fits}
 use Rattle.instructions.specs.Each.{Pairs}

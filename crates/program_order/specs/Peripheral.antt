@@ -12,7 +12,7 @@ use Rattle.in_flight.specs.Tests.{Test}
 use Rattle.program_order.specs.Processor.{Processor}
 
 -- E3, budget: 1,000,000 accesses were accepted; E26, peripheral waits: a reference has not reached its store event, or
--- one to the word waits in the hopper; E27, peripheral range: the word does not lie in memory
+-- a reference to the word waits in the hopper; E27, peripheral range: the word does not lie in memory
 unfoldable pub access_tests : ℕ → List Pending → ℕ → ℕ → List Test
 access_tests accessed pending size a =
     record { fails = nat_le 1000000 accessed; refusal = Budget }

@@ -8,7 +8,7 @@ use Rattle.program_order.specs.Run.{IsAnswered, settled_all}
 use Rattle.program_order.specs.Processor.{Processor, boot_processor}
 use Rattle.program_order.specs.Drain.{Accepts}
 
--- the machine as it would be without its seats given out
+-- the machine as it would be if its seats weren't given out
 abbrev pub without_seats : Processor → Processor
 without_seats w = record w { seats_given = false }
 

@@ -27,7 +27,7 @@ finish_tests Unread = nothing
 finish_tests (HasRead os) = []
 finish_tests (Finished v) = nothing
 
--- what is left of an instruction after its store event
+-- the rest of an instruction after its store event
 abbrev pub rest_of : Bounds → ℕ → Option ProgramReference → Option Outstanding
 rest_of b place r = outstanding_of place (relocated b r)
 

@@ -42,8 +42,8 @@ pub fn a_fault_stops_the_program()
         → GainsAccesses w.log v.log × (v.state.fault ≡ true) }
 {}
 
-/// References that needn't keep their order leave the same state in either order. Those that wait load into different
-/// registers, because a register that is to be loaded is reserved.
+/// References that needn't keep their order leave the same state in either order. References that wait load into
+/// different registers, because a register that is to be loaded is reserved.
 pub fn references_that_pass_commute()
     ensures { (s : SomeState) → (address : ℕ) → (access : SomeAccess) → (other_address : ℕ)
         → (other_access : SomeAccess) → keep_order address access other_address other_access ≡ false

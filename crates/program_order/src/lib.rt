@@ -2,7 +2,7 @@
 //! theorem that its results are those of executing the program in order, one instruction at a time.
 //!
 //! `specs` has the definitions, which don't depend on how a machine keeps its fields. Callers rely on the law
-//! `what_is_reached_is_faithful`: whatever led from boot to a machine, its log is what was done, and if the machine is
+//! `what_is_reached_is_faithful`: whatever led from boot to a machine, its log is what was done. If the machine is
 //! drained, its state is the replay of that log.
 //!
 //! `snapshot` has a state with the log that leads to it. Its tests are in `crates/machine_tests/src/event_tests.rt` and

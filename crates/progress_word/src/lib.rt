@@ -2,13 +2,13 @@
 //!
 //! Each pass to the word knows a beginning of one log. The machine's pass knows the whole log. A caller's pass knows
 //! the steps that the caller has seen, and the positions of the caller's own steps. The word holds the log's length. So
-//! a caller that loads the word again learns a log that begins with what it knew, and two callers that meet have no
-//! step in common.
+//! a caller that loads the word again learns a log that begins with what it knew. Two callers that meet have no step in
+//! common.
 //!
-//! Callers rely on three items. By `Word::record` a machine's pass adds a step for a caller, by `Word::compare` it
-//! shows a caller the log so far, and a caller keeps its knowledge in a `Seen`. `rule` has the steps that the word's
-//! rule allows. Nothing here takes the machine's lock: the holder of the machine's pass holds that lock. Its tests are
-//! in `crates/thread_tests/src/lock_tests.rt`. Begin with `Word` in `word`.
+//! Callers rely on three items. `Word::record` adds a step for a caller to the knowledge of the machine's pass.
+//! `Word::compare` shows a caller the log so far. A caller keeps its knowledge in a `Seen`. `rule` has the steps that
+//! the word's rule allows. Nothing here takes the machine's lock: the holder of the machine's pass holds that lock. Its
+//! tests are in `crates/thread_tests/src/lock_tests.rt`. Begin with `Word` in `word`.
 #![tactic(auto)]
 
 mod rule;

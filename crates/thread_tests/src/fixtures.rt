@@ -29,8 +29,8 @@ fn place_all(memory: &mut Storage, words: Words<'_>) {
     }
 }
 
-/// A machine with 256 words of memory. It has a package at 40 with RA 100 and FL 20, then the first words, and then the
-/// other words, each over what was there before.
+/// A machine with 256 words of memory. A package with RA 100 and FL 20 is stored at 40, then the first words, and then
+/// the other words.
 pub(crate) fn booted_over(
     alloc: Global,
     first: Words<'_>,

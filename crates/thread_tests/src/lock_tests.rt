@@ -275,8 +275,9 @@ fn claims_of_strangers(rt: HostRuntime) -> Result<(), Fail> {
 /// The answer of an issue.
 pub(crate) type Issued = Result<Option<Note>, Refusal>;
 
-/// The answers of the start and the two issues, how many claims were a stranger's before and after the first note was
-/// stored, which notes were stored, the units and counts of the seats, and whether the snapshot shows both results.
+/// The answers of the start and the two issues, and how many claims were a stranger's before and after the first note
+/// was stored. Then which notes were stored, the units and counts of the seats, and whether the snapshot shows both
+/// results.
 type Claimed = (
     Result<(), Refusal>,
     [Issued; 2],
@@ -546,8 +547,8 @@ fn two_threads(rt: HostRuntime) -> Result<(), Fail> {
     Ok(())
 }
 
-/// The answers of the start and the two issues, how many reservations were stored with each seat, whether the machine
-/// is drained before and after, and whether the snapshot shows both results.
+/// The answers of the start and the two issues, and how many reservations were stored with each seat. Then whether the
+/// machine is drained before and after, and whether the snapshot shows both results.
 type ServedByTwo = (
     Result<(), Refusal>,
     [Issued; 2],

@@ -111,8 +111,8 @@ fn stores_are_told(rt: HostRuntime) -> Result<(), Fail> {
 /// How often the signals of the issuing thread, the asking thread and the storage worker were raised.
 type Counts = (u64, u64, u64);
 
-/// Whether the exchange and the issue were made, the seat's unit and count, the counts at each step of the reservation,
-/// the answer of an acceptance, and the counts after that.
+/// Whether the exchange and the issue were made, and the seat's unit and count. Then the counts at each step of the
+/// reservation, the answer of an acceptance, and the counts after that.
 type Stored = (
     bool,
     (Unit, u64),

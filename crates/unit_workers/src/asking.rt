@@ -30,8 +30,8 @@ impl<'a> FreeRequests<'a> {
     }
 }
 
-/// Asks for an exchange as soon as no other request waits. Returns `false` if the machine's users are told to end
-/// first.
+/// Asks for an exchange as soon as no other request waits. Returns `true` if it asked, and `false` if the machine's
+/// users were told to end first.
 ///
 /// # Errors
 /// Any refusal other than that another request waits.
@@ -91,8 +91,8 @@ fn wait_for_end<K: Naming, R: Wait>(rt: &R, shared: &Shared<K>) {
     unreachable!()
 }
 
-/// Makes the requests one after another, waits for the end of the run, and returns what the thread has then seen. After
-/// the requests none counts as left, even if some were not made.
+/// Makes the requests one after another, after which none counts as left, even if some were not made. Then waits for
+/// the end of the run, and returns what the thread has seen.
 ///
 /// # Errors
 /// Any refusal that the events of other threads can't resolve.

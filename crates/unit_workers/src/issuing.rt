@@ -22,7 +22,7 @@ use std::time::Clock;
 /// elements of an `ArrayVec` need a default value, which a note doesn't have.
 type Notes = ArrayVec<Option<Note>, 7>;
 
-/// The most instructions issued in one hold of the lock. Without this bound, passes alone would hold it for ever.
+/// The most instructions issued in one hold of the lock. Without this bound, a loop of passes would hold it for ever.
 const ISSUES_OF_A_HOLD: u32 = 64;
 
 /// How a run continues after a step.
@@ -67,10 +67,10 @@ impl<'a> PendingRequests<'a> {
     }
 }
 
-/// Makes the exchange that waits, if the machine is drained, and asks for the exchange that follows it, so that no
-/// request of the asking thread comes between the two. The next request is known before the exchange is made, because
-/// what is due depends only on how many instructions were issued. If the machine is in the middle of a word, the
-/// exchange can't be made and the run ends.
+/// Makes the exchange that waits, if the machine is drained, and asks for the exchange that follows it. No request of
+/// the asking thread comes between the two. The next request is known before the exchange is made, because what is due
+/// depends only on how many instructions were issued. If the machine is in the middle of a word, the exchange can't be
+/// made and the run ends.
 ///
 /// # Errors
 /// Any other refusal of the exchange or of the request.

@@ -86,7 +86,7 @@ fn closing<K: Naming, R: Wait>(
     Ok(snapshot)
 }
 
-/// Combines a snapshot and the tallies to the outcome of a run.
+/// Combines a snapshot and the tallies into the outcome of a run.
 ///
 /// # Errors
 /// The refusal, if there is no snapshot. `OutOfMemory` if a worker's thread couldn't be started.
@@ -303,8 +303,8 @@ fn hold_to_requests(
 /// just booted, the log fulfils the requests of `orders`.
 ///
 /// # Errors
-/// Any refusal of the first exchange or during the run. `Nothing` if the machine's seats were given out before.
-/// `OutOfMemory` if memory runs out or a thread can't be started. `NotDrained` if the machine could continue.
+/// Any refusal of the first exchange, or of an event during the run. `Nothing` if the machine's seats were given out
+/// before. `OutOfMemory` if memory runs out or a thread can't be started. `NotDrained` if the machine could continue.
 /// `ExchangeWaiting` if the log doesn't fulfil the requests. In each case all threads have ended and all seats are
 /// given up.
 pub fn run_threads<G: Gate + Send, R: Threads + Wait + Clock + Sync>(

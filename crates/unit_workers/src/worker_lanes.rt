@@ -55,7 +55,7 @@ pub struct WorkerLane<'a> {
     lane: &'a Lane,
     sender: SendPass,
     started: Option<Worker>,
-    /// The pauses while the lane is full. A run never fills a lane, which then holds at most one note of its unit and
+    /// The pauses while the lane is full. A run never overfills a lane, which holds at most one note of its unit and
     /// `Closed`.
     backoff: Backoff,
     ghost sends: { sender.id ≡ lane.now.id },
@@ -179,8 +179,8 @@ impl<'a> WorkerLane<'a> {
     }
 
     /// Waits for the lane's worker, and settles its tally with the sending end, which is kept for contracts alone.
-    /// `None` if the worker's thread couldn't be started. Nothing is known about a seat that came out of an array of
-    /// values that must be spent, so the tally's unit is compared with this one.
+    /// `None` if the worker's thread couldn't be started. The worker's seat came out of an array of values that must be
+    /// spent, about which nothing is known. So the tally's unit is compared with this one.
     pub fn end<R: Threads + Wait>(self, rt: &R, unit: Unit) -> Option<(GhostCopy<SendPass>, Tally)>
         ensures { IfSome result (λ ended. IsSettled unit ended.0.value ended.1) }
     {

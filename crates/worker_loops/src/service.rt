@@ -50,7 +50,7 @@ fn load<K: Naming, R: Wait>(
     unreachable!()
 }
 
-/// Takes the reference that a unit has just made through memory, if no earlier instruction was pending at its store.
+/// Takes through memory the reference that a unit has just made, if no earlier instruction was pending at its store.
 /// The reference is then the oldest, so only a busy bank can be in its way, and that bank is freed. If an earlier
 /// instruction was pending, the storage worker is woken instead.
 fn refer<K: Naming>(machine: &mut LockedMachine<K>, rest: Outstanding, was_oldest: bool) {
@@ -73,8 +73,8 @@ fn refer<K: Naming>(machine: &mut LockedMachine<K>, rest: Outstanding, was_oldes
 }
 
 /// Gives the machine a computed value and stores the result, in one hold of the lock. A reference that the store makes
-/// is taken further by `refer` in the same hold. While the result is held, the reference isn't in turn or the hopper is
-/// full, the thread waits for an event of another thread and tries again.
+/// is taken further by `refer` in the same hold. If the result is held, the reference isn't in turn or the hopper is
+/// full, the thread waits for another thread's event and tries again.
 ///
 /// # Errors
 /// The seat, unchanged, if the value or the store is refused as a stranger's.

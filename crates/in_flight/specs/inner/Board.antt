@@ -14,7 +14,7 @@ use Rattle.in_flight.specs.Lookup.{waiting}
 unfoldable pub issued_of : Pending → Issued
 issued_of m = record { number = m.number; reservation = reservation_of m }
 
--- this instruction before the others, unless it is a store that waits in the hopper, which is off the board
+-- this instruction before the others, unless it is a store that waits in the hopper, which is no longer on the board
 unfoldable pub kept_on : Occupancy → List Issued → Issued → List Issued
 kept_on (Reserved has_read) rest x = x ∷ rest
 kept_on (Left (Some n)) rest x = x ∷ rest

@@ -47,7 +47,7 @@ pub record IsRight (units places channels : List (Option Pending)) : Type 0 wher
 abbrev pub AreElsewhere : ℕ → List Pending → Type 0
 AreElsewhere slot ms = Each (λ m. slot_of m ≢ slot) ms
 
--- the slot of what is left exists and is free
+-- the slot of the rest exists and is free
 abbrev pub HasRoom : Option Outstanding → List Pending → Type 0
 HasRoom None ms = Unit {0}
 HasRoom (Some (Entered place a access)) ms = (place < 4) × AreElsewhere (10 + place) ms

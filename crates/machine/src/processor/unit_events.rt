@@ -34,7 +34,7 @@ impl Machine {
         made(&judged)
     }
 
-    /// Stores a unit's result, makes its jump or its reference, and releases the unit. Returns what is left of the
+    /// Stores a unit's result, makes its jump or its reference, and releases the unit. Returns the rest of the
     /// instruction: its reference, in a place of the hopper or in its load channel.
     pub(crate) fn store_result(&mut self, unit: Unit) -> Result<Option<Outstanding>, Refusal>
         ensures answer { allowed self.old (Store unit) ≡ refusal_in result }

@@ -9,8 +9,8 @@ use Rattle.program_order.specs.Processor.{Processor}
 use Rattle.program_order.specs.Invariant.{IsReplay}
 use Rattle.progress_word.specs.inner.Rules.{History, Knowing, IsKeeper, history, past}
 
--- what always holds of the machine and its pass: the effects so far and still to come are the log's replay, and the
--- pass's list is the log
+-- the invariant of the machine and its pass: the effects so far, with those still to come, are the log's replay, and
+-- the pass's list is the log
 pub record IsLocked (table : TableId) (w : Processor) (pass : Seat ℕ Knowing) : Type 0 where
   pub replay : IsReplay w
   pub seen : IsKeeper table (past w) pass
