@@ -171,8 +171,8 @@ impl<K: Naming> Shared<K> {
     }
 
     /// Issues the next instruction: the event `Issue`. Returns the reservation if the instruction has a unit. `seen`
-    /// then ends with this issue, as a step of the caller's own. If the issue is refused, `seen` is brought up to date
-    /// with the log.
+    /// then ends with this issue, as one of the caller's own steps. If the issue is refused, `seen` is brought up to
+    /// date with the log.
     ///
     /// # Errors
     /// Any refusal of an issue.
@@ -204,8 +204,8 @@ impl<K: Naming> Shared<K> {
         asked
     }
 
-    /// Makes the exchange that was asked for: the event `Exchange`. `seen` then ends with this exchange, as a step of
-    /// the caller's own. If the exchange is refused, `seen` is brought up to date with the log.
+    /// Makes the exchange that was asked for: the event `Exchange`. `seen` then ends with this exchange, as one of the
+    /// caller's own steps. If the exchange is refused, `seen` is brought up to date with the log.
     ///
     /// # Errors
     /// Any refusal of an exchange.
@@ -224,8 +224,8 @@ impl<K: Naming> Shared<K> {
     /// Makes the exchange that was asked for, and then asks for the next one, before another thread can: the events
     /// `Exchange` and `Ask` in one hold of the lock. `next` is the absolute address of the next package, if there is
     /// one. If the exchange is made, the call returns the answer to the request, or `Ok` if there is no next package.
-    /// `seen` then ends with the exchange, as a step of the caller's own. If the exchange is refused, nothing is asked
-    /// for and `seen` is brought up to date with the log.
+    /// `seen` then ends with the exchange, as one of the caller's own steps. If the exchange is refused, nothing is
+    /// asked for and `seen` is brought up to date with the log.
     ///
     /// # Errors
     /// Any refusal of an exchange. Within `Ok`, any refusal of a request.
@@ -248,8 +248,8 @@ impl<K: Naming> Shared<K> {
     }
 
     /// Reads the word at an absolute address, as a peripheral processor does: the event `PpRead`. `seen` then ends with
-    /// this access, as a step of the caller's own, and the word is that of the log's replay. If the access is refused,
-    /// `seen` is brought up to date with the log.
+    /// this access, as one of the caller's own steps, and the word is that of the log's replay. If the access is
+    /// refused, `seen` is brought up to date with the log.
     ///
     /// # Errors
     /// Any refusal of a peripheral access.
@@ -266,7 +266,8 @@ impl<K: Naming> Shared<K> {
     }
 
     /// Writes a word to an absolute address, as a peripheral processor does: the event `PpWrite`. `seen` then ends with
-    /// this access, as a step of the caller's own. If the access is refused, `seen` is brought up to date with the log.
+    /// this access, as one of the caller's own steps. If the access is refused, `seen` is brought up to date with the
+    /// log.
     ///
     /// # Errors
     /// Any refusal of a peripheral access.

@@ -132,7 +132,7 @@ refusal_at_fault (Some halt) = Halted halt
 abbrev pub log_of : List Event → List (Result Done Refusal) → List LogStep
 log_of events answers = logged None events answers
 
--- what holds of a machine to which these events with these answers lead from boot
+-- the promises about a machine to which these events with these answers lead from boot
 pub record IsFaithful (memory : List ℕ) (events : List Event) (answers : List (Result Done Refusal))
     (w : Processor) : Type 0 where
   -- whenever it is drained, its whole state is the replay of what was issued, exchanged and accessed

@@ -6,8 +6,8 @@ use atomic_table::{Join, Play, Seat, Split, Table, TableRule};
 use std::alloc::Global;
 use std::marker::{Brand, Model, PhantomData};
 
-/// Names a progress word. As a type parameter it makes the types of the lock and of its callers speak of the same word.
-/// The function that makes the word picks the name for the functions that it calls.
+/// Names a progress word. As a type parameter it makes the types of the lock and of its callers name the same word. The
+/// function that makes the word picks the name for the functions that it calls.
 pub trait Naming {
     ghost use Rattle.atomic_table.specs.Seated.{TableId};
 

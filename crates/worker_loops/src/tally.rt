@@ -16,7 +16,7 @@ pub struct Tally {
     pub(crate) stored: u64,
     pub(crate) strange: u64,
     pub(crate) pass: TakePass,
-    /// The seat as it was left, for contracts alone.
+    /// The seat as it was given up, for contracts alone.
     pub(crate) left: GhostCopy<Seat>,
     ghost ended: { is_closed pass.got ≡ true },
 }
