@@ -1,5 +1,4 @@
--- The instructions in flight: the pending instructions beside the board and the hopper that answer for them.
--- Source: ours.
+-- The instructions in flight: the pending instructions, with the board and the hopper that judge them. Source: ours.
 use Rattle.std.specs.Prelude.{◌≡◌, ℕ, suc, Bool, true, List, [], ◌∷◌, ◌++◌, Option, Some, None, unwrap_or}
 use Rattle.std.specs.Prelude.{slice_index_or}
 use Rattle.instructions.specs.declared.instr.Instr.{Instr}
@@ -24,22 +23,23 @@ use Rattle.in_flight.specs.Pending.{left_to_return}
 use Rattle.in_flight.specs.Tests.{unit_for}
 use Rattle.in_flight.specs.Lookup.{enters}
 
--- what the pending instructions, the board and the hopper stand for
+-- the instructions in flight that the pending instructions, the board and the hopper represent
 pub record Flight : Type 0 where
   -- the instructions with an effect still to come, in issue order
   pub pending : List Pending
-  -- by its number, whether a bank is busy
+  -- whether each bank is busy, by its number
   pub busy : List Bool
   -- the number of the last reservation
   pub last : ℕ
 
--- the pending instructions with the busy banks of the hopper and the last number of the board
+-- these pending instructions, with the hopper's busy banks and the board's last number
 abbrev pub flight_of : List Pending → Queue → Standing → Flight
 flight_of ms queue standing = record { pending = ms; busy = queue.busy; last = standing.last }
 
--- ---- what is left of a unit's instruction after its store event ----
+-- ---- the rest of a unit's instruction after its store event ----
 
--- a reference in range enters a place; out of range a load has +0 in its channel, and a store is gone
+-- a reference in range enters a place; a load out of range has +0 in its channel; of a store out of range nothing is
+-- left
 unfoldable pub entering : ℕ → Option ℕ → Access → Option Outstanding
 entering place (Some a) access = Some (Entered place a access)
 entering place None (Load n) = Some (Accepted n 0)
@@ -50,19 +50,19 @@ unfoldable pub relocated : Bounds → Option ProgramReference → Option Relocat
 relocated b None = None
 relocated b (Some r) = Some (record { address = absolute b r.address; access = r.access })
 
--- what is left of an instruction, by its reference, if it makes one
+-- the rest of an instruction with this reference, if it makes one
 unfoldable pub outstanding_of : ℕ → Option Relocated → Option Outstanding
 outstanding_of place None = None
 outstanding_of place (Some r) = entering place r.address r.access
 
--- it is the reference of an instruction of that shape
+-- the reference fits an instruction of this shape
 pub record IsRestOf (shape : Shape) (rest : Option Relocated) : Type 0 where
-  -- what has still to return is a load, through the channel of its X register
+  -- the load that is still to return, if any, is this shape's, in the channel of its X register
   pub returns : left_to_return (outstanding_of 0 rest) ≡ channel_of shape
   -- only an instruction with a reference leaves one that enters the hopper
   pub refers : enters (outstanding_of 0 rest) ≡ true → has_reference shape ≡ true
 
--- what is left of an accepted reference: a load has the word of memory in its channel
+-- the rest of an instruction after its reference was accepted: a load has its word from memory in its channel
 abbrev pub left_by : List ℕ → ℕ → Access → Option Outstanding
 left_by memory a (Load n) = Some (Accepted n (slice_index_or memory a 0))
 left_by memory a (Store w) = None
@@ -73,7 +73,7 @@ left_by memory a (Store w) = None
 abbrev pub unit_taken : Flight → Instr → FunctionalUnit
 unit_taken f i = unwrap_or (unit_for f.pending (uses i).unit) Branch
 
--- one instruction more, which waits in its unit
+-- the instructions in flight after one more was issued, which waits in its unit
 abbrev pub reserved_in : Flight → Instr → ℕ → Flight
 reserved_in f i at = record f {
   pending = f.pending ++ record {

@@ -1,5 +1,5 @@
--- The definitions of the instructions in flight: those that are issued and have an effect still to come.
--- Source: ours. What they are refused for (Tests.antt) is from Thornton and 60100000.
+-- The definitions of the instructions in flight, which are issued and have an effect still to come. Source: ours. Their
+-- refusals (Tests.antt) are from Thornton and 60100000.
 pub mod Pending
 pub mod Lookup
 pub mod Tests

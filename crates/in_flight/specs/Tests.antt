@@ -1,6 +1,6 @@
--- What an event is refused for, where it depends on the instructions in flight: the first refusal that applies.
--- Source: Thornton, scoreboard and stunt box; 60100000, unit and register conflicts and central memory. The order of
--- the tests and the turn of references are ours.
+-- The refusals of events that depend on the instructions in flight: the first that applies. Source: Thornton,
+-- scoreboard and stunt box; 60100000, unit and register conflicts and central memory. The order of the tests and the
+-- turn of references are ours.
 use Rattle.std.specs.Prelude.{ℕ, Bool, true, false, not, ◌&&◌, if◌then◌else◌, List, [], ◌∷◌, Option, Some, None}
 use Rattle.std.specs.Prelude.{is_none, Result, Ok, Err, slice_index_or}
 use Rattle.std.specs.List.{list_any}
@@ -43,12 +43,12 @@ refusal_of (t ∷ ts) = if t.fails then Some t.refusal else refusal_of ts
 unfoldable pub nothing : List Test
 nothing = record { fails = true; refusal = Nothing } ∷ []
 
--- the tests of the one that was found; E15, nothing, where none was
+-- the tests of the instruction that was found; E15, nothing, if none was found
 unfoldable pub tests_found : {K : Type 0} → Option (Found Pending K) → (Found Pending K → List Test) → List Test
 tests_found None f = nothing
 tests_found (Some x) f = f x
 
--- what was refused, if anything was
+-- the refusal, if there is one
 abbrev pub refusal_in : {K : Type 0} → Result K Refusal → Option Refusal
 refusal_in (Ok x) = None
 refusal_in (Err k) = Some k
@@ -59,8 +59,8 @@ refusal_in (Err k) = Some k
 abbrev pub unit_for : List Pending → Option UnitKind → Option FunctionalUnit
 unit_for ms kind = conflict.unit_for reservation_of ms kind
 
--- first order: E7, unit busy, where no unit of the kind is free; E8, result reserved, where a result register is a
--- result still to come (a pass and a halt take no unit)
+-- first order: E7, unit busy, if no unit of the kind is free; E8, result reserved, if a result register is a result
+-- still to come (a pass and a halt take no unit)
 unfoldable pub reservation_tests : List Pending → Fetched → List Test
 reservation_tests ms (Halting h place) = []
 reservation_tests ms (Passing place) = []
@@ -74,8 +74,8 @@ reservation_tests ms (Taking i place) =
 
 -- ---- the events of a unit ----
 
--- E9, operand awaited (second order): an operand is a result still to come of an earlier instruction; E15, nothing,
--- where it has read before
+-- E9, operand awaited (second order): an operand is a result still to come of an earlier instruction; E15, nothing, if
+-- the operands were read before
 unfoldable pub read_tests : Stage → List Pending → Instr → List Test
 read_tests Unread earlier i =
     record {
@@ -85,8 +85,8 @@ read_tests Unread earlier i =
 read_tests (HasRead os) earlier i = nothing
 read_tests (Finished v) earlier i = nothing
 
--- E10, result held (third order); E11, hopper full: a reference would enter and no place is free; E12, out of turn:
--- an earlier reference has not come to its store event
+-- E10, result held (third order); E11, hopper full: a reference would enter and no place is free; E12, out of turn: an
+-- earlier reference has not reached its store event
 abbrev pub store_conflicts : List Pending → List Pending → Instr → Bool → List Test
 store_conflicts ms earlier i entering =
     record {
@@ -99,14 +99,15 @@ store_conflicts ms earlier i entering =
 
 -- ---- the events of memory ----
 
--- E13, bank busy; E14, older at address: an older reference to that address waits, and at least one of the two stores
+-- E13, bank busy; E14, older at address: an older reference to the same address waits, and at least one of the two is
+-- a store
 unfoldable pub accept_tests : List Bool → List Pending → Reference → List Test
 accept_tests busy earlier entry =
     record { fails = slice_index_or busy (bank_of entry.address) false; refusal = BankBusy (bank_of entry.address) }
     ∷ record { fails = list_any (holds_back entry.address entry.access) earlier; refusal = OlderAtAddress }
     ∷ []
 
--- E10, result held (third order): an earlier instruction has still to read the X register of the load
+-- E10, result held (third order): an earlier instruction still has to read the X register of the load
 unfoldable pub return_tests : List Pending → Arrival → List Test
 return_tests earlier arrival =
     record { fails = to_be_read earlier (X arrival.channel); refusal = ResultHeld (X arrival.channel) } ∷ []

@@ -34,8 +34,8 @@ use std::marker::Model;
 use unit_ops::{Operands, UnitValue};
 use word60::{Word18, Word60};
 
-/// The instructions with an effect still to come, by the unit, place or channel that each has, beside the
-/// scoreboard and the hopper, which answer for them.
+/// The instructions with an effect still to come, each in its unit, place or channel, together with the scoreboard and
+/// the hopper, which judge them.
 #[derive(Drop)]
 pub struct InFlight {
     slots: Slots,
@@ -54,7 +54,7 @@ impl Model for InFlight {
     ghost invariant = { λ f. IsTied f.slots f.hopper f.board };
 }
 
-/// The instruction as it waited, and what it reads.
+/// An instruction that waits, and the operands that it reads.
 fn reading(pending: &Pending, registers: &RegisterFile) -> (Pending, Operands)
     ensures pending { result.0 ≡ pending.now }
     ensures operands { result.1 ≡ operands pending.now.instr pending.now.at registers.now }
@@ -64,7 +64,7 @@ fn reading(pending: &Pending, registers: &RegisterFile) -> (Pending, Operands)
 }
 
 impl InFlight {
-    /// Nothing is in flight, and all banks are free.
+    /// No instruction in flight, and all banks free.
     pub fn new() -> InFlight
         ensures { result ≡ record { pending = []; busy = replicate 32 false; last = 0 } }
     {
@@ -103,7 +103,7 @@ impl InFlight {
         self.board.has_reference_to_come() || self.hopper.waits_for(address)
     }
 
-    /// Whether a bank is busy; there is none after the last.
+    /// Whether a bank is busy; `false` if there is no such bank.
     pub fn is_bank_busy(&self, bank: u8) -> bool
         ensures { result ≡ slice_index_or self.now.busy bank false }
     {
@@ -117,18 +117,18 @@ impl InFlight {
         self.slots.find_stage(unit)
     }
 
-    /// The oldest of them.
+    /// The oldest instruction in flight.
     pub fn oldest(&self) -> Option<Pending>
         ensures { result ≡ first_of self.now.pending }
     {
         self.slots.oldest()
     }
 
-    /// First order: reserves a unit for an instruction of the word at `at`. It answers the unit and the reservation's
+    /// First order: reserves a unit for an instruction of the word at `at`. Returns the unit and the reservation's
     /// number.
     ///
     /// # Errors
-    /// `UnitBusy`, `ResultReserved`.
+    /// The first that applies: `UnitBusy` or `ResultReserved`.
     pub fn reserve(&mut self, instr: &Instr, at: Word18) -> Result<(Unit, u64), Refusal>
         requires number { self.old.last + 1 < 2 ^ 64 }
         ensures answer { (place : SomePosition)
@@ -151,11 +151,11 @@ impl InFlight {
         reserved
     }
 
-    /// Second order: the unit's instruction reads its operands. It answers the instruction as it waited, and what
-    /// it has read.
+    /// Second order: reads the operands of the unit's instruction. Returns the instruction as it waited, and the
+    /// operands.
     ///
     /// # Errors
-    /// `Nothing`, `OperandAwaited`.
+    /// The first that applies: `Nothing` or `OperandAwaited`.
     pub fn read(
         &mut self,
         unit: Unit,
@@ -185,7 +185,7 @@ impl InFlight {
         Ok(read)
     }
 
-    /// The unit's instruction, which has read its operands, has its value.
+    /// Gives its value to the unit's instruction, which has read its operands.
     pub fn finish(&mut self, unit: Unit, value: UnitValue)
         requires { IfSome (located (seek (stage_at unit) self.old.pending)) (λ s. has_read s.answer ≡ true) }
         ensures { self.new ≡ with_pending self.old
@@ -195,10 +195,11 @@ impl InFlight {
         self.slots.set_stage(unit, Stage::Finished(value));
     }
 
-    /// Third order, the hopper's room for the reference that would enter, and the turn of references.
+    /// Judges a store event by third order, the hopper's room for a reference that would enter, and the turn of
+    /// references.
     ///
     /// # Errors
-    /// `ResultHeld`, `HopperFull`, `OutOfTurn`.
+    /// The first that applies: `ResultHeld`, `HopperFull` or `OutOfTurn`.
     pub fn may_store(&self, unit: Unit, rest: &Option<Relocated>) -> Result<(), Refusal>
         ensures { (f : Found Pending SomeStage) → seek (stage_at unit) self.now.pending ≡ Some f
             → refusal_of (store_conflicts self.now.pending f.earlier f.item.instr (enters (outstanding_of 0 rest.now)))
@@ -213,9 +214,9 @@ impl InFlight {
         }
     }
 
-    /// The unit's instruction leaves it. What is left of it waits: a reference in range in the lowest-numbered free
-    /// place of the hopper, and out of range a load with +0 in its channel. It answers what is left, None if no
-    /// instruction holds the unit.
+    /// Takes the unit's instruction out of its unit. The rest of it waits: a reference in range in the lowest-numbered
+    /// free place of the hopper, a load out of range with +0 in its channel. Returns the rest. `None` if there is none,
+    /// or if no instruction holds the unit.
     pub fn leave(&mut self, unit: Unit, rest: &Option<Relocated>) -> Option<Outstanding>
         requires apart { Pairs IsApart self.old.pending }
         requires rest { IfSome (located (seek (stage_at unit) self.old.pending))
@@ -252,11 +253,11 @@ impl InFlight {
         left
     }
 
-    /// The bank of the reference in a place of the hopper takes it and is busy: a load has its word in its channel,
-    /// and of a store nothing is left. It answers the reference; a store is still to be written to memory.
+    /// Accepts the reference in a place of the hopper, whose bank is then busy. A load then has its word in its
+    /// channel, and of a store nothing is left. Returns the reference; a store is still to be written to memory.
     ///
     /// # Errors
-    /// `Nothing`, `BankBusy`, `OlderAtAddress`.
+    /// The first that applies: `Nothing`, `BankBusy` or `OlderAtAddress`.
     pub fn accept(&mut self, place: u8, memory: &Storage) -> Result<Reference, Refusal>
         requires apart { Pairs IsApart self.old.pending }
         requires own_slots { HasOwnSlots (length memory.now) self.old.pending }
@@ -283,10 +284,10 @@ impl InFlight {
         accepted
     }
 
-    /// Third order: the load in a channel returns. It answers the word and its register's number.
+    /// Third order: completes the load in a channel. Returns the word and its register's number.
     ///
     /// # Errors
-    /// `Nothing`, `ResultHeld`.
+    /// The first that applies: `Nothing` or `ResultHeld`.
     pub fn return_load(&mut self, channel: u8) -> Result<Arrival, Refusal>
         requires apart { Pairs IsApart self.old.pending }
         ensures answer { refusal_of (tests_found (seek (arrival_at channel) self.old.pending)
@@ -307,10 +308,10 @@ impl InFlight {
         Ok(found.answer)
     }
 
-    /// A bank is free again.
+    /// Frees a bank.
     ///
     /// # Errors
-    /// `Nothing`.
+    /// `Nothing` if the bank isn't busy.
     pub fn bank_free(&mut self, bank: u8) -> Result<(), Refusal>
         ensures answer { refusal_of (free_tests self.old.busy bank) ≡ refusal_in result }
         ensures after { MatchResult result

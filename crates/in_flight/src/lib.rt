@@ -1,10 +1,10 @@
-//! The instructions in flight: those that were issued and have an effect still to come. `InFlight`
-//! keeps them by the unit, the place of the hopper or the load channel that each has, beside the
-//! scoreboard and the hopper, which judge them.
+//! The instructions in flight: those that were issued and have an effect still to come. `InFlight` keeps each of them
+//! in its unit, its place of the hopper or its load channel, together with the scoreboard and the hopper, which judge
+//! them.
 //!
 //! Callers rely on `InFlight::reserve`, `read`, `may_store`, `accept` and `return_load`: each refuses exactly for the
 //! first conflict that `specs/Tests` finds in the list of pending instructions, and leaves exactly the list that
-//! `specs/Flight` defines. `pending` has how far an instruction may have come. Its tests are in
+//! `specs/Flight` defines. `pending` has the stages and phases of an instruction. Its tests are in
 //! `crates/machine_tests/src/flight_tests.rt`. Begin with `InFlight` in `flight`.
 #![tactic(auto)]
 

@@ -6,33 +6,33 @@ use relocation::Access;
 use unit_ops::{Operands, UnitValue};
 use word60::{Word18, Word60};
 
-/// How far an instruction has come in its unit.
+/// The stage of an instruction in its unit.
 #[derive(Clone, Copy, Debug, Drop, PartialEq, Eq)]
 pub enum Stage {
-    /// It has still to read its operands.
+    /// Its operands are still to be read.
     Unread,
-    /// It has read them.
+    /// Its operands were read.
     Read(Operands),
     /// It has its value.
     Finished(UnitValue),
 }
 
-/// What is left of an instruction after its store event.
+/// The rest of an instruction after its store event.
 #[derive(Clone, Copy, Debug, Drop, PartialEq, Eq)]
 pub enum Outstanding {
-    /// A reference that waits in a place of the hopper (0 to 3): the place, the absolute address and what
-    /// it does there.
+    /// A reference that waits in a place of the hopper (0 to 3): the place, the absolute address and the access to the
+    /// word there.
     Entered(u8, u32, Access),
     /// A load that waits in its channel (1 to 5, the number of its X register) with its word.
     Accepted(Digit, Word60),
 }
 
-/// How far an instruction has come.
+/// The phase of an instruction: before or after its store event.
 #[derive(Clone, Copy, Debug, Drop, PartialEq, Eq)]
 pub enum Phase {
     /// It holds its unit.
     Before(Stage),
-    /// It has come to its store event and left its unit.
+    /// It has made its store event and left its unit.
     After(Outstanding),
 }
 
@@ -40,9 +40,9 @@ pub enum Phase {
 #[derive(Clone, Copy, Debug, Drop, PartialEq, Eq)]
 pub struct Pending {
     pub instr: Instr,
-    /// The address of its word.
+    /// The address of the instruction's word.
     pub at: Word18,
-    /// The number of its reservation, from 1 since boot.
+    /// The number of its reservation, counted from 1 since boot.
     pub number: u64,
     pub unit: Unit,
     pub phase: Phase,
@@ -56,7 +56,7 @@ pub struct Arrival {
     pub word: Word60,
 }
 
-/// A pass that was never issued, number 0: what lists of a fixed room hold where nothing is.
+/// A pass that was never issued, with the number 0. It fills the empty elements of lists of a fixed size.
 impl Default for Pending {
     ghost use Rattle.instructions.specs.declared.instr.Instr.TheVariants.{Pass};
     ghost use Rattle.instructions.specs.declared.instr.Unit.TheVariants.{Branch};
@@ -77,7 +77,7 @@ impl Default for Pending {
 }
 
 impl Pending {
-    /// Its word, if it waits in the channel.
+    /// The load that waits in this channel, if this is the instruction's.
     #[tactic(auto, unfolding(crate::specs::Lookup::arrival_at, crate::specs::Lookup::arrival_in))]
     pub(crate) fn arrival_in(&self, given: u8) -> Option<Arrival>
         ensures { result ≡ arrival_at given self.now }

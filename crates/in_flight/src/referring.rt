@@ -4,17 +4,17 @@ ghost use Rattle.in_flight.specs.Flight.{relocated};
 use relocation::{Access, Area, relocate};
 use sequential::ProgramReference;
 
-/// A reference by absolute address, before it has its place.
+/// A reference by absolute address, before it enters the hopper.
 #[derive(Clone, Copy, Debug, Drop, PartialEq, Eq)]
 pub struct Relocated {
-    /// The absolute address, None where it is out of range.
+    /// The absolute address; `None` if it is out of range.
     pub address: Option<u32>,
-    /// What it does to the word there.
+    /// The access to the word there.
     pub access: Access,
 }
 
 impl Relocated {
-    /// A reference by its absolute address in a memory of `size` words, if there is one.
+    /// Relocates a reference, if there is one, to its absolute address in a memory of `size` words.
     #[tactic(auto, unfolding(crate::specs::Flight::relocated, sequential::specs::State::absolute))]
     pub fn of(area: &Area, size: u32, reference: &Option<ProgramReference>) -> Option<Relocated>
         ensures { result ≡ relocated (record { area = area.now; size = size }) reference.now }

@@ -11,15 +11,15 @@ use crate::{Arrival, Outstanding, Pending, Phase, Stage};
 use instruction_table::Unit;
 use std::marker::Model;
 
-/// A pending instruction that was located, with its answer to what was asked.
+/// A pending instruction that was found, with the answer of the search.
 #[derive(Clone, Copy, Drop)]
 pub struct Located<K> {
     pub pending: Pending,
     pub answer: K,
 }
 
-/// The pending instructions: by the number of the unit that they hold, by the place of the hopper in which their
-/// reference waits, by the channel in which their load waits.
+/// The pending instructions in their slots: by the number of the unit that they hold, by the place of the hopper in
+/// which their reference waits, or by the channel in which their load waits.
 #[derive(Drop)]
 pub struct Slots {
     units: [Option<Pending>; 10],
@@ -40,7 +40,7 @@ impl Model for Slots {
     ghost invariant = { λ p. IsRight p.units p.places p.channels };
 }
 
-/// What the slot holds, None if there is no such slot.
+/// The content of a slot; `None` if there is no such slot.
 fn slot_at(slots: &[Option<Pending>], index: usize) -> Option<Pending>
     ensures { result ≡ slice_index_or slots.now index None }
 {
@@ -50,14 +50,14 @@ fn slot_at(slots: &[Option<Pending>], index: usize) -> Option<Pending>
     }
 }
 
-/// Whether no slot is held.
+/// Whether all slots are empty.
 fn none_held(slots: &[Option<Pending>]) -> bool
     ensures { result ≡ list_all is_none slots.now }
 {
     slots.iter().all(|slot| slot.is_none())
 }
 
-/// The one with the lower number, or the only one.
+/// The instruction with the lower number, or the only one.
 #[tactic(auto, unfolding(crate::specs::inner::Slots::lower_of))]
 fn lower(first: &Option<Pending>, second: &Option<Pending>) -> Option<Pending>
     ensures { result ≡ lower_of first.now second.now }
@@ -77,7 +77,7 @@ fn lower(first: &Option<Pending>, second: &Option<Pending>) -> Option<Pending>
     }
 }
 
-/// The one with the lowest number in the slots.
+/// The instruction with the lowest number in the slots.
 fn lowest(slots: &[Option<Pending>]) -> Option<Pending>
     ensures { result ≡ lowest_of slots.now }
 {
@@ -89,7 +89,7 @@ fn lowest(slots: &[Option<Pending>]) -> Option<Pending>
 }
 
 impl Slots {
-    /// Nothing is pending.
+    /// Slots in which nothing is pending.
     pub fn new() -> Slots
         ensures { result ≡ [] }
     {
@@ -133,12 +133,12 @@ impl Slots {
         let phase = pending.phase;
         match phase {
             Phase::Before(answer) => Some(Located { pending, answer }),
-            // In the slot of a unit there is none that has left it.
+            // No instruction that has left its unit is in the unit's slot.
             Phase::After(_) => None,
         }
     }
 
-    /// The instruction that holds the unit comes to another stage.
+    /// Sets the stage of the instruction that holds the unit.
     pub fn set_stage(&mut self, unit: Unit, stage: Stage)
         ensures { self.new ≡ replaced (seek (stage_at unit) self.old) self.old (λ m. in_phase m (Before stage) ∷ []) }
     {
@@ -148,7 +148,7 @@ impl Slots {
         }
     }
 
-    /// The instruction that holds the unit leaves it; what is left of it goes to its place or its channel.
+    /// Takes the instruction out of the unit that it holds. The rest of it goes to its place or its channel.
     pub fn leave(&mut self, unit: Unit, later: &Option<Outstanding>)
         requires { HasRoom later.now self.old }
         ensures { self.new ≡ replaced (seek (stage_at unit) self.old) self.old (λ m. kept m later.now) }
@@ -169,7 +169,7 @@ impl Slots {
         }
     }
 
-    /// The instruction in the place leaves it; what is left of it goes to its channel.
+    /// Takes the instruction out of a place of the hopper. The rest of it goes to its channel.
     pub fn accept(&mut self, place: u8, later: &Option<Outstanding>)
         requires place { place < 4 }
         requires room { HasRoom later.now self.old }
@@ -206,7 +206,7 @@ impl Slots {
         }
     }
 
-    /// The instruction in the channel has returned.
+    /// Removes the instruction in a channel, whose load has returned.
     pub fn returned(&mut self, channel: u8)
         requires { channel < 8 }
         ensures { self.new ≡ replaced (seek (arrival_at channel) self.old) self.old (λ m. []) }
@@ -219,7 +219,7 @@ impl Slots {
         self.channels[index] = None;
     }
 
-    /// A new instruction, with a number above all, goes to its unit, which is free.
+    /// Adds a new instruction, whose number is above all others, in its unit, which is free.
     pub fn push(&mut self, pending: Pending)
         requires waits { pending.phase ≡ Before Unread }
         requires free { seek (stage_at pending.unit) self.old ≡ None }

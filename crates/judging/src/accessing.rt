@@ -5,13 +5,13 @@ ghost use Rattle.program_order.specs.Peripheral.{access_tests};
 use in_flight::InFlight;
 use instruction_table::Refusal;
 
-/// How many peripheral accesses are accepted.
+/// How many peripheral accesses a machine accepts.
 const MOST_ACCESSES: u32 = 1_000_000;
 
-/// Whether a peripheral processor may go to the word at the absolute address.
+/// Judges whether a peripheral processor may access the word at an absolute address.
 ///
 /// # Errors
-/// `Budget`, `PeripheralWait`, `PeripheralRange`.
+/// The first that applies: `Budget`, `PeripheralWait` or `PeripheralRange`.
 #[tactic(auto, unfolding(in_flight::specs::Tests::refusal_of, program_order::specs::Peripheral::access_tests))]
 pub fn judge_access(accessed: u32, in_flight: &InFlight, size: u32, at: u32) -> Result<(), Refusal>
     ensures answer { refusal_of (access_tests accessed in_flight.now.pending size at) ≡ refusal_in result }

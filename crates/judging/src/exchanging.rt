@@ -7,10 +7,10 @@ use instruction_table::Refusal;
 use relocation::package_fits;
 use sequential::State;
 
-/// How many requests for an exchange are accepted.
+/// How many requests for an exchange a machine accepts.
 const MOST_REQUESTS: u32 = 1_000_000;
 
-/// Whether the exchange may be asked for.
+/// Judges whether the exchange may be asked for.
 #[tactic(auto, unfolding(in_flight::specs::Tests::refusal_of, program_order::specs::Exchange::ask_tests))]
 pub fn judge_ask(asked: u32, request: &Option<u32>, size: u32, at: u32) -> Result<(), Refusal>
     ensures answer { refusal_of (ask_tests asked request.now size at) ≡ refusal_in result }
@@ -28,7 +28,7 @@ pub fn judge_ask(asked: u32, request: &Option<u32>, size: u32, at: u32) -> Resul
     Ok(())
 }
 
-/// Whether the exchange may be made, with the address of its package.
+/// Judges whether the exchange may be made. If so, returns the address of its package.
 #[tactic(auto, unfolding(in_flight::specs::Tests::refusal_of, program_order::specs::Exchange::exchange_tests))]
 pub fn judge_exchange(
     request: &Option<u32>,

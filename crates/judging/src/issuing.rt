@@ -9,10 +9,10 @@ use instruction_table::Refusal;
 use relocation::relocate;
 use sequential::{Fetched, State};
 
-/// Whether the next word or parcel may be taken, with what it does; first order is still to be judged.
+/// Judges whether the next word or parcel may be taken, except for first order conflicts. If so, returns what it does.
 ///
 /// # Errors
-/// `Halted`, `Faulted`, `Budget`, `BranchPending`, `ExchangeWaiting`, `FetchWait`.
+/// The first that applies: `Halted`, `Faulted`, `Budget`, `BranchPending`, `ExchangeWaiting` or `FetchWait`.
 #[tactic(auto, unfolding(crate::proofs::Opened::waiting_fetch, in_flight::specs::Tests::refusal_of, program_order::specs::Issue::issue_tests))]
 pub fn judge_issue(
     state: &State,

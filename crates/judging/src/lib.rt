@@ -1,7 +1,7 @@
-//! Which events may be made: the refusals of each event, as `program_order` defines them, judged by the state and the
-//! instructions in flight. Nothing is changed here; `machine` makes the events.
+//! The refusals of each event, as `program_order` defines them, decided from the state and the instructions in flight.
+//! This crate changes nothing; `machine` makes the events.
 //!
-//! Callers rely on each judgement: it gives exactly the first refusal that applies, in the order of the refusals'
+//! Callers rely on each judgement: it returns exactly the first refusal that applies, in the order of the refusals'
 //! numbers. `issuing` judges an issue, `units` a finish, `exchanging` a request and its exchange, `accessing` a
 //! peripheral access; `working` names the next event that works on what is pending. Reads, stores and the memory events
 //! are judged in `in_flight`. Its tests are those of the machine, in `crates/machine_tests/src/event_tests.rt`. Begin

@@ -9,10 +9,10 @@ use in_flight::{InFlight, Located, Pending, Stage};
 use instruction_table::{Refusal, Unit};
 use unit_ops::Operands;
 
-/// Whether the unit may finish, with its instruction and its operands.
+/// Judges whether the unit may finish. If so, returns its instruction and its operands.
 ///
 /// # Errors
-/// `Nothing`.
+/// `Nothing` if no instruction in the unit has read its operands and is still to finish.
 #[tactic(auto, unfolding(crate::proofs::Opened::unit_tests))]
 pub fn judge_finish(in_flight: &InFlight, unit: Unit) -> Result<(Pending, Operands), Refusal>
     ensures answer { refusal_of (tests_found (seek (stage_at unit) in_flight.now.pending) (λ f. finish_tests f.answer))

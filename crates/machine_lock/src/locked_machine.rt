@@ -35,14 +35,15 @@ use std::marker::{Brand, Model};
 use std::sync::{Arc, MutexGuard};
 use word60::Word60;
 
-/// The machine that the lock keeps, with the pass that knows its log, and whether its users were told to end. The holder
-/// of the lock makes several events with none of another thread between them. Each call makes the event of the call of
-/// `Shared` with its name. Beside what that call promises, its contract states in full the answer and the machine after
-/// it. `Shared::release` releases the lock and then wakes the threads that wait for the events that were made.
+/// The machine that the lock protects, the pass that knows its log, and whether the machine's users were told to end.
+/// The holder of the lock can make several events with none of another thread between them. Each method makes the event
+/// of the call of `Shared` with the same name. Besides what that call promises, the method's contract states in full
+/// the answer and the machine afterwards. `Shared::release` releases the lock and then wakes the threads that wait for
+/// these events.
 ///
-/// Whenever the lock is acquired, the effects made so far, with those still to come, are the replay of the machine's log
-/// on the memory with which it was booted: each method leaves it so, by `Machine::keeps_replay`. And the pass's list is
-/// the log: what is logged is recorded, for its caller, before the lock is released.
+/// Whenever the lock is acquired, the effects made so far, together with those still to come, are the replay of the
+/// machine's log on its boot memory. Each method preserves this, by `Machine::keeps_replay`. The pass's list is the
+/// log: each step is recorded, for the caller who made it, before the lock is released.
 #[derive(Drop)]
 pub struct LockedMachine<K: Naming> {
     machine: Machine,
@@ -52,7 +53,7 @@ pub struct LockedMachine<K: Naming> {
     is_ended: bool,
 }
 
-/// The lock while it is held, with the machine that it keeps.
+/// The guard of the lock, with the machine that it protects.
 pub type MachineGuard<'a, K> = MutexGuard<'a, LockedMachine<K>>;
 
 impl<K: Naming> Model for LockedMachine<K> {
@@ -66,7 +67,7 @@ impl<K: Naming> Model for LockedMachine<K> {
     ghost invariant = { λ l. IsLocked K.table l.machine l.pass };
 }
 
-/// The caller learns the log of the machine.
+/// Brings the caller's knowledge up to date with the machine's log.
 fn compare<K: Naming>(word: &Word<K>, pass: &mut Pass, seen: &mut Seen<K>, machine: &Machine)
     requires { IsKeeper K.table (past machine.now) pass.old }
     ensures pass { IsKeeper K.table (past machine.now) pass.new }
@@ -80,7 +81,8 @@ fn compare<K: Naming>(word: &Word<K>, pass: &mut Pass, seen: &mut Seen<K>, machi
     word.compare(pass, &mut seen.pass);
 }
 
-/// After an event that is logged: where it was made the caller has made the log's last step; else it learns the log.
+/// Records an event that is logged. If the event was made, the log's last step becomes the caller's own. If the event
+/// was refused, the caller learns the log.
 fn record_or_compare<K: Naming>(
     word: &Word<K>,
     pass: &mut Pass,
@@ -106,7 +108,7 @@ fn record_or_compare<K: Naming>(
 }
 
 impl<K: Naming> LockedMachine<K> {
-    /// A machine whose users weren't told to end, with the pass that knows its log and the word that counts it.
+    /// A machine whose users weren't told to end, with the pass that knows its log and the word that counts its steps.
     pub(crate) fn new(machine: Machine, pass: Pass, word: Arc<Word<K>, Global>) -> LockedMachine<K>
         requires { IsKeeper K.table (past machine) pass }
         ensures { result ≡ record { processor = machine; is_ended = false } }
@@ -121,17 +123,17 @@ impl<K: Naming> LockedMachine<K> {
         }
     }
 
-    /// The release is to wake the storage worker: a reference was made.
+    /// Makes the release wake the storage worker, because there is a new reference.
     pub fn leave_to_memory(&mut self)
         ensures { self.new ≡ self.old }
     {
         self.wakeups.referred = true;
     }
 
-    /// Issues the next instruction, as `Shared::issue`.
+    /// Issues the next instruction, as `Shared::issue` does.
     ///
     /// # Errors
-    /// What an issue may refuse.
+    /// Any refusal of an issue.
     #[tactic(auto, unfolding(program_order::specs::Refusals::may_refuse, program_order::specs::Run::settled))]
     pub fn issue(&mut self, seen: &mut Seen<K>) -> Result<Option<Note>, Refusal>
         ensures answer { IsAnswer self.old.processor Issue (answered DoneIssue result) }
@@ -150,10 +152,10 @@ impl<K: Naming> LockedMachine<K> {
         }
     }
 
-    /// Asks for an exchange with the package at an absolute address, as `Shared::ask`.
+    /// Asks for an exchange with the package at an absolute address, as `Shared::ask` does.
     ///
     /// # Errors
-    /// What a request may refuse.
+    /// Any refusal of a request.
     #[tactic(auto, unfolding(program_order::specs::Refusals::may_refuse, program_order::specs::Run::settled))]
     pub fn ask(&mut self, seen: &mut Seen<K>, at: u32) -> Result<(), Refusal>
         ensures answer { IsAnswer self.old.processor (Ask at) (made_or_refused result) }
@@ -171,10 +173,10 @@ impl<K: Naming> LockedMachine<K> {
         Ok(())
     }
 
-    /// Makes the exchange that was asked for, as `Shared::exchange`.
+    /// Makes the exchange that was asked for, as `Shared::exchange` does.
     ///
     /// # Errors
-    /// What an exchange may refuse.
+    /// Any refusal of an exchange.
     #[tactic(auto, unfolding(program_order::specs::Refusals::may_refuse, program_order::specs::Run::settled))]
     pub fn exchange(&mut self, seen: &mut Seen<K>) -> Result<(), Refusal>
         ensures answer { IsAnswer self.old.processor Exchange (made_or_refused result) }
@@ -194,11 +196,11 @@ impl<K: Naming> LockedMachine<K> {
         Ok(())
     }
 
-    /// Makes the exchange that was asked for and, once it was made, asks for the one with the package at the absolute
-    /// address `next`, if there is one, as `Shared::exchange_and_ask`.
+    /// Makes the exchange that was asked for, and then asks for the next one, as `Shared::exchange_and_ask` does.
+    /// `next` is the absolute address of its package, if there is one.
     ///
     /// # Errors
-    /// What an exchange may refuse; within `Ok` what a request may refuse.
+    /// Any refusal of an exchange. Within `Ok`, any refusal of a request.
     #[tactic(auto, unfolding(program_order::specs::Refusals::may_refuse, program_order::specs::Run::settled))]
     pub fn exchange_and_ask(
         &mut self,
@@ -224,10 +226,10 @@ impl<K: Naming> LockedMachine<K> {
         }
     }
 
-    /// A peripheral processor reads the word at an absolute address, as `Shared::pp_read`.
+    /// Reads the word at an absolute address for a peripheral processor, as `Shared::pp_read` does.
     ///
     /// # Errors
-    /// What a peripheral access may refuse.
+    /// Any refusal of a peripheral access.
     #[tactic(auto, unfolding(program_order::specs::Refusals::may_refuse, program_order::specs::Run::settled))]
     pub fn pp_read(&mut self, seen: &mut Seen<K>, at: u32) -> Result<Word60, Refusal>
         ensures answer { IsAnswer self.old.processor (PpRead at) (answered DoneWord result) }
@@ -247,10 +249,10 @@ impl<K: Naming> LockedMachine<K> {
         }
     }
 
-    /// A peripheral processor writes a word to an absolute address, as `Shared::pp_write`.
+    /// Writes a word to an absolute address for a peripheral processor, as `Shared::pp_write` does.
     ///
     /// # Errors
-    /// What a peripheral access may refuse.
+    /// Any refusal of a peripheral access.
     #[tactic(auto, unfolding(program_order::specs::Refusals::may_refuse, program_order::specs::Run::settled))]
     pub fn pp_write(&mut self, seen: &mut Seen<K>, at: u32, word: Word60) -> Result<(), Refusal>
         ensures answer { IsAnswer self.old.processor (PpWrite at word) (made_or_refused result) }
@@ -268,10 +270,10 @@ impl<K: Naming> LockedMachine<K> {
         Ok(())
     }
 
-    /// Takes on a reservation with the seat of its unit, as `Shared::claim`.
+    /// Claims a reservation with the seat of its unit, as `Shared::claim` does.
     ///
     /// # Errors
-    /// `Stranger` with the seat.
+    /// `Stranger`, with the seat.
     pub fn claim(&mut self, seat: Seat, note: Note) -> Result<Reserved, (Refusal, Seat)>
         ensures answer { refusal_to (can_claim self.old.processor seat note) None ≡ refused result }
         ensures after { self.new ≡ self.old }
@@ -283,7 +285,7 @@ impl<K: Naming> LockedMachine<K> {
         claimed
     }
 
-    /// The unit reads its operands, as `Shared::read`.
+    /// Reads the operands of the token's reservation, as `Shared::read` does.
     ///
     /// # Errors
     /// `OperandAwaited` or `Stranger`, with the token.
@@ -305,10 +307,10 @@ impl<K: Naming> LockedMachine<K> {
         loaded
     }
 
-    /// The unit gets the token's value, as `Shared::finish`.
+    /// Gives the token's value to the unit, as `Shared::finish` does.
     ///
     /// # Errors
-    /// `Stranger` with the token.
+    /// `Stranger`, with the token.
     pub fn finish(&mut self, token: Computed) -> Result<Finished, (Refusal, Computed)>
         ensures answer { MatchResult result
             (λ finished. (reading_in token.seat (slot self.old.processor token.seat.unit) ≡ Some (read_of token))
@@ -325,8 +327,8 @@ impl<K: Naming> LockedMachine<K> {
         finished
     }
 
-    /// The unit stores its result, as `Shared::store`. Returns also what is left of the instruction: its reference, in a
-    /// place of the hopper or in its load channel.
+    /// Stores the result of the token's reservation, as `Shared::store` does. Also returns the rest of the instruction:
+    /// its reference, in a place of the hopper or in its load channel.
     ///
     /// # Errors
     /// `ResultHeld`, `HopperFull`, `OutOfTurn` or `Stranger`, with the token.
@@ -351,10 +353,10 @@ impl<K: Naming> LockedMachine<K> {
         stored
     }
 
-    /// Memory takes the reference in a place of the hopper, 0 to 3, as `Shared::accept`.
+    /// Accepts the reference in a place of the hopper, 0 to 3, as `Shared::accept` does.
     ///
     /// # Errors
-    /// `BankBusy` or `OlderAtAddress`, or `Nothing` where the place is empty.
+    /// `BankBusy` or `OlderAtAddress`. `Nothing` if the place is empty.
     #[tactic(auto, unfolding(program_order::specs::Refusals::may_refuse))]
     pub fn accept(&mut self, place: u8) -> Result<(), Refusal>
         ensures answer { IsAnswer self.old.processor (Accept place) (made_or_refused result) }
@@ -369,10 +371,10 @@ impl<K: Naming> LockedMachine<K> {
         Ok(())
     }
 
-    /// The load in a channel, 1 to 5, writes its register, as `Shared::return_load`.
+    /// Writes the word of the load in a channel, 1 to 5, to its register, as `Shared::return_load` does.
     ///
     /// # Errors
-    /// `ResultHeld`, or `Nothing` where the channel is empty.
+    /// `ResultHeld`. `Nothing` if the channel is empty.
     #[tactic(auto, unfolding(program_order::specs::Refusals::may_refuse))]
     pub fn return_load(&mut self, channel: u8) -> Result<(), Refusal>
         ensures answer { IsAnswer self.old.processor (Return channel) (made_or_refused result) }
@@ -387,10 +389,10 @@ impl<K: Naming> LockedMachine<K> {
         Ok(())
     }
 
-    /// A bank, 0 to 31, is no longer busy, as `Shared::bank_free`.
+    /// Frees a bank, 0 to 31, as `Shared::bank_free` does.
     ///
     /// # Errors
-    /// `Nothing` where the bank isn't busy.
+    /// `Nothing` if the bank isn't busy.
     #[tactic(auto, unfolding(program_order::specs::Refusals::may_refuse))]
     pub fn bank_free(&mut self, bank: u8) -> Result<(), Refusal>
         ensures answer { IsAnswer self.old.processor (BankFree bank) (made_or_refused result) }
@@ -404,17 +406,18 @@ impl<K: Naming> LockedMachine<K> {
         Ok(())
     }
 
-    /// The next event that works on the oldest pending instruction, as `Machine::next_work`.
+    /// The next event that takes the oldest pending instruction further, as `Machine::next_work` says.
     pub fn next_work(&self) -> Option<Event>
         ensures next { result ≡ next_of self.now.processor.pending self.now.processor.busy }
     {
         self.machine.next_work()
     }
 
-    /// The state, the log, the boot memory and the budget of the machine, if it is drained, as `Shared::snapshot`.
+    /// Returns the state, the log, the boot memory and the budget of the machine, if it is drained, as
+    /// `Shared::snapshot` does.
     ///
     /// # Errors
-    /// `NotDrained` or `OutOfMemory`.
+    /// `NotDrained` if an issued instruction has an effect still to come. `OutOfMemory` if memory runs out.
     pub fn snapshot(&mut self, seen: &mut Seen<K>) -> Result<Snapshot, Refusal>
         ensures after { self.new ≡ self.old }
         ensures seen { Learnt seen.old seen.new }
@@ -441,14 +444,14 @@ impl<K: Naming> LockedMachine<K> {
         self.machine.drained()
     }
 
-    /// Its users are told to end.
+    /// Tells the threads that use the machine to end.
     pub(crate) fn end(&mut self)
         ensures { self.new ≡ record self.old { is_ended = true } }
     {
         self.is_ended = true;
     }
 
-    /// Whether its users were told to end.
+    /// Whether the threads that use the machine were told to end.
     pub(crate) fn ended(&self) -> bool
         ensures { result ≡ self.now.is_ended }
     {

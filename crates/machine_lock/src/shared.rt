@@ -24,11 +24,11 @@ use std::mem;
 use std::sync::{Arc, Mutex, Wait};
 use word60::Word60;
 
-/// How often a thread asks for the lock before it may sleep until it gets it: for longer than most holds.
+/// How often a thread tries to acquire the lock before it blocks on it. These tries take longer than most holds.
 const LOCK_TRIES: u32 = 128;
 
-/// A progress word, which counts the steps of a machine's log, before a machine stands beside it. A contract sees which
-/// it is.
+/// A progress word, which counts the steps of a machine's log, before it belongs to a machine. Contracts can name the
+/// word.
 #[derive(Drop)]
 pub struct Ground {
     table: ProgressTable,
@@ -49,10 +49,10 @@ impl Model for Ground {
 }
 
 impl Ground {
-    /// A progress word.
+    /// Creates a progress word.
     ///
     /// # Errors
-    /// `OutOfMemory`.
+    /// `OutOfMemory` if memory runs out.
     pub fn new(alloc: Global) -> Result<Ground, Refusal>
         ensures { IfErr result (λ refusal. refusal ≡ OutOfMemory) }
     {
@@ -63,17 +63,17 @@ impl Ground {
     }
 }
 
-/// Leaves all seats.
+/// Gives up all seats.
 fn leave_all(seats: [Seat; 7]) {
     let _ = PerUnit::from_array(seats).map(|seat| seat.leave());
 }
 
-/// A machine that several threads drive, beside its progress word: each call makes one event while it holds the lock.
+/// A machine that several threads drive, and its progress word. A call that makes an event acquires the lock, calls the
+/// method of `LockedMachine` with the same name, and releases the lock.
 ///
-/// No contract here says what the machine was when the lock was got: others may have changed it. What an
-/// event answers and leaves is stated in full on `LockedMachine`'s method of that name; a call here acquires the lock,
-/// calls that method and releases the lock. A call's contract keeps what its caller holds: a token, a snapshot, and
-/// what the caller has seen of the log.
+/// No contract here names the machine's state when the lock is acquired, because other threads may have changed it. The
+/// methods of `LockedMachine` state in full what an event answers and which machine it leaves. The contracts here speak
+/// of what the caller keeps: a token, a snapshot, and the caller's `Seen`.
 #[derive(Drop)]
 pub struct Shared<K: Naming> {
     word: Arc<Word<K>, Global>,
@@ -82,12 +82,13 @@ pub struct Shared<K: Naming> {
 }
 
 impl<K: Naming> Shared<K> {
-    /// Puts a machine under the lock, beside the progress word that K names, and gives its seats out: one for each
-    /// unit in use, in the order of the units' numbers; and what has been seen of it, what it was booted with and the
-    /// log so far, none of whose steps is the caller's.
+    /// Puts a machine under the lock, with the progress word that K names. Returns the machine's seats, one for each
+    /// unit in use in the order of the units' numbers, and a `Seen`. That `Seen` knows the boot memory, the budget and
+    /// the log so far, and has no steps of its own.
     ///
     /// # Errors
-    /// `Nothing` where the machine's seats were given out before, and else `OutOfMemory`; the machine is dropped.
+    /// `Nothing` if the machine's seats were given out before. `OutOfMemory` if memory runs out. Either way the machine
+    /// is dropped.
     pub fn open(
         alloc: Global,
         ground: Ground,
@@ -113,10 +114,10 @@ impl<K: Naming> Shared<K> {
         }
     }
 
-    /// Puts a machine under the lock, beside its progress word.
+    /// Puts a machine under the lock, with its progress word.
     ///
     /// # Errors
-    /// `OutOfMemory`; the machine is dropped.
+    /// `OutOfMemory` if memory runs out; the machine is dropped.
     fn beside(
         alloc: Global,
         ground: Ground,
@@ -148,8 +149,8 @@ impl<K: Naming> Shared<K> {
         Ok((shared, seen))
     }
 
-    /// The machine with its lock held, to make several events with nothing between them. Most holds are short, so the
-    /// thread asks often before it sleeps.
+    /// Acquires the lock. Until it is released, no other thread makes an event. Most holds are short, so the thread
+    /// spins for many tries before it blocks.
     pub fn lock<R: Wait>(&self, rt: &R) -> MachineGuard<'_, K> {
         for _ in 0..LOCK_TRIES {
             if let Some(machine) = self.locked.try_lock() {
@@ -160,8 +161,8 @@ impl<K: Naming> Shared<K> {
         self.locked.lock(rt)
     }
 
-    /// Releases the lock, and then wakes the threads that wait for the events that were made. A thread that is woken
-    /// earlier would only wait for the lock.
+    /// Releases the lock, and then wakes the threads that wait for the events that were made. A thread woken earlier
+    /// would only block on the lock.
     pub fn release(&self, machine: MachineGuard<'_, K>) {
         let mut held = machine;
         let wakeups = mem::take(&mut held.wakeups);
@@ -169,12 +170,12 @@ impl<K: Naming> Shared<K> {
         self.signals.wake(&wakeups);
     }
 
-    /// Issues the next instruction: the event `Issue`. It answers the reservation of an instruction that
-    /// has a unit. The issue is then the last step of the log that its caller has seen, and the caller's own; after a
-    /// refusal its caller has seen the log.
+    /// Issues the next instruction: the event `Issue`. Returns the reservation if the instruction has a unit. `seen`
+    /// then ends with this issue, as one of the caller's own steps. If the issue is refused, `seen` is brought up to
+    /// date with the log.
     ///
     /// # Errors
-    /// What an issue may refuse.
+    /// Any refusal of an issue.
     pub fn issue<R: Wait>(&self, rt: &R, seen: &mut Seen<K>) -> Result<Option<Note>, Refusal>
         ensures seen { MatchResult result (λ note. IsMade Issued seen.old seen.new × IsNoteOf seen.new note)
             (λ refusal. Learnt seen.old seen.new × IsWhyOf seen.new refusal) }
@@ -187,10 +188,11 @@ impl<K: Naming> Shared<K> {
         issued
     }
 
-    /// Asks for an exchange with the package at an absolute address: the event `Ask`. Its caller has then seen the log.
+    /// Asks for an exchange with the package at an absolute address: the event `Ask`. `seen` is then up to date with
+    /// the log.
     ///
     /// # Errors
-    /// What a request may refuse.
+    /// Any refusal of a request.
     pub fn ask<R: Wait>(&self, rt: &R, seen: &mut Seen<K>, at: u32) -> Result<(), Refusal>
         ensures seen { Learnt seen.old seen.new }
         ensures replayed { HasReplay seen.new }
@@ -202,11 +204,11 @@ impl<K: Naming> Shared<K> {
         asked
     }
 
-    /// Makes the exchange that was asked for: the event `Exchange`. It is then the last step of the log that its caller
-    /// has seen, and the caller's own; after a refusal its caller has seen the log.
+    /// Makes the exchange that was asked for: the event `Exchange`. `seen` then ends with this exchange, as one of the
+    /// caller's own steps. If the exchange is refused, `seen` is brought up to date with the log.
     ///
     /// # Errors
-    /// What an exchange may refuse.
+    /// Any refusal of an exchange.
     pub fn exchange<R: Wait>(&self, rt: &R, seen: &mut Seen<K>) -> Result<(), Refusal>
         ensures seen { MatchResult result (λ _. (n : ℕ) × IsMade (Exchanged n) seen.old seen.new)
             (λ refusal. Learnt seen.old seen.new × IsWhyOf seen.new refusal) }
@@ -219,14 +221,14 @@ impl<K: Naming> Shared<K> {
         made
     }
 
-    /// Makes the exchange that was asked for and, once it was made, asks for the one with the package at the absolute
-    /// address `next`, if there is one, before anyone else can: the events `Exchange` and `Ask` while the lock is held
-    /// once. Where the exchange was made it answers what the request was answered, `Ok` where there was none. The
-    /// exchange is then the last step of the log that its caller has seen, and the caller's own; after a refusal of the
-    /// exchange, which asks for nothing, its caller has seen the log.
+    /// Makes the exchange that was asked for, and then asks for the next one, before another thread can: the events
+    /// `Exchange` and `Ask` in one hold of the lock. `next` is the absolute address of the next package, if there is
+    /// one. If the exchange is made, the call returns the answer to the request, or `Ok` if there is no next package.
+    /// `seen` then ends with the exchange, as one of the caller's own steps. If the exchange is refused, nothing is
+    /// asked for and `seen` is brought up to date with the log.
     ///
     /// # Errors
-    /// What an exchange may refuse; within `Ok` what a request may refuse.
+    /// Any refusal of an exchange. Within `Ok`, any refusal of a request.
     pub fn exchange_and_ask<R: Wait>(
         &self,
         rt: &R,
@@ -245,12 +247,12 @@ impl<K: Naming> Shared<K> {
         made
     }
 
-    /// A peripheral processor reads the word at an absolute address: the event `PpRead`. It is then the last step of
-    /// the log that its caller has seen, and the caller's own, and the word is that of the replay of this log; after a
-    /// refusal its caller has seen the log.
+    /// Reads the word at an absolute address, as a peripheral processor does: the event `PpRead`. `seen` then ends with
+    /// this access, as one of the caller's own steps, and the word is that of the log's replay. If the access is
+    /// refused, `seen` is brought up to date with the log.
     ///
     /// # Errors
-    /// What a peripheral access may refuse.
+    /// Any refusal of a peripheral access.
     pub fn pp_read<R: Wait>(&self, rt: &R, seen: &mut Seen<K>, at: u32) -> Result<Word60, Refusal>
         ensures seen { MatchResult result (λ word. IsMade (ReadAt at) seen.old seen.new × IsWordOf seen.new at word)
             (λ refusal. Learnt seen.old seen.new) }
@@ -263,11 +265,12 @@ impl<K: Naming> Shared<K> {
         word
     }
 
-    /// A peripheral processor writes a word to an absolute address: the event `PpWrite`. It is then the last step of
-    /// the log that its caller has seen, and the caller's own; after a refusal its caller has seen the log.
+    /// Writes a word to an absolute address, as a peripheral processor does: the event `PpWrite`. `seen` then ends with
+    /// this access, as one of the caller's own steps. If the access is refused, `seen` is brought up to date with the
+    /// log.
     ///
     /// # Errors
-    /// What a peripheral access may refuse.
+    /// Any refusal of a peripheral access.
     pub fn pp_write<R: Wait>(
         &self,
         rt: &R,
@@ -286,10 +289,10 @@ impl<K: Naming> Shared<K> {
         written
     }
 
-    /// Takes on a reservation with the seat of its unit.
+    /// Claims a reservation with the seat of its unit.
     ///
     /// # Errors
-    /// `Stranger` with the seat.
+    /// `Stranger`, with the seat.
     pub fn claim<R: Wait>(
         &self,
         rt: &R,
@@ -305,7 +308,7 @@ impl<K: Naming> Shared<K> {
         claimed
     }
 
-    /// The unit reads its operands: the event `Read` for the token's reservation.
+    /// Reads the operands of the token's reservation: the event `Read`.
     ///
     /// # Errors
     /// `OperandAwaited` or `Stranger`, with the token.
@@ -320,10 +323,10 @@ impl<K: Naming> Shared<K> {
         loaded
     }
 
-    /// The unit gets the token's value: the event `Finish` for the token's reservation.
+    /// Gives the token's value to the unit: the event `Finish` for the token's reservation.
     ///
     /// # Errors
-    /// `Stranger` with the token.
+    /// `Stranger`, with the token.
     pub fn finish<R: Wait>(&self, rt: &R, token: Computed) -> Result<Finished, (Refusal, Computed)>
         ensures finished { IfOk result (λ finished. finished ≡ record { seat = token.seat; number = token.number }) }
         ensures given_back { IfErr result (λ back. (back.1 ≡ token) × (back.0 ≡ Stranger)) }
@@ -334,7 +337,7 @@ impl<K: Naming> Shared<K> {
         finished
     }
 
-    /// The unit stores its result and is released: the event `Store` for the token's reservation.
+    /// Stores the result of the token's reservation and releases the unit: the event `Store`.
     ///
     /// # Errors
     /// `ResultHeld`, `HopperFull`, `OutOfTurn` or `Stranger`, with the token.
@@ -350,10 +353,10 @@ impl<K: Naming> Shared<K> {
         stored.map(|(seat, _)| seat)
     }
 
-    /// Memory takes the reference in a place of the hopper, 0 to 3: the event `Accept`.
+    /// Accepts the reference in a place of the hopper, 0 to 3: the event `Accept`.
     ///
     /// # Errors
-    /// `BankBusy` or `OlderAtAddress`, or `Nothing` where the place is empty.
+    /// `BankBusy` or `OlderAtAddress`. `Nothing` if the place is empty.
     pub fn accept<R: Wait>(&self, rt: &R, place: u8) -> Result<(), Refusal>
         ensures { IfErr result (λ refusal. (is_nothing refusal || is_accept_refusal refusal) ≡ true) }
     {
@@ -363,10 +366,10 @@ impl<K: Naming> Shared<K> {
         accepted
     }
 
-    /// The load in a channel, 1 to 5, writes its register: the event `Return`.
+    /// Writes the word of the load in a channel, 1 to 5, to its register: the event `Return`.
     ///
     /// # Errors
-    /// `ResultHeld`, or `Nothing` where the channel is empty.
+    /// `ResultHeld`. `Nothing` if the channel is empty.
     pub fn return_load<R: Wait>(&self, rt: &R, channel: u8) -> Result<(), Refusal>
         ensures { IfErr result (λ refusal. (is_nothing refusal || is_return_refusal refusal) ≡ true) }
     {
@@ -376,10 +379,10 @@ impl<K: Naming> Shared<K> {
         returned
     }
 
-    /// A bank, 0 to 31, is no longer busy: the event `BankFree`.
+    /// Frees a bank, 0 to 31: the event `BankFree`.
     ///
     /// # Errors
-    /// `Nothing` where the bank isn't busy.
+    /// `Nothing` if the bank isn't busy.
     pub fn bank_free<R: Wait>(&self, rt: &R, bank: u8) -> Result<(), Refusal>
         ensures { IfErr result (λ refusal. is_nothing refusal ≡ true) }
     {
@@ -389,13 +392,13 @@ impl<K: Naming> Shared<K> {
         freed
     }
 
-    /// The state, the log, the boot memory and the budget of the machine, if it is drained. The state is the replay of
-    /// the log on that memory, and the log has no more instructions than the budget; where the state has the fault, the
-    /// log since the last exchange is a beginning of the program's run that includes the instruction which set it. The
-    /// log begins with what its caller had seen, and is what its caller has seen then.
+    /// Returns the state, the log, the boot memory and the budget of the machine, if it is drained. The state is the
+    /// replay of the log on that memory, and the log has no more instructions than the budget. If the state has the
+    /// fault, the log since the last exchange is a beginning of the program's run that includes the instruction that
+    /// set it. The log begins with what the caller had seen, and `seen` is then that log.
     ///
     /// # Errors
-    /// `NotDrained` or `OutOfMemory`.
+    /// `NotDrained` if an issued instruction has an effect still to come. `OutOfMemory` if memory runs out.
     pub fn snapshot<R: Wait>(&self, rt: &R, seen: &mut Seen<K>) -> Result<Snapshot, Refusal>
         ensures seen { Learnt seen.old seen.new }
         ensures replayed { HasReplay seen.new }
@@ -415,8 +418,8 @@ impl<K: Naming> Shared<K> {
         snapshot
     }
 
-    /// Two callers tell each other what they have seen: both have then seen the same steps, which begin with what each
-    /// had seen. No step was made by both, and no reservation's number was answered to both. It waits for nobody.
+    /// Shares what two callers have seen: both have then seen the same steps, which begin with what each had seen
+    /// before. No step was made by both, and no reservation's number was returned to both. This call never blocks.
     pub fn meet(&self, one: &mut Seen<K>, other: &mut Seen<K>)
         ensures one { Learnt one.old one.new }
         ensures other { Learnt other.old other.new }
@@ -432,18 +435,18 @@ impl<K: Naming> Shared<K> {
         self.locked.lock(rt).drained()
     }
 
-    /// Tells those who use the machine to end.
+    /// Tells the threads that use the machine to end.
     pub fn end<R: Wait>(&self, rt: &R) {
         self.locked.lock(rt).end();
         self.signals.raise_all();
     }
 
-    /// Whether its users were told to end.
+    /// Whether the threads that use the machine were told to end.
     pub fn ended<R: Wait>(&self, rt: &R) -> bool {
         self.locked.lock(rt).ended()
     }
 
-    /// What those who use the machine tell one another.
+    /// The signals by which the threads that use the machine wake each other.
     pub fn signals(&self) -> &Signals {
         &self.signals
     }

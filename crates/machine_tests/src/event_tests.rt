@@ -1,4 +1,4 @@
-//! Events that no line of a session can say, and a program by turns of issue and drain.
+//! Events that no line of a session can express, and a program that is issued and drained by turns.
 
 use crate::fixtures::{MADE, drain, issued, make, meets, shows, started_on};
 use instruction_table::{Halt, Refusal, Unit};
@@ -12,7 +12,7 @@ const TWO_SUMS: [(u32, &str); 2] = [
     (0o101, "36312374214600000000"),
 ];
 
-/// Events with numbers past all places, channels, banks and packages, and one with the last package.
+/// Events with numbers beyond all places, channels, banks and packages, and a request for the last package.
 const PAST_ALL: [(Event, Answer); 6] = [
     (Event::Accept(200), Err(Refusal::Nothing)),
     (Event::Return(200), Err(Refusal::Nothing)),
@@ -37,7 +37,7 @@ fn go_on(machine: &mut Machine) {
     }
 }
 
-/// Each instruction is carried out before the next is issued, up to the stop.
+/// Each instruction is completed before the next one is issued, up to the stop.
 #[test]
 fn by_turns(rt: HostRuntime) -> Result<(), Fail> {
     let mut machine = started_on(rt.alloc(), &TWO_SUMS).ok_or("start")?;
@@ -65,7 +65,7 @@ const LOADING: [Event; 11] = [
     Event::Return(2),
 ];
 
-/// Whether each of these events in turn is next to be done and is made, and then nothing is.
+/// Whether each of these events in turn is the next event and is made, and whether there is no next event after that.
 fn works_through(machine: &mut Machine, events: &[Event]) -> bool {
     for event in events {
         if machine.next_work() != Some(*event) || make(machine, *event) != MADE {
@@ -75,7 +75,7 @@ fn works_through(machine: &mut Machine, events: &[Event]) -> bool {
     machine.next_work().is_none()
 }
 
-/// What is next to be done, event after event, until nothing is pending.
+/// Makes the next event again and again until nothing is pending.
 #[test]
 fn by_next_work(rt: HostRuntime) -> Result<(), Fail> {
     let mut machine = started_on(rt.alloc(), &TWO_LOADS).ok_or("start")?;

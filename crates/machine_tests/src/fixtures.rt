@@ -1,4 +1,4 @@
-//! What the tests share: memories, started machines, events and what a drained machine shows.
+//! Memories, started machines, events and checks of a drained machine that the tests share.
 
 use instruction_table::{Digit, Refusal, Reg, Unit};
 use machine::{Answer, Done, Event, Machine, Note, Seat};
@@ -10,7 +10,7 @@ use word60::Word60;
 /// Words at their absolute addresses, in octal.
 pub type Words<'a> = &'a [(u32, &'a str)];
 
-/// A word of twenty octal digits or fewer, and +0 for any other text.
+/// A word of at most twenty octal digits; +0 for any other text.
 pub fn word(octal: &str) -> Word60 {
     Word60::from_octal(octal.as_bytes()).unwrap_or_default()
 }
@@ -21,7 +21,7 @@ fn put_word(memory: &mut Storage, address: u32, octal: &str) {
     }
 }
 
-/// A memory of 256 words to boot with: the package at 40 has RA 100 and FL 20, and over that these words stand.
+/// A memory of 256 words to boot with. The package at 40 has RA 100 and FL 20, and these words are stored over that.
 pub fn memory_of(alloc: Global, words: Words<'_>) -> Result<Storage, Refusal> {
     let mut memory = Storage::new(alloc, 256)?;
     put_word(&mut memory, 0o41, "00000100000000000000");
@@ -32,7 +32,7 @@ pub fn memory_of(alloc: Global, words: Words<'_>) -> Result<Storage, Refusal> {
     Ok(memory)
 }
 
-/// A machine that was booted with such a memory.
+/// A machine booted with such a memory.
 pub fn booted(alloc: Global, words: Words<'_>) -> Option<Machine> {
     let memory = memory_of(alloc, words).ok()?;
     Machine::boot(alloc, memory, 1_000_000).ok()
@@ -43,7 +43,7 @@ pub fn make(machine: &mut Machine, event: Event) -> Answer {
     machine.apply(event)
 }
 
-/// Whether the events get these answers, one after another.
+/// Whether the events get these answers, in order.
 pub fn meets(machine: &mut Machine, steps: &[(Event, Answer)]) -> bool {
     for (event, answer) in steps {
         if make(machine, *event) != *answer {
@@ -71,7 +71,7 @@ pub fn started(alloc: Global, code: &str) -> Option<Machine> {
     started_on(alloc, &[(0o100, code)])
 }
 
-/// The same with X2 set by the package.
+/// The same, with X2 set by the package.
 pub fn started_with(alloc: Global, code: &str, x2: &str) -> Option<Machine> {
     started_on(alloc, &[(0o52, x2), (0o100, code)])
 }
@@ -86,7 +86,7 @@ pub fn x(number: u16) -> Reg {
     Reg::X(Digit::low(number))
 }
 
-/// The seat of Increment1; the others are left.
+/// The seat of Increment1. The other seats are given up.
 pub fn of_increment1(seats: [Seat; 7]) -> Seat {
     let [
         branch,
@@ -106,7 +106,7 @@ pub fn of_increment1(seats: [Seat; 7]) -> Seat {
     increment1
 }
 
-/// That seat, if the seats weren't given out before.
+/// The seat of Increment1, if the seats weren't given out before.
 pub fn seat_of_increment1(machine: &mut Machine) -> Option<Seat> {
     match machine.seats() {
         Some(seats) => Some(of_increment1(seats)),
@@ -119,7 +119,7 @@ pub fn drain(machine: &mut Machine) -> u32 {
     machine.drain()
 }
 
-/// Whether a snapshot shows these words in X1 and X2, and in the log the exchange with so many instructions after it.
+/// Whether a snapshot shows these words in X1 and X2, and in the log the exchange followed by this many instructions.
 pub fn shows(machine: &Machine, x1: &str, x2: &str, issues: u64) -> bool {
     let Ok(snapshot) = machine.snapshot() else {
         return false;

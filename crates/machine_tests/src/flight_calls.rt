@@ -1,4 +1,4 @@
-//! For the tests: calls to what is in flight, with the answer of each.
+//! Calls on the instructions in flight, with the answer of each, for the tests.
 
 ghost use Rattle.std.specs.Prelude.{◌≡◌};
 ghost use Rattle.instructions.specs.Shape.{shape_of};
@@ -21,12 +21,12 @@ fn in_range() -> Option<Relocated> {
     })
 }
 
-/// A call. Instructions are given as texts.
+/// A call. An instruction is given as text.
 #[derive(Clone, Copy, Drop)]
 pub enum Call {
     Reserve(&'static str),
     Read(Unit),
-    /// The unit has the value 5, if its instruction has read its operands.
+    /// Gives the unit the value 5, if its instruction has read its operands.
     Finish(Unit),
     MayStore(Unit),
     BankFree(u8),
@@ -40,18 +40,18 @@ pub enum Call {
 
 #[derive(Clone, Copy, Drop, PartialEq, Eq)]
 pub enum Answer {
-    /// It may, or it is done.
+    /// The event may be made, or the call is done.
     Fine,
     Reserved(Unit, u64),
     Refused(Refusal),
     Truth(bool),
-    /// The number of the reservation that was found, with the stage of its instruction.
+    /// The number of the reservation that was found, and the stage of its instruction.
     At(u64, Stage),
     /// The number of the oldest reservation.
     Number(u64),
-    /// There is none.
+    /// Nothing was found.
     Free,
-    /// The text is no instruction's.
+    /// The text is not an instruction.
     NoText,
 }
 
@@ -61,7 +61,7 @@ pub const YES: Answer = Answer::Truth(true);
 
 pub const NO: Answer = Answer::Truth(false);
 
-/// The instruction of this text is reserved a unit under a number.
+/// Reserving a unit for the instruction with this text returns this unit and number.
 pub fn reserves(text: &'static str, unit: Unit, number: u64) -> (Call, Answer) {
     (Call::Reserve(text), Answer::Reserved(unit, number))
 }
@@ -88,7 +88,7 @@ pub fn five() -> UnitValue {
     UnitValue::Word(Word60::from_bits(5))
 }
 
-/// Registers of which X1 is 3 and X2 is 4, and the others are +0.
+/// Registers with 3 in X1, 4 in X2 and +0 in the others.
 pub fn registers() -> RegisterFile {
     let mut file = RegisterFile::default();
     file.set(x(1), Word60::from_bits(3));
@@ -96,7 +96,7 @@ pub fn registers() -> RegisterFile {
     file
 }
 
-/// What IX3 X1+X2 in the word at this address reads of those registers.
+/// The operands that IX3 X1+X2, in the word at this address, reads from those registers.
 pub fn three_and_four(at: Word18) -> Operands {
     Operands {
         first: Word60::from_bits(3),
@@ -106,19 +106,19 @@ pub fn three_and_four(at: Word18) -> Operands {
     }
 }
 
-/// The answer where nothing is in flight.
+/// The answer of an acceptance with nothing in flight.
 pub fn accept_at_boot(place: u8, memory: &Storage) -> Result<Reference, Refusal> {
     let mut flight = InFlight::new();
     flight.accept(place, memory)
 }
 
-/// The answer where nothing is in flight.
+/// The answer of a return with nothing in flight.
 pub fn return_at_boot(channel: u8) -> Result<Arrival, Refusal> {
     let mut flight = InFlight::new();
     flight.return_load(channel)
 }
 
-/// Whether nothing is in flight after a unit that is free was left.
+/// Whether nothing is in flight after a free unit is left.
 #[tactic(auto, unfolding(in_flight::proofs::Opened::leaving))]
 pub fn is_empty_after_leave(unit: Unit) -> bool {
     let mut flight = InFlight::new();
@@ -126,7 +126,7 @@ pub fn is_empty_after_leave(unit: Unit) -> bool {
     flight.is_empty()
 }
 
-/// What is in flight after an instruction alone came to its store event and left this.
+/// The instructions in flight after a single instruction made its store event and left this.
 pub fn left_alone(instr: &Instr, rest: &Option<Relocated>) -> Option<InFlight>
     requires { IsRestOf (shape_of instr.now) rest.now }
 {
@@ -150,7 +150,7 @@ pub fn first_add(instr: Instr, at: Word18, stage: Stage) -> Pending {
     }
 }
 
-/// What is in flight, and a bound of the reservations that were made.
+/// The instructions in flight, and a bound on the number of reservations made.
 #[derive(Drop)]
 pub struct Counted {
     flight: InFlight,
@@ -168,7 +168,7 @@ impl Model for Counted {
     ghost invariant = { λ c. c.flight.last ≤ c.bound };
 }
 
-/// What a judgement says.
+/// The answer of a judgement.
 fn judged(judgement: Result<(), Refusal>) -> Answer {
     match judgement {
         Ok(()) => Answer::Fine,
@@ -176,7 +176,7 @@ fn judged(judgement: Result<(), Refusal>) -> Answer {
     }
 }
 
-/// The unit has the value 5, if its instruction has read its operands.
+/// Gives the unit the value 5, if its instruction has read its operands.
 #[tactic(auto, unfolding(in_flight::specs::Pending::has_read))]
 fn finish(flight: &mut InFlight, unit: Unit) -> Answer
     ensures { flight.new.last ≡ flight.old.last }
@@ -191,7 +191,7 @@ fn finish(flight: &mut InFlight, unit: Unit) -> Answer
     Answer::Fine
 }
 
-/// The stage of the unit's instruction.
+/// The number and the stage of the unit's instruction.
 fn find(flight: &InFlight, unit: Unit) -> Answer {
     match flight.find(unit) {
         Some(found) => Answer::At(found.pending.number, found.answer),
@@ -215,7 +215,7 @@ impl Counted {
         }
     }
 
-    /// Asks for a unit for the instruction, of the word at +0.
+    /// Reserves a unit for the instruction, of the word at +0.
     fn reserve(&mut self, instr: &Instr) -> Answer {
         if self.bound >= 1000 {
             return Answer::NoText;
@@ -258,7 +258,8 @@ impl Counted {
     }
 }
 
-/// The index of the first call that isn't answered so where nothing was in flight, None if all are.
+/// Makes the calls with nothing in flight at first. Returns the index of the first call with another answer than the
+/// expected one; `None` if there is no such call.
 pub fn first_wrong(calls: &[(Call, Answer)]) -> Option<usize> {
     let mut counted = Counted::new();
     for index in 0..calls.len() {

@@ -9,7 +9,7 @@ use relocation::{Access, Storage};
 use std::test::Fail;
 use word60::{Word18, Word60};
 
-/// Boot: nothing is pending, no unit is held and all banks are free.
+/// At boot nothing is pending, no unit is held and all banks are free.
 #[test]
 fn nothing_is_in_flight_at_boot(rt: HostRuntime) {
     let wrong = first_wrong(&[
@@ -26,7 +26,8 @@ fn nothing_is_in_flight_at_boot(rt: HostRuntime) {
     assert_eq!(rt; wrong, None);
 }
 
-/// The lower-numbered free unit of the kind; where both Increment units are taken, the first is named.
+/// A reservation takes the lower-numbered free unit of its kind. If both Increment units are taken, the refusal names
+/// the first.
 #[test]
 fn reserves_a_free_unit(rt: HostRuntime) {
     let wrong = first_wrong(&[
@@ -46,14 +47,14 @@ fn reserves_a_free_unit(rt: HostRuntime) {
     assert_eq!(rt; wrong, None);
 }
 
-/// A result that is still to come is reserved once, and a busy unit comes before a reserved result.
+/// A result that is still to come is reserved once, and a busy unit is refused before a reserved result.
 #[test]
 fn reserves_no_result_twice(rt: HostRuntime) {
     let wrong = first_wrong(&[
         reserves("IX1 X0+X0", Unit::LongAdd, 1),
         refused(Call::Reserve("SX1 B0+B0"), Refusal::ResultReserved(x(1))),
         refused(Call::Reserve("IX1 X0+X0"), Refusal::UnitBusy(Unit::LongAdd)),
-        // What was refused has no number.
+        // A refused instruction has no number.
         reserves("SX2 B0+B0", Unit::Increment1, 2),
     ]);
     assert_eq!(rt; wrong, None);
@@ -111,7 +112,7 @@ fn stores_after_earlier_reads(rt: HostRuntime) {
     assert_eq!(rt; wrong, None);
 }
 
-/// References come to their store events in turn; an instruction without one has no turn.
+/// References reach their store events in turn; an instruction without a reference has no turn.
 #[test]
 fn references_keep_their_turn(rt: HostRuntime) {
     let wrong = first_wrong(&[
@@ -125,7 +126,7 @@ fn references_keep_their_turn(rt: HostRuntime) {
     assert_eq!(rt; wrong, None);
 }
 
-/// A store that has not come to its store event delays every fetch, and a load or a return jump none.
+/// A store that has not reached its store event delays every fetch; a load or a return jump delays none.
 #[test]
 fn a_store_to_come_delays_fetches(rt: HostRuntime) {
     let wrong = first_wrong(&[
@@ -148,7 +149,7 @@ fn a_store_to_come_delays_fetches(rt: HostRuntime) {
     assert_eq!(rt; wrong, None);
 }
 
-/// A bank that is not busy is not freed, and there is none after the last.
+/// A bank that isn't busy isn't freed, and neither is a bank with a number above 31.
 #[test]
 fn frees_no_free_bank(rt: HostRuntime) {
     let wrong = first_wrong(&[
@@ -170,7 +171,7 @@ fn nothing_to_accept(rt: HostRuntime) -> Result<(), Fail> {
     Ok(())
 }
 
-/// Nothing waits in a channel at boot, and a free unit has nothing to leave it.
+/// Nothing waits in a channel at boot, and leaving a free unit changes nothing.
 #[test]
 fn nothing_to_return(rt: HostRuntime) {
     for channel in [0, 1, 5, 8, 255] {
@@ -179,7 +180,7 @@ fn nothing_to_return(rt: HostRuntime) {
     assert!(rt; is_empty_after_leave(Unit::Shift));
 }
 
-/// SX1 B0+B0 sets its register at the store event, and nothing is left of it.
+/// SX1 B0+B0 sets its register at its store event, and nothing is left of it.
 #[test]
 fn a_sum_leaves_nothing(rt: HostRuntime) -> Result<(), Fail> {
     let instr = Instr::Increment {
@@ -192,7 +193,7 @@ fn a_sum_leaves_nothing(rt: HostRuntime) -> Result<(), Fail> {
     Ok(())
 }
 
-/// SA6 B0+B0 enters the hopper at its store event, and delays a fetch of its word alone.
+/// SA6 B0+B0 enters the hopper at its store event, and then delays fetches of its own word alone.
 #[test]
 fn a_store_waits_in_the_hopper(rt: HostRuntime) -> Result<(), Fail> {
     let instr = Instr::Increment {
@@ -213,7 +214,7 @@ fn a_store_waits_in_the_hopper(rt: HostRuntime) -> Result<(), Fail> {
     Ok(())
 }
 
-/// The instruction as it waited, with what its operand registers hold.
+/// A read returns the instruction as it waited, with the contents of its operand registers.
 #[test]
 fn reads_its_operand_registers(rt: HostRuntime) -> Result<(), Fail> {
     let instr = read_text("IX3 X1+X2").ok_or("text")?;

@@ -1,10 +1,9 @@
-//! Tests of `in_flight` and of the machine, by what they hand out. The crate hands out nothing
-//! itself.
+//! Tests of `in_flight` and of the machine, through their public items. This crate has no public items of its own.
 //!
-//! `list_machine` is the machine a second time, as a plain list that is scanned for each conflict, and
-//! `list_machine_tests` asks both the same generated events. `reached_tests` has callers that know only by contracts
-//! what led to their machine. `token_tests` has the calls with tokens. Begin with `PAST_ALL` in `event_tests`: events,
-//! one a row, with the answer of each.
+//! `list_machine` is the machine a second time, as a plain list that is scanned for each conflict. `list_machine_tests`
+//! gives both machines the same generated events. In `reached_tests`, callers know by contracts alone what led to their
+//! machine. `token_tests` has the calls with tokens. Begin with `PAST_ALL` in `event_tests`: one event in each row,
+//! with its answer.
 #![tactic(auto)]
 
 #[cfg(test)]

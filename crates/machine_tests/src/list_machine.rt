@@ -1,5 +1,5 @@
-//! The machine as a list of the pending instructions that is scanned for each conflict, which the fields are compared
-//! with, and the generated events that both are asked.
+//! The machine as a list of pending instructions that is scanned for each conflict, for comparison with `Machine`, and
+//! the generated events that both machines are given.
 
 use crate::fixtures::{Words, memory_of};
 use arrayvec::ArrayVec;
@@ -14,7 +14,7 @@ use std::alloc::Global;
 use unit_ops::{UnitValue, value};
 use word60::Word60;
 
-/// How many events of each kind were accepted, in the order of `Event`; peripheral accesses aren't counted.
+/// How many events of each kind were accepted, in the order of `Event`. Peripheral accesses aren't counted.
 pub type Accepted = [u32; 9];
 
 /// The number of an event's kind.
@@ -50,9 +50,9 @@ struct ListMachine {
     accepted: Accepted,
 }
 
-// ---- what is asked of a pending instruction, and of a list of them ----
+// ---- questions about a pending instruction, and about a list of them ----
 
-/// What the scoreboard sees of it.
+/// The instruction as the scoreboard sees it.
 fn reservation(pending: &Pending) -> Reservation {
     let occupancy = match pending.phase {
         Phase::Before(Stage::Unread) => Occupancy::Reserved { has_read: false },
@@ -72,7 +72,7 @@ fn reservation(pending: &Pending) -> Reservation {
     }
 }
 
-/// Its stage, if it holds the unit.
+/// The stage of the instruction, if it holds the unit.
 fn stage_in(pending: &Pending, unit: Unit) -> Option<Stage> {
     if !is_same_unit(pending.unit, unit) {
         return None;
@@ -83,7 +83,7 @@ fn stage_in(pending: &Pending, unit: Unit) -> Option<Stage> {
     }
 }
 
-/// Its reference, if it stands in the place of the hopper.
+/// The reference of the instruction, if it waits in this place of the hopper.
 fn entry_in(pending: &Pending, place: u8) -> Option<Reference> {
     match pending.phase {
         Phase::After(Outstanding::Entered(taken, a, access)) => if taken == place {
@@ -95,7 +95,7 @@ fn entry_in(pending: &Pending, place: u8) -> Option<Reference> {
     }
 }
 
-/// Its word, if it waits in the channel.
+/// The load of the instruction, if it waits in this channel.
 fn arrival_in(pending: &Pending, given: u8) -> Option<Arrival> {
     match pending.phase {
         Phase::After(Outstanding::Accepted(channel, word)) => if channel.get() == given {
@@ -107,7 +107,8 @@ fn arrival_in(pending: &Pending, given: u8) -> Option<Arrival> {
     }
 }
 
-/// Whether a reference that entered later waits for it: both are to one absolute address, and one of them stores.
+/// Whether a reference that entered later waits for this one: both are to one absolute address, and at least one of
+/// them stores.
 fn holds_back(pending: &Pending, later: &Reference) -> bool {
     match (pending.phase, later.access) {
         (Phase::After(Outstanding::Entered(_, _, Access::Load(_))), Access::Load(_)) => false,
@@ -116,7 +117,7 @@ fn holds_back(pending: &Pending, later: &Reference) -> bool {
     }
 }
 
-/// Whether a fetch of the word at the absolute address waits for it.
+/// Whether a fetch of the word at the absolute address waits for the instruction.
 fn delays_fetch(pending: &Pending, address: u32) -> bool {
     match pending.phase {
         Phase::Before(_) => reservation(pending).has_store_turn(),
@@ -125,7 +126,7 @@ fn delays_fetch(pending: &Pending, address: u32) -> bool {
     }
 }
 
-/// Whether a peripheral access to the word at the absolute address waits for it.
+/// Whether a peripheral access to the word at the absolute address waits for the instruction.
 fn delays_access(pending: &Pending, address: u32) -> bool {
     match pending.phase {
         Phase::Before(_) => reservation(pending).has_turn(),
@@ -134,7 +135,7 @@ fn delays_access(pending: &Pending, address: u32) -> bool {
     }
 }
 
-/// Those before the one in this place of the list.
+/// The instructions before this position in the list.
 fn before(in_flight: &[Pending], index: usize) -> &[Pending] {
     if index < in_flight.len() {
         &in_flight[..index]
@@ -143,7 +144,7 @@ fn before(in_flight: &[Pending], index: usize) -> &[Pending] {
     }
 }
 
-/// The first of the registers that is a result still to come of one of them.
+/// The first of the registers that is a result still to come of one of the instructions.
 fn first_awaited(in_flight: &[Pending], registers: &[Reg]) -> Option<Reg> {
     for register in registers {
         if in_flight
@@ -156,7 +157,7 @@ fn first_awaited(in_flight: &[Pending], registers: &[Reg]) -> Option<Reg> {
     None
 }
 
-/// The register, if there is one and one of them has still to read it.
+/// The register, if there is one and one of the instructions still has to read it.
 fn result_to_be_read(in_flight: &[Pending], register: Option<Reg>) -> Option<Reg> {
     let register = register?;
     if in_flight
@@ -169,7 +170,7 @@ fn result_to_be_read(in_flight: &[Pending], register: Option<Reg>) -> Option<Reg
     }
 }
 
-/// Whether one of them holds the unit.
+/// Whether one of the instructions holds the unit.
 fn is_held(in_flight: &[Pending], unit: Unit) -> bool {
     in_flight
         .iter()
@@ -214,7 +215,7 @@ fn place_for(in_flight: &[Pending]) -> Option<u8> {
     None
 }
 
-/// The one that holds the unit, with its place in the list and its stage.
+/// The instruction that holds the unit, with its position in the list and its stage.
 fn find_stage(in_flight: &[Pending], unit: Unit) -> Option<(usize, Pending, Stage)> {
     for index in 0..in_flight.len() {
         if let Some(stage) = stage_in(&in_flight[index], unit) {
@@ -224,7 +225,7 @@ fn find_stage(in_flight: &[Pending], unit: Unit) -> Option<(usize, Pending, Stag
     None
 }
 
-/// The one in the place of the hopper, with its place in the list and its reference.
+/// The position in the list of the instruction in this place of the hopper, and its reference.
 fn find_entry(in_flight: &[Pending], place: u8) -> Option<(usize, Reference)> {
     for index in 0..in_flight.len() {
         if let Some(entry) = entry_in(&in_flight[index], place) {
@@ -234,7 +235,7 @@ fn find_entry(in_flight: &[Pending], place: u8) -> Option<(usize, Reference)> {
     None
 }
 
-/// The one in the channel, with its place in the list and its word.
+/// The position in the list of the instruction in this channel, and its load.
 fn find_arrival(in_flight: &[Pending], channel: u8) -> Option<(usize, Arrival)> {
     for index in 0..in_flight.len() {
         if let Some(arrival) = arrival_in(&in_flight[index], channel) {
@@ -244,7 +245,7 @@ fn find_arrival(in_flight: &[Pending], channel: u8) -> Option<(usize, Arrival)> 
     None
 }
 
-/// The word at an absolute address, if it lies in memory.
+/// The word at an absolute address, if the address is in memory.
 fn word_of(memory: &Storage, address: u32) -> Option<Word60> {
     if address < memory.size() {
         Some(memory.load(address))
@@ -272,7 +273,7 @@ impl ListMachine {
         }
     }
 
-    /// Makes an event and counts it, or refuses it and stays as it was.
+    /// Makes an event and counts it, or refuses it and stays unchanged.
     fn apply(&mut self, event: Event) -> Answer {
         let answer = self.make(event);
         if answer.is_ok() {
@@ -299,7 +300,7 @@ impl ListMachine {
         }
     }
 
-    /// Whether the fetch waits: no word is held, P is in range, and a store may still change the word.
+    /// Whether a fetch has to wait: no word is held, P is in range, and a store may still change the word.
     fn fetch_waits(&self) -> bool {
         if self.state.position.held.is_some() {
             return false;
@@ -346,7 +347,7 @@ impl ListMachine {
         Ok(())
     }
 
-    /// First order: reserves a unit for an instruction, which joins the list.
+    /// First order: reserves a unit for an instruction, and adds the instruction to the list.
     fn reserve(&mut self, instr: Instr) -> Result<Note, Refusal> {
         let unit = unit_for(self.pending.as_slice(), &instr)?;
         if let Some(register) = first_awaited(self.pending.as_slice(), results(&instr).as_slice()) {
@@ -389,7 +390,7 @@ impl ListMachine {
         Ok(Done::Issued(note))
     }
 
-    /// Puts the one in this place of the list into another phase, or takes it out where nothing is left of it.
+    /// Puts the instruction at this position into another phase, or removes it if nothing is left of it.
     fn put(&mut self, index: usize, phase: Option<Phase>) {
         if index >= self.pending.len() {
             return;
@@ -425,7 +426,7 @@ impl ListMachine {
         let Stage::Read(operands) = stage else {
             return Err(Refusal::Nothing);
         };
-        // Each instruction that was issued to a unit has a kind of unit.
+        // Every instruction that was issued to a unit has a kind of unit.
         if unit_kind(&pending.instr).is_none() {
             return Err(Refusal::Nothing);
         }
@@ -434,7 +435,7 @@ impl ListMachine {
         Ok(Done::Made)
     }
 
-    /// What is left of an instruction after its store event.
+    /// The rest of an instruction after its store event.
     fn rest_of(&self, instr: &Instr, value: &UnitValue) -> Option<Phase> {
         let place = place_for(self.pending.as_slice()).unwrap_or(0);
         let Some(reference) = Work::of(instr, value).reference else {
@@ -456,7 +457,7 @@ impl ListMachine {
         }
     }
 
-    /// Whether what is left enters the hopper, and finds no place there.
+    /// Whether the rest of the instruction would enter the hopper and no place there is free.
     fn finds_no_place(&self, instr: &Instr, value: &UnitValue) -> bool {
         match self.rest_of(instr, value) {
             Some(Phase::After(Outstanding::Entered(_, _, _))) => {
@@ -466,7 +467,7 @@ impl ListMachine {
         }
     }
 
-    /// Third order, the hopper's room and the turn of references.
+    /// Judges a store event by third order, the hopper's room and the turn of references.
     fn judge_store(&self, index: usize, instr: &Instr, value: &UnitValue) -> Result<(), Refusal> {
         let earlier = before(self.pending.as_slice(), index);
         if let Some(register) = result_to_be_read(earlier, instr.sets()) {
@@ -485,7 +486,7 @@ impl ListMachine {
         Ok(())
     }
 
-    /// What a unit does at its store event to the registers, P and the fault flag.
+    /// Makes a unit's changes at its store event to the registers, P and the fault flag.
     fn carry_out(&mut self, instr: &Instr, value: &UnitValue) {
         self.state.write_and_jump(&Work::of(instr, value));
     }
@@ -506,7 +507,7 @@ impl ListMachine {
         Ok(Done::Made)
     }
 
-    /// Whether a bank is busy; none is after the last.
+    /// Whether a bank is busy; `false` for a number above 31.
     fn is_busy(&self, bank: u8) -> bool {
         usize::from(bank) < 32 && self.busy[usize::from(bank)]
     }
@@ -518,7 +519,7 @@ impl ListMachine {
         }
     }
 
-    /// Makes a reference in memory, and answers what is left of it.
+    /// Makes a reference in memory, and returns the rest of its instruction.
     fn perform(&mut self, entry: &Reference) -> Option<Phase> {
         if entry.address >= self.state.memory.size() {
             return None;
@@ -611,7 +612,7 @@ impl ListMachine {
         Ok(Done::Made)
     }
 
-    /// The word to which a peripheral processor may go.
+    /// The word at an address that a peripheral processor may access.
     fn accessible(&self, at: u32) -> Result<Word60, Refusal> {
         if self.accessed >= 1_000_000 {
             return Err(Refusal::Budget);
@@ -649,9 +650,9 @@ impl ListMachine {
         Ok(Done::Made)
     }
 
-    // ---- what it shows ----
+    // ---- the state and the counts ----
 
-    /// The lowest-numbered busy bank, 0 where none is busy.
+    /// The lowest-numbered busy bank, or 0 if no bank is busy.
     fn lowest_busy(&self) -> u8 {
         for bank in 0..32u8 {
             if self.is_busy(bank) {
@@ -661,7 +662,7 @@ impl ListMachine {
         0
     }
 
-    /// Whether the memory has the same words.
+    /// Whether the memory has the same words as this one.
     fn has_memory(&self, other: &Storage) -> bool {
         for address in 0..other.size() {
             if word_of(&self.state.memory, address) != word_of(other, address) {
@@ -671,7 +672,7 @@ impl ListMachine {
         self.state.memory.size() == other.size()
     }
 
-    /// Whether nothing is pending and its state is that of the snapshot, with so many instructions in the log.
+    /// Whether nothing is pending, the state is the snapshot's, and as many instructions were issued as its log has.
     fn is_left_as(&self, snapshot: &Snapshot) -> bool {
         let state = snapshot.state();
         self.pending.is_empty()
@@ -687,24 +688,24 @@ impl ListMachine {
 
 // ---- generated events ----
 
-/// A program, what is generated for it, and how much of that is accepted.
+/// A program, the events generated for it, and how many of them are accepted.
 #[derive(Clone, Copy, Drop)]
 pub struct Program {
-    /// What it shows.
+    /// The text that names the program.
     pub name: &'static str,
-    /// The words of memory, over a package at 40 with RA 100 and FL 20 (octal).
+    /// The words of memory, stored over a package at 40 with RA 100 and FL 20 (octal).
     pub words: Words<'static>,
-    /// Each round begins at boot.
+    /// How often the events are generated, from boot each time.
     pub rounds: u32,
-    /// The events that are generated in each round.
+    /// How many events are generated in each round.
     pub events: u32,
-    /// The package with which exchanges are asked for on the way, if any.
+    /// The package of the exchanges that are asked for in between, if any.
     pub package: Option<u32>,
     /// How many events of each kind are accepted in all rounds.
     pub accepted: Accepted,
 }
 
-/// The unit of a number.
+/// The unit with this number.
 fn unit_of(number: u64) -> Unit {
     match number {
         0 => Unit::Branch,
@@ -720,7 +721,7 @@ fn unit_of(number: u64) -> Unit {
     }
 }
 
-/// What seems to be drawn by chance: one number after another.
+/// A sequence of pseudo-random numbers.
 #[derive(Drop)]
 struct Drawing {
     number: u64,
@@ -733,7 +734,7 @@ impl Drawing {
     }
 }
 
-/// The event of a number that was drawn, with a bank that may be busy.
+/// The event for a number that was drawn. A bank that may be busy is given.
 fn event_of(number: u64, bank: u8) -> Event {
     let choice = number / 65_536 % 64;
     if choice < 10 {
@@ -753,22 +754,23 @@ fn event_of(number: u64, bank: u8) -> Event {
     }
 }
 
-/// Whether both machines answer the same to an event.
+/// Whether both machines give the same answer to an event.
 fn agree_on(machine: &mut Machine, list_machine: &mut ListMachine, event: &Event) -> bool {
     let answer = machine.apply(*event);
     list_machine.apply(*event) == answer
 }
 
-/// Whether they do to an exchange that is asked for and made at once.
+/// Whether they agree on an exchange that is asked for and made at once.
 fn agree_on_exchange(machine: &mut Machine, list_machine: &mut ListMachine, at: u32) -> bool {
     agree_on(machine, list_machine, &Event::Ask(at))
         && agree_on(machine, list_machine, &Event::Exchange)
 }
 
-/// A word that no program has or refers to.
+/// A word that belongs to no program and that no program refers to.
 const SPARE: u32 = 0o370;
 
-/// Whether they do to peripheral accesses: one of the program's words is read, and the spare one written and read.
+/// Whether they agree on peripheral accesses: one of the program's words is read, and the spare word is written and
+/// read.
 fn agree_on_accesses(machine: &mut Machine, list_machine: &mut ListMachine, made: u32) -> bool {
     let word = Word60::from_bits(u64::from(made));
     agree_on(machine, list_machine, &Event::PpRead(0o100 + made % 0o40))
@@ -776,8 +778,8 @@ fn agree_on_accesses(machine: &mut Machine, list_machine: &mut ListMachine, made
         && agree_on(machine, list_machine, &Event::PpRead(SPARE))
 }
 
-/// Whether they do to so many generated events. After each 13th come peripheral accesses, and after each 97th an
-/// exchange is asked for, where a package is given.
+/// Whether they agree on this many generated events. After each 13th event come peripheral accesses. After each 97th an
+/// exchange is asked for, if a package is given.
 fn agree_on_all(
     machine: &mut Machine,
     list_machine: &mut ListMachine,
@@ -802,14 +804,14 @@ fn agree_on_all(
     true
 }
 
-/// Whether both answer the same to all that a unit may do.
+/// Whether they agree on all events of a unit.
 fn agree_on_unit(machine: &mut Machine, list_machine: &mut ListMachine, unit: Unit) -> bool {
     agree_on(machine, list_machine, &Event::Read(unit))
         && agree_on(machine, list_machine, &Event::Finish(unit))
         && agree_on(machine, list_machine, &Event::Store(unit))
 }
 
-/// Whether they do to an acceptance. The bank that it waits for is freed.
+/// Whether they agree on an acceptance. If its bank is busy, the bank is freed.
 fn agree_on_place(machine: &mut Machine, list_machine: &mut ListMachine, place: u8) -> bool {
     let answer = machine.apply(Event::Accept(place));
     if list_machine.apply(Event::Accept(place)) != answer {
@@ -821,14 +823,14 @@ fn agree_on_place(machine: &mut Machine, list_machine: &mut ListMachine, place: 
     }
 }
 
-/// Whether they do to one turn through units, places and channels.
+/// Whether they agree on one turn through units, places and channels.
 fn agree_on_turn(machine: &mut Machine, list_machine: &mut ListMachine) -> bool {
     (0..10u64).all(|number| agree_on_unit(machine, list_machine, unit_of(number)))
         && (0..4u8).all(|place| agree_on_place(machine, list_machine, place))
         && (1..6u8).all(|channel| agree_on(machine, list_machine, &Event::Return(channel)))
 }
 
-/// Whether both are drained by the same events, and leave the same.
+/// Whether the same events drain both machines, and leave the same state.
 fn agree_at_the_end(machine: &mut Machine, list_machine: &mut ListMachine) -> bool {
     for _ in 0..40u32 {
         if !agree_on_turn(machine, list_machine) {
@@ -841,7 +843,7 @@ fn agree_at_the_end(machine: &mut Machine, list_machine: &mut ListMachine) -> bo
     }
 }
 
-/// Whether both answer the same to all of this, and leave the same.
+/// Whether they agree on the first exchange, on the generated events and at the end.
 fn agree(
     machine: &mut Machine,
     list_machine: &mut ListMachine,
@@ -854,7 +856,7 @@ fn agree(
         && agree_at_the_end(machine, list_machine)
 }
 
-/// The machine that was just booted with the program's words, and the one that is scanned.
+/// A machine that was just booted with the program's words, and the list machine.
 fn booted(alloc: Global, words: Words<'_>) -> Result<(Machine, ListMachine), Refusal> {
     let scanned = memory_of(alloc, words)?;
     let memory = memory_of(alloc, words)?;
@@ -862,7 +864,7 @@ fn booted(alloc: Global, words: Words<'_>) -> Result<(Machine, ListMachine), Ref
     Ok((machine, ListMachine::boot(scanned, MOST_ISSUES)))
 }
 
-/// How many events of each kind are accepted in one round, none where the machines aren't the same.
+/// How many events of each kind are accepted in one round; `None` if the machines disagree.
 fn accepted_in_round(alloc: Global, program: &Program, drawing: &mut Drawing) -> Option<Accepted> {
     let (mut machine, mut list_machine) = booted(alloc, program.words).ok()?;
     if agree(
@@ -878,7 +880,7 @@ fn accepted_in_round(alloc: Global, program: &Program, drawing: &mut Drawing) ->
     }
 }
 
-/// The sums of the counts of each kind.
+/// The sum of the counts of each kind.
 fn added(one: &Accepted, other: &Accepted) -> Accepted {
     let mut sums = *one;
     for kind in 0..9usize {
@@ -887,8 +889,7 @@ fn added(one: &Accepted, other: &Accepted) -> Accepted {
     sums
 }
 
-/// How many events of each kind are accepted of the program in a memory of 256 words, none where the machines aren't
-/// the same.
+/// How many events of each kind are accepted of the program, in a memory of 256 words; `None` if the machines disagree.
 pub fn accepted(alloc: Global, program: &Program) -> Option<Accepted> {
     let mut drawing = Drawing { number: 1 };
     let mut sums = [0; 9];

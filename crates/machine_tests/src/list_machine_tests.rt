@@ -1,13 +1,13 @@
-//! Programs of which the machine and the machine as a list are asked the same generated events.
+//! Programs for which the machine and the machine as a list are given the same generated events.
 
 use crate::list_machine::{Program, accepted};
 use std::process::Abort;
 use std::test::Fail;
 
-/// EQ B0,B0,0 after a program, so that it is run again and again.
+/// EQ B0,B0,0 after a program, so that the program repeats.
 const AGAIN: &str = "04000000004600046000";
 
-/// Programs with each kind of conflict, which are run again and again.
+/// Programs with each kind of conflict, which repeat.
 const CONFLICTS: [Program; 6] = [
     // SA1 B0+17, BX3 X1*X2 and SX2 B1+B2: third order.
     Program {
@@ -54,8 +54,8 @@ const CONFLICTS: [Program; 6] = [
         package: None,
         accepted: [214, 178, 178, 178, 72, 0, 71, 1, 1],
     },
-    // SA2 B1+B0, BX3 X1*X2, SA1 B2+B0 and NO, and a package at 60 that goes on at word 2 with SA3 B0+10 and a stop. The
-    // exchange with it is asked for in the middle of words and while loads are on their way; it is made there and back.
+    // SA2 B1+B0, BX3 X1*X2, SA1 B2+B0 and NO, and a package at 60 that continues at word 2 with SA3 B0+10 and a stop.
+    // The exchange with it is asked for in the middle of words and while loads are pending; it is made there and back.
     Program {
         name: "exchange_asked_in_mid_word",
         words: &[
@@ -76,7 +76,7 @@ const CONFLICTS: [Program; 6] = [
         package: Some(0o60),
         accepted: [145, 104, 104, 104, 62, 62, 62, 42, 41],
     },
-    // Loads into X1 to X5 of one word: they wait for their bank, and not for those before them.
+    // Loads of one word into X1 to X5: they wait for their bank, and not for the loads before them.
     Program {
         name: "one_bank",
         words: &[
@@ -91,8 +91,8 @@ const CONFLICTS: [Program; 6] = [
         package: None,
         accepted: [225, 169, 169, 169, 141, 141, 140, 1, 1],
     },
-    // SA1 B0+17, and SA2 B0+20 out of range, which is a fault. Exchanges with the first package come between: a booted
-    // machine, whose fetch is out of range, and the program again.
+    // SA1 B0+17, and SA2 B0+20 out of range, which is a fault. Exchanges with the first package alternate between a
+    // booted machine, whose fetch is out of range, and the program.
     Program {
         name: "address_fault",
         words: &[
@@ -118,9 +118,9 @@ const CONFLICTS: [Program; 6] = [
 ///
 /// two-adds-code.deck has the words of two-adds.deck.
 ///
-/// The counts are those of all ten rounds, in the order of `Event`. Where no exchange is asked for on the way, the
-/// first is ten times the count after `I` in the deck's dump, as `LOG E40 I6` in decks/run/two-adds.dump: each round
-/// comes to the program's end. The program of endless.deck has none.
+/// The counts are those of all ten rounds, in the order of `Event`. If no exchange is asked for in between, each round
+/// reaches the program's end. The first count is then ten times the number after `I` in the log of the deck's dump:
+/// decks/run/two-adds.dump has `LOG E40 I6`. The program of endless.deck has no end.
 const DECKS: [Program; 18] = [
     // A sum and a difference.
     Program {
@@ -173,7 +173,7 @@ const DECKS: [Program; 18] = [
         package: None,
         accepted: [90, 80, 80, 80, 0, 0, 0, 10, 10],
     },
-    // Sums and differences where +0 and -0 come in.
+    // Sums and differences with +0 and -0.
     Program {
         name: "long_add",
         words: &[
@@ -207,7 +207,7 @@ const DECKS: [Program; 18] = [
         package: None,
         accepted: [50, 40, 40, 40, 0, 0, 0, 10, 10],
     },
-    // All ways to add, for two Increment units.
+    // All forms of addition, for two Increment units.
     Program {
         name: "increment",
         words: &[
@@ -243,7 +243,7 @@ const DECKS: [Program; 18] = [
         package: None,
         accepted: [50, 40, 40, 40, 20, 10, 20, 10, 10],
     },
-    // A table is summed in five turns.
+    // A loop that sums a table in five turns.
     Program {
         name: "loop_deck",
         words: &[
@@ -264,7 +264,7 @@ const DECKS: [Program; 18] = [
         package: None,
         accepted: [240, 230, 230, 230, 60, 50, 59, 10, 10],
     },
-    // Two return jumps, which store into the code that is run next.
+    // Two return jumps, which store into the code that runs next.
     Program {
         name: "subroutine",
         words: &[
@@ -295,7 +295,7 @@ const DECKS: [Program; 18] = [
         package: None,
         accepted: [20, 20, 20, 20, 0, 0, 0, 10, 10],
     },
-    // The same where that is no fault.
+    // The same store out of range, with an exit mode in which it is no fault.
     Program {
         name: "fault_mode_off",
         words: &[
@@ -338,7 +338,7 @@ const DECKS: [Program; 18] = [
         package: None,
         accepted: [20, 10, 10, 10, 0, 0, 0, 10, 10],
     },
-    // Two instructions again and again.
+    // Two instructions that repeat for ever.
     Program {
         name: "endless",
         words: &[
@@ -367,7 +367,7 @@ const DECKS: [Program; 18] = [
         package: None,
         accepted: [40, 10, 10, 10, 0, 0, 0, 10, 10],
     },
-    // A monitor and two endless jobs: it is exchanged for the one and back, and in another run for the other.
+    // A monitor and two endless jobs: the monitor is exchanged for the first job and back.
     Program {
         name: "two_jobs",
         words: &[
@@ -390,7 +390,7 @@ const DECKS: [Program; 18] = [
         package: Some(0o60),
         accepted: [367, 222, 222, 222, 0, 0, 0, 183, 178],
     },
-    // A monitor and two endless jobs: it is exchanged for the one and back, and in another run for the other.
+    // A monitor and two endless jobs: the monitor is exchanged for the second job and back.
     Program {
         name: "two_jobs",
         words: &[
@@ -433,7 +433,7 @@ const DECKS: [Program; 18] = [
     },
 ];
 
-/// Both machines answer the same, and accept as many events of each kind as the program says.
+/// Both machines give the same answers, and accept as many events of each kind as the program states.
 fn check_program(rt: &(impl Abort + AllocGlobal), program: &Program) -> Result<(), Fail> {
     assert_eq!(rt;
         accepted(rt.alloc(), program),

@@ -1,4 +1,4 @@
-//! Callers that know from contracts alone what led to their machine, and so what it is.
+//! Callers that know by contracts alone what led to their machine, and therefore its state.
 
 ghost use Rattle.std.specs.Prelude.{◌≡◌, ◌∷◌, [], IfOk, IfSome, List, Ok, Result, Some};
 ghost use Rattle.instructions.specs.declared.refusal.Refusal.{Refusal as SomeRefusal};
@@ -25,10 +25,10 @@ use std::test::Fail;
 /// SX1 B0+5, and then stops.
 const FIVE: &str = "71100000050000000000";
 
-/// SA1 B0+20, which is out of range where FL is 20 (octal), and then stops.
+/// SA1 B0+20, which is out of range with FL 20 (octal), and then stops.
 const BEYOND: &str = "51100000200000000000";
 
-/// The exit mode with its address bit, as it stands in a package.
+/// The exit mode with its address bit, as a word of a package.
 const ADDRESS_BIT: &str = "00010000000000000000";
 
 /// Runs events on a machine that was just booted.
@@ -47,7 +47,7 @@ fn ran(alloc: Global, memory: Storage, events: &[Event]) -> Result<(Machine, Vec
     Ok((machine, answers))
 }
 
-/// Takes a reservation from claim to store; the seat alone where a call refuses.
+/// Takes a reservation from claim to store. Returns the seat alone if a call is refused.
 fn serve(machine: &mut Machine, seat: Seat, note: Note) -> Result<Seat, Seat>
     ensures { IfOk result (λ stored. GoesOn machine.old (Read seat.unit ∷ Finish seat.unit ∷ Store seat.unit ∷ [])
         (Ok Made ∷ Ok Made ∷ Ok Made ∷ []) machine.new) }
@@ -70,8 +70,8 @@ fn serve(machine: &mut Machine, seat: Seat, note: Note) -> Result<Seat, Seat>
     }
 }
 
-/// What a machine shows that was booted with the memory, made the exchange at 40 (octal), issued once, gave its
-/// seats out and was drained.
+/// Boots a machine with the memory, makes the exchange at 40 (octal), issues once, gives out the seats, and drains it.
+/// Returns its snapshot.
 fn shown(alloc: Global, memory: Storage) -> Result<Snapshot, Refusal>
     ensures { IfOk result (λ snapshot. (snapshot.boot_memory ≡ memory)
         × (replay (boot memory) snapshot.log ≡ Some snapshot.state)
@@ -93,12 +93,12 @@ fn shown(alloc: Global, memory: Storage) -> Result<Snapshot, Refusal>
     machine.snapshot()
 }
 
-/// Whether the log has the exchange with the package at 40 (octal) and one instruction.
+/// Whether the log is the exchange with the package at 40 (octal) and one instruction.
 fn has_one_instruction(snapshot: &Snapshot) -> bool {
     snapshot.log().entries() == [Entry::Exchange(0o40), Entry::Issued(1)].as_slice()
 }
 
-/// From boot to a snapshot, with events, seats and a drain.
+/// From boot to a snapshot, by events, seats and a drain.
 #[test]
 fn by_each_call(rt: HostRuntime) -> Result<(), Fail> {
     let memory = memory_of(rt.alloc(), &[(0o100, FIVE)])?;
@@ -108,7 +108,7 @@ fn by_each_call(rt: HostRuntime) -> Result<(), Fail> {
 }
 
 /// The snapshot of a drained machine that has the fault: its log is a beginning of the program's run, with the
-/// instruction that sets the fault. None where no snapshot can be taken, or it has no fault.
+/// instruction that sets the fault. `None` if no snapshot can be taken, or if it has no fault.
 fn faulted(machine: &Machine) -> Option<Snapshot>
     ensures { IfSome result (λ snapshot. IsFaultedRun snapshot.log snapshot.boot_memory snapshot.state) }
 {
@@ -121,7 +121,7 @@ fn faulted(machine: &Machine) -> Option<Snapshot>
     Some(snapshot)
 }
 
-/// Whether the machine shows a fault when it is drained, and not before; it then has issued one instruction and issues
+/// Whether the machine shows a fault when it is drained, and not before. It has then issued one instruction, and issues
 /// no more.
 fn is_faulted(machine: &mut Machine) -> bool {
     let is_early = faulted(machine).is_some();
@@ -147,7 +147,7 @@ fn issues_one(machine: &mut Machine) -> bool {
     )
 }
 
-/// A program that ends with a fault: no snapshot shows it before the machine is drained. SA1 B0+20 sets it.
+/// A program that ends with a fault, which SA1 B0+20 sets: no snapshot shows it before the machine is drained.
 #[test]
 fn with_a_fault(rt: HostRuntime) -> Result<(), Fail> {
     let words = [(0o43, ADDRESS_BIT), (0o100, BEYOND)];
@@ -156,7 +156,7 @@ fn with_a_fault(rt: HostRuntime) -> Result<(), Fail> {
     Ok(())
 }
 
-/// A program that ends without one.
+/// A program that ends without a fault.
 #[test]
 fn without_a_fault(rt: HostRuntime) -> Result<(), Fail> {
     let mut machine = booted(rt.alloc(), &[(0o100, FIVE)]).ok_or("boot")?;
@@ -164,7 +164,7 @@ fn without_a_fault(rt: HostRuntime) -> Result<(), Fail> {
     Ok(())
 }
 
-/// Serves the first reservation with its seat. It answers whether that one was stored.
+/// Serves the first reservation with its seat. Returns whether it was stored.
 fn is_served(machine: &mut Machine) -> bool {
     let Some(seat) = seat_of_increment1(machine) else {
         return false;
@@ -182,7 +182,7 @@ fn is_served(machine: &mut Machine) -> bool {
     }
 }
 
-/// A reservation's three events by calls with tokens.
+/// A reservation's three events, made by calls with tokens.
 #[test]
 fn by_tokens(rt: HostRuntime) -> Result<(), Fail> {
     let mut machine = started(rt.alloc(), FIVE).ok_or("start")?;
@@ -192,7 +192,7 @@ fn by_tokens(rt: HostRuntime) -> Result<(), Fail> {
     Ok(())
 }
 
-/// Three events in one run.
+/// Three events made by one call of `run`.
 #[test]
 fn by_one_run(rt: HostRuntime) -> Result<(), Fail> {
     let memory = memory_of(rt.alloc(), &[(0o100, FIVE)])?;

@@ -1,5 +1,5 @@
-//! Calls with tokens: what is refused, and what comes back. `OFFERS` is the table of tokens that another machine is
-//! offered.
+//! Calls with tokens: their refusals, and the tokens that come back. `OFFERS` is the table of tokens that are offered
+//! to another machine.
 
 use crate::fixtures::{
     MADE, drain, issued, make, meets, seat_of_increment1, shows, started, started_with, x,
@@ -10,7 +10,7 @@ use std::alloc::Global;
 use std::process::Abort;
 use std::test::Fail;
 
-/// Which call of a token is due.
+/// The call that is due for a token.
 #[derive(Clone, Copy, Debug, Drop)]
 enum Due {
     Read,
@@ -18,7 +18,7 @@ enum Due {
     Store,
 }
 
-/// A word whose second instruction is Increment1's, X2 before it, and the number of that reservation.
+/// A word whose second instruction goes to Increment1, the content of X2 before it, and the number of its reservation.
 #[derive(Clone, Copy, Drop)]
 struct Program<'a> {
     code: &'a str,
@@ -26,8 +26,8 @@ struct Program<'a> {
     number: u64,
 }
 
-/// The call that is due for a token, the program of its machine, the program of the machine to which it is offered, and
-/// what the latter shows in X1 and X2 at the end.
+/// The call that is due for a token, and the program of the token's machine. Then the program of the machine to which
+/// the token is offered, and that machine's X1 and X2 at the end.
 type Offer = (
     Due,
     Program<'static>,
@@ -43,14 +43,14 @@ const FIRST: Program<'static> = Program {
     number: 1,
 };
 
-/// LX3 1 and SX1 B0+5: another number.
+/// LX3 1 and SX1 B0+5: the number differs from `FIRST`.
 const SECOND: Program<'static> = Program {
     code: "20301711000000546000",
     x2: "3",
     number: 2,
 };
 
-/// NO and SX2 B0+5: another instruction.
+/// NO and SX2 B0+5: the instruction differs from `FIRST`.
 const OTHER: Program<'static> = Program {
     code: "46000712000000546000",
     x2: "3",
@@ -64,14 +64,14 @@ const THREE: Program<'static> = Program {
     number: 1,
 };
 
-/// The same, with another operand.
+/// The same, with a different operand.
 const FOUR: Program<'static> = Program {
     code: "46000731204600046000",
     x2: "4",
     number: 1,
 };
 
-/// Tokens of other machines, each offered to a machine whose own reservation in the unit is another.
+/// Tokens of one machine, each offered to a machine whose own reservation in the unit differs.
 const OFFERS: [Offer; 5] = [
     (Due::Read, FIRST, SECOND, "5", "3"),
     (Due::Finish, FIRST, SECOND, "5", "3"),
@@ -95,7 +95,7 @@ fn note(number: u64) -> Note {
     }
 }
 
-/// Claims and reads; the seat where that is refused.
+/// Claims and reads. Returns the seat if a call is refused.
 fn load(machine: &mut Machine, seat: Seat, note: Note) -> Result<Loaded, Seat> {
     match machine.claim(seat, note) {
         Err((_, seat)) => Err(seat),
@@ -106,7 +106,7 @@ fn load(machine: &mut Machine, seat: Seat, note: Note) -> Result<Loaded, Seat> {
     }
 }
 
-/// From claim to finish; the seat where that is refused.
+/// Makes the calls from claim to finish. Returns the seat if a call is refused.
 fn finish(machine: &mut Machine, seat: Seat, note: Note) -> Result<Finished, Seat> {
     let computed = load(machine, seat, note)?.compute();
     match machine.finish(computed) {
@@ -115,7 +115,7 @@ fn finish(machine: &mut Machine, seat: Seat, note: Note) -> Result<Finished, Sea
     }
 }
 
-/// From claim to store. It answers whether all was accepted.
+/// Makes the calls from claim to store. Returns whether all of them were accepted.
 fn serve(machine: &mut Machine, seat: Seat, note: Note) -> (Seat, bool) {
     match finish(machine, seat, note) {
         Err(seat) => (seat, false),
@@ -126,7 +126,7 @@ fn serve(machine: &mut Machine, seat: Seat, note: Note) -> (Seat, bool) {
     }
 }
 
-/// The value of what reservation 1 reads; None where its seat, its claim or its read is refused.
+/// Computes the value of reservation 1. `None` if its seat, its claim or its read is refused.
 fn computed(machine: &mut Machine) -> Option<Computed> {
     let seat = seat_of_increment1(machine)?;
     match load(machine, seat, note(1)) {
@@ -138,8 +138,8 @@ fn computed(machine: &mut Machine) -> Option<Computed> {
     }
 }
 
-/// Gives the machine the value of another's operands, and then its own. It answers whether the first is refused and
-/// the second is not.
+/// Gives the machine a value from another machine's operands, and then its own value. Returns whether the first is
+/// refused and the second isn't.
 fn crossed(machine: &mut Machine, foreign: Computed) -> bool {
     let Some(own) = computed(machine) else {
         foreign.abandon().leave();
@@ -158,7 +158,7 @@ fn crossed(machine: &mut Machine, foreign: Computed) -> bool {
     }
 }
 
-/// Whether the token is a stranger's to `finish`.
+/// Whether `finish` refuses the token as a stranger's.
 fn is_foreign(machine: &mut Machine, token: Computed) -> bool {
     match machine.finish(token) {
         Ok(finished) => {
@@ -172,7 +172,7 @@ fn is_foreign(machine: &mut Machine, token: Computed) -> bool {
     }
 }
 
-/// Whether two instructions are issued, to the one unit and then to the other.
+/// Whether two instructions are issued, the first to one unit and the second to the other.
 fn issues_two(machine: &mut Machine, one: Unit, other: Unit) -> bool {
     meets(
         machine,
@@ -183,7 +183,7 @@ fn issues_two(machine: &mut Machine, one: Unit, other: Unit) -> bool {
     )
 }
 
-/// A machine with the word at 100, of which one instruction was issued to Increment1.
+/// A machine with this word at 100, which has issued one instruction to Increment1.
 fn issued_one(alloc: Global, code: &str) -> Option<Machine> {
     let mut machine = started(alloc, code)?;
     if make(&mut machine, Event::Issue) == issued(Unit::Increment1, 1) {
@@ -193,13 +193,13 @@ fn issued_one(alloc: Global, code: &str) -> Option<Machine> {
     }
 }
 
-/// The value of the reservation of SX1 B0+5, of a machine of its own.
+/// The value of the reservation of SX1 B0+5, from a machine of its own.
 fn value_of_five(alloc: Global) -> Option<Computed> {
     let mut five = issued_one(alloc, FIVE)?;
     computed(&mut five)
 }
 
-/// Two machines that have issued SX1 B0+5 and SX1 B0+6: the value of the one is nothing to the other.
+/// Of two machines that have issued SX1 B0+5 and SX1 B0+6, the second refuses the first one's value.
 #[test]
 fn value_of_another_machine(rt: HostRuntime) -> Result<(), Fail> {
     let mut six = issued_one(rt.alloc(), SIX).ok_or("six")?;
@@ -209,7 +209,7 @@ fn value_of_another_machine(rt: HostRuntime) -> Result<(), Fail> {
     Ok(())
 }
 
-/// Whether the value of the first reservation of a word, which Increment1 has, makes a reference to memory.
+/// Whether the value of a word's first instruction, which goes to Increment1, makes a reference to memory.
 fn refers(alloc: Global, code: &str) -> Option<bool> {
     let mut machine = issued_one(alloc, code)?;
     let value = computed(&mut machine)?;
@@ -218,7 +218,7 @@ fn refers(alloc: Global, code: &str) -> Option<bool> {
     Some(has_reference)
 }
 
-/// SX1 B0+5 and SA0 B0+5 make no reference, SA1 B0+5 and SA6 B0+5 make one.
+/// SX1 B0+5 and SA0 B0+5 make no reference; SA1 B0+5 and SA6 B0+5 make one.
 #[test]
 fn values_with_references(rt: HostRuntime) -> Result<(), Fail> {
     let set = refers(rt.alloc(), FIVE).ok_or("set")?;
@@ -229,7 +229,7 @@ fn values_with_references(rt: HostRuntime) -> Result<(), Fail> {
     Ok(())
 }
 
-/// Whether the seats are given out, which are left.
+/// Whether the seats are given out. They are then given up.
 fn are_given(machine: &mut Machine) -> bool {
     match seat_of_increment1(machine) {
         Some(seat) => {
@@ -240,14 +240,14 @@ fn are_given(machine: &mut Machine) -> bool {
     }
 }
 
-/// Whether the next instruction is issued to Increment1 under this number, and its seat takes it to its end.
+/// Whether the next instruction is issued to Increment1 with this number, and served with its seat.
 fn issue_and_serve(machine: &mut Machine, seat: Seat, number: u64) -> (Seat, bool) {
     let is_issued = make(machine, Event::Issue) == issued(Unit::Increment1, number);
     let (seat, is_stored) = serve(machine, seat, note(number));
     (seat, is_issued && is_stored)
 }
 
-/// Whether one seat takes reservations 1 and 2 to their end, and counts them.
+/// Whether one seat serves reservations 1 and 2, and counts them.
 fn are_served(machine: &mut Machine) -> bool {
     let Some(seat) = seat_of_increment1(machine) else {
         return false;
@@ -259,7 +259,7 @@ fn are_served(machine: &mut Machine) -> bool {
     is_first_served && is_second_served && unit == Unit::Increment1 && stored == 2 && left == 2
 }
 
-/// A seat takes two reservations to their end, and counts them; the seats are given out once.
+/// A seat serves two reservations and counts them; the seats are given out once.
 #[test]
 fn two_reservations(rt: HostRuntime) -> Result<(), Fail> {
     let mut machine = started(rt.alloc(), FIVE_AND_SIX).ok_or("start")?;
@@ -268,7 +268,7 @@ fn two_reservations(rt: HostRuntime) -> Result<(), Fail> {
     Ok(())
 }
 
-/// The refusal of a claim, with the seat; None where it is accepted.
+/// The refusal of a claim, with the seat; `None` if the claim is accepted.
 fn refused_claim(machine: &mut Machine, seat: Seat, note: Note) -> (Seat, Option<Refusal>) {
     match machine.claim(seat, note) {
         Ok(reserved) => (reserved.abandon(), None),
@@ -276,7 +276,7 @@ fn refused_claim(machine: &mut Machine, seat: Seat, note: Note) -> (Seat, Option
     }
 }
 
-/// Whether the seat's claims of these are all a stranger's.
+/// Whether all claims of these notes with the seat are a stranger's.
 fn are_strange(machine: &mut Machine, seat: Seat, notes: &[Note]) -> (Seat, bool) {
     let mut at = seat;
     for note in notes {
@@ -289,7 +289,7 @@ fn are_strange(machine: &mut Machine, seat: Seat, notes: &[Note]) -> (Seat, bool
     (at, true)
 }
 
-/// Whether the seat can claim reservation 1 alone, and once.
+/// Whether the seat can claim reservation 1 alone, and only once.
 fn is_one_claimed(machine: &mut Machine, seat: Seat) -> bool {
     let other = Note {
         unit: Unit::Increment2,
@@ -303,7 +303,7 @@ fn is_one_claimed(machine: &mut Machine, seat: Seat) -> bool {
     is_strange && is_stored && is_stale && stored == 1
 }
 
-/// Whether that is so from its issue on, and no claim of it is accepted before.
+/// Whether that holds from the issue of reservation 1 on, and a claim before the issue is refused.
 fn is_claimed_when_issued(machine: &mut Machine) -> bool {
     let Some(seat) = seat_of_increment1(machine) else {
         return false;
@@ -314,7 +314,7 @@ fn is_claimed_when_issued(machine: &mut Machine) -> bool {
     early == Some(Refusal::Stranger) && is_issued && is_claimed
 }
 
-/// Claims of a number that was never given, of one before its issue and of another unit's note.
+/// Claims of a number that was never given out, of a number before its issue, and of another unit's note.
 #[test]
 fn strange_claims(rt: HostRuntime) -> Result<(), Fail> {
     let mut machine = started(rt.alloc(), FIVE_AND_SIX).ok_or("start")?;
@@ -322,7 +322,7 @@ fn strange_claims(rt: HostRuntime) -> Result<(), Fail> {
     Ok(())
 }
 
-/// The refusal of a read, with the seat; None where it is accepted.
+/// The refusal of a read, with the seat; `None` if the read is accepted.
 fn refused_read(machine: &mut Machine, token: Reserved) -> (Seat, Option<Refusal>) {
     match machine.read(token) {
         Ok(loaded) => (loaded.abandon(), None),
@@ -330,7 +330,7 @@ fn refused_read(machine: &mut Machine, token: Reserved) -> (Seat, Option<Refusal
     }
 }
 
-/// The refusal of a store, with the seat; None where it is accepted.
+/// The refusal of a store, with the seat; `None` if the store is accepted.
 fn refused_store(machine: &mut Machine, token: Finished) -> (Seat, Option<Refusal>) {
     match machine.store(token) {
         Ok(seat) => (seat, None),
@@ -338,7 +338,7 @@ fn refused_store(machine: &mut Machine, token: Finished) -> (Seat, Option<Refusa
     }
 }
 
-/// Claims, and tries to read.
+/// Claims a reservation, and tries to read its operands.
 fn claim_and_read(machine: &mut Machine, seat: Seat, note: Note) -> (Seat, Option<Refusal>) {
     match machine.claim(seat, note) {
         Ok(reserved) => refused_read(machine, reserved),
@@ -346,7 +346,7 @@ fn claim_and_read(machine: &mut Machine, seat: Seat, note: Note) -> (Seat, Optio
     }
 }
 
-/// Claims, makes an event after the token's back, and tries to read.
+/// Claims a reservation, makes an event without using the token, and tries to read the operands.
 fn claim_and_miss(
     machine: &mut Machine,
     seat: Seat,
@@ -369,7 +369,8 @@ const SHIFTED: [(Event, Answer); 3] = [
     (Event::Store(Unit::Shift), MADE),
 ];
 
-/// Whether reservation 2 awaits the shift of reservation 1 for its read, and then finds that another has read.
+/// Whether reservation 2 awaits the shift of reservation 1 for its read, and is then refused because its operands were
+/// read without the token.
 fn is_awaited_and_missed(machine: &mut Machine) -> bool {
     let Some(seat) = seat_of_increment1(machine) else {
         return false;
@@ -385,8 +386,8 @@ fn is_awaited_and_missed(machine: &mut Machine) -> bool {
         && stored == 0
 }
 
-/// LX2 1, then SX1 X2+B0: its operand is awaited, and when the shift is done another has read it, so that
-/// the token is a stranger's.
+/// LX2 1, then SX1 X2+B0, whose operand is awaited. When the shift is done, an event reads the operands without the
+/// token, so the token is a stranger's.
 #[test]
 fn refused_reads(rt: HostRuntime) -> Result<(), Fail> {
     let mut machine = started_with(rt.alloc(), "20201731204600046000", "3").ok_or("start")?;
@@ -397,7 +398,7 @@ fn refused_reads(rt: HostRuntime) -> Result<(), Fail> {
     Ok(())
 }
 
-/// A store that is held back, and one after another has stored that result.
+/// Tries a store that is held back, and tries it again after an event has stored the result without the token.
 fn store_late(machine: &mut Machine, token: Finished) -> (Seat, Option<Refusal>, Option<Refusal>) {
     match machine.store(token) {
         Ok(seat) => (seat, None, None),
@@ -410,7 +411,8 @@ fn store_late(machine: &mut Machine, token: Finished) -> (Seat, Option<Refusal>,
     }
 }
 
-/// Whether the result of reservation 2 is held back, and its token is a stranger's when another has stored that.
+/// Whether the result of reservation 2 is held back, and its token is a stranger's after the result was stored without
+/// it.
 fn is_held_and_strange(machine: &mut Machine) -> bool {
     let Some(seat) = seat_of_increment1(machine) else {
         return false;
@@ -423,8 +425,8 @@ fn is_held_and_strange(machine: &mut Machine) -> bool {
     held == Some(Refusal::ResultHeld(x(2))) && strange == Some(Refusal::Stranger) && stored == 0
 }
 
-/// CX1 X2, then SX2 B0+5: its result is held back while X2 has still to be read. A second token for it is
-/// a stranger's when the first has stored.
+/// CX1 X2, then SX2 B0+5, whose result is held back while X2 is still to be read. Its token is a stranger's after an
+/// event has stored the result without it.
 #[test]
 fn refused_stores(rt: HostRuntime) -> Result<(), Fail> {
     let mut machine = started_with(rt.alloc(), "47102712000000546000", "17").ok_or("start")?;
@@ -438,7 +440,7 @@ fn refused_stores(rt: HostRuntime) -> Result<(), Fail> {
 /// SX1 B0+5 twice.
 const FIVE_TWICE: &str = "71100000057110000005";
 
-/// A token at one of its calls.
+/// A token, by the call that is due for it.
 enum Token {
     Reserved(Reserved),
     Computed(Computed),
@@ -451,7 +453,7 @@ const FINISH: (Event, Answer) = (Event::Finish(Unit::Increment1), MADE);
 
 const STORE: (Event, Answer) = (Event::Store(Unit::Increment1), MADE);
 
-/// Claims; the seat where that is refused.
+/// Claims a reservation. Returns the seat if the claim is refused.
 fn claim(machine: &mut Machine, seat: Seat, note: Note) -> Result<Reserved, Seat> {
     match machine.claim(seat, note) {
         Err((_, seat)) => Err(seat),
@@ -459,7 +461,7 @@ fn claim(machine: &mut Machine, seat: Seat, note: Note) -> Result<Reserved, Seat
     }
 }
 
-/// The token for which this call is due; the seat where an earlier call is refused.
+/// The token for which this call is due. Returns the seat if an earlier call is refused.
 fn token_due(machine: &mut Machine, seat: Seat, note: Note, due: Due) -> Result<Token, Seat> {
     match due {
         Due::Read => Ok(Token::Reserved(claim(machine, seat, note)?)),
@@ -468,7 +470,7 @@ fn token_due(machine: &mut Machine, seat: Seat, note: Note, due: Due) -> Result<
     }
 }
 
-/// A token of Increment1's reservation with that number, for which this call is due; None where its seat was given out
+/// A token of Increment1's reservation with this number, for which this call is due. `None` if its seat was given out
 /// or an earlier call is refused.
 fn token_of(machine: &mut Machine, number: u64, due: Due) -> Option<Token> {
     let seat = seat_of_increment1(machine)?;
@@ -490,7 +492,7 @@ fn comes_to(machine: &mut Machine, due: Due) -> bool {
     }
 }
 
-/// Makes this event of Increment1's reservation and those after it.
+/// Makes this event of Increment1's reservation, and the events after it.
 fn goes_on(machine: &mut Machine, due: Due) -> bool {
     match due {
         Due::Read => meets(machine, &[READ, FINISH, STORE]),
@@ -499,7 +501,7 @@ fn goes_on(machine: &mut Machine, due: Due) -> bool {
     }
 }
 
-/// The refusal of a finish, with the seat; None where it is accepted.
+/// The refusal of a finish, with the seat; `None` if the finish is accepted.
 fn refused_finish(machine: &mut Machine, token: Computed) -> (Seat, Option<Refusal>) {
     match machine.finish(token) {
         Ok(finished) => (finished.abandon(), None),
@@ -507,7 +509,7 @@ fn refused_finish(machine: &mut Machine, token: Computed) -> (Seat, Option<Refus
     }
 }
 
-/// Whether the token is a stranger's to its call, and gives its seat as it was.
+/// Whether the token's call refuses it as a stranger's, and returns its seat unchanged.
 fn is_stranger(machine: &mut Machine, token: Token) -> bool {
     let (seat, refusal) = match token {
         Token::Reserved(reserved) => refused_read(machine, reserved),
@@ -519,8 +521,8 @@ fn is_stranger(machine: &mut Machine, token: Token) -> bool {
     refusal == Some(Refusal::Stranger) && unit == Unit::Increment1 && stored == 0
 }
 
-/// Lets reservation 1 go on without its token, and offers the token once reservation 2 has come as far. Then that goes
-/// on.
+/// Completes reservation 1 without its token, and offers the token when reservation 2 has reached the same stage. Then
+/// completes reservation 2.
 fn is_older_refused(machine: &mut Machine, due: Due) -> bool {
     let Some(token) = token_of(machine, 1, due) else {
         return false;
@@ -532,8 +534,8 @@ fn is_older_refused(machine: &mut Machine, due: Due) -> bool {
     is_stored && is_issued && is_there && is_refused && goes_on(machine, due)
 }
 
-/// A token of an older reservation is a stranger's, also where the instruction and the operands are the same. The
-/// newer reservation goes on as if there had been none.
+/// A token of an older reservation is a stranger's, even if the instruction and the operands are the same. The newer
+/// reservation continues as if the token hadn't been offered.
 #[test]
 fn older_reservations(rt: HostRuntime) -> Result<(), Fail> {
     for due in [Due::Read, Due::Finish, Due::Store] {
@@ -545,7 +547,7 @@ fn older_reservations(rt: HostRuntime) -> Result<(), Fail> {
 }
 
 impl Program<'_> {
-    /// A machine in which that instruction is issued.
+    /// A machine that has issued that instruction.
     fn issued(&self, alloc: Global) -> Option<Machine> {
         let mut machine = started_with(alloc, self.code, self.x2)?;
         let _ = make(&mut machine, Event::Issue);
@@ -563,14 +565,15 @@ impl Program<'_> {
     }
 }
 
-/// Offers another machine's token once Increment1's reservation has come as far. Then that goes on.
+/// Offers another machine's token when Increment1's reservation has reached the same stage. Then completes that
+/// reservation.
 fn is_refused_by(machine: &mut Machine, token: Token, due: Due) -> bool {
     let is_there = comes_to(machine, due);
     let is_refused = is_stranger(machine, token);
     is_there && is_refused && goes_on(machine, due)
 }
 
-/// Whether the token is refused, and the machine shows those words. None where there is no such token or machine.
+/// Whether the token is refused, and the machine shows those words. `None` if there is no such token or machine.
 fn is_refused_offer((due, one, other, x1, x2): &Offer, alloc: Global) -> Option<bool> {
     let mut machine = other.issued(alloc)?;
     let token = one.token(alloc, *due)?;
@@ -579,8 +582,8 @@ fn is_refused_offer((due, one, other, x1, x2): &Offer, alloc: Global) -> Option<
     Some(is_refused && shows(&machine, x1, x2, 2))
 }
 
-/// A token of another machine is a stranger's where it differs in number, and at its finish where it differs in
-/// instruction or operands alone. The machine's own reservation goes on as if there had been none.
+/// A token of another machine is a stranger's if it differs in number, and at its finish also if it differs in
+/// instruction or operands alone. The machine's own reservation continues as if the token hadn't been offered.
 #[test]
 fn other_machines(rt: HostRuntime) {
     for offer in &OFFERS {

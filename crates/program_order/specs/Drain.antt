@@ -1,4 +1,4 @@
--- Runs of the events that work on what is pending, and how much of it is left. Source: ours.
+-- Runs of the events that work on pending instructions, and how much work is left. Source: ours.
 use Rattle.std.specs.Prelude.{◌≡◌, ◌≤◌, ◌+◌, ◌==◌, ℕ, Bool, true, false, if◌then◌else◌, List, [], ◌∷◌, Option, Some}
 use Rattle.std.specs.Prelude.{None, is_some, length, slice_index_or}
 use Rattle.std.specs.List.{list_any}
@@ -20,23 +20,23 @@ use Rattle.in_flight.specs.Lookup.{arrival_at, in_place, stage_at}
 use Rattle.program_order.specs.Processor.{Processor}
 use Rattle.program_order.specs.Events.{allowed, after}
 
--- ---- what is worked on ----
+-- ---- what an event works on ----
 
--- in the unit stands an instruction before its store event
+-- the instruction holds this unit, before its store event
 unfoldable pub holds_unit : FunctionalUnit → Pending → Bool
 holds_unit unit m = is_some (stage_at unit m)
 
--- in the channel waits its load
+-- the instruction's load waits in this channel
 unfoldable pub in_channel : ℕ → Pending → Bool
 in_channel c m = is_some (arrival_at c m)
 
--- in that phase its reference waits in the hopper for the bank
+-- the reference of an instruction in this phase waits in the hopper for this bank
 unfoldable pub waits_for_in : ℕ → Phase → Bool
 waits_for_in bank (Before t) = false
 waits_for_in bank (After (Entered place a access)) = bank_of a == bank
 waits_for_in bank (After (Accepted n word)) = false
 
--- its reference waits in the hopper for the bank
+-- the instruction's reference waits in the hopper for this bank
 unfoldable pub waits_for : ℕ → Pending → Bool
 waits_for bank m = waits_for_in bank m.phase
 
@@ -52,7 +52,7 @@ works_on ms (Return c) = list_any (in_channel c) ms
 works_on ms (BankFree k) = list_any (waits_for k) ms
 works_on ms _ = false
 
--- the events are accepted one after another, and each works on what is then pending
+-- the events are allowed one after another, and each works on what is then pending
 abbrev pub Accepts : Processor → List Event → Type 0
 Accepts w [] = Unit {0}
 Accepts w (e ∷ events) =
@@ -63,7 +63,7 @@ unfoldable pub leads_to : Processor → List Event → Processor
 leads_to w [] = w
 leads_to w (e ∷ events) = leads_to (after w e) events
 
--- so many such events, at most forty, lead from one machine to the other
+-- this many such events, at most forty, lead from the first machine to the second
 pub record Works (w v : Processor) (count : ℕ) : Type 0 where
   pub events : List Event
   pub accepted : Accepts w events
@@ -72,7 +72,7 @@ pub record Works (w v : Processor) (count : ℕ) : Type 0 where
   pub limit : count ≤ 40
 
 -- what work on the pending instructions never changes: it issues nothing, asks for no exchange, makes none and accesses
--- no word for a peripheral processor; what was given at boot, and whether the seats were given out, stays as it was
+-- no word for a peripheral processor; what was given at boot, and whether the seats were given out, is unchanged
 pub record KeepsAccounts (w v : Processor) : Type 0 where
   pub log : v.log ≡ w.log
   pub request : v.request ≡ w.request
@@ -83,7 +83,7 @@ pub record KeepsAccounts (w v : Processor) : Type 0 where
   pub boot_memory : v.boot_memory ≡ w.boot_memory
   pub seats_given : v.seats_given ≡ w.seats_given
 
--- ---- what is next to be done ----
+-- ---- the next event ----
 
 -- the next event of an instruction that waits for no other: a busy bank is freed before its reference is accepted
 unfoldable pub next_in : FunctionalUnit → Phase → List Bool → Event
@@ -99,7 +99,7 @@ unfoldable pub next_of : List Pending → List Bool → Option Event
 next_of [] busy = None
 next_of (m ∷ ms) busy = Some (next_in m.unit m.phase busy)
 
--- ---- how much is left to be done ----
+-- ---- how much work is left ----
 
 -- the most events after the store event: the release of a bank and an acceptance, and for a load its return
 unfoldable pub reference_cost : Shape → ℕ
@@ -109,7 +109,7 @@ reference_cost (Stores n) = 2
 reference_cost Jumps = 0
 reference_cost Links = 2
 
--- the events of the unit that are left: read, finish and store for an instruction that waits
+-- how many of the unit's events are left: read, finish and store for an instruction that waits
 unfoldable pub stage_cost : Stage → ℕ
 stage_cost Unread = 3
 stage_cost (HasRead os) = 2
@@ -121,7 +121,7 @@ outstanding_cost (Entered place a (LoadInto n)) = 3
 outstanding_cost (Entered place a (StoreWord word)) = 2
 outstanding_cost (Accepted n word) = 1
 
--- the most events of an instruction of that shape in that phase
+-- the most events of an instruction of this shape in this phase
 unfoldable pub phase_cost : Shape → Phase → ℕ
 phase_cost shape (Before t) = stage_cost t + reference_cost shape
 phase_cost shape (After l) = outstanding_cost l

@@ -3,7 +3,7 @@ use Rattle.std.specs.Prelude.{Bool, false, ◌==◌}
 use Rattle.relocation.specs.declared.area.Access.{Access}
 use Rattle.relocation.specs.declared.area.Access.TheVariants.{Load, Store}
 
--- two references load into the same register
+-- both references load into the same register
 unfoldable pub same_register : Access → Access → Bool
 same_register (Load n) (Load m) = m == n
 same_register (Load n) (Store word) = false

@@ -1,5 +1,5 @@
--- All events: which the machine allows, and what each leaves.
--- Source: ours, over Thornton's events in the other files.
+-- All events: which of them the machine allows, and their effects. Source: ours, over Thornton's events in the other
+-- files.
 use Rattle.std.specs.Prelude.{suc, false, List, Option, Some, None, length, slice_set}
 use Rattle.instructions.specs.declared.refusal.Refusal.{Refusal}
 use Rattle.instructions.specs.Finding.{Found, seek}
@@ -21,7 +21,7 @@ use Rattle.program_order.specs.Peripheral.{access_tests, after_pp_read, after_pp
 
 -- ---- Allowed ----
 
--- what an event may be refused for, in the order of the tests
+-- the tests of an event, in order: its possible refusals, and whether they apply
 unfoldable pub tests_of : Processor → Event → List Test
 tests_of w Issue = issue_tests w.state w.pending w.request w.budget (issued w.log)
 tests_of w (Read u) = tests_found (seek (stage_at u) w.pending) (λ f. read_tests f.answer f.earlier f.item.instr)
@@ -40,15 +40,15 @@ tests_of w (PpWrite a v) = access_tests w.accessed w.pending (length w.state.mem
 unfoldable pub allowed : Processor → Event → Option Refusal
 allowed w e = refusal_of (tests_of w e)
 
--- ---- what a made event leaves ----
+-- ---- the effect of a made event ----
 
--- what is left by the one that was found; nothing changes where none was
+-- the effect on the instruction that was found; nothing changes if none was found
 unfoldable pub after_found : {K : Type 0} → Processor → Option (Found Pending K) → (Found Pending K → Processor)
     → Processor
 after_found w None f = w
 after_found w (Some x) f = f x
 
--- what a made event leaves
+-- the machine after a made event
 unfoldable pub after : Processor → Event → Processor
 after w Issue = after_issue w (fetch (bounds_of w.state) w.state.memory w.state.position)
 after w (Read u) = after_found w (seek (stage_at u) w.pending) (after_read w)

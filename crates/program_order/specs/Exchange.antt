@@ -1,5 +1,5 @@
--- The exchange: what a request and an exchange are refused for, and what an exchange leaves.
--- Source: 60100000, exchange jump. The requests, their refusals and the order of these are ours.
+-- The exchange: the refusals of a request and of an exchange, and the effect of an exchange. Source: 60100000, exchange
+-- jump. The requests, the refusals and their order are ours.
 use Rattle.std.specs.Prelude.{ℕ, not, ◌&&◌, nat_le, List, [], ◌∷◌, ◌++◌, Option, Some, None, is_some, is_none}
 use Rattle.instructions.specs.declared.refusal.Refusal.TheVariants.{Budget, Nothing, ExchangeBusy, NotDrained}
 use Rattle.instructions.specs.declared.refusal.Refusal.TheVariants.{PackageRange, MidWord}
@@ -12,7 +12,7 @@ use Rattle.in_flight.specs.Tests.{Test}
 use Rattle.in_flight.specs.Lookup.{is_pending}
 use Rattle.program_order.specs.Processor.{Processor}
 
--- ---- what they are refused for ----
+-- ---- the refusals ----
 
 -- E3, budget: 1,000,000 requests were accepted; E17, exchange busy: a request waits; E19, package range: the package
 -- does not lie in memory
@@ -23,7 +23,7 @@ ask_tests asked request size n =
     ∷ record { fails = not (package_fits n size); refusal = PackageRange }
     ∷ []
 
--- E15, nothing: no exchange was asked for; E18, not drained: an instruction is pending; E25, mid word: it runs
+-- E15, nothing: no exchange was asked for; E18, not drained: an instruction is pending; E25, mid word: the machine runs
 -- without fault in the middle of a word
 unfoldable pub exchange_tests : Option ℕ → List Pending → State → List Test
 exchange_tests request pending state =
@@ -32,7 +32,7 @@ exchange_tests request pending state =
     ∷ record { fails = is_none state.halt && (not state.fault && is_some state.position.held); refusal = MidWord }
     ∷ []
 
--- ---- what it leaves ----
+-- ---- the effect ----
 
 -- the state and the package are exchanged, the log gains the exchange, and no request waits
 unfoldable pub after_exchange : Processor → Option ℕ → Processor

@@ -1,4 +1,4 @@
--- What every run of events promises of the machine. Source: ours.
+-- The promises about the machine after every run of events. Source: ours.
 use Rattle.std.specs.Prelude.{◌≡◌, ℕ, Bool, true, false, not, ◌&&◌, List, [], ◌∷◌, ◌++◌, Option, Some, None, Result}
 use Rattle.std.specs.Prelude.{Ok, Err, slice_index_or}
 use Rattle.std.specs.List.{list_any, list_all}
@@ -18,13 +18,13 @@ use Rattle.program_order.specs.Run.{done_by}
 
 -- ---- the log ----
 
--- a made exchange adds to the log the address of the package that was asked for
+-- the step that a made exchange adds to the log: the address of the package that was asked for
 unfoldable pub exchange_step : Option ℕ → List LogStep
 exchange_step None = []
 exchange_step (Some n) = Exchanged n ∷ []
 
--- what a made event adds to the log: an issue adds an instruction, an exchange its package address, a peripheral access
--- its address and the word that it wrote, any other nothing
+-- the steps that a made event adds to the log: an issue adds an instruction, an exchange its package address, a
+-- peripheral access its address and the word that it wrote, any other event nothing
 unfoldable pub made_steps : Option ℕ → Event → List LogStep
 made_steps r Issue = Issued ∷ []
 made_steps r Exchange = exchange_step r
@@ -32,23 +32,23 @@ made_steps r (PpRead a) = ReadAt a ∷ []
 made_steps r (PpWrite a v) = Wrote a v ∷ []
 made_steps r _ = []
 
--- the request after a made event: one that asks leaves its own, and an exchange leaves none
+-- the request after a made event: a request leaves its own, and an exchange leaves none
 unfoldable pub made_request : Option ℕ → Event → Option ℕ
 made_request r (Ask n) = Some n
 made_request r Exchange = None
 made_request r _ = r
 
--- what an event with that answer adds to the log; a refused event adds nothing
+-- the steps that an event with this answer adds to the log; a refused event adds none
 unfoldable pub steps_by : Result Done Refusal → Option ℕ → Event → List LogStep
 steps_by (Ok done) r e = made_steps r e
 steps_by (Err refusal) r e = []
 
--- the request after an event with that answer; a refused event leaves it as it was
+-- the request after an event with this answer; a refused event leaves it unchanged
 unfoldable pub request_by : Result Done Refusal → Option ℕ → Event → Option ℕ
 request_by (Ok done) r e = made_request r e
 request_by (Err refusal) r e = r
 
--- the instructions issued, and the exchanges and peripheral accesses made, in their order
+-- the instructions issued, and the exchanges and peripheral accesses made, in order
 unfoldable pub logged : Option ℕ → List Event → List (Result Done Refusal) → List LogStep
 logged r [] answers = []
 logged r (e ∷ events) [] = []
@@ -67,17 +67,17 @@ ends_exchanged [] = true
 ends_exchanged (x ∷ []) = is_exchanged x
 ends_exchanged (x ∷ y ∷ xs) = ends_exchanged (y ∷ xs)
 
--- after a fault: a beginning of the program's run since the last exchange, in which the instruction that sets the fault
--- first was issued. The run is what the log has since then: the instructions, and the peripheral accesses at their
--- places
+-- after a fault: the log since the last exchange is a beginning of the program's run, and includes the issue of the
+-- instruction that first sets the fault. The run is what the log has since that exchange: the instructions, and the
+-- peripheral accesses at their positions
 pub record IsFaultedRun (log : List LogStep) (memory : List ℕ) (s : State) : Type 0 where
-  -- the steps up to the last exchange lead from boot to the state with which the run starts
+  -- the steps up to the last exchange lead from boot to the state in which the run starts
   pub before : List LogStep
   pub start : State
   pub ends : ends_exchanged before ≡ true
   pub starts : replay (boot memory) before ≡ Some start
   pub no_fault_at_start : start.fault ≡ false
-  -- the steps since then lead from there to the machine's state
+  -- the steps since then lead from that state to the machine's state
   pub run : List LogStep
   pub log_is : log ≡ before ++ run
   pub no_exchange : list_any is_exchanged run ≡ false
@@ -86,10 +86,10 @@ pub record IsFaultedRun (log : List LogStep) (memory : List ℕ) (s : State) : T
   pub earlier : List LogStep
   pub later : List LogStep
   pub run_is : run ≡ earlier ++ Issued ∷ later
-  -- before it the fault is never set
+  -- before it, the fault is never set
   pub never_before : (front rest : List LogStep) → earlier ≡ front ++ rest → (t : State) → replay start front ≡ Some t
       → t.fault ≡ false
-  -- and after it always, whatever comes except an exchange
+  -- after it, the fault is always set, whatever follows except an exchange
   pub always_after : (more : List LogStep) → list_any is_exchanged more ≡ false → (t : State)
       → replay start (earlier ++ Issued ∷ more) ≡ Some t → t.fault ≡ true
 
@@ -103,7 +103,7 @@ unfoldable pub exchanges : Event → Result Done Refusal → Bool
 exchanges e (Ok done) = is_exchange e
 exchanges e (Err refusal) = false
 
--- no exchange is made: each one among the events is refused
+-- no exchange is made: each exchange among the events is refused
 unfoldable pub makes_no_exchange : List Event → List (Result Done Refusal) → Bool
 makes_no_exchange [] answers = true
 makes_no_exchange (e ∷ events) [] = true
@@ -115,38 +115,37 @@ is_access (ReadAt a) = true
 is_access (Wrote a w) = true
 is_access _ = false
 
--- the one log is the other and then peripheral accesses, and nothing else
+-- the second log is the first one followed by peripheral accesses, and nothing else
 pub record GainsAccesses (old new : List LogStep) : Type 0 where
   pub more : List LogStep
   pub accesses : list_all is_access more ≡ true
   pub gained : new ≡ old ++ more
 
--- what an issue is refused for while the fault is set: E1, halted, where the machine has halted too, and else E2,
--- faulted
+-- the refusal of an issue while the fault is set: E1, halted, if the machine has halted too, otherwise E2, faulted
 unfoldable pub refusal_at_fault : Option Halt → Refusal
 refusal_at_fault None = Faulted
 refusal_at_fault (Some halt) = Halted halt
 
 -- ---- the headline ----
 
--- what a run from boot adds to the log
+-- the log of a run from boot
 abbrev pub log_of : List Event → List (Result Done Refusal) → List LogStep
 log_of events answers = logged None events answers
 
--- what holds of a machine to which these events with these answers have led from boot
+-- the promises about a machine to which these events with these answers lead from boot
 pub record IsFaithful (memory : List ℕ) (events : List Event) (answers : List (Result Done Refusal))
     (w : Processor) : Type 0 where
   -- whenever it is drained, its whole state is the replay of what was issued, exchanged and accessed
   pub replays : w.pending ≡ [] → replay (boot memory) (log_of events answers) ≡ Some w.state
-  -- its log is just that
+  -- its log is exactly that
   pub log : w.log ≡ log_of events answers
-  -- and its boot memory is the memory with which it was booted
+  -- its boot memory is the memory with which it was booted
   pub boot_memory : w.boot_memory ≡ memory
-  -- drained or not, a word that a peripheral processor reads of it is that of the replay
+  -- drained or not, a word that a peripheral processor reads from it is that of the replay
   pub reads : (a : ℕ) → allowed w (PpRead a) ≡ None → (s : State)
       × (replay (boot memory) (log_of events answers) ≡ Some s)
       × (done_by w (PpRead a) ≡ Word (slice_index_or s.memory a 0))
-  -- where it is drained with the fault set, its state lies on the program's run since the last exchange
+  -- if it is drained with the fault set, its state lies on the program's run since the last exchange
   pub fault : w.pending ≡ [] → w.state.fault ≡ true → IsFaultedRun (log_of events answers) memory w.state
   -- while the fault is set nothing is issued, and only an exchange clears it
   pub held : w.state.fault ≡ true → (allowed w Issue ≡ Some (refusal_at_fault w.state.halt))

@@ -1,6 +1,6 @@
--- Issue: what it is refused for, and what it leaves.
--- Source: Thornton, scoreboard; 60100000, unit and register conflicts. The order of the refusals and the fetch wait
--- are ours. First order, the last of them, stands in in_flight/specs/Tests.antt.
+-- Issue: its refusals and its effect. Source: Thornton, scoreboard; 60100000, unit and register conflicts. The order of
+-- the refusals and the fetch wait are ours. The tests of first order, which come last, are in
+-- in_flight/specs/Tests.antt.
 use Rattle.std.specs.Prelude.{ℕ, suc, Bool, false, ◌&&◌, nat_le, List, [], ◌∷◌, ◌++◌, Option, Some, None, is_some}
 use Rattle.std.specs.Prelude.{is_none, unwrap_or}
 use Rattle.std.specs.List.{list_any}
@@ -23,9 +23,9 @@ use Rattle.in_flight.specs.Pending.{is_branch, delays_fetch}
 use Rattle.in_flight.specs.Tests.{Test, unit_for, reservation_tests}
 use Rattle.program_order.specs.Processor.{Processor}
 
--- ---- what an issue is refused for ----
+-- ---- the refusals ----
 
--- some pending instruction delays a fetch from this absolute address (none does where the address is out of range)
+-- a pending instruction delays a fetch from this absolute address (none does if the address is out of range)
 unfoldable pub waits_at : Option ℕ → List Pending → Bool
 waits_at None ms = false
 waits_at (Some a) ms = list_any (delays_fetch a) ms
@@ -34,8 +34,8 @@ waits_at (Some a) ms = list_any (delays_fetch a) ms
 unfoldable pub fetch_waits : Bounds → ProgramPosition → List Pending → Bool
 fetch_waits b position ms = is_none position.held && waits_at (absolute b position.p) ms
 
--- E1, halted; E2, faulted; E3, budget: it is used up; E4, branch pending; E5, exchange waiting: one is asked for and
--- no word is held; E6, fetch waits; then E7 and E8 by first order
+-- E1, halted; E2, faulted; E3, budget: it is used up; E4, branch pending; E5, exchange waiting: an exchange is asked
+-- for and no word is held; E6, fetch waits; then E7 and E8 by first order
 unfoldable pub issue_tests : State → List Pending → Option ℕ → ℕ → ℕ → List Test
 issue_tests state pending request budget count =
     record { fails = is_some state.halt; refusal = Halted (unwrap_or state.halt Stop) }
@@ -46,9 +46,9 @@ issue_tests state pending request budget count =
     ∷ record { fails = fetch_waits (bounds_of state) state.position pending; refusal = FetchWait }
     ∷ reservation_tests pending (fetch (bounds_of state) state.memory state.position)
 
--- ---- what it leaves ----
+-- ---- the effect ----
 
--- the machine halts, or the position moves on; the log gains an instruction, and one with a unit becomes pending
+-- the machine halts, or the position moves on; the log gains an instruction, which becomes pending if it has a unit
 unfoldable pub after_issue : Processor → Fetched → Processor
 after_issue w (Halting h position) = record w {
   state = halt_by

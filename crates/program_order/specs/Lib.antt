@@ -1,6 +1,5 @@
--- The definitions of the machine with instructions in flight: its events, what each is refused for and what it leaves,
--- and what every run promises.
--- Source: Thornton; 60100000; what is ours is marked in each file.
+-- The definitions of the machine with instructions in flight: its events, their refusals and effects, and what every
+-- run promises. Source: Thornton; 60100000; what is ours is marked in each file.
 pub mod Complete
 pub mod Processor
 pub mod Issue

@@ -1,6 +1,5 @@
--- The events of memory: what an acceptance and a return leave.
--- Source: Thornton, stunt box; 60100000, central memory. What they are refused for stands in
--- in_flight/specs/Tests.antt.
+-- The events of memory: the effects of an acceptance and of a return. Source: Thornton, stunt box; 60100000, central
+-- memory. Their refusals are in in_flight/specs/Tests.antt.
 use Rattle.std.specs.Prelude.{ℕ, true, [], ◌∷◌, slice_index_or, slice_set}
 use Rattle.instructions.specs.declared.instr.Reg.TheVariants.{X}
 use Rattle.instructions.specs.Finding.{Found, put_back}
@@ -16,7 +15,8 @@ use Rattle.in_flight.specs.declared.pending.Arrival.{Arrival}
 use Rattle.in_flight.specs.Lookup.{in_phase}
 use Rattle.program_order.specs.Processor.{Processor}
 
--- the reference leaves its place and its bank is busy: a load has its word in its channel, a store has written memory
+-- the reference leaves its place and its bank is busy; a load has its word in its channel, and a store has written
+-- memory
 unfoldable pub after_accept : Processor → Found Pending Reference → ℕ → Access → Processor
 after_accept w f a (Load n) = record w {
   pending = put_back f (in_phase f.item (After (Accepted n (slice_index_or w.state.memory a 0))) ∷ []);

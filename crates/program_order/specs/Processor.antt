@@ -1,5 +1,5 @@
--- The machine with instructions in flight: what it has, how it boots, and which state its effects come to.
--- Source: ours; the parts are Thornton's, scoreboard and stunt box.
+-- The machine with instructions in flight: its parts, its boot, and the state after all its effects. Source: ours; the
+-- parts are Thornton's, scoreboard and stunt box.
 use Rattle.std.specs.Prelude.{ℕ, Bool, false, List, [], Option, None, replicate}
 use Rattle.sequential.specs.declared.state.State.{State}
 use Rattle.sequential.specs.State.{bounds_of}
@@ -13,9 +13,9 @@ pub record Processor : Type 0 where
   pub state : State
   -- the instructions with an effect still to come, in issue order
   pub pending : List Pending
-  -- by the number of the bank, whether it is busy
+  -- whether each bank is busy, by its number
   pub busy : List Bool
-  -- the package address of the exchange that was asked for
+  -- the package address of the exchange that was asked for, if one was
   pub request : Option ℕ
   -- the instructions issued, and the exchanges and peripheral accesses made, since boot
   pub log : List LogStep
@@ -32,7 +32,7 @@ pub record Processor : Type 0 where
   -- whether its seats were given out
   pub seats_given : Bool
 
--- ---- the machine at boot, and what it comes to ----
+-- ---- the machine at boot, and after all its effects ----
 
 -- the machine at boot: nothing is pending, no bank is busy, no exchange is asked for, and the log is empty
 unfoldable pub boot_processor : List ℕ → ℕ → Processor
@@ -51,10 +51,10 @@ boot_processor memory budget =
       seats_given = false;
     }
 
--- the effects so far with those still to come
+-- the state after the effects made so far and those still to come
 unfoldable pub completed : Processor → State
 completed w = complete (bounds_of w.state) w.state w.pending
 
--- the state of the machine that does one instruction at a time, after the log
+-- the state of the machine that executes one instruction at a time, after the log
 unfoldable pub replayed : Processor → Option State
 replayed w = replay (boot w.boot_memory) w.log

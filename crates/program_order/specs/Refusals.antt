@@ -1,4 +1,4 @@
--- Which refusals an event, and a token's call, may have. Source: ours.
+-- The refusals that an event, and a call with a token, may have. Source: ours.
 use Rattle.std.specs.Prelude.{Bool, true, false, ◌||◌}
 use Rattle.instructions.specs.declared.refusal.Refusal.{Refusal}
 use Rattle.instructions.specs.declared.refusal.Refusal.TheVariants.{Halted, Faulted, Budget, BranchPending}
@@ -12,7 +12,7 @@ use Rattle.program_order.specs.declared.event.Event.{Event}
 use Rattle.program_order.specs.declared.event.Event.TheVariants.{Issue, Read, Finish, Store, Accept, Return, BankFree}
 use Rattle.program_order.specs.declared.event.Event.TheVariants.{Ask, Exchange, PpRead, PpWrite}
 
--- E1 to E8: what an issue may be refused for
+-- E1 to E8: the refusals of an issue
 unfoldable pub is_issue_refusal : Refusal → Bool
 is_issue_refusal (Halted halt) = true
 is_issue_refusal Faulted = true
@@ -24,30 +24,30 @@ is_issue_refusal (UnitBusy unit) = true
 is_issue_refusal (ResultReserved register) = true
 is_issue_refusal _ = false
 
--- E9, operand awaited: what a read may be refused for, besides E15
+-- E9, operand awaited: the refusal of a read, besides E15
 unfoldable pub is_read_refusal : Refusal → Bool
 is_read_refusal (OperandAwaited register) = true
 is_read_refusal _ = false
 
--- E10, result held; E11, hopper full; E12, out of turn: what a store event may be refused for, besides E15
+-- E10, result held; E11, hopper full; E12, out of turn: the refusals of a store event, besides E15
 unfoldable pub is_store_refusal : Refusal → Bool
 is_store_refusal (ResultHeld register) = true
 is_store_refusal HopperFull = true
 is_store_refusal OutOfTurn = true
 is_store_refusal _ = false
 
--- E13, bank busy; E14, older at address: what an acceptance may be refused for, besides E15
+-- E13, bank busy; E14, older at address: the refusals of an acceptance, besides E15
 unfoldable pub is_accept_refusal : Refusal → Bool
 is_accept_refusal (BankBusy bank) = true
 is_accept_refusal OlderAtAddress = true
 is_accept_refusal _ = false
 
--- E10, result held: what the return of a load may be refused for, besides E15
+-- E10, result held: the refusal of a load's return, besides E15
 unfoldable pub is_return_refusal : Refusal → Bool
 is_return_refusal (ResultHeld register) = true
 is_return_refusal _ = false
 
--- E3, budget; E17, exchange busy; E19, package range; E21, out of memory: what a request may be refused for
+-- E3, budget; E17, exchange busy; E19, package range; E21, out of memory: the refusals of a request
 unfoldable pub is_ask_refusal : Refusal → Bool
 is_ask_refusal Budget = true
 is_ask_refusal ExchangeBusy = true
@@ -55,15 +55,14 @@ is_ask_refusal PackageRange = true
 is_ask_refusal OutOfMemory = true
 is_ask_refusal _ = false
 
--- E15, nothing; E18, not drained; E25, mid word: what an exchange may be refused for
+-- E15, nothing; E18, not drained; E25, mid word: the refusals of an exchange
 unfoldable pub is_exchange_refusal : Refusal → Bool
 is_exchange_refusal Nothing = true
 is_exchange_refusal NotDrained = true
 is_exchange_refusal MidWord = true
 is_exchange_refusal _ = false
 
--- E3, budget; E26, peripheral waits; E27, peripheral range; E21, out of memory: what a peripheral access may be refused
--- for
+-- E3, budget; E26, peripheral waits; E27, peripheral range; E21, out of memory: the refusals of a peripheral access
 unfoldable pub is_access_refusal : Refusal → Bool
 is_access_refusal Budget = true
 is_access_refusal PeripheralWait = true

@@ -1,5 +1,5 @@
--- What an answer tells of the state to which the log leads, and how reservations are numbered along the log.
--- Source: ours.
+-- What an answer says about the state to which the log leads, and how reservations are numbered along the log. Source:
+-- ours.
 use Rattle.std.specs.Prelude.{◌≡◌, ℕ, true, false, Option, Some, None, is_some}
 use Rattle.instructions.specs.declared.instr.Instr.{Instr}
 use Rattle.instructions.specs.declared.refusal.Halt.{Halt}
@@ -17,18 +17,18 @@ use Rattle.program_order.specs.Processor.{Processor}
 abbrev pub IsNumbered : Processor → Type 0
 IsNumbered w = w.last ≡ taken (boot w.boot_memory) w.log
 
--- the reservation is of a unit of the kind that the instruction takes, and has that number
+-- the reservation is of a unit of the kind that the instruction takes, and has this number
 pub record IsReservation (instr : Instr) (number : ℕ) (note : Note) : Type 0 where
   pub of_kind : may_take (uses instr).unit note.unit ≡ true
   pub numbered : note.number ≡ number
 
--- an issue from that state answers a reservation, of that number, exactly where its instruction goes to a unit
+-- an issue from this state returns a reservation, with this number, if and only if its instruction goes to a unit
 pub record IsNoted (s : State) (number : ℕ) (note : Option Note) : Type 0 where
   pub none : taken_in s ≡ None → note ≡ None
   pub some : (instr : Instr) → taken_in s ≡ Some instr → (n : Note) × (note ≡ Some n) × IsReservation instr number n
 
--- what a refusal tells of that state: E1, halted, names its halt; E2, faulted, only where it has the fault; E25, mid
--- word, only where it runs without fault in the middle of a word
+-- what a refusal says about this state: E1, halted, names its halt; E2, faulted, that it has the fault; E25, mid word,
+-- that it runs without fault in the middle of a word
 pub record IsWhy (s : State) (refusal : Refusal) : Type 0 where
   pub halted : (halt : Halt) → refusal ≡ Halted halt → s.halt ≡ Some halt
   pub faulted : refusal ≡ Faulted → s.fault ≡ true

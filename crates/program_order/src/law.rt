@@ -18,16 +18,17 @@ ghost use Rattle.program_order.specs.Events.{allowed};
 ghost use Rattle.in_flight.specs.Lookup.{is_pending};
 
 /// Whichever calls led from boot to a machine, its log is the instructions issued, the exchanges made and the
-/// peripheral accesses, in order. Where it is drained, it is the machine that does one instruction at a time, after
-/// that log. Drained or not, a peripheral processor reads the words of that machine.
+/// peripheral accesses, in order. If the machine is drained, its state is that of the machine that executes one
+/// instruction at a time, after that log. Drained or not, a peripheral processor reads the words of that machine.
 pub fn what_is_reached_is_faithful()
     ensures { (memory : List ℕ) → (budget : ℕ) → (events : List SomeEvent) → (answers : List (Result SomeDone Refusal))
         → (w : SomeProcessor)
         → IsReached memory budget events answers w → IsFaithful memory events answers w }
 {}
 
-/// While the fault is set and no exchange is made, nothing is issued, so that the log gains peripheral accesses alone,
-/// and the fault stays set: in a run from any machine, and between two machines that were reached one after the other.
+/// While the fault is set and no exchange is made, nothing is issued and the fault stays set, so that the log gains
+/// peripheral accesses alone. This holds in a run from any machine, and between two machines that were reached one
+/// after the other.
 pub fn a_fault_stops_the_program()
     ensures run { (w : SomeProcessor) → (events : List SomeEvent) → (answers : List (Result SomeDone Refusal))
         → w.state.fault ≡ true → IsAnswered w events answers → makes_no_exchange events answers ≡ true
@@ -41,8 +42,8 @@ pub fn a_fault_stops_the_program()
         → GainsAccesses w.log v.log × (v.state.fault ≡ true) }
 {}
 
-/// References that needn't keep their order may be made in either order: they then leave the same state. Those
-/// that wait load into different registers, since a register that is to be loaded is reserved.
+/// References that needn't keep their order leave the same state in either order. References that wait load into
+/// different registers, because a register that is to be loaded is reserved.
 pub fn references_that_pass_commute()
     ensures { (s : SomeState) → (address : ℕ) → (access : SomeAccess) → (other_address : ℕ)
         → (other_access : SomeAccess) → keep_order address access other_address other_access ≡ false
@@ -51,9 +52,9 @@ pub fn references_that_pass_commute()
         ≡ access_at (access_at s other_address other_access) address access }
 {}
 
-/// A drained machine goes on. Where it runs without fault and has budget left it accepts an issue, unless an
-/// exchange is asked for and no word is held; and it accepts the exchange that is asked for, unless it runs without
-/// fault in mid word.
+/// A drained machine can continue. If it runs without fault and has budget left, it accepts an issue, unless an
+/// exchange is asked for and no word is held. It accepts the exchange that is asked for, unless it runs without fault
+/// in mid word.
 pub fn a_drained_machine_goes_on()
     ensures issue { (w : SomeProcessor) → is_pending w.pending ≡ false → w.state.halt ≡ None → w.state.fault ≡ false
         → issued w.log < w.budget

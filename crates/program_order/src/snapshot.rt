@@ -8,9 +8,9 @@ use sequential::{Log, State};
 use std::marker::Model;
 
 /// A state with the log that leads to it, and the memory and the budget with which the log begins. The state is that of
-/// the machine that does one instruction at a time, after the log, on that memory; and the log has no more instructions
-/// than the budget. A snapshot says no more than this: that it is of a drained machine is promised by the call that took
-/// it of one.
+/// the machine that executes one instruction at a time, after the log, on that memory. The log has no more instructions
+/// than the budget. A snapshot promises no more than this. That it is of a drained machine is promised by the call that
+/// took it.
 #[derive(Drop)]
 pub struct Snapshot {
     state: State,
@@ -39,7 +39,7 @@ impl Model for Snapshot {
 }
 
 impl Snapshot {
-    /// A snapshot of any state that is the replay of its log, where the log has no more instructions than the budget.
+    /// A snapshot of any state that is the replay of its log, if the log has no more instructions than the budget.
     pub fn of(state: State, log: Log, boot_memory: Storage, budget: u64) -> Snapshot
         requires replay { replay (boot boot_memory) log.steps ≡ Some state }
         requires within { issued log.steps ≤ budget }
@@ -62,14 +62,14 @@ impl Snapshot {
         ensures value { result.now ≡ self.now.state }
         ensures replay { replay (boot self.now.boot_memory) self.now.log ≡ Some result.now }
 
-        // With the fault, the log is a beginning of the program's run since the last exchange, with the instruction
-        // that sets the fault.
+        // If the fault is set, the log is a beginning of the program's run since the last exchange, and includes the
+        // instruction that sets the fault.
         ensures fault { result.now.fault ≡ true → IsFaultedRun self.now.log self.now.boot_memory result.now }
     {
         &self.state
     }
 
-    /// How many instructions may be issued from boot on. The log has no more.
+    /// How many instructions may be issued since boot. The log has no more.
     pub fn budget(&self) -> u64
         ensures value { result ≡ self.now.budget }
         ensures within { issued self.now.log ≤ result }
@@ -77,7 +77,7 @@ impl Snapshot {
         self.budget
     }
 
-    /// What was done since boot, to come to the state.
+    /// The log since boot, which leads to the state.
     pub fn log(&self) -> &Log
         ensures { result.now.steps ≡ self.now.log }
     {

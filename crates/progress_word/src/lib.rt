@@ -1,13 +1,14 @@
-//! A word that counts the steps of a machine's log, and what its users know of that log.
+//! A word that counts the steps of a machine's log, and its users' knowledge of that log.
 //!
-//! Each pass to the word knows a beginning of one log: the machine's pass all of it, a caller's as much as the caller has
-//! seen, with the positions of the caller's own steps. The word has the log's length. So a caller that looks at the word
-//! again learns a log that begins with what it knew, and two callers that meet have no step in common.
+//! Each pass to the word knows a beginning of one log. The machine's pass knows the whole log. A caller's pass knows
+//! the steps that the caller has seen, and the positions of the caller's own steps. The word holds the log's length. So
+//! a caller that loads the word again learns a log that begins with what it knew. Two callers that meet have no step in
+//! common.
 //!
-//! Callers rely on `Word::record` and `Word::compare`, by which a machine's pass adds a step for a caller or tells a
-//! caller the log so far, and on `Seen`, which is what a caller keeps. `rule` has the steps that the word's rule
-//! allows. Nothing here takes the lock of the machine: whoever has the machine's pass has its lock. Its tests are in
-//! `crates/thread_tests/src/lock_tests.rt`. Begin with `Word` in `word`.
+//! Callers rely on three items. `Word::record` adds a step for a caller to the knowledge of the machine's pass.
+//! `Word::compare` shows a caller the log so far. A caller keeps its knowledge in a `Seen`. `rule` has the steps that
+//! the word's rule allows. Nothing here takes the machine's lock: the holder of the machine's pass holds that lock. Its
+//! tests are in `crates/thread_tests/src/lock_tests.rt`. Begin with `Word` in `word`.
 #![tactic(auto)]
 
 mod rule;

@@ -1,13 +1,13 @@
-//! The rule of the progress word: what each pass knows is a beginning of one log, whose length the word has. It has two
-//! kinds of step: the machine's pass adds one, for a caller's that it took in; and a pass loads the word, and has then
-//! seen the log.
+//! The rule of the progress word: each pass knows a beginning of one log, and the word holds that log's length. There
+//! are two kinds of step. The machine's pass adds one to the word, for a caller whose pass it took in. Any pass loads
+//! the word, and has then seen the log.
 
 use atomic_table::{Join, Play, Seat, Split, Table, TableRule};
 use std::alloc::Global;
 use std::marker::{Brand, Model, PhantomData};
 
-/// Which progress word it is. A type parameter names it, so that the types of the lock and of its callers speak of one
-/// word; the function that makes the word picks the name for those that it calls.
+/// Names a progress word. As a type parameter it makes the types of the lock and of its callers name the same word. The
+/// function that makes the word picks the name for the functions that it calls.
 pub trait Naming {
     ghost use Rattle.atomic_table.specs.Seated.{TableId};
 
@@ -20,7 +20,7 @@ impl Naming for Brand {
     ghost table = { no_table };
 }
 
-/// What a pass knows. No value of it is made: the passes' views have its model.
+/// The knowledge of a pass. No value of this type is made: it is the model of the passes' views.
 pub struct PassView {
     nothing: (),
 }
@@ -33,7 +33,7 @@ impl Model for PassView {
     ghost view = { λ v. spent };
 }
 
-/// What holds of the word and of all that is known, between any two steps.
+/// The invariant of the word and of everything that the passes know, between any two steps.
 pub struct Law;
 
 impl TableRule<u8, PassView, ()> for Law {
@@ -44,7 +44,7 @@ impl TableRule<u8, PassView, ()> for Law {
     ghost first = { λ key. fresh };
 }
 
-/// The step that is added.
+/// Names the step that is added to the log.
 pub trait Chosen {
     ghost use Rattle.sequential.specs.Replay.{LogStep};
 
@@ -57,7 +57,7 @@ impl Chosen for Brand {
     ghost step = { Issued };
 }
 
-/// An add of one, for a step.
+/// An add of one, for a step of the log.
 pub(crate) struct Adds<J: Chosen>(PhantomData<J>);
 
 impl<J: Chosen> Play<u8, PassView> for Adds<J> {
@@ -67,7 +67,7 @@ impl<J: Chosen> Play<u8, PassView> for Adds<J> {
     ghost then = { λ s v n w. (w.1 ≡ v.1) × Added J.step v.0 w.0 };
 }
 
-/// What the machine whose log begins was booted with.
+/// Names the boot memory and the budget of the machine whose log begins.
 pub(crate) trait Begun {
     ghost use Rattle.progress_word.specs.CallerKnowledge.{Booted};
 
@@ -91,7 +91,7 @@ impl<J: Begun> Play<u8, PassView> for Begins<J> {
     ghost then = { λ s v n w. (w.1 ≡ v.1) × (w.0 ≡ keeper (history J.booted [])) };
 }
 
-/// A load.
+/// A load, with which a pass sees the log so far.
 pub(crate) struct Looks;
 
 impl Play<u8, PassView> for Looks {
@@ -101,7 +101,7 @@ impl Play<u8, PassView> for Looks {
     ghost then = { λ s v n w. (w.1 ≡ v.1) × Looked v.0 w.0 };
 }
 
-/// All that a pass knows goes to a new one.
+/// Moves all that a pass knows to a new pass.
 pub(crate) struct HandsOver;
 
 impl Split<PassView> for HandsOver {
@@ -112,7 +112,7 @@ impl Split<PassView> for HandsOver {
     ghost right = { λ v. v };
 }
 
-/// What was taken in goes out again, with all that is known now.
+/// Splits off the pass that was taken in, which then knows all that this pass has seen.
 pub(crate) struct HandsBack;
 
 impl Split<PassView> for HandsBack {
@@ -134,7 +134,7 @@ impl Split<PassView> for Shares {
     ghost right = { λ v. shared_out v };
 }
 
-/// A pass takes in another.
+/// Takes another pass into this one.
 pub(crate) struct TakesIn;
 
 impl Join<PassView> for TakesIn {
@@ -145,8 +145,8 @@ impl Join<PassView> for TakesIn {
     ghost spent = { spent };
 }
 
-/// The progress word, with the passes of all who know its log.
+/// The progress word, with the passes of all users who know its log.
 pub type ProgressTable = Table<u8, PassView, (), Law, Global>;
 
-/// What its holder knows of the log: the machine's, or a caller's.
+/// One user's knowledge of the log: the machine's, or a caller's.
 pub type Pass = Seat<u8, PassView>;

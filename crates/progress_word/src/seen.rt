@@ -9,8 +9,8 @@ use std::alloc::Global;
 use std::marker::Model;
 use std::sync::Arc;
 
-/// What its holder has seen of the machine under the lock: the memory and the budget with which it was booted, the
-/// steps of the log from boot on, as far as the holder has seen it, and which of them the holder made.
+/// A caller's knowledge of the machine under the lock: its boot memory and budget, the steps of the log from boot on,
+/// as far as the caller has seen it, and which of these steps the caller made.
 #[derive(Drop)]
 pub struct Seen<K: Naming> {
     pub pass: Pass,
@@ -29,10 +29,10 @@ impl<K: Naming> Model for Seen<K> {
 }
 
 impl<K: Naming> Seen<K> {
-    /// A second one, which has seen the same steps and made none of them. It waits for nobody.
+    /// A second `Seen`, which has seen the same steps and made none of them. This call never blocks.
     ///
     /// # Errors
-    /// `OutOfMemory`.
+    /// `OutOfMemory` if memory runs out.
     pub fn split(&mut self) -> Result<Seen<K>, Refusal>
         ensures same { self.new ≡ self.old }
         ensures other { MatchResult result (λ other. other ≡ known self.old.booted self.old.log [])

@@ -36,18 +36,17 @@ impl<K: Naming> Word<K> {
 
     // ---- moves of one step ----
 
-    /// The first pass begins a log of a machine: the load with which the machine comes to stand beside
-    /// the word.
+    /// Begins the log of a machine, by a load with the first pass. From then on the word belongs to this machine.
     fn begin<J: Begun>(&self, pass: &mut Pass, machine: &Machine)
         requires pass { (pass.old.table_id ≡ K.table) × (pass.old.me ≡ (fresh, [])) }
         ensures { IsKeeper K.table (history J.booted []) pass.new }
     {
-        // It stands here for what is picked at the call.
+        // Not used at run time: the ghost choice of `J` at the call may mention it.
         let _ = machine;
         self.table.shared.load::<Begins<J>>(pass, 0);
     }
 
-    /// The step that looks.
+    /// Loads the word, so that the pass sees the log so far.
     fn look(&self, pass: &mut Pass)
         requires pass { (pass.old.table_id ≡ K.table) × (pass.old.me.1 ≡ []) × (pass.old.me.0.knows ≡ true) }
         ensures pass { (pass.new.table_id ≡ K.table) × (pass.new.me.1 ≡ []) }
@@ -56,7 +55,7 @@ impl<K: Naming> Word<K> {
         self.table.shared.load::<Looks>(pass, 0);
     }
 
-    // ---- moves of none ----
+    // ---- moves of no step ----
 
     /// A new pass that knows the same steps, none of them its own.
     pub fn again(&self, pass: &mut Pass) -> Pass
@@ -67,7 +66,7 @@ impl<K: Naming> Word<K> {
         self.table.shared.split_seat::<Shares>(pass)
     }
 
-    /// A pass takes in a caller's.
+    /// Takes a caller's pass into this one.
     fn take_in(&self, pass: &mut Pass, other: &mut Pass)
         requires pass { (pass.old.table_id ≡ K.table) × (pass.old.me.1 ≡ []) }
         requires other { IsCaller K.table other.old.me.0.seen other.old.me.0.mine other.old }
@@ -78,10 +77,10 @@ impl<K: Naming> Word<K> {
         self.table.shared.join_seat::<TakesIn>(pass, given);
     }
 
-    // ---- what the machine and its callers do ----
+    // ---- the machine and its callers ----
 
-    /// Adds a step that a caller made to what the machine's pass knows. The caller then knows it all, and the step is
-    /// the caller's. The step is picked at the call, from `from`.
+    /// Adds a step that a caller made to the knowledge of the machine's pass. The caller then knows the whole log, and
+    /// the step is the caller's own. The step is chosen at the call, as a ghost that may mention `from`.
     pub fn record<J: Chosen, T>(&self, pass: &mut Pass, me: &mut Pass, from: &T)
         requires pass { IsKeeper K.table pass.old.me.0.seen pass.old }
         requires me { IsCaller K.table me.old.me.0.seen me.old.me.0.mine me.old }
@@ -98,7 +97,7 @@ impl<K: Naming> Word<K> {
         *me = self.table.shared.split_seat::<HandsBack>(pass);
     }
 
-    /// The caller knows all that the machine's pass knows.
+    /// Shows the caller all that the machine's pass knows.
     pub fn compare(&self, pass: &mut Pass, me: &mut Pass)
         requires pass { IsKeeper K.table pass.old.me.0.seen pass.old }
         requires me { IsCaller K.table me.old.me.0.seen me.old.me.0.mine me.old }
@@ -111,7 +110,7 @@ impl<K: Naming> Word<K> {
         *me = self.table.shared.split_seat::<HandsBack>(pass);
     }
 
-    /// Two callers tell each other what they know: both then know all steps so far. No step is the own of both.
+    /// Shares what two callers know: both then know all steps so far. No step belongs to both.
     pub fn meet(&self, one: &mut Pass, other: &mut Pass)
         requires one { IsCaller K.table one.old.me.0.seen one.old.me.0.mine one.old }
         requires other { IsCaller K.table other.old.me.0.seen other.old.me.0.mine other.old }
@@ -128,7 +127,7 @@ impl<K: Naming> Word<K> {
 
     // ---- the start ----
 
-    /// So many instructions are added.
+    /// Records `count` issues.
     fn record_issues(&self, pass: &mut Pass, me: &mut Pass, count: u64)
         requires pass { IsKeeper K.table pass.old.me.0.seen pass.old }
         requires me { IsCaller K.table me.old.me.0.seen me.old.me.0.mine me.old }
@@ -141,7 +140,7 @@ impl<K: Naming> Word<K> {
         }
     }
 
-    /// The steps of an entry are added.
+    /// Records the steps of an entry.
     fn record_entry(&self, pass: &mut Pass, me: &mut Pass, entry: &Entry)
         requires pass { IsKeeper K.table pass.old.me.0.seen pass.old }
         requires me { IsCaller K.table me.old.me.0.seen me.old.me.0.mine me.old }
@@ -157,7 +156,7 @@ impl<K: Naming> Word<K> {
         }
     }
 
-    /// The first pass learns what a machine was booted with and did. These steps are no caller's.
+    /// Records what a machine was booted with and all steps of its log in the first pass. No caller owns these steps.
     pub fn start(&self, pass: &mut Pass, machine: &Machine)
         requires pass { (pass.old.table_id ≡ K.table) × (pass.old.me ≡ (fresh, [])) }
         ensures { IsKeeper K.table (past machine.now) pass.new }

@@ -1,8 +1,8 @@
 //! How the threads of a run wake each other without taking the machine's lock. These are hints: nothing is proved about
 //! them, and no result depends on them.
 //!
-//! Each thread has a `Signal`, which counts. A thread that can't continue notes its count, registers the changes that
-//! it waits for, and waits until another thread raises the count:
+//! Each thread has a `Signal`, which is a count. A thread that can't continue notes its count, registers the changes
+//! that it waits for, and waits until another thread raises the count:
 //!
 //! - It looks at the count, and between two looks it calls `Backoff::snooze` of `crossbeam_utils`. After seven calls,
 //!   each call yields the processor: a run has more threads than most machines have processors, and a spinning thread

@@ -5,24 +5,24 @@ use std::mem;
 use std::num::NonZeroUsize;
 use std::time::{Clock, Duration};
 
-/// The looks of a wait on one processor. On several there are as many times more as the square of their number, up to
-/// `MOST_LOOKS`: with fewer threads to a processor a look holds up less, and a wake-up on another one takes longer.
+/// The looks of a wait on one processor. On N processors a wait has N times N as many, up to `MOST_LOOKS`: with fewer
+/// threads to a processor a look holds up less, and a wake-up on another processor takes longer.
 const LOOKS: usize = 8;
 
 /// The most looks of a wait.
 const MOST_LOOKS: usize = 128;
 
-/// A wait of more milliseconds is long: another process had the processor. Most waits take microseconds.
+/// A wait of more than this many milliseconds is long: another process had the processor. Most waits take microseconds.
 const LONG: u64 = 1;
 
-/// Two long waits among this many show that other processes want the processors. A single one shows nothing.
+/// Two long waits among this many show that other processes want the processors. A single long wait shows nothing.
 const SOON: u32 = 64;
 
-/// For this many waits of the issuing thread no thread looks then.
+/// After that, no thread looks for this many waits of the issuing thread.
 const HURRIED_WAITS: u32 = 2048;
 
-/// How often the threads of a run look before they sleep. The issuing thread has it, since it waits for each of the
-/// other threads; its clock shows when yields have become dear.
+/// How often the threads of a run look before they sleep. The issuing thread owns the pace, because it waits for each
+/// of the other threads. Its clock shows when yields have become expensive.
 #[derive(Drop)]
 pub struct Pace<'a> {
     signals: &'a Signals,
@@ -58,7 +58,7 @@ impl<'a> Pace<'a> {
     }
 
     /// Whether the wait that has just ended was long. The work between two waits takes microseconds, so the time since
-    /// the end of the last wait is taken for it.
+    /// the last wait ended is used as the length of this one.
     fn is_long<C: Clock>(&mut self, clock: &C) -> bool {
         let now = clock.monotonic().ok();
         match (mem::replace(&mut self.ended, now), now) {
@@ -67,7 +67,7 @@ impl<'a> Pace<'a> {
         }
     }
 
-    /// Has the threads sleep at once for some waits if this wait and one shortly before it were long.
+    /// Makes the threads sleep at once for some waits, if this wait and another one shortly before were long.
     fn judge(&mut self, is_long: bool) {
         if is_long && self.calm < SOON {
             self.hurried = HURRIED_WAITS;
@@ -80,7 +80,7 @@ impl<'a> Pace<'a> {
         };
     }
 
-    /// Takes note that a wait of the issuing thread has ended.
+    /// Records that a wait of the issuing thread has ended.
     pub fn waited<C: Clock>(&mut self, clock: &C) {
         let is_long = self.is_long(clock);
         if self.hurried == 0 {

@@ -51,7 +51,7 @@ impl Signal {
         }
     }
 
-    /// The number of times that it was raised.
+    /// How often the signal was raised.
     pub fn count(&self) -> u64 {
         self.raises.count.load(Ordering::SeqCst)
     }
@@ -92,8 +92,8 @@ impl Signal {
 
     /// Sleeps while the count is `seen`, for a millisecond at most.
     pub fn sleep<R: Wait>(&self, rt: &R, seen: u64) {
-        // A thread that raises the count after this line finds the sleeper and wakes it. One that raised it before has
-        // changed the count, and the thread doesn't fall asleep.
+        // A thread that raises the count after this line finds the sleeper and wakes it. A thread that raised it before
+        // has changed the count, so this thread doesn't fall asleep.
         self.raises.sleepers.fetch_add(1, Ordering::SeqCst);
         let low = seen % (1 << 32);
         self.raises

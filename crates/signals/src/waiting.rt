@@ -9,7 +9,7 @@ use std::sync::Wait;
 #[derive(Drop)]
 pub struct Waiting<'a> {
     signals: &'a Signals,
-    /// It is never reset: after its first seven pauses each one yields the processor.
+    /// Never reset: after the first seven pauses, each pause yields the processor.
     backoff: Backoff,
     /// The looks since the thread's signal was last raised.
     looks: u32,

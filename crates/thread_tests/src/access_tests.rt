@@ -1,4 +1,4 @@
-//! Two peripheral processors, each a thread, that write and read one word while two units are at work.
+//! Two peripheral processors, each in a thread of its own, write and read one word while two units are at work.
 
 ghost use Rattle.std.specs.Prelude.{◌≡◌, IfOk};
 ghost use Rattle.progress_word.specs.CallerKnowledge.{IsWordOf};
@@ -20,11 +20,11 @@ use word60::Word60;
 /// The address of the word.
 const AT: u32 = 0o210;
 
-/// What a peripheral processor reads, none before it has read.
+/// The answer to a peripheral processor's read; `None` before it has read.
 type WordRead = Option<Result<Word60, Refusal>>;
 
-/// A peripheral processor's part: it writes its word, and reads what stands there then. That is the word of the replay
-/// of the steps that it has seen.
+/// The work of a peripheral processor: it writes its word, and then reads the word at that address. The word that it
+/// reads is that of the replay of the steps that it has seen.
 fn write_and_read<K: Naming, R: Wait>(
     rt: &R,
     shared: &Shared<K>,
@@ -40,7 +40,8 @@ fn write_and_read<K: Naming, R: Wait>(
     shared.pp_read(rt, seen, at)
 }
 
-/// A gate at which a peripheral processor does its part, ahead of computing; then the reservation may be held.
+/// A gate at which a peripheral processor does its work, before the unit computes. After that the reservation may be
+/// held.
 #[derive(Drop)]
 struct Accessing<'r, 's, 'h, K: Naming, R: Wait> {
     rt: &'r R,
@@ -62,7 +63,7 @@ impl<K: Naming, R: Wait> Gate for Accessing<'_, '_, '_, K, R> {
     }
 }
 
-/// The seats of Boolean and Shift; the others are left.
+/// The seats of Boolean and Shift. The other seats are given up.
 fn of_boolean_and_shift(seats: [Seat; 7]) -> (Seat, Seat) {
     let [
         branch,
@@ -81,8 +82,8 @@ fn of_boolean_and_shift(seats: [Seat; 7]) -> (Seat, Seat) {
     (boolean, shift)
 }
 
-/// One thread's part: with the seat of a holder it serves a reservation, and at its gate it writes the word and reads.
-/// It gives back what it has seen, with what it read and whether the reservation was stored.
+/// The work of one thread: it serves a reservation with the seat of a holder, and writes and reads the word at its
+/// gate. Returns what it has seen, what it read, and whether the reservation was stored.
 fn serve_and_access<K: Naming, R: Wait>(
     rt: &R,
     shared: &Shared<K>,
@@ -115,12 +116,12 @@ const TWO: Wanted = Wanted::PpWrite(AT, 2);
 
 const READ: Wanted = Wanted::PpRead(AT);
 
-/// The exchange with the package at 40, and the instructions before the accesses and after them.
+/// The exchange with the package at 40, and the instructions issued before and after the accesses.
 const START: Wanted = Wanted::Exchange(0o40);
 
 const TWO_ISSUES: Wanted = Wanted::Issued(2);
 
-/// The logs that there may be, each with the words that the first and the second thread then read.
+/// The possible logs, each with the words that the first and the second thread read.
 const LOGS: [([Wanted; 7], [u64; 2]); 4] = [
     (
         [START, TWO_ISSUES, ONE, READ, TWO, READ, TWO_ISSUES],
@@ -148,7 +149,7 @@ fn number_of(read: WordRead) -> Option<u64> {
     }
 }
 
-/// Whether the log is one of those, and these are the words that the threads read by it.
+/// Whether the log is one of `LOGS`, and these are the words that the threads read in it.
 fn is_as_logged(snapshot: &Snapshot, first: WordRead, second: WordRead) -> bool {
     for (log, words) in &LOGS {
         if are(snapshot.log().entries(), log.as_slice()) {
@@ -164,12 +165,12 @@ fn has_values(snapshot: &Snapshot) -> bool {
     registers.get(x(1)) == word("6") && registers.get(x(3)) == word("10")
 }
 
-/// What the start answers; whether both reservations were stored, Boolean's after Shift's; what two further issues
-/// answer; and whether the snapshot then has the values, and the log what the threads read.
+/// The answer of the start; whether both reservations were stored, Boolean's after Shift's; the answers of two further
+/// issues; and whether the snapshot then has the values, and the log agrees with the words read.
 type Accessed = (Started, bool, [Result<Option<Note>, Refusal>; 2], bool);
 
-/// Boolean's reservation 1 isn't computed until Shift's reservation 2 is stored. Each is served by a thread of its own,
-/// which writes its word and reads what stands there, ahead of computing.
+/// Boolean's reservation 1 isn't computed until Shift's reservation 2 is stored. A thread of its own serves each of
+/// them, and writes and reads the word before it computes.
 fn accesses_beside<K: Naming + Send + Sync, R: Threads + Wait + Sync>(
     rt: &R,
     alloc: Global,

@@ -1,4 +1,4 @@
-//! Two threads that drive one machine and meet, as docs/threads.md shows it.
+//! Two threads that drive one machine and meet, as in docs/threads.md.
 ghost use Rattle.std.specs.Prelude.{◌≡◌, IfOk};
 ghost use Rattle.progress_word.specs.CallerKnowledge.{AreApart, NumbersApart, StartsWith};
 
@@ -15,21 +15,21 @@ use std::sync::Wait;
 use std::test::Fail;
 use std::thread::{Threads, join};
 
-/// What two issues answer.
+/// The answers of two issues.
 type Twice = [Result<Option<Note>, Refusal>; 2];
 
-/// What a thread has seen at its end, and what its issues answered.
+/// What a thread has seen at its end, and the answers of its issues.
 type Issues<K> = (Seen<K>, Twice);
 
-/// One thread's part: it issues twice, with what it has seen so far.
+/// The work of one thread: it issues twice, from what it has seen so far.
 fn issue_twice<K: Naming, R: Wait>(rt: &R, shared: &Shared<K>, mut seen: Seen<K>) -> Issues<K> {
     let first = shared.issue(rt, &mut seen);
     let second = shared.issue(rt, &mut seen);
     (seen, [first, second])
 }
 
-/// Two callers that meet know what neither could know alone: each has seen what the other had seen, no step was made by
-/// both, and no reservation's number was answered to both.
+/// Two callers that meet learn what neither could know alone: each has seen what the other had seen, no step was made
+/// by both, and no reservation's number was returned to both.
 fn meet<K: Naming>(shared: &Shared<K>, one: &mut Seen<K>, other: &mut Seen<K>)
     ensures one { StartsWith one.new.log other.old.log }
     ensures other { StartsWith other.new.log one.old.log }
@@ -39,7 +39,7 @@ fn meet<K: Naming>(shared: &Shared<K>, one: &mut Seen<K>, other: &mut Seen<K>)
     shared.meet(one, other);
 }
 
-/// A snapshot that one of two callers takes after they have met. It has all that the other had seen.
+/// Takes a snapshot for one of two callers after they have met. It has everything that the other had seen.
 fn snapshot_after_meeting<K: Naming, R: Wait>(
     rt: &R,
     shared: &Shared<K>,
@@ -52,8 +52,7 @@ fn snapshot_after_meeting<K: Naming, R: Wait>(
     shared.snapshot(rt, one)
 }
 
-/// The first exchange, and then two issues by each of two threads, which meet: what they answer, and what the machine
-/// shows.
+/// Makes the first exchange, then two issues in each of two threads, which meet. Returns the answers, and a snapshot.
 fn issue_by_two<K: Naming + Send + Sync, R: Threads + Wait + Sync>(
     rt: &R,
     shared: &Shared<K>,
@@ -71,7 +70,7 @@ fn issue_by_two<K: Naming + Send + Sync, R: Threads + Wait + Sync>(
     Ok(([ones, twos], snapshot))
 }
 
-/// Four passes after the first exchange, two of which each of two threads issues.
+/// After the first exchange, each of two threads issues two of four passes.
 fn two_threads<K: Naming + Send + Sync, R: Threads + Wait + Sync + Abort>(
     rt: &R,
     alloc: Global,

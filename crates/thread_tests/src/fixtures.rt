@@ -1,4 +1,4 @@
-//! What the tests share: words, booted machines, notes, seats and the entries of logs.
+//! Words, booted machines, notes, seats and log entries that the tests share.
 
 use instruction_table::{Digit, Refusal, Reg, Unit};
 use machine::{Machine, Note, Seat};
@@ -16,7 +16,7 @@ pub(crate) const SECOND: &str = "36312374214600000000";
 /// Words at their absolute addresses, in octal.
 pub(crate) type Words<'a> = &'a [(u32, &'a str)];
 
-/// A word of twenty octal digits or fewer, and +0 for any other text.
+/// A word of at most twenty octal digits; +0 for any other text.
 pub(crate) fn word(octal: &str) -> Word60 {
     Word60::from_octal(octal.as_bytes()).unwrap_or_default()
 }
@@ -29,8 +29,8 @@ fn place_all(memory: &mut Storage, words: Words<'_>) {
     }
 }
 
-/// A machine with 256 words of memory: a package at 40 that has RA 100 and FL 20, over that the first words, and over
-/// those the others.
+/// A machine with 256 words of memory. A package with RA 100 and FL 20 is stored at 40, then the first words, and then
+/// the other words.
 pub(crate) fn booted_over(
     alloc: Global,
     first: Words<'_>,
@@ -47,7 +47,7 @@ pub(crate) fn booted_over(
     Machine::boot(alloc, memory, 1_000_000)
 }
 
-/// A machine with such a package, and over that these words.
+/// A machine with such a package, and these words over it.
 pub(crate) fn booted(alloc: Global, words: Words<'_>) -> Result<Machine, Refusal> {
     booted_over(alloc, &[], words)
 }
@@ -60,13 +60,13 @@ pub(crate) fn note(unit: Unit, number: u64) -> Note {
     Note { unit, number }
 }
 
-/// The unit of a seat and what was stored with it; the seat is left.
+/// Gives up a seat. Returns its unit and how many reservations were stored with it.
 pub(crate) fn leave(seat: Seat) -> (Unit, u64) {
     let unit = seat.unit();
     (unit, seat.leave())
 }
 
-/// Whether a holder is empty; a seat that stands there is left.
+/// Whether a holder is empty. A seat in the holder is given up.
 pub(crate) fn is_empty(holder: Option<Seat>) -> bool {
     match holder {
         None => true,
@@ -77,7 +77,7 @@ pub(crate) fn is_empty(holder: Option<Seat>) -> bool {
     }
 }
 
-/// An entry that a log is to have. A constant can't lend an `Entry`, which may hold a word.
+/// An entry expected in a log. A constant can't lend an `Entry`, which may hold a word.
 #[derive(Clone, Copy, Drop)]
 pub(crate) enum Wanted {
     Exchange(u32),
@@ -99,7 +99,7 @@ impl Wanted {
     }
 }
 
-/// Whether the entries are those.
+/// Whether the entries are the expected ones.
 pub(crate) fn are(entries: &[Entry], log: &[Wanted]) -> bool {
     if entries.len() != log.len() {
         return false;

@@ -1,4 +1,4 @@
-//! A machine with its lock held: several events with nothing between them.
+//! Several events in one hold of the lock, with no other event between them.
 
 ghost use Rattle.std.specs.Prelude.{◌≡◌};
 
@@ -16,15 +16,16 @@ use word60::Word60;
 /// SA1 B0+10 (octal), which loads X1, and SX2 B0+3.
 const LOADS: &str = "51100000107120000003";
 
-/// What the events of one hold answer before the unit of the load computes: two issues, and the request for an
+/// The answers of the first hold's events, before the load's value is computed: two issues, and the request for an
 /// exchange.
 type Begun = ([Issued; 2], Result<(), Refusal>);
 
-/// What the events of another hold answer: an accept, its bank's release, the return, and whether the machine is
-/// drained.
+/// The answers of the second hold's events: an acceptance, the release of its bank, the return, and whether the machine
+/// is drained.
 type Ended = ([Result<(), Refusal>; 3], bool);
 
-/// From the issues to the read of a load, while the lock is held once; the seat where a step is refused.
+/// Makes the events from the issues to the read of a load, in one hold of the lock. Returns the seat if a step is
+/// refused.
 fn begin<K: Naming>(
     machine: &mut LockedMachine<K>,
     seen: &mut Seen<K>,
@@ -42,7 +43,8 @@ fn begin<K: Naming>(
     ((issues, asked), loaded)
 }
 
-/// From the finish of a load to its return, while the lock is held once. It answers how often the seat stored.
+/// Makes the events from the finish of a load to its return, in one hold of the lock. Also returns how many
+/// reservations the seat stored.
 fn end<K: Naming>(machine: &mut LockedMachine<K>, loaded: Result<Loaded, Seat>) -> (u64, Ended) {
     let seat = match loaded {
         Ok(loaded) => match machine.finish(loaded.compute()) {
@@ -62,7 +64,7 @@ fn end<K: Naming>(machine: &mut LockedMachine<K>, loaded: Result<Loaded, Seat>) 
     (seat.leave(), (events, machine.drained()))
 }
 
-/// What all of it answers, and X1 and X2 once the other instruction was served too.
+/// All these answers, and X1 and X2 after the other instruction was served too.
 type Held = (Begun, (u64, Ended), Option<[Word60; 2]>);
 
 /// X1 and X2 of a drained machine.
@@ -100,8 +102,8 @@ fn made<K: Naming, R: Wait>(
     Ok((begun, ended, at_end))
 }
 
-/// Two issues, a request and a read, and then a store with its reference's way through memory, each while the lock is
-/// held once. The machine isn't drained right after it, since the second instruction waits in its unit.
+/// Two issues, a request and a read are made in one hold of the lock. In a second hold, the result is stored and its
+/// reference goes through memory. The machine isn't drained then, because the second instruction waits in its unit.
 #[test]
 fn holds_the_lock(rt: HostRuntime) -> Result<(), Fail> {
     let machine = booted_over(rt.alloc(), &[(0o100, LOADS)], &[(0o110, "7")])?;

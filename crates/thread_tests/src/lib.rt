@@ -1,10 +1,10 @@
-//! Tests of what threads use: the lanes, the machine under its lock, and the workers. This crate
-//! may start threads, and hands out nothing itself.
+//! Tests of the crates that threads use: the lanes, the machine under its lock, and the workers. This crate may start
+//! threads, and has no public items.
 //!
-//! `lock_tests` has what callers of the lock have seen, `guard_tests` several events in one hold of it, `queue_tests`
-//! the lanes, and `access_tests` two peripheral processors. `signal_tests` has how threads wake each other, and
-//! `example_tests` is the example of docs/threads.md. Begin with `RUNS` in `thread_tests`: programs, one a row, with
-//! what the machine shows after a run of each by threads.
+//! `lock_tests` checks what callers of the lock have seen, `guard_tests` several events in one hold of the lock,
+//! `queue_tests` the lanes, and `access_tests` two peripheral processors. `signal_tests` checks how threads wake each
+//! other, and `example_tests` is the example of docs/threads.md. Begin with `RUNS` in `thread_tests`: one program in
+//! each row, and what the machine shows after the threads have run it.
 #![tactic(auto)]
 
 #[cfg(test)]

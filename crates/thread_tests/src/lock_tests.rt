@@ -1,4 +1,4 @@
-//! A machine under its lock: seats and tokens, threads that drive it, and what its callers have seen.
+//! A machine under its lock: seats and tokens, threads that drive it, and its callers' knowledge of the log.
 
 ghost use Rattle.std.specs.Prelude.{◌≡◌, IfOk};
 ghost use Rattle.progress_word.specs.CallerKnowledge.{StartsWith};
@@ -20,7 +20,7 @@ const FIVE: &str = "71100000050000000000";
 /// Four passes.
 const PASSES: &str = "46000460004600046000";
 
-/// What an issue answers for an instruction that has a unit.
+/// The answer of an issue for an instruction that has a unit.
 pub(crate) fn issued(unit: Unit, number: u64) -> Issued {
     Ok(Some(note(unit, number)))
 }
@@ -35,7 +35,7 @@ pub(crate) fn start<K: Naming, R: Wait>(
     shared.exchange(rt, seen)
 }
 
-/// The seats of Increment1 and Increment2; the others are left.
+/// The seats of Increment1 and Increment2. The other seats are given up.
 pub(crate) fn of_increments(seats: [Seat; 7]) -> (Seat, Seat) {
     let [
         branch,
@@ -54,7 +54,7 @@ pub(crate) fn of_increments(seats: [Seat; 7]) -> (Seat, Seat) {
     (increment1, increment2)
 }
 
-/// Leaves all seats, and answers of each its unit and its count.
+/// Gives up all seats. Returns the unit and the count of each seat.
 pub(crate) fn leave_all(seats: [Seat; 7]) -> [(Unit, u64); 7] {
     let [
         branch,
@@ -76,7 +76,7 @@ pub(crate) fn leave_all(seats: [Seat; 7]) -> [(Unit, u64); 7] {
     ]
 }
 
-/// Claims; the seat where that is refused.
+/// Claims a reservation. Returns the seat if the claim is refused.
 fn claim<K: Naming, R: Wait>(
     rt: &R,
     shared: &Shared<K>,
@@ -89,7 +89,7 @@ fn claim<K: Naming, R: Wait>(
     }
 }
 
-/// Reads; the seat where that is refused.
+/// Reads the operands. Returns the seat if the read is refused.
 fn read<K: Naming, R: Wait>(rt: &R, shared: &Shared<K>, token: Reserved) -> Result<Loaded, Seat> {
     match shared.read(rt, token) {
         Err((_, reserved)) => Err(reserved.abandon()),
@@ -97,7 +97,7 @@ fn read<K: Naming, R: Wait>(rt: &R, shared: &Shared<K>, token: Reserved) -> Resu
     }
 }
 
-/// Finishes; the seat where that is refused.
+/// Finishes a reservation. Returns the seat if the finish is refused.
 fn finish<K: Naming, R: Wait>(
     rt: &R,
     shared: &Shared<K>,
@@ -109,7 +109,7 @@ fn finish<K: Naming, R: Wait>(
     }
 }
 
-/// Stores, and answers whether that was accepted.
+/// Stores a result, and returns whether the store was accepted.
 fn store<K: Naming, R: Wait>(rt: &R, shared: &Shared<K>, token: Finished) -> (Seat, bool) {
     match shared.store(rt, token) {
         Err((_, finished)) => (finished.abandon(), false),
@@ -117,13 +117,13 @@ fn store<K: Naming, R: Wait>(rt: &R, shared: &Shared<K>, token: Finished) -> (Se
     }
 }
 
-/// From read to finish; the seat where that is refused.
+/// Makes the steps from read to finish. Returns the seat if a step is refused.
 fn work<K: Naming, R: Wait>(rt: &R, shared: &Shared<K>, token: Reserved) -> Result<Finished, Seat> {
     let computed = read(rt, shared, token)?.compute();
     finish(rt, shared, computed)
 }
 
-/// From read to store. It answers whether all was accepted.
+/// Makes the steps from read to store. Returns whether all steps were accepted.
 fn carry_out<K: Naming, R: Wait>(rt: &R, shared: &Shared<K>, token: Reserved) -> (Seat, bool) {
     match work(rt, shared, token) {
         Err(seat) => (seat, false),
@@ -131,7 +131,7 @@ fn carry_out<K: Naming, R: Wait>(rt: &R, shared: &Shared<K>, token: Reserved) ->
     }
 }
 
-/// From claim to store. It answers whether all was accepted.
+/// Makes the steps from claim to store. Returns whether all steps were accepted.
 pub(crate) fn serve<K: Naming, R: Wait>(
     rt: &R,
     shared: &Shared<K>,
@@ -144,8 +144,7 @@ pub(crate) fn serve<K: Naming, R: Wait>(
     }
 }
 
-/// Whether a snapshot shows these words in X1 and X2, and in the log the exchange with so many
-/// instructions after it.
+/// Whether a snapshot shows these words in X1 and X2, and in the log the exchange followed by this many instructions.
 fn shows<K: Naming, R: Wait>(
     rt: &R,
     shared: &Shared<K>,
@@ -163,7 +162,7 @@ fn shows<K: Naming, R: Wait>(
         && snapshot.log().entries() == [Entry::Exchange(0o40), Entry::Issued(issues)].as_slice()
 }
 
-/// The units and counts of the seats that are given with a machine, or why it is refused.
+/// The units and counts of the seats that a machine is opened with, or the refusal.
 fn opened<K: Naming>(
     alloc: Global,
     ground: Ground,
@@ -175,13 +174,13 @@ fn opened<K: Naming>(
     Ok(leave_all(seats))
 }
 
-/// The same beside a progress word of its own.
+/// The same, with a progress word of its own.
 fn opened_anew(alloc: Global, machine: Machine) -> Result<[(Unit, u64); 7], Refusal> {
     let ground = Ground::new(alloc)?;
     opened::<Brand>(alloc, ground, machine)
 }
 
-/// A machine under its lock that none serves: all seats are left.
+/// A machine under its lock that no thread serves: all seats are given up.
 fn unserved<K: Naming>(
     alloc: Global,
     ground: Ground,
@@ -194,7 +193,7 @@ fn unserved<K: Naming>(
     Ok(shared)
 }
 
-/// Whether the machine gives its seats out, which are left.
+/// Whether the machine gives out its seats, which are given up.
 fn gives_seats(machine: &mut Machine) -> bool {
     match machine.seats() {
         Some(seats) => {
@@ -205,7 +204,7 @@ fn gives_seats(machine: &mut Machine) -> bool {
     }
 }
 
-/// A fresh machine is opened with a seat for each unit; one whose seats were given out is refused.
+/// A fresh machine is opened with a seat for each unit. A machine whose seats were given out before is refused.
 #[test]
 fn opening(rt: HostRuntime) -> Result<(), Fail> {
     let fresh = booted(rt.alloc(), &[])?;
@@ -225,7 +224,7 @@ fn opening(rt: HostRuntime) -> Result<(), Fail> {
     Ok(())
 }
 
-/// The seat that a refused claim gave back, with the refusal; None where it is accepted.
+/// The seat after a claim, with the refusal; `None` if the claim was accepted.
 fn refused_claim<K: Naming, R: Wait>(
     rt: &R,
     shared: &Shared<K>,
@@ -238,7 +237,7 @@ fn refused_claim<K: Naming, R: Wait>(
     }
 }
 
-/// How many of the seat's claims of these are a stranger's.
+/// How many claims of these notes with the seat are a stranger's.
 fn strange_claims<K: Naming, R: Wait>(
     rt: &R,
     shared: &Shared<K>,
@@ -257,8 +256,8 @@ fn strange_claims<K: Naming, R: Wait>(
     (at, strange)
 }
 
-/// A claim with a note that was stored already, with number 0, with the greatest one or with another unit's note is a
-/// stranger's, and the other unit's seat serves that note then.
+/// A claim is a stranger's with a note that was stored already, with number 0, with the greatest number or with another
+/// unit's note. The other unit's seat then serves that note.
 #[test]
 fn claims_of_strangers(rt: HostRuntime) -> Result<(), Fail> {
     let machine = booted(rt.alloc(), &[(0o100, FIRST), (0o101, SECOND)])?;
@@ -273,11 +272,12 @@ fn claims_of_strangers(rt: HostRuntime) -> Result<(), Fail> {
     Ok(())
 }
 
-/// What an issue answers.
+/// The answer of an issue.
 pub(crate) type Issued = Result<Option<Note>, Refusal>;
 
-/// What the start and the two issues answer, how many claims were a stranger's before and after the first was stored,
-/// which were stored, what the seats tell, and whether the snapshot shows both.
+/// The answers of the start and the two issues, and how many claims were a stranger's before and after the first note
+/// was stored. Then which notes were stored, the units and counts of the seats, and whether the snapshot shows both
+/// results.
 type Claimed = (
     Result<(), Refusal>,
     [Issued; 2],
@@ -324,7 +324,7 @@ fn claims_of_strangers_in<K: Naming, R: Wait>(
     ))
 }
 
-/// The token, given back by a read that is a stranger's; the seat where that isn't so.
+/// The token, if its read is refused as a stranger's; otherwise the seat.
 fn strange_read<K: Naming, R: Wait>(
     rt: &R,
     shared: &Shared<K>,
@@ -337,7 +337,7 @@ fn strange_read<K: Naming, R: Wait>(
     }
 }
 
-/// The same of a finish.
+/// The same for a finish.
 fn strange_finish<K: Naming, R: Wait>(
     rt: &R,
     shared: &Shared<K>,
@@ -350,7 +350,7 @@ fn strange_finish<K: Naming, R: Wait>(
     }
 }
 
-/// The same of a store.
+/// The same for a store.
 fn strange_store<K: Naming, R: Wait>(
     rt: &R,
     shared: &Shared<K>,
@@ -363,8 +363,8 @@ fn strange_store<K: Naming, R: Wait>(
     }
 }
 
-/// Takes a reservation from claim to finish through its machine. Each of its tokens is offered to another
-/// machine first, which gives it back. The seat where anything is otherwise.
+/// Takes a reservation from claim to finish on its own machine. Each of its tokens is offered to another machine first,
+/// which refuses it as a stranger's. Returns the seat if anything else happens.
 fn finish_beside<K: Naming, J: Naming, R: Wait>(
     rt: &R,
     own: &Shared<K>,
@@ -380,7 +380,7 @@ fn finish_beside<K: Naming, J: Naming, R: Wait>(
     strange_store(rt, other, finished)
 }
 
-/// The same, and stores. It answers whether all was as it should be.
+/// The same, followed by the store. Returns whether everything was as expected.
 fn serve_beside<K: Naming, J: Naming, R: Wait>(
     rt: &R,
     own: &Shared<K>,
@@ -394,8 +394,8 @@ fn serve_beside<K: Naming, J: Naming, R: Wait>(
     }
 }
 
-/// A claim of a number that was never given is a stranger's, and so are tokens in a machine that has
-/// issued nothing. With what is given back the reservation is taken to its end.
+/// A claim of a number that was never given out is a stranger's, and so are tokens on a machine that has issued
+/// nothing. With what comes back, the reservation is taken to its end.
 #[test]
 fn strangers(rt: HostRuntime) -> Result<(), Fail> {
     let machine = booted(rt.alloc(), &[(0o100, FIVE)])?;
@@ -406,8 +406,8 @@ fn strangers(rt: HostRuntime) -> Result<(), Fail> {
     Ok(())
 }
 
-/// What the start and the issue answer, why the claim is refused, whether the reservation was stored, what the seat
-/// counts, and whether the snapshot shows it.
+/// The answers of the start and the issue, the refusal of the claim, whether the reservation was stored, the seat's
+/// count, and whether the snapshot shows the result.
 type Strange = (
     Result<(), Refusal>,
     Issued,
@@ -424,7 +424,7 @@ fn idle(alloc: Global) -> Result<(Machine, Ground), Refusal> {
     Ok((machine, ground))
 }
 
-/// The first machine stands beside the word that K names.
+/// The first machine has the progress word that K names.
 fn strangers_of<K: Naming, R: Wait>(
     rt: &R,
     alloc: Global,
@@ -438,7 +438,7 @@ fn strangers_of<K: Naming, R: Wait>(
     strangers_beside::<K, Brand, _>(rt, alloc, &own, seats, seen, other_ground, idle)
 }
 
-/// The second stands beside the word that J names.
+/// The second machine has the progress word that J names.
 fn strangers_beside<K: Naming, J: Naming, R: Wait>(
     rt: &R,
     alloc: Global,
@@ -470,7 +470,7 @@ fn strangers_beside<K: Naming, J: Naming, R: Wait>(
     Ok((started, first, refusal, is_stored, stored, shown))
 }
 
-/// Its users are told to end by `end`, and not before.
+/// `end` tells the machine's users to end; before that they aren't told.
 #[test]
 fn ending(rt: HostRuntime) -> Result<(), Fail> {
     let machine = booted(rt.alloc(), &[])?;
@@ -480,7 +480,7 @@ fn ending(rt: HostRuntime) -> Result<(), Fail> {
     Ok(())
 }
 
-/// Whether they are told before and after.
+/// Whether the users were told to end, before the call and after it.
 fn ending_of<K: Naming, R: Wait>(
     rt: &R,
     alloc: Global,
@@ -495,8 +495,8 @@ fn ending_of<K: Naming, R: Wait>(
     Ok([before, shared.ended(rt)])
 }
 
-/// Takes the seat out of a holder and serves a reservation with it. It answers how many were stored with
-/// the seat, which is left, and whether all was accepted.
+/// Takes the seat out of a holder and serves a reservation with it. Returns how many reservations were stored with the
+/// seat, which is given up, and whether all steps were accepted.
 fn serve_from<K: Naming, R: Wait>(
     rt: &R,
     shared: &Shared<K>,
@@ -512,8 +512,8 @@ fn serve_from<K: Naming, R: Wait>(
     }
 }
 
-/// Serves a reservation of each Increment unit in a thread of its own. It answers how many were stored
-/// with either seat, None where anything was refused.
+/// Serves a reservation of each Increment unit, each in a thread of its own. Returns how many reservations were stored
+/// with each seat; `None` if anything was refused.
 fn serve_both<K: Naming + Send + Sync, R: Threads + Wait + Sync>(
     rt: &R,
     shared: &Shared<K>,
@@ -536,7 +536,7 @@ fn serve_both<K: Naming + Send + Sync, R: Threads + Wait + Sync>(
     }
 }
 
-/// Two threads, each with the seat of a unit, serve a reservation at the same time.
+/// Two threads, each with the seat of a unit, each serve a reservation at the same time.
 #[test]
 fn two_threads(rt: HostRuntime) -> Result<(), Fail> {
     let machine = booted(rt.alloc(), &[(0o100, FIRST), (0o101, SECOND)])?;
@@ -547,8 +547,8 @@ fn two_threads(rt: HostRuntime) -> Result<(), Fail> {
     Ok(())
 }
 
-/// What the start and the two issues answer, how many were stored with each seat, whether the machine is drained before
-/// and after, and whether the snapshot shows both.
+/// The answers of the start and the two issues, and how many reservations were stored with each seat. Then whether the
+/// machine is drained before and after, and whether the snapshot shows both results.
 type ServedByTwo = (
     Result<(), Refusal>,
     [Issued; 2],
@@ -577,13 +577,13 @@ fn two_threads_of<K: Naming + Send + Sync, R: Threads + Wait + Sync>(
     Ok((started, [first, second], stored, drained, shown))
 }
 
-/// The log of a snapshot has the exchange with so many instructions after it.
+/// Whether the log of a snapshot is the exchange followed by this many instructions.
 fn has_log(snapshot: &Snapshot, issues: u64) -> bool {
     snapshot.log().entries() == [Entry::Exchange(0o40), Entry::Issued(issues)].as_slice()
 }
 
-/// A snapshot that the second holder takes after the two have met. It has all that the first holder had seen. Without
-/// the meeting this clause has no proof; at run time a meeting changes nothing.
+/// Takes a snapshot for the second holder after the two have met. It has everything that the first holder had seen.
+/// Without the meeting this clause has no proof; at run time a meeting changes nothing.
 fn met<K: Naming, R: Wait>(
     rt: &R,
     shared: &Shared<K>,
@@ -596,8 +596,8 @@ fn met<K: Naming, R: Wait>(
     shared.snapshot(rt, second)
 }
 
-/// The issuer, with four issues after the first exchange, meets a second holder that knows the exchange alone. The
-/// second holder's next snapshot has them, and an issue of its own then has the next position.
+/// The issuing thread, after the first exchange and four issues, meets a second holder that knows the exchange alone.
+/// The second holder's next snapshot has the four issues, and an issue of its own is the next step.
 #[test]
 fn meeting(rt: HostRuntime) -> Result<(), Fail> {
     let machine = booted(rt.alloc(), &[(0o100, PASSES), (0o101, FIVE)])?;
@@ -612,8 +612,8 @@ fn meeting(rt: HostRuntime) -> Result<(), Fail> {
     Ok(())
 }
 
-/// What the start and four issues answer, whether the second holder's snapshot has them, what its own issue answers,
-/// and why there is no snapshot then.
+/// The answers of the start and of four issues, whether the second holder's snapshot has them, the answer of its own
+/// issue, and why there is no snapshot after that.
 type Met = (
     Result<(), Refusal>,
     [Issued; 4],
@@ -650,8 +650,8 @@ fn meeting_of<K: Naming, R: Wait>(
     Ok((started, issues, is_known, fifth, pending))
 }
 
-/// An exchange and the request for the next one: where none was asked for, which asks for none either; to a package in
-/// memory; to one that isn't; and to none, where none was asked for again. Two exchanges were made.
+/// An exchange with a request for the next one: when none was asked for, which asks for none either; with a package in
+/// memory next; with one that isn't in memory next; and when none was asked for again. Two exchanges are made.
 #[test]
 fn exchanges_in_a_row(rt: HostRuntime) -> Result<(), Fail> {
     let machine = booted(rt.alloc(), &[])?;
@@ -667,7 +667,7 @@ fn exchanges_in_a_row(rt: HostRuntime) -> Result<(), Fail> {
     Ok(())
 }
 
-/// What an exchange is answered, and where it was made the request after it.
+/// The answer to an exchange and, if it was made, to the request after it.
 type Followed = Result<Result<(), Refusal>, Refusal>;
 
 fn exchanges_of<K: Naming, R: Wait>(

@@ -1,4 +1,4 @@
-//! Lanes: what fills one, what is taken, and that nothing comes after its end.
+//! Lanes: what fills a lane, what is taken from it, and that nothing comes after `Closed`.
 
 ghost use Rattle.std.specs.Prelude.{◌≡◌};
 
@@ -17,7 +17,7 @@ fn note(number: u64) -> Note {
     }
 }
 
-/// A lane is its unit's, and nothing waits in it at first.
+/// A lane belongs to its unit, and is empty at first.
 #[test]
 fn empty_at_first(rt: HostRuntime) -> Result<(), Fail> {
     for unit in [Unit::Branch, Unit::Increment2] {
@@ -38,23 +38,23 @@ struct Ends<'a> {
     ghost takes: { taker.id ≡ lane.now.id },
 }
 
-/// A call of a lane.
+/// A call on a lane.
 #[derive(Clone, Copy, Debug, Drop)]
 enum Call {
-    /// Sends the note of this number.
+    /// Sends the note with this number.
     Send(u64),
     Close,
     Take,
 }
 
-/// What a call answers.
+/// The answer of a call.
 #[derive(Clone, Copy, Debug, Drop, PartialEq, Eq)]
 enum Answer {
-    /// It was sent, or the lane is closed.
+    /// The note was sent, or the lane is closed.
     Done,
-    /// The note comes back.
+    /// The note was returned.
     Back(Note),
-    /// There is no room to close.
+    /// There was no room to close the lane.
     Full,
     Taken(Item),
     Nothing,
@@ -77,8 +77,8 @@ impl Ends<'_> {
     }
 }
 
-/// Two items fill a lane: a third one is given back, and there is room again after one was taken. After it was
-/// closed no note gets in, and after `Closed` none comes out.
+/// Two items fill a lane: a third note is returned, and there is room again after one item was taken. After the lane
+/// was closed it accepts no note, and after `Closed` was taken it is empty.
 #[test]
 fn full_then_room_then_closed(rt: HostRuntime) -> Result<(), Fail> {
     let (lane, sender, taker) = lane(rt.alloc(), Unit::Shift)?;
@@ -108,7 +108,7 @@ fn full_then_room_then_closed(rt: HostRuntime) -> Result<(), Fail> {
     Ok(())
 }
 
-/// A lane with its end for sending.
+/// A lane with its sending end.
 #[derive(Drop)]
 pub struct Sending<'a> {
     pub lane: &'a Lane,
@@ -139,7 +139,7 @@ impl Sending<'_> {
         unreachable!()
     }
 
-    /// Sends notes with the numbers from 1 on, so many of them, and closes the lane.
+    /// Sends `count` notes, numbered from 1, and closes the lane.
     fn send_all<R: Wait>(&mut self, rt: &R, count: u64) {
         for number in 0..count {
             self.send(rt, note(number + 1));
@@ -148,7 +148,7 @@ impl Sending<'_> {
     }
 }
 
-/// A lane with its end for taking.
+/// A lane with its taking end.
 #[derive(Drop)]
 pub struct Taking<'a> {
     pub lane: &'a Lane,
@@ -157,8 +157,8 @@ pub struct Taking<'a> {
 }
 
 impl Taking<'_> {
-    /// Takes until the lane is closed. It answers how many notes came, and how many of them were those that
-    /// `send_all` sends, at their positions.
+    /// Takes items until the lane is closed. Returns how many notes came, and how many of them had the number that
+    /// `send_all` sends at their position.
     fn take_all<R: Wait>(&mut self, rt: &R) -> (u64, u64) {
         let mut taken = 0u64;
         let mut met = 0u64;
@@ -178,7 +178,8 @@ impl Taking<'_> {
     }
 }
 
-/// What comes out of a lane on which another thread sends so many notes. None where no thread could be started.
+/// What `take_all` returns for a lane on which another thread sends this many notes. `None` if the thread couldn't be
+/// started.
 fn taken_across<R: Threads + Wait + Sync>(
     rt: &R,
     sending: Sending<'_>,
@@ -195,7 +196,7 @@ fn taken_across<R: Threads + Wait + Sync>(
     })
 }
 
-/// One thread sends 5000 notes and another takes them: each comes once, in order.
+/// One thread sends 5000 notes and another takes them: each note comes once, in order.
 #[test]
 fn across_threads(rt: HostRuntime) -> Result<(), Fail> {
     let (lane, sender, taker) = lane(rt.alloc(), Unit::Shift)?;
@@ -211,7 +212,7 @@ fn across_threads(rt: HostRuntime) -> Result<(), Fail> {
     Ok(())
 }
 
-/// Takes an item and, if it is `Closed`, ends the sending end. It answers whether it did.
+/// Takes an item and, if it is `Closed`, ends the sending end. Returns whether it did, and nothing waits then.
 fn settles<R: Wait>(rt: &R, lane: &Lane, mut taker: TakePass, sender: SendPass) -> bool
     requires taker { taker.id ≡ lane.now.id }
     requires sender { sender.id ≡ lane.now.id }
@@ -225,7 +226,7 @@ fn settles<R: Wait>(rt: &R, lane: &Lane, mut taker: TakePass, sender: SendPass) 
     }
 }
 
-/// With `Closed` taken, the sending end is ended, and nothing waits.
+/// After `Closed` was taken, the sending end can be ended, and nothing waits.
 #[test]
 fn settled(rt: HostRuntime) -> Result<(), Fail> {
     let (lane, mut sender, mut taker) = lane(rt.alloc(), Unit::Shift)?;

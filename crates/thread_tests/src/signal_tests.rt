@@ -1,4 +1,4 @@
-//! What the threads that drive a machine tell one another.
+//! How the threads that drive a machine wake each other.
 ghost use Rattle.std.specs.Prelude.{◌≡◌};
 
 use crate::fixtures::{FIRST, booted, leave, note};
@@ -11,7 +11,7 @@ use std::sync::Wait;
 use std::test::Fail;
 use std::thread::{Threads, join};
 
-/// What was told so far.
+/// The counts of the signals so far.
 fn told<K: Naming>(shared: &Shared<K>) -> Counts {
     let signals = shared.signals();
     (
@@ -21,7 +21,7 @@ fn told<K: Naming>(shared: &Shared<K>) -> Counts {
     )
 }
 
-/// How often each unit's worker was told.
+/// How often the signal of each unit's worker was raised.
 fn sent<K: Naming>(shared: &Shared<K>) -> [u64; 7] {
     let signals = shared.signals();
     [
@@ -35,8 +35,8 @@ fn sent<K: Naming>(shared: &Shared<K>) -> [u64; 7] {
     ]
 }
 
-/// From claim to store, and what was told after the claim, the read, the finish and the store; nothing of it where a
-/// step is refused.
+/// Serves a reservation from claim to store. Also returns the counts after the claim, the read, the finish and the
+/// store; `None` if a step is refused.
 fn served<K: Naming, R: Wait>(
     rt: &R,
     shared: &Shared<K>,
@@ -64,7 +64,7 @@ fn served<K: Naming, R: Wait>(
     }
 }
 
-/// A machine under its lock, with the seat of Increment1; the others are left.
+/// A machine under its lock, with the seat of Increment1. The other seats are given up.
 pub(crate) fn opened<K: Naming>(
     alloc: Global,
     ground: Ground,
@@ -91,9 +91,9 @@ pub(crate) fn opened<K: Naming>(
     Ok((shared, increment1, seen))
 }
 
-/// The thread that issues is told where an exchange was asked for and, where it waits for a change, where a unit has
-/// stored; the thread that makes requests where an exchange was made; memory's worker where a unit has stored that
-/// makes references. A refused call tells nobody.
+/// The issuing thread is woken when an exchange was asked for and, if it waits for a change, when a unit has stored.
+/// The thread that makes requests is woken when an exchange was made, and the storage worker when a unit that makes
+/// references has stored. A refused call wakes no thread.
 #[test]
 fn stores_are_told(rt: HostRuntime) -> Result<(), Fail> {
     let machine = booted(rt.alloc(), &[(0o100, FIRST)])?;
@@ -108,11 +108,11 @@ fn stores_are_told(rt: HostRuntime) -> Result<(), Fail> {
     Ok(())
 }
 
-/// How often the threads were told that issue, make requests and serve memory.
+/// How often the signals of the issuing thread, the asking thread and the storage worker were raised.
 type Counts = (u64, u64, u64);
 
-/// Whether exchange and issue were made, what the seat tells, what was told at each step of the reservation, what
-/// an accept answers, and what was told then.
+/// Whether the exchange and the issue were made, and the seat's unit and count. Then the counts at each step of the
+/// reservation, the answer of an acceptance, and the counts after that.
 type Stored = (
     bool,
     (Unit, u64),
@@ -140,7 +140,7 @@ fn stores_told<K: Naming, R: Wait>(
     Ok((is_made, leave(seat), after, refused, told(&shared)))
 }
 
-/// A note that is sent to one unit raises the signal of its worker alone; the end raises all.
+/// A raise for one unit raises the signal of its worker alone; the end raises all signals.
 #[test]
 fn the_end_is_told_to_all(rt: HostRuntime) -> Result<(), Fail> {
     let machine = booted(rt.alloc(), &[])?;
@@ -152,7 +152,7 @@ fn the_end_is_told_to_all(rt: HostRuntime) -> Result<(), Fail> {
     Ok(())
 }
 
-/// What was told to each worker and to the others before the end and after it.
+/// The counts of the workers and of the other threads, before the end and after it.
 fn end_told<K: Naming, R: Wait>(
     rt: &R,
     alloc: Global,
@@ -169,7 +169,7 @@ fn end_told<K: Naming, R: Wait>(
     Ok([before, (sent(&shared), told(&shared))])
 }
 
-/// A signal is raised by what its thread waits for, and by nothing else.
+/// A signal is raised by a change that its thread waits for, and by nothing else.
 #[test]
 fn waiting_threads_are_told(rt: HostRuntime) -> Result<(), Fail> {
     let machine = booted(rt.alloc(), &[])?;
@@ -179,8 +179,8 @@ fn waiting_threads_are_told(rt: HostRuntime) -> Result<(), Fail> {
     Ok(())
 }
 
-/// How often a signal was raised where a change and a read were told to it, whose thread waits for nothing, for a
-/// change, for nothing again, and for a read.
+/// The counts of a signal after a change and a read: if its thread waits for nothing, for a change, for nothing again,
+/// and for a read.
 fn told_by_turns<K: Naming, R: Wait>(
     _rt: &R,
     alloc: Global,
@@ -214,7 +214,7 @@ fn told_by_turns<K: Naming, R: Wait>(
     Ok(counts)
 }
 
-/// A wait ends if its signal is raised, and also if nobody raises it; then it can be repeated.
+/// A wait ends if its signal is raised, and also if it isn't; then the wait can be repeated.
 #[test]
 fn waits_end(rt: HostRuntime) -> Result<(), Fail> {
     let machine = booted(rt.alloc(), &[])?;
@@ -226,8 +226,8 @@ fn waits_end(rt: HostRuntime) -> Result<(), Fail> {
     Ok(())
 }
 
-/// The counts of a signal: after a wait in vain, after a wait for it that another thread has ended, after many waits in
-/// vain, and after one more wait that another thread has ended.
+/// The counts of a signal after a fruitless wait, after a wait that another thread ended, after many fruitless waits,
+/// and after one more wait that another thread ended.
 fn wait_and_raise<K: Naming, R: Threads + Wait + Sync>(
     rt: &R,
     alloc: Global,
@@ -251,7 +251,7 @@ fn wait_and_raise<K: Naming, R: Threads + Wait + Sync>(
     Ok([in_vain, raised, unchanged, again])
 }
 
-/// Waits until the count of memory's signal is another than this one, and answers which.
+/// Waits until the count of the storage worker's signal is no longer this one, and returns it.
 fn next_count<R: Wait>(rt: &R, signals: &Signals, count: u64) -> u64 {
     let mut wait = signals.waiting();
     for _ in rt.forever() {
@@ -263,7 +263,7 @@ fn next_count<R: Wait>(rt: &R, signals: &Signals, count: u64) -> u64 {
     unreachable!()
 }
 
-/// Sleeps until a signal was raised, and answers how often it was.
+/// Sleeps until a signal was raised, and returns its count.
 fn woken<R: Wait>(rt: &R, signal: &Signal) -> u64 {
     for _ in rt.forever() {
         let count = signal.count();
@@ -275,7 +275,7 @@ fn woken<R: Wait>(rt: &R, signal: &Signal) -> u64 {
     unreachable!()
 }
 
-/// A sleep ends where nothing is raised, too, and where something is.
+/// A sleep ends both if its signal is raised and if it isn't.
 #[test]
 fn sleeps_end(rt: HostRuntime) -> Result<(), Fail> {
     let machine = booted(rt.alloc(), &[])?;
@@ -287,7 +287,7 @@ fn sleeps_end(rt: HostRuntime) -> Result<(), Fail> {
     Ok(())
 }
 
-/// How often the signal was raised that ended the second sleep.
+/// The count of the signal that ended the second sleep.
 fn sleep_and_wake<K: Naming, R: Threads + Wait + Sync>(
     rt: &R,
     alloc: Global,

@@ -1,4 +1,4 @@
-//! Runs by threads, a worker at work, and the order of requests.
+//! Runs by threads, the service of reservations by a worker, and requests for exchanges.
 
 ghost use Rattle.std.specs.Prelude.{◌≡◌};
 
@@ -42,7 +42,7 @@ fn open_gates() -> Gates<Open> {
     }
 }
 
-/// What registers of the package at 40 hold, X1, X2, X3 and X7, and a word of the program's memory.
+/// The contents of X1, X2, X3 and X7 in the package at 40, and of a word of the program's memory.
 pub(crate) const REGISTERS: [(u32, &str); 5] = [
     (0o51, "7"),
     (0o52, "6"),
@@ -54,23 +54,23 @@ pub(crate) const REGISTERS: [(u32, &str); 5] = [
 /// A reservation: its unit and number.
 type Numbered = (Unit, u64);
 
-/// A run that asks for no exchange except the first, and its end.
+/// A run whose only exchange is the first, and its end.
 #[derive(Clone, Copy, Drop)]
 struct Run<'a> {
-    /// What it shows.
+    /// The text that names the run.
     name: &'a str,
-    /// The words that stand over `REGISTERS`.
+    /// The words that are stored over `REGISTERS`.
     words: Words<'a>,
-    /// Reservations that aren't computed before another is stored: so both are in their units at the same time, in two
-    /// threads, and the thread that is held at its gate holds no lock.
+    /// Pairs of reservations: the first isn't computed until the second is stored. So both are in their units at the
+    /// same time, in two threads, and the thread that is held at its gate holds no lock.
     holds: &'a [(Numbered, Numbered)],
-    /// How many instructions are issued, the last of which stops.
+    /// How many instructions are issued; the last one stops.
     issues: u64,
-    /// How many reservations are stored: of Branch, Boolean, Shift, LongAdd, Divide, and both Increment units.
+    /// How many reservations are stored by Branch, Boolean, Shift, LongAdd, Divide, and both Increment units.
     stored: [u64; 6],
-    /// Numbers of X registers, and what they hold at the end.
+    /// Numbers of X registers, and their contents at the end.
     x: &'a [(u16, &'a str)],
-    /// The same of A registers.
+    /// The same for A registers.
     a: &'a [(u16, &'a str)],
 }
 
@@ -210,7 +210,7 @@ const UNITS: [Unit; 7] = [
     Unit::Increment2,
 ];
 
-/// How many reservations were stored, as in a `Run`. None where a note was strange or a tally isn't at its position.
+/// How many reservations were stored, as in a `Run`. `None` if a note was strange or a tally isn't at its position.
 fn stored(tallies: &[Tally; 7]) -> Option<[u64; 6]> {
     let mut counts = [0u64; 6];
     for index in 0..7usize {
@@ -224,7 +224,7 @@ fn stored(tallies: &[Tally; 7]) -> Option<[u64; 6]> {
     Some(counts)
 }
 
-/// Whether the registers that a run names hold what it says.
+/// Whether the registers that a run names have the contents that it expects.
 fn shows(registers: &RegisterFile, run: &Run<'_>) -> bool {
     for (number, octal) in run.x {
         if registers.get(x(*number)) != word(octal) {
@@ -239,7 +239,7 @@ fn shows(registers: &RegisterFile, run: &Run<'_>) -> bool {
     true
 }
 
-/// Whether a run ended as it is to.
+/// Whether a run ended as expected.
 fn is_end_of(ended: &Ended, run: &Run<'_>) -> bool {
     let log = [FIRST, Wanted::Issued(run.issues)];
     let state = ended.snapshot.state();
@@ -249,7 +249,7 @@ fn is_end_of(ended: &Ended, run: &Run<'_>) -> bool {
         && stored(&ended.tallies) == Some(run.stored)
 }
 
-/// Whether a run with these gates ends as it is to.
+/// Whether a run with these gates ends as expected.
 fn ends<G: Gate + Send, R: Threads + Wait + Clock + Sync>(
     rt: &R,
     alloc: Global,
@@ -265,14 +265,15 @@ fn ends<G: Gate + Send, R: Threads + Wait + Clock + Sync>(
     }
 }
 
-/// One reservation that isn't computed until another is stored.
+/// A reservation that isn't computed until another one is stored.
 #[derive(Drop)]
 pub(crate) struct Hold {
     held: Note,
     until: Note,
-    /// 1 once the other is stored.
+    /// 1 once the other reservation is stored.
     stored: AtomicU64,
-    /// 1 once the one goes on because of that, and not because it has waited for a million turns.
+    /// 1 once the held reservation continues because the other is stored, and not because it waited for a million
+    /// turns.
     released: AtomicU64,
 }
 
@@ -286,21 +287,21 @@ impl Hold {
         }
     }
 
-    /// Waits until the other is stored, if this is the reservation that is held.
+    /// Waits until the other reservation is stored, if this is the held one.
     pub(crate) fn before(&self, unit: Unit, number: u64) {
         if self.held == note(unit, number) {
             self.wait();
         }
     }
 
-    /// Lets the reservation go on, if this is the other.
+    /// Releases the held reservation, if this is the other one.
     pub(crate) fn stored(&self, unit: Unit, number: u64) {
         if self.until == note(unit, number) {
             self.stored.store(1, Ordering::SeqCst);
         }
     }
 
-    /// Whether it went on when the other was stored.
+    /// Whether the held reservation continued because the other one was stored.
     pub(crate) fn is_released(&self) -> bool {
         self.released.load(Ordering::SeqCst) > 0
     }
@@ -316,7 +317,7 @@ impl Hold {
     }
 }
 
-/// Whether all that were held went on when the others were stored.
+/// Whether all held reservations continued because the others were stored.
 fn are_released(holds: &[Hold]) -> bool {
     for hold in holds {
         if !hold.is_released() {
@@ -326,7 +327,7 @@ fn are_released(holds: &[Hold]) -> bool {
     true
 }
 
-/// A gate that holds these.
+/// A gate with these holds.
 #[derive(Drop)]
 struct Holding<'a>(&'a [Hold]);
 
@@ -353,7 +354,7 @@ fn holds_of(alloc: Global, run: &Run<'_>) -> Result<Vec<Hold>, AllocError> {
     Ok(holds)
 }
 
-/// Whether a run in which these are held ends as it is to, and they went on when the others were stored.
+/// Whether a run with these holds ends as expected, and each held reservation continued because the other was stored.
 fn ends_held<R: Threads + Wait + Clock + Sync>(
     rt: &R,
     alloc: Global,
@@ -385,12 +386,12 @@ fn runs(rt: HostRuntime) -> Result<(), Fail> {
     Ok(())
 }
 
-/// A gate that holds each reservation before it is computed until seven are at their gates.
+/// A gate that holds each reservation before it is computed, until seven reservations are at their gates.
 #[derive(Drop)]
 struct Meeting<'a> {
     /// How many reservations are at their gates.
     arrived: &'a AtomicU64,
-    /// How many went on when all seven were there, and not because they had waited for a million turns.
+    /// How many reservations continued because all seven were there, and not because they waited for a million turns.
     met: &'a AtomicU64,
 }
 
@@ -423,7 +424,7 @@ const SEVEN_UNITS: Run<'static> = Run {
     a: &[],
 };
 
-/// All seven units compute at the same moment of one run: none goes on before each has its operands.
+/// All seven units compute at the same moment of one run: no unit continues before all of them have their operands.
 #[test]
 fn seven_units_at_once(rt: HostRuntime) -> Result<(), Fail> {
     let (arrived, met) = (AtomicU64::new(0), AtomicU64::new(0));
@@ -448,7 +449,7 @@ fn seven_units_at_once(rt: HostRuntime) -> Result<(), Fail> {
     Ok(())
 }
 
-/// A gate that lets the others run so often before each value is computed that all who wait for it sleep.
+/// A gate that yields so often before each value is computed that all threads that wait for it sleep.
 #[derive(Drop)]
 struct Slow;
 
@@ -496,8 +497,8 @@ fn sleepers_get_on(rt: HostRuntime) -> Result<(), Fail> {
     Ok(())
 }
 
-/// Runs BX1 X2, LX3 1, NO, NO and a stop, with an exchange for the package at 60, which begins at the stop: after so
-/// many instructions, or at any time.
+/// Runs BX1 X2, LX3 1, NO, NO and a stop, with an exchange for the package at 60, which begins at the stop. The
+/// exchange is asked for after this many instructions, or at any time.
 fn exchanging<R: Threads + Wait + Clock + Sync>(
     rt: &R,
     alloc: Global,
@@ -531,7 +532,7 @@ const SECOND: Wanted = Wanted::Exchange(0o60);
 
 const LAST: Wanted = Wanted::Issued(1);
 
-/// After how many instructions, if not at any time, and the logs that the run may have.
+/// The number of instructions before the request, `None` for any time, and the logs that the run may have.
 const EXCHANGES: [(Option<u64>, &[&[Wanted]]); 4] = [
     (Some(1), &[&[FIRST, Wanted::Issued(4), SECOND, LAST]]),
     (Some(5), &[&[FIRST, Wanted::Issued(5), SECOND, LAST]]),
@@ -546,7 +547,7 @@ const EXCHANGES: [(Option<u64>, &[&[Wanted]]); 4] = [
     ),
 ];
 
-/// Whether the run ended, with one of these logs.
+/// Whether the run ended with one of these logs.
 fn has_log_of(ran: Result<Ended, Refusal>, logs: &[&[Wanted]]) -> bool {
     let Ok(ended) = ran else {
         return false;
@@ -568,7 +569,7 @@ fn exchanges(rt: HostRuntime) -> Result<(), Fail> {
     Ok(())
 }
 
-/// A machine that has issued BX1 X2 and LX3 1, of which no worker has a note, and goes on with NO, NO and a stop.
+/// A machine that has issued BX1 X2 and LX3 1, for which no worker has a note, and continues with NO, NO and a stop.
 fn begun(alloc: Global) -> Result<Machine, Refusal> {
     let mut machine = booted(alloc, &[(0o100, "10120203014600046000")])?;
     machine.apply(Event::Ask(0o40))?;
@@ -578,8 +579,8 @@ fn begun(alloc: Global) -> Result<Machine, Refusal> {
     Ok(machine)
 }
 
-/// What was issued before a run is carried out, and stands in its log. The first exchange of the run waits for the end
-/// of the word, and leads to a package that the first one before it left, in which nothing can be fetched.
+/// Instructions issued before a run are executed, and are in its log. The first exchange of the run waits for the end
+/// of the word. It loads the package that the exchange before it left, with which nothing can be fetched.
 #[test]
 fn issued_before(rt: HostRuntime) -> Result<(), Fail> {
     let alloc = rt.alloc();
@@ -590,13 +591,13 @@ fn issued_before(rt: HostRuntime) -> Result<(), Fail> {
     Ok(())
 }
 
-/// Why a run is refused, if it is.
+/// The refusal of a run, if it was refused.
 fn refusal(ran: Result<Ended, Refusal>) -> Option<Refusal> {
     ran.err()
 }
 
-/// The first package has to lie in memory, and the seats have to be there. All threads have ended then, or the test
-/// wouldn't.
+/// A run is refused if its first package isn't in memory or the seats were given out. All threads have then ended, or
+/// the test wouldn't end.
 #[test]
 fn refused_runs(rt: HostRuntime) -> Result<(), Fail> {
     let alloc = rt.alloc();
@@ -633,7 +634,7 @@ impl Gate for Count {
     }
 }
 
-/// What two issues answer.
+/// The answers of two issues.
 pub(crate) type Started = Result<[Option<Note>; 2], Refusal>;
 
 /// Makes the exchange with the package at 40, and issues twice.
@@ -645,7 +646,7 @@ pub(crate) fn start<K: Naming, R: Wait>(rt: &R, shared: &Shared<K>, seen: &mut S
     Ok([first, second])
 }
 
-/// Boolean's seat; the others are left.
+/// Boolean's seat. The other seats are given up.
 fn of_boolean(seats: [Seat; 7]) -> Seat {
     let [
         branch,
@@ -668,7 +669,7 @@ fn of_boolean(seats: [Seat; 7]) -> Seat {
 /// BX1 X2, LX3 1, NO, PS.
 pub(crate) const BOTH: [(u32, &str); 1] = [(0o100, "10120203014600000000")];
 
-/// What `start` answers over these words.
+/// The answer of `start` over these words.
 pub(crate) const NOTES: Started = Ok([
     Some(Note {
         unit: Unit::Boolean,
@@ -680,8 +681,8 @@ pub(crate) const NOTES: Started = Ok([
     }),
 ]);
 
-/// A note that was never given, and another unit's note, are strangers'. With the seat that is given back the unit's
-/// own is served, once.
+/// A note that was never returned by an issue, and another unit's note, are strangers'. The seat that comes back then
+/// serves the unit's own note, once.
 #[test]
 fn serves_its_own_note_once(rt: HostRuntime) -> Result<(), Fail> {
     let machine = booted(rt.alloc(), &BOTH)?;
@@ -691,7 +692,7 @@ fn serves_its_own_note_once(rt: HostRuntime) -> Result<(), Fail> {
     Ok(())
 }
 
-/// What `start` answers, which notes are served, and how many the seat, and the gate before and after, counted.
+/// The answer of `start`, which notes were served, and the counts of the seat, and of the gate before and after.
 fn serves_once<K: Naming, R: Wait>(
     rt: &R,
     alloc: Global,
@@ -729,7 +730,7 @@ impl Gate for HeldBy<'_> {
     }
 }
 
-/// Issues, if the oldest reservation is Boolean's and has its operands and no value yet.
+/// Issues, if Boolean's reservation is the oldest and has its operands but no value yet.
 fn issue_meanwhile<K: Naming, R: Wait>(
     rt: &R,
     shared: &Shared<K>,
@@ -744,8 +745,8 @@ fn issue_meanwhile<K: Naming, R: Wait>(
     Some(issued)
 }
 
-/// Waits until Boolean's reservation has its operands and no value yet, issues then, and lets the reservation that is
-/// held go on. None where that never is so.
+/// Waits until Boolean's reservation has its operands but no value yet, issues then, and releases the held reservation.
+/// `None` if that moment never comes.
 fn issue_before_finish<K: Naming, R: Wait>(
     rt: &R,
     shared: &Shared<K>,
@@ -762,7 +763,7 @@ fn issue_before_finish<K: Naming, R: Wait>(
     None
 }
 
-/// Serves Boolean's reservation with the seat of a holder. It answers whether it was stored.
+/// Serves Boolean's reservation with the seat of a holder. Returns whether it was stored.
 fn serve_held<K: Naming, R: Wait>(
     rt: &R,
     shared: &Shared<K>,
@@ -775,7 +776,7 @@ fn serve_held<K: Naming, R: Wait>(
     Some(is_stored)
 }
 
-/// The same while another thread issues. None where it couldn't be started.
+/// The same while another thread issues. `None` if that thread couldn't be started.
 fn serve_while_issuing<K: Naming + Send + Sync, R: Threads + Wait + Sync>(
     rt: &R,
     shared: &Shared<K>,
@@ -793,8 +794,8 @@ fn serve_while_issuing<K: Naming + Send + Sync, R: Threads + Wait + Sync>(
     })
 }
 
-/// Between the read of a unit and its finish its worker holds no lock: another thread issues then, and the worker goes
-/// on after that. It computes in between.
+/// Between the read of a unit and its finish, the unit's worker holds no lock. Another thread issues then, while the
+/// worker computes, and the worker continues after that.
 #[test]
 fn another_issues_while_a_unit_computes(rt: HostRuntime) -> Result<(), Fail> {
     let machine = booted(rt.alloc(), &BOTH)?;
@@ -806,7 +807,8 @@ fn another_issues_while_a_unit_computes(rt: HostRuntime) -> Result<(), Fail> {
     Ok(())
 }
 
-/// What `start` answers, whether the worker took its seat, and whether it stored, with what the other's issue answered.
+/// The answer of `start`, whether the worker took its seat, and whether it stored, with the answer of the other
+/// thread's issue.
 fn computes_beside<K: Naming + Send + Sync, R: Threads + Wait + Sync>(
     rt: &R,
     alloc: Global,
@@ -823,11 +825,11 @@ fn computes_beside<K: Naming + Send + Sync, R: Threads + Wait + Sync>(
     Ok((started, is_empty(holder), computed))
 }
 
-/// Whether the reservation was stored, whether the machine is drained then, and the answer to an acceptance from the
+/// Whether the reservation was stored, whether the machine is then drained, and the answer to an acceptance from the
 /// hopper's place 0.
 type Referred = (bool, bool, Result<(), Refusal>);
 
-/// Issues twice, and serves the reservation of Increment1 that has this number.
+/// Issues twice, and serves the reservation of Increment1 with this number.
 fn serve_increment<K: Naming, R: Wait>(
     rt: &R,
     alloc: Global,
@@ -847,7 +849,7 @@ fn serve_increment<K: Naming, R: Wait>(
     Ok((is_stored, is_drained, shared.accept(rt, 0)))
 }
 
-/// The reference of SA1 B0+17, before which nothing is pending, goes through memory at its store.
+/// The reference of SA1 B0+17 goes through memory at its store, because no earlier instruction is pending.
 #[test]
 fn takes_its_own_reference(rt: HostRuntime) -> Result<(), Fail> {
     let machine = booted(rt.alloc(), &[(0o100, "51100000174600046000")])?;
@@ -857,7 +859,7 @@ fn takes_its_own_reference(rt: HostRuntime) -> Result<(), Fail> {
     Ok(())
 }
 
-/// The reference of SA3 B0+17, before which BX1 X2 is pending, is left in the hopper for the storage worker.
+/// The reference of SA3 B0+17 is left in the hopper for the storage worker, because BX1 X2 is pending before it.
 #[test]
 fn leaves_a_later_reference(rt: HostRuntime) -> Result<(), Fail> {
     let machine = booted(rt.alloc(), &[(0o100, "10120513000001746000")])?;
@@ -867,7 +869,7 @@ fn leaves_a_later_reference(rt: HostRuntime) -> Result<(), Fail> {
     Ok(())
 }
 
-/// A worker serves what its lane has, until it is closed, and its tally settles.
+/// A worker serves the notes of its lane until the lane is closed, and its tally settles.
 #[test]
 fn works_until_closed(rt: HostRuntime) -> Result<(), Fail> {
     let machine = booted(rt.alloc(), &BOTH)?;
@@ -877,7 +879,7 @@ fn works_until_closed(rt: HostRuntime) -> Result<(), Fail> {
     Ok(())
 }
 
-/// Whether the lane took the note and was closed, what `start` answers, and the tally.
+/// Whether the lane took the note and was closed, the answer of `start`, and the tally.
 fn works_until_closed_beside<K: Naming, R: Wait>(
     rt: &R,
     alloc: Global,
@@ -906,7 +908,8 @@ fn send_strangers<R: Wait>(rt: &R, mut sending: Sending<'_>) {
     sending.close(rt);
 }
 
-/// Works on a lane with the seat of a holder, which is empty then: how many notes were stored, and how many strange.
+/// Works on a lane with the seat of a holder, which is then empty. Returns how many notes were stored, and how many
+/// were strange.
 fn work_with<K: Naming, R: Wait>(
     rt: &R,
     shared: &Shared<K>,
@@ -924,7 +927,7 @@ fn work_with<K: Naming, R: Wait>(
     Some((tally.stored(), tally.strange()))
 }
 
-/// The same while another thread sends strangers' notes. None where it couldn't be started.
+/// The same while another thread sends strangers' notes. `None` if that thread couldn't be started.
 fn strange_tally<K: Naming + Send + Sync, R: Threads + Wait + Sync>(
     rt: &R,
     shared: &Shared<K>,
@@ -950,7 +953,7 @@ fn counts_strangers(rt: HostRuntime) -> Result<(), Fail> {
     Ok(())
 }
 
-/// What `start` answers, whether the worker took its seat, and how many notes it stored and how many were strange.
+/// The answer of `start`, whether the worker took its seat, and how many notes were stored and how many were strange.
 fn counts_strangers_beside<K: Naming + Send + Sync, R: Threads + Wait + Sync>(
     rt: &R,
     alloc: Global,

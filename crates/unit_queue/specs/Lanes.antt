@@ -1,32 +1,32 @@
--- What went into a lane and came out of it, as lists of items in their order. Source: ours.
+-- The items sent on a lane and taken from it, as lists in their order. Source: ours.
 use Rattle.std.specs.Prelude.{◌≡◌, ◌<◌, Bool, true, false, ◌||◌, List, [], ◌∷◌, ◌++◌, length}
 use Rattle.atomic_table.specs.Seated.{TableId}
 use Rattle.unit_queue.specs.declared.item.Item.{Item}
 use Rattle.unit_queue.specs.declared.item.Item.TheVariants.{Work, Closed}
 use Rattle.instructions.specs.declared.instr.Unit.{Unit as FunctionalUnit}
 
--- which lane it is, and whose
+-- the identity of a lane, and its unit
 pub record LaneName : Type 0 where
   pub id : TableId
   pub unit : FunctionalUnit
 
--- a lane's end for sending: which lane, what was sent so far, and what was taken when the last of it was sent
+-- a lane's sending end: its lane, what was sent so far, and what had been taken when the last item was sent
 pub record SendEnd : Type 0 where
   pub id : TableId
   pub sent : List Item
   pub taken : List Item
 
--- a lane's end for taking: which lane, what was taken so far, and what was sent when the last of it was taken
+-- a lane's taking end: its lane, what was taken so far, and what had been sent when the last item was taken
 pub record TakeEnd : Type 0 where
   pub id : TableId
   pub got : List Item
   pub sent : List Item
 
--- the end for sending on that lane, when this was sent, and when that was taken
+-- the sending end of this lane, with what was sent and what had been taken
 abbrev pub send_end : TableId → List Item → List Item → SendEnd
 send_end id sent taken = record { id = id; sent = sent; taken = taken }
 
--- the end for taking from that lane, when this was taken, and when that was sent
+-- the taking end of this lane, with what was taken and what had been sent
 abbrev pub take_end : TableId → List Item → List Item → TakeEnd
 take_end id got sent = record { id = id; got = got; sent = sent }
 
@@ -49,19 +49,20 @@ IsOrderly (x ∷ xs) = (is_closing x ≡ true → xs ≡ []) × IsOrderly xs
 abbrev pub IsBeginning : List Item → List Item → Type 0
 IsBeginning first all = (rest : List Item) × (all ≡ first ++ rest)
 
--- at a moment after the last item was sent, these items waited: what was sent was what was taken then, and they
+-- at some moment after the last item was sent, these items waited: they and what had been taken by then are all that
+-- was sent
 abbrev pub Waited : List Item → List Item → List Item → Type 0
 Waited taken sent waiting = (got : List Item) × (sent ≡ got ++ waiting) × IsBeginning taken got
 
--- the lane was full at a moment after the last item was sent: two items waited
+-- the lane was full at some moment after the last item was sent: two items waited
 abbrev pub IsFull : SendEnd → Type 0
 IsFull e = (waiting : List Item) × (length waiting ≡ 2) × Waited e.taken e.sent waiting
 
--- when the item was sent, fewer than two waited: what was sent before was what was taken then, and they
+-- when the item was sent, fewer than two waited: they and what had been taken by then are all that was sent before
 abbrev pub HadRoom : SendEnd → SendEnd → Type 0
 HadRoom old new =
     (waiting : List Item) × (length waiting < 2) × (old.sent ≡ new.taken ++ waiting) × IsBeginning old.taken new.taken
 
--- the lane was empty at a moment after the last item was taken: what was sent was what was taken
+-- the lane was empty at some moment after the last item was taken: all that was sent had been taken
 abbrev pub IsEmpty : TakeEnd → Type 0
 IsEmpty e = IsBeginning e.sent e.got

@@ -1,3 +1,3 @@
--- The definitions of a lane: what its ends show, and the rule that its steps keep. Source: ours.
+-- The definitions of a lane: what its ends know, and the rule that its steps preserve. Source: ours.
 pub mod Lanes
 pub mod Rules

@@ -16,11 +16,11 @@ use std::sync::Wait;
 
 type Queue = RuledArrayQueue<Item, LaneView, LaneRule>;
 
-/// The lane of one unit: a queue of at most two items (this project's choice). A contract sees which lane it is, and
-/// whose.
+/// The lane of one unit: a queue of at most two items (this project's choice). Contracts can name the lane and its
+/// unit.
 ///
-/// What was taken from it, followed by what waits in it, is what was sent on it, in order; and nothing comes after
-/// [`Item::Closed`]. No call promises that an item ever gets through: a caller that finds the lane full or empty
+/// What was taken from the lane, followed by what waits in it, is what was sent on it, in order, and nothing comes
+/// after [`Item::Closed`]. No call promises that an item ever gets through: a caller that finds the lane full or empty
 /// tries again.
 #[derive(Drop)]
 pub struct Lane {
@@ -41,8 +41,7 @@ impl Model for Lane {
     ghost invariant = { λ s. ruled_capacity s.queue ≡ 2 };
 }
 
-/// The right to send on one lane, of which there is one. A contract sees which lane, and what was sent on it from the
-/// beginning.
+/// The right to send on one lane. A lane has one such pass. Contracts can name the lane, and all that was sent on it.
 #[derive(Drop)]
 pub struct SendPass {
     pass: Pass<Item, LaneView>,
@@ -62,8 +61,8 @@ impl Model for SendPass {
         × (s.closed ≡ is_closed s.pass.me.0.client.sent) × IsOrderly s.pass.me.0.client.sent };
 }
 
-/// The right to take from one lane, of which there is one. A contract sees which lane, and what was taken from it from
-/// the beginning.
+/// The right to take from one lane. A lane has one such pass. Contracts can name the lane, and all that was taken from
+/// it.
 #[derive(Drop)]
 pub struct TakePass {
     pass: Pass<Item, LaneView>,
@@ -82,10 +81,10 @@ impl Model for TakePass {
 }
 
 impl Lane {
-    /// An empty lane, with its two ends.
+    /// Creates an empty lane, with its two ends.
     ///
     /// # Errors
-    /// `OutOfMemory`.
+    /// `OutOfMemory` if memory runs out.
     pub(crate) fn new(alloc: Global, unit: Unit) -> Result<(Lane, SendPass, TakePass), Refusal>
         ensures { MatchResult result
             (λ made. (made.0.unit ≡ unit) × (made.1 ≡ send_end made.0.id [] []) × (made.2 ≡ take_end made.0.id [] []))
@@ -105,14 +104,14 @@ impl Lane {
         ))
     }
 
-    /// The unit whose reservations it carries.
+    /// The unit whose reservations the lane carries.
     pub fn unit(&self) -> Unit
         ensures { result ≡ self.now.unit }
     {
         self.unit
     }
 
-    /// Sends an item on a lane that isn't closed, and answers whether there was room for it.
+    /// Sends an item on a lane that isn't closed, and returns whether there was room for the item.
     fn push<R: Wait>(&self, rt: &R, pass: &mut SendPass, item: Item) -> bool
         requires lane { pass.old.id ≡ self.now.id }
         requires open { is_closed pass.old.sent ≡ false }
@@ -135,7 +134,7 @@ impl Lane {
     /// Sends a reservation. The pass has to be this lane's.
     ///
     /// # Errors
-    /// The note, if the lane is closed, or if two items waited at a moment since the last one was sent.
+    /// The note, if the lane is closed, or if two items waited at some moment since the last one was sent.
     pub fn send<R: Wait>(&self, rt: &R, pass: &mut SendPass, note: Note) -> Result<(), Note>
         requires lane { pass.old.id ≡ self.now.id }
         ensures lane { pass.new.id ≡ pass.old.id }
@@ -158,8 +157,8 @@ impl Lane {
         }
     }
 
-    /// Sends `Closed`, if it wasn't sent yet: no more notes come. It answers whether the lane is closed, which it is
-    /// unless two items waited at a moment since the last one was sent. The pass has to be this lane's.
+    /// Sends `Closed`, if it wasn't sent yet: no more notes come. Returns whether the lane is closed. It is, unless two
+    /// items waited at some moment since the last one was sent. The pass has to be this lane's.
     pub fn close<R: Wait>(&self, rt: &R, pass: &mut SendPass) -> bool
         requires lane { pass.old.id ≡ self.now.id }
         ensures lane { pass.new.id ≡ pass.old.id }
@@ -173,8 +172,8 @@ impl Lane {
         pass.closed || self.push(rt, pass, Item::Closed)
     }
 
-    /// Takes the oldest item that waits. `None` only if none waited at a moment since the last one was taken, and always
-    /// after `Closed` was taken. The pass has to be this lane's.
+    /// Takes the oldest item that waits. Returns `None` only if no item waited at some moment since the last one was
+    /// taken, and always after `Closed` was taken. The pass has to be this lane's.
     pub fn take<R: Wait>(&self, rt: &R, pass: &mut TakePass) -> Option<Item>
         requires lane { pass.old.id ≡ self.now.id }
         ensures lane { pass.new.id ≡ pass.old.id }
@@ -190,8 +189,8 @@ impl Lane {
         self.queue.pop_as::<Takes, R>(rt, &mut pass.pass)
     }
 
-    /// Ends the sending end, after `Closed` was taken from the lane: all that was sent was taken. It changes neither
-    /// the lane nor what was taken. Both passes have to be this lane's.
+    /// Ends the sending end, after `Closed` was taken from the lane: all that was sent was taken. The call changes
+    /// neither the lane nor what was taken. Both passes have to be this lane's.
     pub fn settle<R: Wait>(&self, rt: &R, pass: &mut TakePass, ended: SendPass)
         requires lane { (pass.old.id ≡ self.now.id) × (ended.id ≡ self.now.id) }
         requires closed { is_closed pass.old.got ≡ true }

@@ -1,21 +1,21 @@
-//! What crosses a lane.
+//! The items that a lane carries.
 
 ghost use Rattle.std.specs.Prelude.{◌≡◌};
 ghost use Rattle.unit_queue.specs.Lanes.{is_closing};
 
 use machine::Note;
 
-/// What a lane carries.
+/// An item that a lane carries.
 #[derive(Clone, Copy, Debug, Drop, PartialEq, Eq)]
 pub enum Item {
-    /// A reservation that is to be served.
+    /// A reservation to serve.
     Work(Note),
     /// No more reservations come.
     Closed,
 }
 
 impl Item {
-    /// Whether it says that no more come.
+    /// Whether the item closes the lane.
     pub(crate) fn closes(&self) -> bool
         ensures { result ≡ is_closing self.now }
     {

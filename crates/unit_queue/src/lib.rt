@@ -1,8 +1,7 @@
-//! A lane carries the reservations of one unit from the thread that issues to the thread that
-//! serves the unit.
+//! A lane carries the reservations of one unit from the issuing thread to the thread that serves the unit.
 //!
-//! The 6600 had no such thing: the scoreboard drove all units at once (Thornton, scoreboard). Lanes
-//! are this project's choice, for a machine whose units are threads.
+//! The 6600 had no lanes: its scoreboard drove all units at once (Thornton, scoreboard). Lanes are this project's
+//! choice, for a machine whose units are threads.
 //!
 //! Callers rely on `Lane::send` and `Lane::take`: what was taken, followed by what still waits, is what was sent, in
 //! order, and nothing comes after `Item::Closed`. `rule` has the steps that the queue allows. Its tests are in
@@ -22,10 +21,10 @@ use instruction_table::{Refusal, Unit};
 pub use item::Item;
 use std::alloc::Global;
 
-/// An empty lane for a unit, with its two ends: nothing was sent on it, and nothing taken from it.
+/// Creates an empty lane for a unit, with its two ends. Nothing was sent on it, and nothing taken from it.
 ///
 /// # Errors
-/// `OutOfMemory`.
+/// `OutOfMemory` if memory runs out.
 pub fn lane(alloc: Global, unit: Unit) -> Result<(Lane, SendPass, TakePass), Refusal>
     ensures { MatchResult result
         (λ made. (made.0.unit ≡ unit) × (made.1 ≡ send_end made.0.id [] []) × (made.2 ≡ take_end made.0.id [] []))

@@ -1,12 +1,13 @@
-//! The rule that every step on a lane keeps, and the three kinds of step: a note is pushed, `Closed` is pushed, and an
-//! item is popped. In the running program only the items exist.
+//! The rule that every step on a lane preserves, and the three kinds of step: pushing a note, pushing `Closed`, and
+//! popping an item. At run time only the items exist.
 
 use crate::item::Item;
 use crossbeam_queue::protocol::{Join, Lesson, Outcome, Protocol, Split};
 use std::collections::LinkedList;
 
-// What the holder of a pass knows: whether it may push and pop, and beginnings of what was pushed and of what was
-// popped. A pass that pushes knows all that was pushed, and one that pops all that was popped. No value of it is made.
+// The knowledge of a pass's holder: whether it may push and pop, and beginnings of what was pushed and of what was
+// popped. A pass that pushes knows all that was pushed, and a pass that pops knows all that was popped. No value of
+// this type is made.
 pub struct LaneView {
     pub sends: bool,
     pub takes: bool,
@@ -25,8 +26,8 @@ impl Protocol<Item, LaneView> for LaneRule {
     ghost first = { view_of true true [] [] };
 }
 
-// The two ends of a lane: its first pass is cut into one that sends and one that takes, and `settle` puts them
-// together again.
+// The two ends of a lane. The lane's first pass is split into one that sends and one that takes, and `settle` joins
+// them again.
 pub struct Ends;
 
 impl Split<LaneView> for Ends {
@@ -46,8 +47,8 @@ impl Join<LaneView> for Ends {
     ghost spent = { view_of false false [] [] };
 }
 
-// A push, of a note or of `Closed`, adds its item to what was sent, and its pass then knows what was taken by that
-// step. Where the queue is full, the items that wait are what was sent without what was taken.
+// A push of a note or of `Closed`. The item is added to what was sent, and the pass then knows what was taken up to
+// that step. If the queue is full, the items that wait are what was sent without what was taken.
 pub struct Sends;
 
 impl Outcome<Item, LaneView> for Sends {
@@ -62,8 +63,8 @@ impl Lesson<Item, LaneView> for Sends {
     ghost fact = { λ v items. Waited v.got v.sent items };
 }
 
-// A pop adds its item to what was taken, and its pass then knows what was sent by that step. Where the queue is empty,
-// what was sent is what was taken.
+// A pop. The item is added to what was taken, and the pass then knows what was sent up to that step. If the queue is
+// empty, everything that was sent was taken.
 pub struct Takes;
 
 impl Outcome<Item, LaneView> for Takes {
@@ -79,8 +80,8 @@ impl Lesson<Item, LaneView> for Takes {
     ghost fact = { λ v items. IsBeginning v.sent (v.got ++ items) };
 }
 
-// A pop after `Closed` was taken finds nothing. With both ends in one pass it is then known that what waits comes
-// between what was taken and what was sent.
+// A pop after `Closed` was taken, which finds nothing. Because both ends are then in one pass, the items that wait are
+// known to be what was sent without what was taken.
 pub struct Settles;
 
 impl Outcome<Item, LaneView> for Settles {

@@ -4,14 +4,14 @@ use Rattle.sequential.specs.Replay.{Exchanged}
 use Rattle.program_order.specs.Processor.{Processor}
 use Rattle.progress_word.specs.CallerKnowledge.{StartsWith, booted_by}
 
--- the machine is as after its boot: nothing is pending, no request waits, and it is halted
+-- the machine is as it is after its boot: nothing is pending, no request waits, and it is halted
 pub record IsAtRest (w : Processor) : Type 0 where
   pub pending : w.pending ≡ []
   pub request : w.request ≡ None
   pub halted : is_some w.state.halt ≡ true
 
--- the machine has gone on from there; if it was at rest, just by the exchange for the package; and whether its log
--- begins with that exchange, which it does where the machine was just booted
+-- a run begins on the machine w and leaves v, which continues w; from rest, v's only new step is the exchange for the
+-- package; if the machine was also just booted, `is_whole` reports that the log begins with that exchange
 pub record Begins (is_whole : Bool) (n : ℕ) (w v : Processor) : Type 0 where
   pub booted : booted_by v ≡ booted_by w
   pub log : StartsWith v.log w.log

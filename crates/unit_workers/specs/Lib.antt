@@ -1,4 +1,4 @@
--- The definitions of how a run begins, how the seen log grows, when a run ends, and of its tallies. Source: ours.
+-- The definitions of a run: how it begins, how the seen log grows, when it ends, and its tallies. Source: ours.
 pub mod Beginning
 pub mod Ending
 pub mod Onward

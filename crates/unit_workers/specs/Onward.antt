@@ -5,12 +5,12 @@ use Rattle.program_order.specs.SnapshotView.{Snapped}
 use Rattle.progress_word.specs.CallerKnowledge.{Known, StartsWith}
 use Rattle.unit_workers.specs.Ending.{is_at_end}
 
--- it is of the same machine, and the log begins with what was seen before
+-- the caller's knowledge is of the same machine as before, and its log begins with what was seen before
 pub record GoesOnFrom (old new : Known) : Type 0 where
   pub booted : new.booted ≡ old.booted
   pub log : StartsWith new.log old.log
 
--- the snapshot is of the machine of which that was seen: its log begins with what was seen and has no more instructions
+-- the snapshot is of the machine that the caller knows: its log begins with what was seen and has no more instructions
 -- than the machine's budget, and the run is over
 pub record EndsFrom (old : Known) (snapshot : Snapped) : Type 0 where
   pub boot_memory : snapshot.boot_memory ≡ old.booted.memory

@@ -1,4 +1,4 @@
--- The tallies of a run: what each unit's worker took is what was sent to it. Source: ours.
+-- The tallies of a run: each unit's worker took what was sent to it. Source: ours.
 use Rattle.std.specs.Prelude.{◌≡◌, List, map}
 use Rattle.instructions.specs.declared.instr.Unit.{Unit}
 use Rattle.instructions.specs.declared.instr.Unit.TheVariants.{Branch, Boolean, Shift, LongAdd, Divide, Increment1}
@@ -20,7 +20,7 @@ in_use = record {
   increment2 = Increment2;
 }
 
--- it is the tally of a unit's worker, which took each item that was sent on the lane of this sending end, in order
+-- the tally of this unit's worker, which took each item that was sent on the lane of this sending end, in order
 pub record IsSettled (kind : Unit) (sender : SendEnd) (tally : Tally) : Type 0 where
   pub unit : tally.unit ≡ kind
   pub lane : tally.pass.id ≡ sender.id

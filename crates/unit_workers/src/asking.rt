@@ -1,4 +1,4 @@
-//! The thread that makes the requests for exchanges which may be made at any time.
+//! The thread that makes the requests for exchanges that may be made at any time.
 
 use instruction_table::Refusal;
 use machine_lock::{Naming, Seen, Shared};
@@ -9,14 +9,14 @@ use std::sync::atomic::{AtomicU64, Ordering};
 /// Requests that may be made at any time, and how many of them are still to be made.
 #[derive(Drop)]
 pub struct FreeRequests<'a> {
-    /// The absolute addresses of their packages, in the order in which they are made.
+    /// The absolute addresses of the packages, in the order in which they are asked for.
     packages: &'a [u32],
-    /// A run waits until none is left. Nothing is proved of it.
+    /// How many requests are still to be made. A run waits until this is 0. Nothing is proved about it.
     left: AtomicU64,
 }
 
 impl<'a> FreeRequests<'a> {
-    /// For these packages, none of which is asked for yet.
+    /// Requests for these packages, none of them made yet.
     pub fn new(packages: &'a [u32]) -> FreeRequests<'a> {
         FreeRequests {
             packages,
@@ -24,17 +24,17 @@ impl<'a> FreeRequests<'a> {
         }
     }
 
-    /// Whether some are still to be made.
+    /// Whether any requests are still to be made.
     pub fn are_left(&self) -> bool {
         self.left.load(Ordering::SeqCst) != 0
     }
 }
 
-/// Asks for an exchange as soon as no other request waits. It answers whether it asked; it doesn't ask where the
-/// machine's users were told to end.
+/// Asks for an exchange as soon as no other request waits. Returns `true` if it asked, and `false` if the machine's
+/// users were told to end first.
 ///
 /// # Errors
-/// What else was refused.
+/// Any refusal other than that another request waits.
 fn ask_in_turn<K: Naming, R: Wait>(
     rt: &R,
     shared: &Shared<K>,
@@ -60,7 +60,7 @@ fn ask_in_turn<K: Naming, R: Wait>(
 /// Makes the requests one after another, until the machine's users are told to end.
 ///
 /// # Errors
-/// What was refused, except what the events of others can help against.
+/// Any refusal that the events of other threads can't resolve.
 fn ask_each<K: Naming, R: Wait>(
     rt: &R,
     shared: &Shared<K>,
@@ -91,11 +91,11 @@ fn wait_for_end<K: Naming, R: Wait>(rt: &R, shared: &Shared<K>) {
     unreachable!()
 }
 
-/// Makes the requests one after another. Then none is left, whether all were made or not. It returns at the run's end,
-/// and gives back what has been seen.
+/// Makes the requests one after another, after which none counts as left, even if some were not made. Then waits for
+/// the end of the run, and returns what the thread has seen.
 ///
 /// # Errors
-/// What was refused, except what the events of others can help against.
+/// Any refusal that the events of other threads can't resolve.
 pub fn ask_all<K: Naming, R: Wait>(
     rt: &R,
     shared: &Shared<K>,

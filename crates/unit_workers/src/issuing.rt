@@ -1,4 +1,4 @@
-//! What the issuing thread does: it makes the requests for exchanges that are due, issues, sends each reservation on
+//! The issuing thread: it makes the requests for exchanges that are due, issues instructions, sends each reservation on
 //! the lane of its unit, and makes the exchanges.
 ghost use Rattle.std.specs.Prelude.{◌≡◌, IfOk};
 ghost use Rattle.unit_workers.specs.Beginning.{Begins};
@@ -18,21 +18,21 @@ use std::thread;
 use std::thread::Threads;
 use std::time::Clock;
 
-/// The reservations of one hold of the lock: a unit has one at most, as nobody stores meanwhile. An `ArrayVec` wants
-/// elements that have a value by default, which a note has not.
+/// The reservations issued in one hold of the lock. A unit has at most one, because no unit stores during the hold. The
+/// elements of an `ArrayVec` need a default value, which a note doesn't have.
 type Notes = ArrayVec<Option<Note>, 7>;
 
-/// How many instructions are issued while the lock is held once: passes alone would hold it for ever.
+/// The most instructions issued in one hold of the lock. Without this bound, a loop of passes would hold it for ever.
 const ISSUES_OF_A_HOLD: u32 = 64;
 
-/// How a run goes on after a step.
+/// How a run continues after a step.
 #[derive(Clone, Copy, Drop)]
 enum Next {
     /// Something was done.
     GoesOn,
     /// Nothing could be done yet.
     Waits,
-    /// The run is at its end.
+    /// The run is over.
     Ends,
 }
 
@@ -46,34 +46,34 @@ fn ends_run(refusal: &Refusal) -> bool
     )
 }
 
-/// The requests that a run has still to make.
+/// The requests that a run still has to make.
 #[derive(Drop)]
 pub struct PendingRequests<'a> {
-    /// Those that the issuing thread makes. One that was due stays among them while another request waits.
+    /// The requests of the issuing thread. A request that is due stays among them while another request waits.
     requests: Requests,
-    /// Those that a thread of its own makes.
+    /// The requests that the asking thread makes.
     free: &'a FreeRequests<'a>,
 }
 
 impl<'a> PendingRequests<'a> {
-    /// Nothing is asked for yet.
+    /// Requests of which none has been made yet.
     pub fn new(requests: Requests, free: &'a FreeRequests<'a>) -> PendingRequests<'a> {
         PendingRequests { requests, free }
     }
 
-    /// Those that a thread of its own makes.
+    /// The requests that the asking thread makes.
     pub fn free(&self) -> &'a FreeRequests<'a> {
         self.free
     }
 }
 
-/// Makes the exchange that waits, as soon as the machine is drained, and asks for the one that follows it, so that no
-/// request at any time comes between the two. What follows is known before the exchange is made, since what is due
-/// depends only on how many instructions were issued. Where the machine runs in the middle of a word the exchange can't
-/// be made.
+/// Makes the exchange that waits, if the machine is drained, and asks for the exchange that follows it. No request of
+/// the asking thread comes between the two. The next request is known before the exchange is made, because what is due
+/// depends only on how many instructions were issued. If the machine is in the middle of a word, the exchange can't be
+/// made and the run ends.
 ///
 /// # Errors
-/// What else was refused.
+/// Any other refusal of the exchange or of the request.
 fn exchange<K: Naming, R: Wait>(
     rt: &R,
     shared: &Shared<K>,
@@ -93,11 +93,11 @@ fn exchange<K: Naming, R: Wait>(
     Ok(Next::GoesOn)
 }
 
-/// Where no more is issued: makes the exchange that waits. The run ends where none waits or is still to be asked for,
-/// and the machine is drained.
+/// Makes the exchange that waits, when no more instructions are issued. The run ends if no request waits or is still to
+/// be made, and the machine is drained.
 ///
 /// # Errors
-/// What was refused.
+/// Any refusal of the exchange or of the request.
 fn finish<K: Naming, R: Wait>(
     rt: &R,
     shared: &Shared<K>,
@@ -106,7 +106,7 @@ fn finish<K: Naming, R: Wait>(
 ) -> Result<Next, Refusal>
     ensures onward { GoesOnFrom seen.old seen.new }
 {
-    // This comes first: a thread that asks counts afterwards, so where none is left all were asked for.
+    // Read first: the asking thread decrements its count after it has asked, so if none is left, all were asked for.
     let are_left = pending.free.are_left();
     match exchange(rt, shared, seen, pending) {
         Err(Refusal::Nothing) => {}
@@ -121,12 +121,12 @@ fn finish<K: Naming, R: Wait>(
     }
 }
 
-/// Issues until an issue is refused. Before each issue it asks for the exchange that is due, unless another one waits.
-/// Answers the refusal, if one came before the notes were full or so many instructions were issued that others may want
-/// the lock.
+/// Issues until an issue is refused. Before each issue it asks for the exchange that is due, unless another request
+/// waits. Returns the refusal, or `None` if the notes are full or so many instructions were issued that other threads
+/// may want the lock.
 ///
 /// # Errors
-/// What was refused to a request.
+/// Any refusal of a request other than that another request waits.
 fn issue_on<K: Naming>(
     machine: &mut LockedMachine<K>,
     seen: &mut Seen<K>,
@@ -161,11 +161,11 @@ fn issue_on<K: Naming>(
     Ok(None)
 }
 
-/// Issues until an issue is refused, while the lock is held once, and sends each reservation on the lane of its unit.
-/// Then, where an exchange waits or no more is issued, it makes the exchange.
+/// Issues in one hold of the lock until an issue is refused, and sends each reservation on the lane of its unit. Then,
+/// if an exchange waits or no more instructions are issued, makes the exchange.
 ///
 /// # Errors
-/// What was refused, except what the events of others can help against.
+/// Any refusal that the events of other threads can't resolve.
 fn step<K: Naming, R: Wait>(
     rt: &R,
     shared: &Shared<K>,
@@ -191,11 +191,11 @@ fn step<K: Naming, R: Wait>(
 }
 
 /// Asks for the first exchange, makes it, and asks for the exchange that follows it, before any thread has the machine.
-/// Answers whether the machine's log begins with it. If another request waits, or the machine is in the middle of a
-/// word, the first exchange is left to `conduct`.
+/// Returns whether the machine's log begins with the first exchange. If another request waits, or the machine is in the
+/// middle of a word, the first exchange is left to `conduct`.
 ///
 /// # Errors
-/// What was refused.
+/// Any other refusal of a request or of the exchange.
 pub fn begin(machine: &mut Machine, start: u32, requests: &mut Requests) -> Result<bool, Refusal>
     ensures { IfOk result (λ is_whole. Begins is_whole start machine.old machine.new) }
 {
@@ -217,10 +217,11 @@ pub fn begin(machine: &mut Machine, start: u32, requests: &mut Requests) -> Resu
     Ok(is_new)
 }
 
-/// Issues and makes exchanges up to the run's end. If nothing can be done it waits for the events of others.
+/// Issues instructions and makes exchanges until the run ends. While nothing can be done, it waits for the events of
+/// other threads.
 ///
 /// # Errors
-/// The first refusal that ends no run.
+/// The first refusal that neither ends a run nor can be resolved by the events of other threads.
 pub fn conduct<K: Naming, R: Threads + Wait + Clock>(
     rt: &R,
     shared: &Shared<K>,

@@ -29,15 +29,15 @@ use std::time::Clock;
 use unit_queue::SendPass;
 use worker_loops::{Gate, Gates, Tally, storage_worker};
 
-/// What a run by threads has to do: the package with which it starts, and the exchanges for which it asks.
+/// The orders for a run by threads: the package with which the run starts, and the exchanges to ask for.
 #[derive(Drop)]
 pub struct Orders {
-    /// The absolute address of the package with which it starts.
+    /// The absolute address of the package with which the run starts.
     pub start: u32,
-    /// Requests for exchanges: the absolute address of the package, and the number of instructions after which the
-    /// exchange is asked for.
+    /// Requests for exchanges, each with the absolute address of its package and the number of instructions after which
+    /// the exchange is asked for.
     pub after: Vec<Ask>,
-    /// The absolute addresses of packages for which an exchange is asked at any time, in this order.
+    /// The absolute addresses of the packages to ask for at any time, in this order.
     pub free: Vec<u32>,
 }
 
@@ -62,11 +62,11 @@ fn is_at_end(snapshot: &machine::Snapshot) -> bool
     state.halt.is_some() || state.fault || snapshot.budget() <= snapshot.log().issues()
 }
 
-/// The machine at a run's end, after all of its threads. The two that asked for exchanges meet, so that the snapshot
-/// has whatever either of them has seen.
+/// Takes the snapshot at the end of a run, when all of its threads have ended. The two threads that asked for exchanges
+/// share what they have seen, so the snapshot has everything that either of them has seen.
 ///
 /// # Errors
-/// What was refused to either of them, and `NotDrained` if the machine could go on.
+/// Any refusal of either thread or of the snapshot. `NotDrained` if the machine could continue.
 fn closing<K: Naming, R: Wait>(
     rt: &R,
     shared: &Shared<K>,
@@ -86,10 +86,10 @@ fn closing<K: Naming, R: Wait>(
     Ok(snapshot)
 }
 
-/// The outcome of a run with this snapshot and these tallies.
+/// Combines a snapshot and the tallies into the outcome of a run.
 ///
 /// # Errors
-/// What was refused, and `OutOfMemory` if a worker's thread couldn't be started.
+/// The refusal, if there is no snapshot. `OutOfMemory` if a worker's thread couldn't be started.
 fn with_tallies(
     snapshot: Result<machine::Snapshot, Refusal>,
     settled: Option<Settled>,
@@ -110,24 +110,24 @@ fn with_tallies(
     })
 }
 
-/// What the threads of a run get.
+/// The values that the threads of a run use.
 #[derive(Drop)]
 struct Tasks<'a, K: Naming, G: Gate> {
-    /// What the workers call.
+    /// The gates that the workers call.
     gates: Gates<G>,
     /// The exchanges to ask for.
     pending: PendingRequests<'a>,
     /// What the issuing thread has seen.
     seen: Seen<K>,
-    /// What the thread has seen that makes the requests at any time.
+    /// What the asking thread has seen.
     other: Seen<K>,
 }
 
-/// Starts the threads, issues to the end, and waits for all of them. A worker takes its seat out of its holder and
-/// leaves it at its end. Where one couldn't be started nothing is issued.
+/// Starts the threads, issues until the run ends, and waits for all threads. A worker takes its seat out of its holder
+/// and gives it up at its end. If a thread can't be started, nothing is issued.
 ///
 /// # Errors
-/// What the machine refuses, and `OutOfMemory`, also where a thread couldn't be started.
+/// Any refusal of the machine. `OutOfMemory` if memory runs out or a thread can't be started.
 fn run_in<
     's,
     E,
@@ -172,10 +172,10 @@ fn run_in<
     with_tallies(closing(rt, shared, conducted, asked, seen), settled)
 }
 
-/// Makes the lanes, and runs.
+/// Creates the lanes, and runs.
 ///
 /// # Errors
-/// What the machine refuses, and `OutOfMemory`, also where a thread couldn't be started.
+/// Any refusal of the machine. `OutOfMemory` if memory runs out or a thread can't be started.
 fn run_lanes<K: Naming + Send + Sync, G: Gate + Send, R: Threads + Wait + Clock + Sync>(
     rt: &R,
     alloc: Global,
@@ -198,10 +198,11 @@ fn run_lanes<K: Naming + Send + Sync, G: Gate + Send, R: Threads + Wait + Clock 
     )
 }
 
-/// Runs from what was seen first. Each of the two threads that ask for exchanges keeps what it has seen.
+/// Splits what was seen first, so that each of the two threads that ask for exchanges has a `Seen` of its own, and
+/// runs.
 ///
 /// # Errors
-/// What the machine refuses, and `OutOfMemory`, also where a thread couldn't be started.
+/// Any refusal of the machine. `OutOfMemory` if memory runs out or a thread can't be started.
 fn run_from_first<K: Naming + Send + Sync, G: Gate + Send, R: Threads + Wait + Clock + Sync>(
     rt: &R,
     alloc: Global,
@@ -223,11 +224,11 @@ fn run_from_first<K: Naming + Send + Sync, G: Gate + Send, R: Threads + Wait + C
     run_lanes(rt, alloc, shared, holders, tasks)
 }
 
-/// Runs a machine beside a progress word.
+/// Runs a machine with a progress word.
 ///
 /// # Errors
-/// What the machine refuses; `Nothing` where the machine's seats were given out before; `OutOfMemory`, also where a
-/// thread couldn't be started.
+/// Any refusal of the machine. `Nothing` if the machine's seats were given out before. `OutOfMemory` if memory runs out
+/// or a thread can't be started.
 fn run_beside<K: Naming + Send + Sync, G: Gate + Send, R: Threads + Wait + Clock + Sync>(
     rt: &R,
     alloc: Global,
@@ -246,17 +247,17 @@ fn run_beside<K: Naming + Send + Sync, G: Gate + Send, R: Threads + Wait + Clock
     ended
 }
 
-/// Leaves a seat that no worker took.
+/// Gives up a seat that no worker took.
 fn leave(holder: Option<Seat>) {
     if let Some(seat) = holder {
         seat.leave();
     }
 }
 
-/// Holds a run to its requests for exchanges, if its log begins with the exchange for the first package.
+/// Checks that a run fulfils its requests for exchanges, if its log begins with the exchange for the first package.
 ///
 /// # Errors
-/// `ExchangeWaiting` if the log doesn't fulfil them, and `OutOfMemory`.
+/// `ExchangeWaiting` if the log doesn't fulfil them. `OutOfMemory` if memory runs out.
 fn hold_to_requests(
     alloc: Global,
     is_whole: bool,
@@ -273,7 +274,7 @@ fn hold_to_requests(
         return Err(Refusal::OutOfMemory);
     };
     let in_mid_word = is_in_mid_word(snapshot.state());
-    // No effect at run time: from the budget the proof reads that the instructions can be counted.
+    // No effect at run time: the budget tells the proof that the instructions can be counted.
     let _ = snapshot.budget();
     match are_fulfilled(
         alloc,
@@ -288,19 +289,24 @@ fn hold_to_requests(
     }
 }
 
-/// Runs a machine by threads: one for each of the seven units, one for memory, one that makes the requests at any time,
-/// and this one, which issues. The run starts with the exchange for the package at `orders.start`. It ends where the
-/// machine is drained and either it is halted, faulted or out of budget, no request waits, none is due and none at any
-/// time is left; or it is out of budget in the middle of a word, where the exchange that waits can't be made. A request
-/// after more instructions than are issued by then isn't made. The snapshot at its end has this machine's boot memory
-/// and budget; its log begins with the machine's and keeps to the budget. If the machine was just booted, the log
-/// fulfils the requests of `orders`. The run drains the machine first, since no lane has a note of an instruction that
-/// was issued before.
+/// Runs a machine by threads: one for each of the seven units, one for memory, one that makes the requests that may be
+/// made at any time, and this one, which issues. The machine is drained first, because no lane has a note of an
+/// instruction that was issued before. The run then starts with the exchange for the package at `orders.start`. The run
+/// ends with a drained machine, in one of two cases:
+///
+/// - The machine is halted, faulted or out of budget, no request waits, none is due, and none is left to be made at any
+///   time.
+/// - The machine is out of budget in the middle of a word, where the exchange that waits can't be made.
+///
+/// A request that is due after more instructions than are issued by then isn't made. The snapshot at the end has this
+/// machine's boot memory and budget, and its log begins with the machine's and keeps to the budget. If the machine was
+/// just booted, the log fulfils the requests of `orders`.
 ///
 /// # Errors
-/// What the machine refuses before; `Nothing` where the machine's seats were given out before; `OutOfMemory`, also
-/// where a thread couldn't be started; `NotDrained` if the machine could go on; `ExchangeWaiting` if the log doesn't
-/// fulfil the requests. All threads have ended then, and all seats are left.
+/// Any refusal of the first exchange, or of an event during the run. `Nothing` if the machine's seats were given out
+/// before. `OutOfMemory` if memory runs out or a thread can't be started. `NotDrained` if the machine could continue.
+/// `ExchangeWaiting` if the log doesn't fulfil the requests. In each case all threads have ended and all seats are
+/// given up.
 pub fn run_threads<G: Gate + Send, R: Threads + Wait + Clock + Sync>(
     rt: &R,
     alloc: Global,

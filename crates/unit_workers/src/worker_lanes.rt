@@ -1,4 +1,4 @@
-//! The lanes of the seven units with their ends, and the workers' threads that serve them.
+//! The lanes of the seven units with their two ends, and the worker threads that serve them.
 ghost use Rattle.std.specs.Prelude.{◌≡◌, IfSome};
 ghost use Rattle.std.specs.Option.{ForSome};
 ghost use Rattle.instructions.specs.PerUnit.{Each, paired};
@@ -16,7 +16,7 @@ use std::thread::{Promise, PromisedHandle, Scope, Threads};
 use unit_queue::{Lane, SendPass, TakePass, lane};
 use worker_loops::{Gate, Gates, Tally, worker};
 
-/// The tally that a worker's thread gives is of this lane.
+/// A worker thread's promise: the tally that it returns is of this lane.
 #[derive(Drop)]
 pub struct TallyOfLane(GhostCopy<Lane>);
 
@@ -41,7 +41,7 @@ pub struct LaneEnds<'a> {
     ghost takes: { taker.id ≡ lane.now.id },
 }
 
-/// A lane with its end for taking.
+/// A lane with its taking end.
 #[derive(Drop)]
 struct LaneReceiver<'a> {
     lane: &'a Lane,
@@ -55,13 +55,14 @@ pub struct WorkerLane<'a> {
     lane: &'a Lane,
     sender: SendPass,
     started: Option<Worker>,
-    /// The pauses while the lane is full. A run never fills a lane: it holds one note of its unit and `Closed` at most.
+    /// The pauses while the lane is full. A run never overfills a lane, which holds at most one note of its unit and
+    /// `Closed`.
     backoff: Backoff,
     ghost sends: { sender.id ≡ lane.now.id },
     ghost serves: { ForSome started (λ h. h.promise.0.value.id ≡ lane.now.id) },
 }
 
-/// The work of a worker's thread. A closure can't hold a seat, which must be spent, so the thread borrows a holder and
+/// The work of a worker thread. A closure can't hold a seat, which must be spent, so the thread borrows a holder and
 /// takes the seat out of it. `None` if the holder is empty.
 fn work<K: Naming, G: Gate, R: Wait>(
     rt: &R,
@@ -77,7 +78,7 @@ fn work<K: Naming, G: Gate, R: Wait>(
     Some(worker(rt, shared, lane, taker, seat, &mut gate))
 }
 
-/// Starts a worker's thread. `None` if the thread couldn't be started.
+/// Starts a worker thread. `None` if the thread couldn't be started.
 fn start_at<'s, E, K: Naming + Send + Sync + 's, G: Gate + Send + 's, R: Threads + Wait + Sync>(
     scope: &Scope<'s, E>,
     rt: &'s R,
@@ -112,13 +113,13 @@ impl<'a> LaneEnds<'a> {
         }
     }
 
-    /// Makes a unit's lane, which is kept in the holder. None where memory ran out.
+    /// Creates a unit's lane and keeps it in the holder. `None` if memory runs out.
     pub fn open(alloc: Global, unit: Unit, holder: &'a mut Option<Lane>) -> Option<LaneEnds<'a>> {
         let (lane, sender, taker) = lane(alloc, unit).ok()?;
         Some(LaneEnds::of(holder.insert(lane), sender, taker))
     }
 
-    /// Starts the lane's worker, which finds its seat in the holder.
+    /// Starts the lane's worker, which takes its seat from the holder.
     pub fn start<E, K: Naming + Send + Sync + 'a, G: Gate + Send + 'a, R: Threads + Wait + Sync>(
         self,
         scope: &Scope<'a, E>,
@@ -178,8 +179,8 @@ impl<'a> WorkerLane<'a> {
     }
 
     /// Waits for the lane's worker, and settles its tally with the sending end, which is kept for contracts alone.
-    /// `None` if the worker's thread couldn't be started. Its seat came out of an array of values that must be spent,
-    /// of which nothing is known, so its unit is compared.
+    /// `None` if the worker's thread couldn't be started. The worker's seat came out of an array of values that must be
+    /// spent, about which nothing is known. So the tally's unit is compared with this one.
     pub fn end<R: Threads + Wait>(self, rt: &R, unit: Unit) -> Option<(GhostCopy<SendPass>, Tally)>
         ensures { IfSome result (λ ended. IsSettled unit ended.0.value ended.1) }
     {
@@ -199,7 +200,7 @@ impl<'a> WorkerLane<'a> {
     }
 }
 
-/// Makes the lanes of all units, each in its holder. None where memory ran out.
+/// Creates the lanes of all units, each in its holder. `None` if memory runs out.
 pub fn open_lanes<'a>(
     alloc: Global,
     holders: &'a mut PerUnit<Option<Lane>>,
@@ -210,14 +211,14 @@ pub fn open_lanes<'a>(
         .complete()
 }
 
-/// The lanes of all units to send on, with their workers.
+/// The lanes of all units, to send on, with their workers.
 #[derive(Drop)]
 pub struct WorkerLanes<'a> {
     lanes: PerUnit<WorkerLane<'a>>,
 }
 
 impl<'a> WorkerLanes<'a> {
-    /// Starts the worker of each lane in a thread of its own. The worker finds its seat in the holder of its unit.
+    /// Starts the worker of each lane in a thread of its own. The worker takes its seat from the holder of its unit.
     pub fn start<E, K: Naming + Send + Sync + 'a, G: Gate + Send + 'a, R: Threads + Wait + Sync>(
         scope: &Scope<'a, E>,
         rt: &'a R,
@@ -233,12 +234,12 @@ impl<'a> WorkerLanes<'a> {
         WorkerLanes { lanes }
     }
 
-    /// Whether each lane has its worker.
+    /// Whether the worker of each lane could be started.
     pub fn are_served(&self) -> bool {
         self.lanes.each().map(|lane| lane.is_served()).into_array() == [true; 7]
     }
 
-    /// Sends each note on the lane of its unit, and wakes that unit's worker. A unit that is never reserved has no lane.
+    /// Sends each note on the lane of its unit, and wakes that unit's worker. Units that are never reserved have no lane.
     pub fn send_all<R: Wait>(&mut self, rt: &R, signals: &Signals, notes: &[Option<Note>]) {
         for note in notes.iter().flatten() {
             if let Some(lane) = self.lanes.get_mut(note.unit) {

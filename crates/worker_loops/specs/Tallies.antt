@@ -8,12 +8,12 @@ abbrev pub note_count : Item → ℕ
 note_count (Work note) = 1
 note_count Closed = 0
 
--- how many notes there are among these items
+-- how many of these items are notes
 abbrev pub notes_in : List Item → ℕ
 notes_in [] = 0
 notes_in (x ∷ xs) = note_count x + notes_in xs
 
--- to what was taken before more was added, and each note of that was stored or strange
+-- a worker took more items from its lane, and each note among them was stored or strange
 abbrev pub Served : List Item → List Item → ℕ → ℕ → Type 0
 Served before after stored strange =
     (taken : List Item) × (after ≡ before ++ taken) × (stored + strange ≡ notes_in taken)

@@ -1,21 +1,21 @@
-//! What a worker calls at two moments of each reservation.
+//! The calls that a worker makes at two moments of each reservation.
 
 ghost use Rattle.std.specs.Prelude.{◌≡◌, ◌∷◌, []};
 ghost use Rattle.instructions.specs.PerUnit.{in_order};
 
 use instruction_table::{PerUnit, Unit};
 
-/// What the worker of a unit calls at two moments of each reservation: before it computes, and after it stored. It
-/// holds no lock then, so a gate may wait for others. Both calls tell the reservation's unit and number.
+/// A hook that a unit's worker calls at two moments of each reservation, with the reservation's unit and number: before
+/// it computes, and after it has stored. The worker holds no lock then, so a gate may wait for others.
 pub trait Gate: Drop {
-    /// Before the worker computes; it has read the operands.
+    /// Called before the worker computes, when it has read the operands.
     fn before(&mut self, unit: Unit, number: u64);
 
-    /// After the result was stored.
+    /// Called after the result was stored.
     fn stored(&mut self, unit: Unit, number: u64);
 }
 
-/// A gate that holds up nobody.
+/// A gate that never waits.
 #[derive(Clone, Copy, Debug, Drop)]
 pub struct Open;
 
@@ -25,7 +25,7 @@ impl Gate for Open {
     fn stored(&mut self, _unit: Unit, _number: u64) {}
 }
 
-/// A gate for the worker of each unit.
+/// One gate for the worker of each unit.
 #[derive(Drop)]
 pub struct Gates<G: Gate> {
     pub branch: G,
@@ -38,7 +38,7 @@ pub struct Gates<G: Gate> {
 }
 
 impl<G: Gate> Gates<G> {
-    /// The gates by their units.
+    /// The gates by unit.
     pub fn into_each(self) -> PerUnit<G>
         ensures { in_order result ≡ self.branch ∷ self.boolean ∷ self.shift ∷ self.long_add ∷ self.divide
             ∷ self.increment1 ∷ self.increment2 ∷ [] }

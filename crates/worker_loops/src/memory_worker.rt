@@ -1,4 +1,4 @@
-//! The worker for memory. It does the work of the 6600's stunt box and storage (Thornton, stunt box): it accepts
+//! The storage worker. It does the work of the 6600's stunt box and storage (Thornton, stunt box): it accepts
 //! references, frees banks and returns loads.
 
 use instruction_table::Refusal;
@@ -26,7 +26,7 @@ impl Swept {
         }
     }
 
-    /// Takes note of the answer for one place or one channel.
+    /// Records the answer for one place or one channel.
     fn note(&mut self, answer: Result<(), Refusal>) {
         match answer {
             Ok(()) => self.has_worked = true,
@@ -57,7 +57,7 @@ fn return_all<K: Naming>(machine: &mut LockedMachine<K>, swept: &mut Swept) {
     }
 }
 
-/// Takes references as far through memory as may be, in one hold of the lock.
+/// Takes references as far through memory as possible, in one hold of the lock.
 fn sweep<K: Naming, R: Wait>(rt: &R, shared: &Shared<K>) -> Swept {
     let mut machine = shared.lock(rt);
     let mut swept = Swept::new();
@@ -68,8 +68,8 @@ fn sweep<K: Naming, R: Wait>(rt: &R, shared: &Shared<K>) -> Swept {
     swept
 }
 
-/// Accepts references, frees the banks that they wait for, and returns loads, until the machine's users were told to
-/// end and the machine is drained. After a sweep it waits, unless another sweep may accept more.
+/// Accepts references, frees the banks that they wait for, and returns loads, until the machine's users have been told
+/// to end and the machine is drained. After a sweep it waits, unless another sweep may accept more.
 pub fn storage_worker<K: Naming, R: Wait>(rt: &R, shared: &Shared<K>) {
     let signal = &shared.signals().memory;
     let mut wait = shared.signals().waiting();

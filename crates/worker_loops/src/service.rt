@@ -10,11 +10,11 @@ use relocation::Access;
 use signals::Waiting;
 use std::sync::Wait;
 
-/// Claims a reservation and reads its operands in one hold of the lock. While an operand is awaited, it waits for a
-/// change by another thread and tries again.
+/// Claims a reservation and reads its operands in one hold of the lock. While an operand is awaited, the thread waits
+/// for a change by another thread and tries again.
 ///
 /// # Errors
-/// The seat as it was, if the claim or the read was refused as a stranger's.
+/// The seat, unchanged, if the claim or the read is refused as a stranger's.
 fn load<K: Naming, R: Wait>(
     rt: &R,
     shared: &Shared<K>,
@@ -50,9 +50,9 @@ fn load<K: Naming, R: Wait>(
     unreachable!()
 }
 
-/// Takes the reference that a unit has just made through memory, if no earlier instruction was pending at its store:
-/// then it is the oldest one, and only a busy bank can be in its way, which is freed. Otherwise the storage worker is
-/// woken.
+/// Takes through memory the reference that a unit has just made, if no earlier instruction was pending at its store.
+/// The reference is then the oldest, so only a busy bank can be in its way, and that bank is freed. If an earlier
+/// instruction was pending, the storage worker is woken instead.
 fn refer<K: Naming>(machine: &mut LockedMachine<K>, rest: Outstanding, was_oldest: bool) {
     if !was_oldest {
         machine.leave_to_memory();
@@ -72,12 +72,12 @@ fn refer<K: Naming>(machine: &mut LockedMachine<K>, rest: Outstanding, was_oldes
     }
 }
 
-/// Gives the machine a computed value and stores the result in one hold of the lock. A reference that the store makes
-/// is taken on as `refer` says, in the same hold. While the result is held, the reference has to wait for its turn or
-/// the hopper is full, it waits for an event of another thread and tries again.
+/// Gives the machine a computed value and stores the result, in one hold of the lock. A reference that the store makes
+/// is taken further by `refer` in the same hold. If the result is held, the reference isn't in turn or the hopper is
+/// full, the thread waits for another thread's event and tries again.
 ///
 /// # Errors
-/// The seat as it was, if the value or the store was refused as a stranger's.
+/// The seat, unchanged, if the value or the store is refused as a stranger's.
 fn store<K: Naming, R: Wait>(
     rt: &R,
     shared: &Shared<K>,
@@ -120,7 +120,7 @@ fn store<K: Naming, R: Wait>(
     unreachable!()
 }
 
-/// Serves a reservation as `serve`, for a thread that has other waits too.
+/// Serves a reservation as `serve` does, for a thread that has other waits too.
 pub(crate) fn serve_with<K: Naming, G: Gate, R: Wait>(
     rt: &R,
     shared: &Shared<K>,
@@ -146,11 +146,11 @@ pub(crate) fn serve_with<K: Naming, G: Gate, R: Wait>(
     }
 }
 
-/// Takes a reservation through its unit, from claim to store, and gives the seat back. If no earlier instruction is
-/// pending at the store, it also takes this reservation's own reference through memory, in the same hold of the lock;
-/// all other references are accepted, and all other loads returned, by `storage_worker`. It answers whether the result
-/// was stored; that fails only if the claim or a later step was refused as a stranger's, and the reservation is then
-/// given up. It calls the gate before it computes, which takes no lock, and after the store.
+/// Takes a reservation through its unit, from claim to store, and returns the seat. If no earlier instruction is
+/// pending at the store, this thread also takes the reservation's own reference through memory, in the same hold of the
+/// lock. `storage_worker` accepts all other references and returns all other loads. The `bool` says whether the result
+/// was stored. It is `false` only if the claim or a later step was refused as a stranger's, and the reservation is then
+/// given up. The gate is called before the computation, which takes no lock, and after the store.
 pub fn serve<K: Naming, G: Gate, R: Wait>(
     rt: &R,
     shared: &Shared<K>,

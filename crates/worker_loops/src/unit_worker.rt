@@ -11,7 +11,7 @@ use std::snapshot::Snapshot as GhostCopy;
 use std::sync::Wait;
 use unit_queue::{Item, Lane, TakePass};
 
-/// The number after this one. It never returns at the largest number, which no worker reaches.
+/// Adds one to a number. At the largest number, which no worker reaches, it never returns.
 fn one_more<R: Wait>(rt: &R, number: u64) -> u64
     ensures { result ≡ number + 1 }
 {
@@ -22,9 +22,9 @@ fn one_more<R: Wait>(rt: &R, number: u64) -> u64
     unreachable!()
 }
 
-/// Serves the notes of a lane until it is closed, and leaves the seat. Each note is stored or strange: a stranger's
-/// reservation is given up. The seat's count grows by the number of those that were stored. The pass has to be this
-/// lane's.
+/// Serves the notes of a lane until it is closed, and gives up the seat. Each note is either stored or strange; a
+/// stranger's reservation is given up. The seat's count grows by the number of notes that were stored. The pass has to
+/// be this lane's.
 pub fn worker<K: Naming, G: Gate, R: Wait>(
     rt: &R,
     shared: &Shared<K>,

@@ -1,4 +1,4 @@
--- Pending instructions in slots, and the list that they stand for. Source: ours.
+-- Pending instructions in slots, and the list that the slots represent. Source: ours.
 use Rattle.std.specs.Prelude.{◌≡◌, ◌≢◌, ◌<◌, ◌+◌, ℕ, Bool, true, false, nat_lt, if◌then◌else◌, List, [], ◌∷◌, ◌++◌}
 use Rattle.std.specs.Prelude.{Option, Some, None, length}
 use Rattle.instructions.specs.declared.instr.Unit.{Unit as FunctionalUnit}
@@ -11,7 +11,7 @@ use Rattle.in_flight.specs.declared.pending.Phase.{Phase}
 use Rattle.in_flight.specs.declared.pending.Phase.TheVariants.{Before, After}
 use Rattle.in_flight.specs.declared.pending.Pending.{Pending}
 
--- the number of its reservation
+-- the number of the instruction's reservation
 unfoldable pub number_of : Pending → ℕ
 number_of m = m.number
 
@@ -29,25 +29,25 @@ slot_of m = slot_in m.unit m.phase
 unfoldable pub slots : List (Option Pending) → List (Option Pending) → List (Option Pending) → List (Option Pending)
 slots units places channels = units ++ (places ++ channels)
 
--- those that stand there, in issue order
+-- the instructions in these slots, in issue order
 abbrev pub in_order : List (Option Pending) → List Pending
 in_order os = sort_by number_of (somes os)
 
--- each pending instruction stands in the slot of its unit, place or channel
+-- each pending instruction is in the slot of its unit, place or channel
 pub record IsRight (units places channels : List (Option Pending)) : Type 0 where
   -- ten units, four places of the hopper and eight channels
   pub all_units : length units ≡ 10
   pub all_places : length places ≡ 4
   pub all_channels : length channels ≡ 8
   pub stands : IsInSlots slot_of 0 (slots units places channels)
-  -- no two have one number
+  -- no two instructions have the same number
   pub own : Pairs (λ x y. number_of x ≢ number_of y) (somes (slots units places channels))
 
--- none of them stands there
+-- none of the instructions is in this slot
 abbrev pub AreElsewhere : ℕ → List Pending → Type 0
 AreElsewhere slot ms = Each (λ m. slot_of m ≢ slot) ms
 
--- the slot of what is left is there, and free
+-- the slot of the rest exists and is free
 abbrev pub HasRoom : Option Outstanding → List Pending → Type 0
 HasRoom None ms = Unit {0}
 HasRoom (Some (Entered place a access)) ms = (place < 4) × AreElsewhere (10 + place) ms
@@ -58,13 +58,13 @@ unfoldable pub has_none : List Pending → Bool
 has_none [] = true
 has_none (m ∷ ms) = false
 
--- the one with the lower number
+-- the instruction with the lower number
 unfoldable pub lower_of : Option Pending → Option Pending → Option Pending
 lower_of None o = o
 lower_of (Some a) None = Some a
 lower_of (Some a) (Some b) = if nat_lt a.number b.number then Some a else Some b
 
--- the one with the lowest number in the slots
+-- the instruction with the lowest number in the slots
 unfoldable pub lowest_of : List (Option Pending) → Option Pending
 lowest_of [] = None
 lowest_of (o ∷ os) = lower_of o (lowest_of os)

@@ -13,16 +13,17 @@ use instruction_table::Refusal;
 use judging::{judge_ask, judge_exchange};
 use relocation::PACKAGE_WORDS;
 
-/// The entries for which a request makes room in the log: those of an instruction, the exchange and an instruction, so
-/// that issues and exchanges take no memory.
+/// The log entries that a request reserves: one for an instruction, one for the exchange and one for an instruction
+/// after it. Issues and exchanges then allocate no memory.
 const REQUEST_ROOM: u32 = 3;
 
 impl Machine {
-    /// An exchange is asked for: the event `Ask`. The log gets room for three entries, so that issues and exchanges
-    /// take no memory.
+    /// Asks for an exchange: the event `Ask`. Reserves three entries in the log, so that issues and exchanges allocate
+    /// no memory.
     ///
     /// # Errors
-    /// `Budget`, `ExchangeBusy`, `PackageRange`, `OutOfMemory`: the first that applies. The machine is then as it was.
+    /// The first that applies: `Budget`, `ExchangeBusy`, `PackageRange` or `OutOfMemory`. The machine is then
+    /// unchanged.
     pub fn ask(&mut self, at: u32) -> Answer
         ensures answer { IsAnswer self.old (Ask at) result }
         ensures after { self.new ≡ settled self.old (Ask at) result }
@@ -40,10 +41,10 @@ impl Machine {
         Ok(Done::Made)
     }
 
-    /// The exchange that was asked for is made: the event `Exchange`.
+    /// Makes the exchange that was asked for: the event `Exchange`.
     ///
     /// # Errors
-    /// `Nothing`, `NotDrained`, `MidWord`: the first that applies. The machine is then as it was.
+    /// The first that applies: `Nothing`, `NotDrained` or `MidWord`. The machine is then unchanged.
     pub fn exchange(&mut self) -> Answer
         ensures answer { result ≡ answer_of self.old Exchange }
         ensures after { self.new ≡ settled self.old Exchange result }

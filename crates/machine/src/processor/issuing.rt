@@ -15,22 +15,22 @@ use judging::judge_issue;
 use sequential::Fetched;
 
 impl Machine {
-    /// The next instruction is issued: the event `Issue`.
+    /// Issues the next instruction: the event `Issue`.
     ///
     /// # Errors
-    /// `Halted`, `Faulted`, `Budget`, `BranchPending`, `ExchangeWaiting`, `FetchWait`, `UnitBusy`, `ResultReserved`:
-    /// the first that applies. The machine is then as it was.
+    /// The first that applies: `Halted`, `Faulted`, `Budget`, `BranchPending`, `ExchangeWaiting`, `FetchWait`,
+    /// `UnitBusy` or `ResultReserved`. The machine is then unchanged.
     pub fn issue(&mut self) -> Answer
         ensures answer { result ≡ answer_of self.old Issue }
         ensures after { self.new ≡ settled self.old Issue result }
         ensures named { IfErr result (λ refusal. may_refuse Issue refusal ≡ true) }
         ensures reached { GoesOn self.old (Issue ∷ []) (result ∷ []) self.new }
 
-        // It answers a reservation exactly where the instruction to which the log led goes to a unit.
+        // The call returns a reservation if and only if the instruction to which the log led goes to a unit.
         ensures noted { (note : Option SomeNote) → result ≡ Ok (Issued note)
             → IsNoted (completed self.old) (taken (boot self.new.boot_memory) self.new.log) note }
 
-        // What a refusal tells about the state to which the log led.
+        // What a refusal says about the state to which the log led.
         ensures why { IfErr result (λ refusal. IsWhy (completed self.old) refusal) }
     {
         let judged = judge_issue(

@@ -10,10 +10,10 @@ use crate::{Answer, Machine};
 use instruction_table::Reg;
 
 impl Machine {
-    /// Memory takes the reference in a place of the hopper, 0 to 3, and its bank is busy: the event `Accept`.
+    /// Accepts the reference in a place of the hopper, 0 to 3, and makes its bank busy: the event `Accept`.
     ///
     /// # Errors
-    /// `Nothing`, `BankBusy`, `OlderAtAddress`: the first that applies. The machine is then as it was.
+    /// The first that applies: `Nothing`, `BankBusy` or `OlderAtAddress`. The machine is then unchanged.
     pub fn accept(&mut self, place: u8) -> Answer
         ensures answer { result ≡ answer_of self.old (Accept place) }
         ensures after { self.new ≡ settled self.old (Accept place) result }
@@ -27,10 +27,10 @@ impl Machine {
         made(&accepted)
     }
 
-    /// The load in a channel, 1 to 5, writes its register: the event `Return`.
+    /// Writes the word of the load in a channel, 1 to 5, to its register: the event `Return`.
     ///
     /// # Errors
-    /// `Nothing`, `ResultHeld`: the first that applies. The machine is then as it was.
+    /// The first that applies: `Nothing` or `ResultHeld`. The machine is then unchanged.
     pub fn return_load(&mut self, channel: u8) -> Answer
         ensures answer { result ≡ answer_of self.old (Return channel) }
         ensures after { self.new ≡ settled self.old (Return channel) result }
@@ -46,10 +46,10 @@ impl Machine {
         made(&returned)
     }
 
-    /// A bank, 0 to 31, is free again: the event `BankFree`.
+    /// Frees a bank, 0 to 31: the event `BankFree`.
     ///
     /// # Errors
-    /// `Nothing` where the bank isn't busy. The machine is then as it was.
+    /// `Nothing` if the bank isn't busy. The machine is then unchanged.
     pub fn bank_free(&mut self, bank: u8) -> Answer
         ensures answer { result ≡ answer_of self.old (BankFree bank) }
         ensures after { self.new ≡ settled self.old (BankFree bank) result }

@@ -15,16 +15,17 @@ use judging::judge_access;
 use relocation::Access;
 use word60::Word60;
 
-/// The entries for which an access makes room in the log: its own, and those of an instruction, an exchange and an
-/// instruction, so that issues and exchanges take no memory.
+/// The log entries that an access reserves: its own, and one each for an instruction, an exchange and an instruction
+/// after it. Issues and exchanges then allocate no memory.
 const ACCESS_ROOM: u32 = 4;
 
 impl Machine {
-    /// A peripheral processor reads the word at an absolute address: the event `PpRead`. Room is made in the log for
-    /// what may follow.
+    /// Reads the word at an absolute address for a peripheral processor: the event `PpRead`. Reserves room in the log
+    /// for what may follow.
     ///
     /// # Errors
-    /// `Budget`, `PeripheralWait`, `PeripheralRange`, `OutOfMemory`: the first that applies, the machine as it was.
+    /// The first that applies: `Budget`, `PeripheralWait`, `PeripheralRange` or `OutOfMemory`. The machine is then
+    /// unchanged.
     pub fn pp_read(&mut self, at: u32) -> Answer
         ensures answer { IsAnswer self.old (PpRead at) result }
         ensures after { self.new ≡ settled self.old (PpRead at) result }
@@ -46,11 +47,12 @@ impl Machine {
         Ok(Done::Word(word))
     }
 
-    /// A peripheral processor writes a word to an absolute address, whose page is saved before: the event `PpWrite`.
-    /// Room is made in the log for what may follow.
+    /// Writes a word to an absolute address for a peripheral processor, after saving the page of that word: the event
+    /// `PpWrite`. Reserves room in the log for what may follow.
     ///
     /// # Errors
-    /// `Budget`, `PeripheralWait`, `PeripheralRange`, `OutOfMemory`: the first that applies, the machine as it was.
+    /// The first that applies: `Budget`, `PeripheralWait`, `PeripheralRange` or `OutOfMemory`. The machine is then
+    /// unchanged.
     pub fn pp_write(&mut self, at: u32, word: Word60) -> Answer
         ensures answer { IsAnswer self.old (PpWrite at word) result }
         ensures after { self.new ≡ settled self.old (PpWrite at word) result }

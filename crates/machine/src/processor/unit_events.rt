@@ -14,7 +14,7 @@ use sequential::Work;
 use unit_ops::value;
 
 impl Machine {
-    /// A unit reads all its operands in this step.
+    /// Reads all operands of a unit in one step.
     pub(crate) fn read_unit(&mut self, unit: Unit) -> Answer
         ensures answer { result ≡ answer_of self.old (Read unit) }
         ensures after { self.new ≡ settled self.old (Read unit) result }
@@ -22,7 +22,7 @@ impl Machine {
         made(&self.in_flight.read(unit, &self.state.registers))
     }
 
-    /// A unit has its value.
+    /// Finishes a unit, which then has its value.
     pub(crate) fn finish_unit(&mut self, unit: Unit) -> Answer
         ensures answer { result ≡ answer_of self.old (Finish unit) }
         ensures after { self.new ≡ settled self.old (Finish unit) result }
@@ -34,8 +34,8 @@ impl Machine {
         made(&judged)
     }
 
-    /// A unit stores its result, jumps or makes its reference, and is released. Returns what is left of the instruction:
-    /// its reference, in a place of the hopper or in its load channel.
+    /// Stores a unit's result, makes its jump or its reference, and releases the unit. Returns the rest of the
+    /// instruction: its reference, in a place of the hopper or in its load channel.
     pub(crate) fn store_result(&mut self, unit: Unit) -> Result<Option<Outstanding>, Refusal>
         ensures answer { allowed self.old (Store unit) ≡ refusal_in result }
         ensures after { MatchResult result (λ rest. self.new ≡ after self.old (Store unit))
@@ -56,7 +56,7 @@ impl Machine {
         Ok(self.in_flight.leave(unit, &reference))
     }
 
-    /// A unit stores its result, jumps or makes its reference, and is released.
+    /// Stores a unit's result, makes its jump or its reference, and releases the unit.
     pub(crate) fn store_unit(&mut self, unit: Unit) -> Answer
         ensures answer { result ≡ answer_of self.old (Store unit) }
         ensures after { self.new ≡ settled self.old (Store unit) result }

@@ -1,4 +1,4 @@
--- What the lock keeps. Source: ours.
+-- The invariant of the lock. Source: ours.
 use Rattle.std.specs.Prelude.{◌≡◌, ℕ, List, [], ◌∷◌, ◌++◌, Result, Ok, Err}
 use Rattle.instructions.specs.declared.refusal.Refusal.{Refusal}
 use Rattle.atomic_table.specs.Seated.{TableId}
@@ -9,7 +9,8 @@ use Rattle.program_order.specs.Processor.{Processor}
 use Rattle.program_order.specs.Invariant.{IsReplay}
 use Rattle.progress_word.specs.inner.Rules.{History, Knowing, IsKeeper, history, past}
 
--- what always holds of the machine and the pass beside it: the replay, and that the pass's list is the log
+-- the invariant of the machine and its pass: the effects so far, with those still to come, are the log's replay, and
+-- the pass's list is the log
 pub record IsLocked (table : TableId) (w : Processor) (pass : Seat ℕ Knowing) : Type 0 where
   pub replay : IsReplay w
   pub seen : IsKeeper table (past w) pass
@@ -20,8 +21,8 @@ last_step [] = Issued
 last_step (x ∷ []) = x
 last_step (x ∷ y ∷ ys) = last_step (y ∷ ys)
 
--- the machine's log after an event that is logged: one step longer than that one where the event was made, else the
--- same
+-- the machine's log after an event that is logged: one step longer than before if the event was made, otherwise
+-- unchanged
 abbrev pub IsLogged : Result Done Refusal → History → Processor → Type 0
 IsLogged (Ok done) h w = past w ≡ history h.booted (h.log ++ last_step w.log ∷ [])
 IsLogged (Err refusal) h w = past w ≡ h

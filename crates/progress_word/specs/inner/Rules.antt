@@ -1,5 +1,5 @@
--- The rule of the progress word, which counts the steps of one machine's log: what each pass knows is a beginning of
--- that log, and no step belongs to two. Source: ours.
+-- The rule of the progress word, which counts the steps of one machine's log: each pass knows a beginning of that log,
+-- and no step belongs to two passes. Source: ours.
 use Rattle.std.specs.Prelude.{◌≡◌, ℕ, ◌<◌, ◌%◌, ◌^◌, Bool, true, false, List, [], ◌∷◌, ◌++◌, length}
 use mathlib.Core.Option.{some}
 use lib.ListN.{get_elem?}
@@ -15,7 +15,7 @@ abbrev pub no_table : TableId
 no_table =
     record { words = 0; slots = 0; views_name = 0; atom = 0; block = 0; offset = 0; slot_names = [] }
 
--- what a machine was booted with, and the steps of its log since
+-- what a machine was booted with, and the steps of its log since boot
 pub record History : Type 0 where
   pub booted : Booted
   pub log : List LogStep
@@ -23,27 +23,27 @@ pub record History : Type 0 where
 abbrev pub history : Booted → List LogStep → History
 history booted log = record { booted = booted; log = log }
 
--- what a machine has been through
+-- the history of a machine
 abbrev pub past : Processor → History
 past w = history (booted_by w) w.log
 
 abbrev pub nothing : History
 nothing = history (booted_with [] 0) []
 
--- the history goes on from that one
+-- the first history continues the second
 abbrev pub Continues : History → History → Type 0
 Continues h k = (k.booted ≡ h.booted) × StartsWith h.log k.log
 
--- what a pass knows
+-- the knowledge of a pass
 pub record Knowing : Type 0 where
-  -- whether it is the machine's
+  -- whether it is the machine's pass
   pub keeps : Bool
   -- whether it knows a history yet
   pub knows : Bool
-  -- that history, and the positions in it of its own steps
+  -- that history, and the positions of the pass's own steps in it
   pub seen : History
   pub mine : List ℕ
-  -- the same two of a pass that it took in
+  -- the same two of the pass that it took in
   pub told : History
   pub theirs : List ℕ
 
@@ -51,11 +51,11 @@ abbrev pub knowing : Bool → Bool → History → List ℕ → History → List
 knowing keeps knows seen mine told theirs =
     record { keeps = keeps; knows = knows; seen = seen; mine = mine; told = told; theirs = theirs }
 
--- the first pass, before a machine stands beside the word
+-- the first pass, before the word belongs to a machine
 abbrev pub fresh : Knowing
 fresh = knowing true false nothing [] nothing []
 
--- a pass that gave away what it knew
+-- a pass that gave away all that it knew
 abbrev pub spent : Knowing
 spent = knowing false false nothing [] nothing []
 
@@ -67,26 +67,26 @@ keeper h = knowing true true h [] h []
 abbrev pub caller : History → List ℕ → Knowing
 caller h mine = knowing false true h mine h []
 
--- what is known once the positions of another pass are taken in, with what it has seen
+-- the knowledge of a pass that took in another one, with the other's history and positions
 abbrev pub with_told : Knowing → Knowing → Knowing
 with_told v w = knowing v.keeps v.knows v.seen v.mine w.seen w.mine
 
--- what stays and what goes where another's positions are handed back: both have seen the same
+-- the two parts when the pass that was taken in is handed back: both have seen the same history
 abbrev pub kept_back : Knowing → Knowing
 kept_back v = knowing v.keeps v.knows v.seen v.mine v.seen []
 
 abbrev pub handed_back : Knowing → Knowing
 handed_back v = knowing false v.knows v.seen v.theirs v.seen []
 
--- a new pass that has seen the same, with no step of its own
+-- a new pass that has seen the same history and has no step of its own
 abbrev pub shared_out : Knowing → Knowing
 shared_out v = knowing false v.knows v.seen [] v.seen []
 
--- these are positions in the log, and belong to one pass
+-- these are positions in the log, and all belong to one pass
 abbrev pub BelongTo : (ℕ → ℕ) → ℕ → List LogStep → List ℕ → Type 0
 BelongTo owner by log positions = (p : ℕ) → is_in p positions ≡ true → (p < length log) × (owner p ≡ by)
 
--- what the rule says of one pass, by its number
+-- the rule for the pass with this number
 pub record Fits (keeper_at : ℕ) (begun : Bool) (h : History) (owner : ℕ → ℕ) (by : ℕ) (v : Knowing) : Type 0 where
   pub keeps : v.keeps ≡ true → (by ≡ keeper_at) × (v.knows ≡ begun) × (begun ≡ true → v.seen ≡ h)
   pub knows : v.knows ≡ true → (begun ≡ true) × Continues h v.seen × Continues h v.told
@@ -94,8 +94,9 @@ pub record Fits (keeper_at : ℕ) (begun : Bool) (h : History) (owner : ℕ → 
   pub theirs : BelongTo owner by h.log v.theirs
   pub apart : AreApart v.mine v.theirs
 
--- the rule: there is one history, and once a machine stands beside the word, the word is its length. The machine's
--- pass knows it whole, every other a beginning of it or nothing, and each position in it has one owner
+-- the rule: there is one history, and once the word belongs to a machine, the word is the history's length. The
+-- machine's pass knows the whole history, every other pass knows a beginning of it or nothing, and each position in it
+-- has one owner
 pub record IsCounted (s : State ℕ Knowing) : Type 0 where
   pub keeper_at : ℕ
   pub begun : Bool
@@ -105,23 +106,23 @@ pub record IsCounted (s : State ℕ Knowing) : Type 0 where
   pub empty : begun ≡ false → h.log ≡ []
   pub fits : (by : ℕ) → (v : Knowing) → get_elem? s.views by ≡ some v → Fits keeper_at begun h owner by v
 
--- the machine's pass added a step for the one that it took in
+-- the machine's pass added a step for the pass that it took in
 abbrev pub Added : LogStep → Knowing → Knowing → Type 0
 Added x v w =
     (w ≡ knowing v.keeps v.knows (history v.seen.booted (v.seen.log ++ x ∷ [])) v.mine v.told
     (v.theirs ++ length v.seen.log ∷ []))
     × Continues v.seen v.told
 
--- the history was seen; where another was taken in, no step belongs to both
+-- the pass has seen the history, and no step belongs both to it and to the pass that it took in
 abbrev pub Looked : Knowing → Knowing → Type 0
 Looked v w =
     (w ≡ knowing v.keeps v.knows w.seen v.mine v.told v.theirs) × Continues w.seen v.seen × Continues w.seen v.told
     × (v.keeps ≡ true → w.seen ≡ v.seen) × AreApart v.mine v.theirs
 
--- the pass is of that word and the machine's, which knows this history
+-- the pass is the machine's pass to this word, and knows this history
 abbrev pub IsKeeper : TableId → History → Seat ℕ Knowing → Type 0
 IsKeeper table h pass = (pass.table_id ≡ table) × (pass.me ≡ (keeper h, []))
 
--- the pass is of that word and a caller's
+-- the pass is a caller's pass to this word, which knows this history and owns the steps at these positions
 abbrev pub IsCaller : TableId → History → List ℕ → Seat ℕ Knowing → Type 0
 IsCaller table h mine pass = (pass.table_id ≡ table) × (pass.me ≡ (caller h mine, []))
