@@ -20,7 +20,7 @@ Exit status:
   6  memory ran out
   7  a read or a write failed
 
-Decks, schedules, logs and dumps are described in docs/formats.md.";
+Decks, schedules, logs and dumps are described in docs/use/formats.md.";
 
 const AFTER_RUN: &str = "\
 Examples:

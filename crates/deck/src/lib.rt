@@ -1,5 +1,5 @@
 //! Decks. A deck gives the contents of memory, the package of the first exchange, the requests for later exchanges, and
-//! the words to show. A deck is lines of bytes; docs/formats.md has the lines and their faults.
+//! the words to show. A deck is lines of bytes; docs/use/formats.md has the lines and their faults.
 //!
 //! Callers rely on `read_deck`. It returns exactly the deck in the bytes, or the first faulty line, and reads nothing
 //! past the deck's end or that fault. `applying` has the effect of each line. Its tests are in

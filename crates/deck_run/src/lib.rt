@@ -1,5 +1,5 @@
 //! The commands `run` and `replay`. They read a deck, run it with threads or one instruction at a time, or replay a log
-//! on it. Then they print the machine's dump and return how the program ends. docs/formats.md has the texts and the
+//! on it. Then they print the machine's dump and return how the program ends. docs/use/formats.md has the texts and the
 //! numbers.
 //!
 //! Callers rely on `run_deck` and `run_deck_sequentially`. Both print the dump of a state to which the dump's own log

@@ -1,5 +1,5 @@
 /* The simulator cdc6600 as functions for C: its commands, from bytes in memory to bytes in memory, and a machine that
- * the caller keeps and drives event by event. docs/embedding.md explains the functions, and docs/formats.md the formats
+ * the caller keeps and drives event by event. docs/use/emulators.md explains the functions, and docs/use/formats.md the formats
  * of the bytes.
  *
  * The caller has to meet these requirements. Nothing checks them:

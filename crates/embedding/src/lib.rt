@@ -1,7 +1,7 @@
 //! The simulator as functions for C, or for a language that calls C. Some functions do what the commands `run
 //! --sequential`, `list`, `replay` and `events` do, from bytes in memory to bytes in memory. The others keep a machine
 //! and drive it event by event. This crate is a static library: include/cdc6600.h declares its functions, and
-//! docs/embedding.md explains how to call them.
+//! docs/use/emulators.md explains how to call them.
 //!
 //! Callers rely on the contracts here, which say the same as those of `job_deck` and `sequential_job` for any reader
 //! and writer. A call copies as much of the text as fits, and that is the text that the command prints. No contract

@@ -17,7 +17,7 @@ use instructions::{Digit, Instr, MemoryUse, Refusal, Reg, Unit, results, sources
 use std::marker::Model;
 
 /// The instructions that hold a unit or have a load still to return, and the writer of each register (Thornton,
-/// scoreboard). All of it is kept by unit, by register and by load channel; docs/scoreboard.md has the fields.
+/// scoreboard). All of it is kept by unit, by register and by load channel; docs/machine/rules.md has the fields.
 ///
 /// In contracts a board is the list of these instructions in issue order, with the number of the last reservation. A
 /// call about a free unit, or about an empty channel, finds no conflict and changes nothing.

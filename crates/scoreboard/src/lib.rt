@@ -2,7 +2,7 @@
 //! (Thornton, scoreboard; Control Data 60100000, register and unit conflicts).
 //!
 //! `Reservation` is one issued instruction by itself. `Board` keeps all of them in fixed fields, by unit, register and
-//! load channel, and judges the three orders of conflict (docs/scoreboard.md).
+//! load channel, and judges the three orders of conflict (docs/machine/rules.md).
 //!
 //! Callers rely on `Board::try_reserve`, `may_read`, `may_store` and `may_return`: each refuses exactly if
 //! `specs/Conflicts` finds a conflict in the list of the issued instructions. `fields` has the board's queries of its

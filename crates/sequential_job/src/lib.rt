@@ -1,5 +1,5 @@
 //! Runs decks sequentially: reads a deck, runs it one instruction at a time and prints the machine's dump. A sequential
-//! run starts no thread and takes no lock, so the C library offers it as well as the program. docs/formats.md has the
+//! run starts no thread and takes no lock, so the C library offers it as well as the program. docs/use/formats.md has the
 //! texts.
 //!
 //! Callers rely on `run_to`. It prints the dump of the log and the state with which the sequential run of the deck

@@ -1,4 +1,4 @@
-//! Two threads that drive one machine and meet, as in docs/threads.md.
+//! Two threads that drive one machine and meet, as in docs/work/threads.md.
 ghost use Rattle.std.specs.Prelude.{◌≡◌, IfOk};
 ghost use Rattle.progress_word.specs.CallerKnowledge.{AreApart, NumbersApart, StartsWith};
 

@@ -1,5 +1,5 @@
 -- Queries of the fields of a board, and changes of the fields. A slot is the field of one unit or of one load channel.
--- Source: Thornton, scoreboard; docs/scoreboard.md compares the fields with his.
+-- Source: Thornton, scoreboard; docs/machine/rules.md compares the fields with his.
 use Rattle.std.specs.Prelude.{ℕ, Bool, false, ◌&&◌, ◌||◌, nat_lt, List, [], ◌∷◌, Option, Some, None, is_some, map}
 use Rattle.std.specs.Prelude.{slice_index_or}
 use Rattle.instructions.specs.declared.instr.Unit.TheVariants.{Increment1, Increment2}
