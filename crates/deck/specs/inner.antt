@@ -1,2 +1,2 @@
--- Definitions that connect the parts of the code with those that a reader checks. Source: ours.
+-- The relation between the parts of the code and the definitions that a reader checks. Source: ours.
 pub mod ParsedLine

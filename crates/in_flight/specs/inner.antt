@@ -1,4 +1,4 @@
--- The connection of the code's fields with the definitions that a reader checks. Source: ours.
+-- The relation between the fields of the code and the definitions that a reader checks. Source: ours.
 pub mod Slots
 pub mod OwnSlots
 pub mod Board

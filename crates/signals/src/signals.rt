@@ -15,7 +15,7 @@ const FEW_LOOKS: u32 = 8;
 pub struct Signals {
     /// For the issuing thread: the cause of the last refusal may be gone, or an exchange was asked for.
     pub issuing: Signal,
-    /// For the thread that makes the requests at any time: an exchange was made.
+    /// For the asking thread, which makes the free requests: an exchange was made.
     pub requests: Signal,
     /// For the storage worker: a reference was made, or the operands were read that hold up a load's return.
     pub memory: Signal,
