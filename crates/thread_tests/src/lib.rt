@@ -3,8 +3,8 @@
 //!
 //! `lock_tests` checks what callers of the lock have seen, `guard_tests` several events in one hold of the lock,
 //! `queue_tests` the lanes, and `access_tests` two peripheral processors. `signal_tests` checks how threads wake each
-//! other, and `example_tests` is the example of docs/work/threads.md. Begin with `RUNS` in `thread_tests`: one program in
-//! each row, and what the machine shows after the threads have run it.
+//! other, and `example_tests` is the example of docs/work/threads.md. Begin with `RUNS` in `thread_tests`: one program
+//! in each row, and what the machine shows after the threads have run it.
 #![tactic(auto)]
 
 #[cfg(test)]

@@ -239,7 +239,8 @@ impl<'a> WorkerLanes<'a> {
         self.lanes.each().map(|lane| lane.is_served()).into_array() == [true; 7]
     }
 
-    /// Sends each note on the lane of its unit, and wakes that unit's worker. Units that are never reserved have no lane.
+    /// Sends each note on the lane of its unit, and wakes that unit's worker. Units that are never reserved have no
+    /// lane.
     pub fn send_all<R: Wait>(&mut self, rt: &R, signals: &Signals, notes: &[Option<Note>]) {
         for note in notes.iter().flatten() {
             if let Some(lane) = self.lanes.get_mut(note.unit) {
