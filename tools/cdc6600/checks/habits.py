@@ -188,7 +188,7 @@ class Installed:
     def faults_of_links(self):
         """What README.md links to and isn't installed."""
         folder = self.prefix / "share/doc/cdc6600"
-        links = re.findall(r"\]\(([^):]+)\)", (folder / "README.md").read_text(encoding="utf-8"))
+        links = re.findall(r"\]\(([^):#]+)", (folder / "README.md").read_text(encoding="utf-8"))
         missing = [link for link in links if not (folder / link).exists() and not OF_CHECKOUT.fullmatch(link)]
         return [f"README.md links to {link}, which isn't installed" for link in missing]
 
