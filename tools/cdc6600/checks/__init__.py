@@ -1,0 +1,1 @@
+"""The checks of the program and the tools, and the modules that they share."""

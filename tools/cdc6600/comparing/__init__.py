@@ -1,0 +1,1 @@
+"""The comparison of emulators with the program, and the trace of a log."""

@@ -1,0 +1,1 @@
+"""The readers of `crates.txt` and of the crates' sources, and the kit."""

@@ -1,0 +1,1 @@
+"""The timelines and the pages of sessions."""

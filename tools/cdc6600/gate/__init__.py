@@ -1,0 +1,1 @@
+"""The gate, the list of all checks, and the small checks."""

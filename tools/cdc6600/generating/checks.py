@@ -1,4 +1,4 @@
-"""The page of the checks: what each one checks, and when to run it."""
+"""The page of the checks, each with its purpose and when to run it, and of the packages of the tools."""
 
 import ast
 
@@ -20,6 +20,13 @@ GROUPS = (
 )
 
 
+def packages():
+    """A row for each package of the tools."""
+    for file in sorted((ROOT / "tools/cdc6600").glob("*/__init__.py")):
+        said = ast.get_docstring(ast.parse(file.read_text(encoding="utf-8")))
+        yield f"| `{file.parent.name}` | {said.removesuffix('.')} |"
+
+
 def text():
     """The page."""
     lines = [INTRODUCTION]
@@ -28,4 +35,5 @@ def text():
         for name in names:
             said = ast.get_docstring(ast.parse((ROOT / file_of(name)).read_text(encoding="utf-8")))
             lines += [f"### `{called(name)}`\n", f"{said}\n"]
+    lines += ["## The packages of `tools/cdc6600`\n", "| Package | What it has |", "|---|---|", *packages(), ""]
     return "\n".join(lines)

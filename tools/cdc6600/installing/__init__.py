@@ -1,0 +1,1 @@
+"""The list of installed files, and the completions of shells."""

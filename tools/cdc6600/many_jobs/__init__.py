@@ -1,0 +1,1 @@
+"""The runs and results of many decks, for `tools/run-jobs`."""

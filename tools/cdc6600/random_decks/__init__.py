@@ -1,0 +1,1 @@
+"""Drawn programs, for `tools/random-deck`."""

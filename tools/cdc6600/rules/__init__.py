@@ -1,0 +1,1 @@
+"""The readers of the rules and of the refusals' labels, and the lines that belong to a rule, for `tools/where`."""

@@ -1,0 +1,1 @@
+"""Schedules by minor cycles, and the exploration of all orders."""

@@ -1,0 +1,1 @@
+"""The runner of wrong bodies, `tools/wrong-bodies`."""
