@@ -51,6 +51,9 @@ def program_path():
     one that `./cdc6600` runs, which is built first if its sources have changed. What is run then is the executable,
     without the script's look at the sources at each run."""
     if IS_CHECKOUT and not named_program():
+        if not BUILT.exists():
+            told = "proving and building the program first, which takes some ten minutes"
+            print(f"{sys.argv[0]}: {told}; CDC6600=FILE names another executable", file=sys.stderr, flush=True)
         if subprocess.run([ROOT / "tools/build-program"], check=False).returncode:
             sys.exit(f"{sys.argv[0]}: the program could not be built")
     return named_program() or str(BUILT)
