@@ -58,6 +58,16 @@ def of_kinds():
     return kinds
 
 
+@cache
+def of_tests():
+    """The refusals of each definition that lists the tests of an event, by its name."""
+    found = {}
+    for path in sorted(ROOT.glob("crates/*/specs/*.antt")):
+        for name, text in re.findall(r"^(\w+_tests)\b[^:\n]*= *\n((?: .*\n)+)", path.read_text(encoding="utf-8"), re.M):
+            found[name] = set(re.findall(r"refusal = (\w+)", text))
+    return found
+
+
 def named_by(call):
     """The refusals that a contract names, by themselves or by a definition of Refusals.antt."""
     text = (ROOT / call.path).read_text(encoding="utf-8")
@@ -69,6 +79,12 @@ def named_by(call):
     return names & set(refusals())
 
 
+def tested_by(call):
+    """The refusals of the tests that a contract cites."""
+    tests = set(re.findall(r"\b\w+_tests\b", call.declaration)) & set(of_tests())
+    return set().union(*(of_tests()[name] for name in tests))
+
+
 def listed(names):
     """Some refusals, in the order of the sources."""
     return ", ".join(f"`{name}`" for name in dict.fromkeys(refusals()) if name in names)
@@ -78,11 +94,12 @@ def refusing(call):
     """What a call may refuse: what its comment says under `# Errors`, and what else its contract names."""
     named, said = named_by(call), " ".join(line.strip().removeprefix("///") for line in call.errors.splitlines())
     said = " ".join(re.sub(r"#\[.*\]", "", said).split())
-    further = listed({name for name in named if f"`{name}`" not in said})
+    further = listed({name for name in named if f"`{name}`" not in said} if said or named else tested_by(call))
     answer = (re.search(r"->(.*)", call.signature) or ["", ""])[1]
     if said or further:
         return f"{said} {further}".strip()
-    return "`None`" if re.match(r" *Option\b", answer) else "nothing"
+    failure = re.search(r"Result<.*, (\w+)>", answer)
+    return "`None`" if re.match(r" *Option\b", answer) else f"`{failure[1]}`" if failure else "nothing"
 
 
 def returning(call):
