@@ -16,7 +16,8 @@ INTRODUCTION = """# The map of the crates
 crate's text is the comment that begins it: what it is, what its callers rely on, where its tests are, and where to
 begin reading. *Uses* leaves out the crates that another one of them uses. A table lists the modules, the files of
 definitions (`specs`) and those of lemmas (`proofs`) with the first sentence of each, or the names that a module
-exports. The proofs of single functions, which have the name of their function, aren't listed.
+exports. The proofs of single functions, which have the name of their function, aren't listed. The last row names the
+wrong bodies, which [definitions.md](../proof/definitions.md) has by rule.
 
 - A definition belongs to the crate whose subject it is, even if only higher crates cite it: those of lists are in
   `instructions`, those of runs in `program_order`. The folder `specs/inner/` ties the fields of a crate's code to its
@@ -80,6 +81,9 @@ def part_of(table, crate):
     lines = [f"### `{crate.name}`", "", comment_of(root.lines, "//!"), ""]
     lines += [f"Uses {uses}.", ""] if uses else []
     rows = [*modules_of(crate), *written_in(crate, "specs"), *written_in(crate, "proofs")]
+    if crate.edits:
+        names = sorted(f"`{file.stem}`" for file in crate.edits)
+        rows.append((f"{len(names)} wrong bodies", ", ".join(names)))
     if rows:
         lines += ["| File | What it has |", "|---|---|", *(f"| {name} | {cell(said)} |" for name, said in rows), ""]
     return lines
