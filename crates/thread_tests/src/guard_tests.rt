@@ -49,7 +49,7 @@ fn end<K: Naming>(machine: &mut LockedMachine<K>, loaded: Result<Loaded, Seat>) 
     let seat = match loaded {
         Ok(loaded) => match machine.finish(loaded.compute()) {
             Ok(finished) => match machine.store(finished) {
-                Ok((seat, _)) => seat,
+                Ok(seat) => seat,
                 Err((_, finished)) => finished.abandon(),
             },
             Err((_, computed)) => computed.abandon(),
