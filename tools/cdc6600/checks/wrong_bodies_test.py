@@ -16,6 +16,7 @@ from pathlib import Path
 from cdc6600.crates.source import Sources
 from cdc6600.crates.table import Table
 from cdc6600.shared.program import ROOT
+from cdc6600.wrong_bodies.assumed import as_proved, assumed
 from cdc6600.wrong_bodies.copies import beside, can_stand_beside, copied, copy_of
 from cdc6600.wrong_bodies.groups import clash, grouped, reached
 from cdc6600.wrong_bodies.opening import Opening, opened
@@ -337,6 +338,25 @@ class Reading(unittest.TestCase):
         self.assertEqual(without(text, {"returns"}).split(), [*used.format("then-b").split(), *other.split()])
         self.assertEqual(without(text, {"step"}), without(text, {"returns"}))
         self.assertEqual(without(text, set()), text)
+
+    def test_contracts_of_right_bodies_are_assumed(self):
+        texts = assumed(self.source, self.crate, self.body("adds_two").touched)
+        proof = texts["proofs/two_more/Proof.antt"].split("\n")
+        self.assertEqual(proof[0], "use Rattle.tiny.proofs.two_more.Statement.{statement}")
+        self.assertEqual(proof[2:], ["pub two_more_spec : {M : Type 1} → statement M", "two_more_spec = ?", ""])
+        self.assertIsNone(texts["proofs/two_more/Answers.antt"])
+        self.assertIn("proofs/Few/with_another/Proof.antt", texts)
+        self.assertFalse(any("plus_one" in path or "weight" in path for path in texts))
+
+    def test_an_assumed_contract_counts_as_proved(self):
+        hole = "depends on a hole in `Rattle.tiny.proofs.{0}.Proof.{0}_spec`"
+        left = "fn tiny::plus_two: no proof: `search` did not prove `returns`; it calls `tiny::{}`, which is not proved"
+        said = [f"fn tiny::plus_one: {hole.format('plus_one')}", left.format("plus_one"), left.format("least")]
+        self.assertEqual(
+            as_proved("\n".join(said)).split("\n"),
+            ["fn tiny::plus_one: proved", left.partition("; it calls")[0], left.format("least")],
+        )
+        self.assertEqual(as_proved("fn tiny::least: no holes"), "fn tiny::least: proved")
 
     def test_group_has_each_body(self):
         text = merged(self.source, [self.body("adds_two"), self.body("larger_of_two")])["src/lib.rt"]

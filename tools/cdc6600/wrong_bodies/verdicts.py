@@ -46,7 +46,7 @@ CALLS = re.compile(r"it calls `")
 ENDED = ("proved", "not proved", "no proof")
 # The end of the name of a copy (copies.py).
 NUMBERED = re.compile(r"_(?:wrong|right)_\d+$")
-ENDS = re.compile(r"only=(\d+) proved=(\d+)|logic=(proved|not-proved)\b.*")
+ENDS = re.compile(r"only=(\d+) proved=(\d+)|logic=(proved|not-proved)\b.*|(?:only=\d+ )?holes=(\d+)")
 STOPS = re.compile(r"(?<!fatal )\berror(\[[\w-]+\])?:|^rattle: ")
 REFUSED, NOT_REFUSED, CANT_TELL = "refused", "not refused", "can't tell"
 
@@ -185,11 +185,17 @@ def own_goal(goals, item):
     raise Unreadable(f"it is refused, but at no goal of the contract of {item.name}: {'; '.join(reasons)}"[:400])
 
 
+def is_end_of_proof(found):
+    """Whether the last line of a check says that all is proved."""
+    asked, proved, verdict, holes = found.groups()
+    return verdict == "proved" or holes == "0" or asked is not None and asked == proved
+
+
 def hold_to_verdict(lines, status):
     """Raises where the check came to no verdict, by its last line, or where its status isn't the one of that
     verdict."""
     ends = [found for found in map(ENDS.fullmatch, lines) if found]
-    is_proved = len(ends) == 1 and (ends[0][3] == "proved" or ends[0][1] is not None and ends[0][1] == ends[0][2])
+    is_proved = len(ends) == 1 and is_end_of_proof(ends[0])
     if len(ends) == 1 and (status == 1 or status == 0 and is_proved):
         return
     said = [line for line in lines if line.strip()]
