@@ -2,11 +2,11 @@
 
 ghost use Rattle.std.specs.Prelude.{◌≡◌};
 
-use crate::fixtures::{Wanted, Words, are, booted, booted_over, is_empty, note, word, x};
-use crate::lock_tests::{Issued, leave_all};
 use crate::queue_tests::{Sending, Taking};
-use crate::signal_tests::opened;
 use instruction_table::{Digit, Halt, Refusal, Reg, Unit};
+use lock_tests::fixtures::{
+    Issued, Wanted, Words, are, booted, booted_over, is_empty, leave_all, note, opened, word, x,
+};
 use machine::{Event, Machine, Note, Seat};
 use machine_lock::{Ground, Naming, Seen, Shared};
 use registers::RegisterFile;
