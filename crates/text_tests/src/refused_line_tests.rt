@@ -1,7 +1,7 @@
 //! Tests of the positions of faults, and of their printed form.
 
-use crate::find;
 use instruction_table::DeckFault;
+use refused_line::find;
 use std::test::Fail;
 
 /// A fault, a line that has the fault, and the printed position.
