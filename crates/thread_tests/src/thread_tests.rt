@@ -648,12 +648,26 @@ impl Gate for Count {
 /// The answers of two issues.
 pub(crate) type Started = Result<[Option<Note>; 2], Refusal>;
 
+/// Asks for the exchange with the package at 40, and makes it.
+fn exchange<K: Naming, R: Wait>(
+    rt: &R,
+    shared: &Shared<K>,
+    seen: &mut Seen<K>,
+) -> Result<(), Refusal> {
+    shared.ask(rt, seen, 0o40)?;
+    shared.exchange(rt, seen)
+}
+
+/// Issues, with nothing said of the log.
+fn issue<K: Naming, R: Wait>(rt: &R, shared: &Shared<K>, seen: &mut Seen<K>) -> Issued {
+    shared.issue(rt, seen)
+}
+
 /// Makes the exchange with the package at 40, and issues twice.
 pub(crate) fn start<K: Naming, R: Wait>(rt: &R, shared: &Shared<K>, seen: &mut Seen<K>) -> Started {
-    shared.ask(rt, seen, 0o40)?;
-    shared.exchange(rt, seen)?;
-    let first = shared.issue(rt, seen)?;
-    let second = shared.issue(rt, seen)?;
+    exchange(rt, shared, seen)?;
+    let first = issue(rt, shared, seen)?;
+    let second = issue(rt, shared, seen)?;
     Ok([first, second])
 }
 
