@@ -134,8 +134,8 @@ class Tries:
         self.table, self.room, self.at_once, self.is_once = table, Path(room), at_once, is_once
         self.libraries, self.broken, self.tasks, self.library_seconds = {}, {}, {}, 0.0
         tried = [crate for crate in crates if crate.groups]
-        # How long a check of a crate takes, about: the longest ones come first.
-        self.sizes = {crate.name: crate.pace * max(len(group.bodies) for group in crate.groups) for crate in tried}
+        # The checks of crates with the dearest functions are the longest, and come first.
+        self.sizes = {crate.name: crate.pace for crate in tried}
         self.groups = {crate.name: {(crate.name, number) for number in range(len(crate.groups))} for crate in tried}
         needed = {name for crate in tried for name in table.below(crate.name)}
         self.left = left_by_rt_ci(table) if needed and is_after_rt_ci else {}
@@ -268,8 +268,8 @@ class Tries:
         return group.outcomes(ran, crate.name, {**crate.source.texts, **texts})
 
     def behind(self, key):
-        """How much waits for a task: libraries that stand below many come first, and then the crates with most to
-        try."""
+        """How much waits for a task: libraries that stand below many come first, and then the crates with the dearest
+        functions."""
         if key[0] == "library":
             above = [it for it in self.table.lines if key[1] in self.table.below(it) and ("library", it) in self.tasks]
             return True, len(above), len(self.table.below(key[1]))
