@@ -434,15 +434,26 @@ fn strangers_beside<K: Naming, J: Naming, R: Wait>(
             return Err(refusal);
         }
     };
-    let started = start(rt, own, &mut seen);
-    let first = own.issue(rt, &mut seen);
+    Ok(strange_to(rt, own, &other, increment1, &mut seen))
+}
+
+/// The calls on the first machine, with the second one beside it.
+fn strange_to<K: Naming, J: Naming, R: Wait>(
+    rt: &R,
+    own: &Shared<K>,
+    other: &Shared<J>,
+    increment1: Seat,
+    seen: &mut Seen<K>,
+) -> Strange {
+    let started = start(rt, own, seen);
+    let first = own.issue(rt, seen);
     let never = note(Unit::Increment1, 2);
     let (seat, refusal) = refused_claim(rt, own, increment1, never);
     let given = note(Unit::Increment1, 1);
-    let (seat, is_stored) = serve_beside(rt, own, &other, seat, given);
+    let (seat, is_stored) = serve_beside(rt, own, other, seat, given);
     let stored = seat.leave();
-    let shown = shows(rt, own, &mut seen, "5", "0", 1);
-    Ok((started, first, refusal, is_stored, stored, shown))
+    let shown = shows(rt, own, seen, "5", "0", 1);
+    (started, first, refusal, is_stored, stored, shown)
 }
 
 /// `end` tells the machine's users to end; before that they aren't told.
@@ -616,20 +627,41 @@ fn meeting_of<K: Naming, R: Wait>(
     leave_all(seats);
     let started = start(rt, &shared, &mut seen);
     let mut other = seen.split()?;
+    Ok(met_after(rt, &shared, started, &mut seen, &mut other))
+}
+
+/// The issues, the meetings and the snapshots after the start.
+fn met_after<K: Naming, R: Wait>(
+    rt: &R,
+    shared: &Shared<K>,
+    started: Result<(), Refusal>,
+    seen: &mut Seen<K>,
+    other: &mut Seen<K>,
+) -> Met {
     let issues = [
-        shared.issue(rt, &mut seen),
-        shared.issue(rt, &mut seen),
-        shared.issue(rt, &mut seen),
-        shared.issue(rt, &mut seen),
+        shared.issue(rt, seen),
+        shared.issue(rt, seen),
+        shared.issue(rt, seen),
+        shared.issue(rt, seen),
     ];
-    let is_known = match met(rt, &shared, &mut seen, &mut other) {
+    let is_known = knows_four(rt, shared, seen, other);
+    let fifth = shared.issue(rt, other);
+    shared.meet(other, seen);
+    let pending = shared.snapshot(rt, seen).err();
+    (started, issues, is_known, fifth, pending)
+}
+
+/// Whether the second holder's snapshot has four issues after the two have met.
+fn knows_four<K: Naming, R: Wait>(
+    rt: &R,
+    shared: &Shared<K>,
+    seen: &mut Seen<K>,
+    other: &mut Seen<K>,
+) -> bool {
+    match met(rt, shared, seen, other) {
         Ok(snapshot) => has_log(&snapshot, 4),
         Err(_) => false,
-    };
-    let fifth = shared.issue(rt, &mut other);
-    shared.meet(&mut other, &mut seen);
-    let pending = shared.snapshot(rt, &mut seen).err();
-    Ok((started, issues, is_known, fifth, pending))
+    }
 }
 
 /// An exchange with a request for the next one: when none was asked for, which asks for none either; with a package in
@@ -673,14 +705,24 @@ fn exchanges_of<K: Naming, R: Wait>(
     let (shared, seats, mut seen) = Shared::<K>::open(alloc, ground, machine)?;
     leave_all(seats);
     let none = followed(rt, &shared, &mut seen, Some(0o60));
-    shared.ask(rt, &mut seen, 0o40)?;
+    exchanges_after(rt, &shared, &mut seen, none)
+}
+
+/// The request for the first exchange, and what follows it.
+fn exchanges_after<K: Naming, R: Wait>(
+    rt: &R,
+    shared: &Shared<K>,
+    seen: &mut Seen<K>,
+    none: Followed,
+) -> Result<([Followed; 4], bool), Refusal> {
+    shared.ask(rt, seen, 0o40)?;
     let answers = [
         none,
-        followed(rt, &shared, &mut seen, Some(0o60)),
-        followed(rt, &shared, &mut seen, Some(0o1000)),
-        followed(rt, &shared, &mut seen, None),
+        followed(rt, shared, seen, Some(0o60)),
+        followed(rt, shared, seen, Some(0o1000)),
+        followed(rt, shared, seen, None),
     ];
-    let snapshot = shared.snapshot(rt, &mut seen)?;
+    let snapshot = shared.snapshot(rt, seen)?;
     let made = [Entry::Exchange(0o40), Entry::Exchange(0o60)];
     Ok((answers, snapshot.log().entries() == made.as_slice()))
 }
