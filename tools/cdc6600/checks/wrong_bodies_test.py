@@ -24,7 +24,7 @@ from cdc6600.wrong_bodies.second import after_one
 from cdc6600.wrong_bodies.edits import merged, read_bodies
 from cdc6600.wrong_bodies.libraries import stamps
 from cdc6600.wrong_bodies.verdicts import CANT_TELL, REFUSED as IS_REFUSED, is_of, outcome_of
-from cdc6600.wrong_bodies.written import without
+from cdc6600.wrong_bodies.written import resting, without
 
 from .unit_tests import tested
 
@@ -411,6 +411,15 @@ class Reading(unittest.TestCase):
         self.assertEqual(found.words, "`returns-clause-a` of plus_one")
         self.assertFalse(self.says(1, file + "`step`: record `R` has no field `one`", rest, *end).refused)
         self.assertFalse(self.says(1, rest, *end).refused)
+
+    def test_what_rests_on_a_step_is_found(self):
+        text = "step : ℕ\nstep = 0\n\nother : ℕ\nother = step\n\npub returns : goal.returns\nreturns c = other\n"
+        self.assertEqual(resting(text, "step"), ["other", "returns"])
+        body = self.body("adds_one_once")
+        said = "./proofs/two_more/Answers.antt:1:2: error: `step`: the two types differ\nfn tiny::two_more: not proved"
+        texts = {**self.source.texts, "proofs/two_more/Answers.antt": text}
+        found = outcome_of(body.touched, f"{said}\nonly=1 holes=3", 1, "tiny", texts)
+        self.assertEqual(found.verdict.words, "`returns` of two_more")
 
     def test_silence_is_told(self):
         left = "fn tiny::plus_one: no proof: `search` did not prove `returns`"

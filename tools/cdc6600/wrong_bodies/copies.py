@@ -23,7 +23,7 @@ FILES = {"Answers.antt", "Invariants.antt"}
 # The most copies for one check, and about how many seconds the right bodies of these functions may take to prove. A
 # check of more keeps one processor busy at the end, while the others have nothing to do.
 TOGETHER = 24
-SECONDS = 40
+SECONDS = 70
 
 
 @dataclass(frozen=True)

@@ -2,8 +2,9 @@
 
 Each group is checked once, and the bodies that this check refuses once more (second.py), unless one check is to do.
 
-Libraries that `rt ci` has just proved are taken over, and others are built. The groups of a crate run side by side, each
-in a workspace of its own. What a check doesn't change it assumes (assumed.py), so no group waits for another's work.
+Libraries that `rt ci` has just proved are taken over, and others are built. The groups of a crate run side by side,
+each in a workspace of its own. What a check doesn't change it assumes (assumed.py), so no group waits for another's
+work.
 """
 
 import tempfile
@@ -20,7 +21,7 @@ from cdc6600.crates.source import Sources, module_of
 from cdc6600.crates.table import Unreadable
 
 from .assumed import assumed
-from .copies import beside, can_stand_beside, copied
+from .copies import beside, can_stand_beside, copied, written_folders
 from .edits import merged, read_bodies
 from .groups import grouped
 from .kept import Kept, sum_of
@@ -257,15 +258,18 @@ class Tries:
 
     def outcomes(self, crate, group, workspace):
         texts, paths = group.texts(crate.source), paths_of(group, crate.source)
-        wrong = [] if group.copies else group.functions()
-        texts = assumed(crate.source, self.table.folder(crate.name), wrong) | texts
+        wrong, folder = [] if group.copies else group.functions(), self.table.folder(crate.name)
+        files = [file for item in wrong for at in written_folders(item, folder) for file in at.glob("*.antt")]
+        proofs = {str(file.relative_to(folder)): file.read_text(encoding="utf-8") for file in files}
+        texts = assumed(crate.source, folder, wrong) | texts
         ran = workspace.check(texts, paths)
         if paths and ran.status == 2:
             # The check knows no function of such a path: then it proves all of the crate.
             crate.spent(ran.seconds)
             ran = workspace.check(texts, [])
         crate.spent(ran.seconds)
-        return group.outcomes(ran, crate.name, {**crate.source.texts, **texts})
+        read = {path: text for path, text in texts.items() if text is not None}
+        return group.outcomes(ran, crate.name, {**crate.source.texts, **proofs, **read})
 
     def behind(self, key):
         """How much waits for a task: libraries that stand below many come first, and then the crates with the dearest

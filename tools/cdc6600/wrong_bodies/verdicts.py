@@ -20,6 +20,7 @@ from cdc6600.crates.source import items_of, module_of
 from cdc6600.crates.table import Unreadable
 
 from .opening import attributes_of
+from .written import resting
 
 LINE = re.compile(r"fn (\S+): (proved|not proved|no proof|could not tell|assumed|not assumed)\b(.*)")
 LEFT = re.compile(r"`search` did not prove ([^;]*)")
@@ -160,6 +161,11 @@ def goals_of(lines, texts, item, crate):
             found.gone.append((it[1], it[3], it[4]))
         else:
             found.rejected.append((it[1], it[3]))
+    # Where contracts are assumed, the check takes a rejected step by its signature, and doesn't say what rests on it.
+    for path, name in list(found.rejected):
+        found.rejected += [(path, other) for other in resting(texts.get(path, ""), name)]
+    for path, name, _ in list(found.gone):
+        found.gone += [(path, other, f"it rests on `{name}`") for other in resting(texts.get(path, ""), name)]
     for it in found_by(RESTS):
         if (it[1], it[3]) in found.rejected:
             found.rejected += [(it[1], name) for name in it[4].split(", ")]
