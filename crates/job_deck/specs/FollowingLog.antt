@@ -1,6 +1,7 @@
 -- A log in the line after a deck.
 -- Source: ours.
-use Rattle.std.specs.Prelude.{◌≡◌, ◌≢◌, ◌⊎◌, ℕ, List, [], ◌∷◌, ◌++◌, length, All, Option, Some, None}
+use Rattle.std.specs.Prelude.{◌≡◌, ◌≢◌, ◌⊎◌, ℕ, List, [], ◌∷◌, ◌++◌, length, All, Option, Some, None, Bool, false, codes}
+use Rattle.std.specs.Str.{bytes_eq}
 use Rattle.sequential.specs.declared.log.Log.{Log}
 use Rattle.sequential.specs.Replay.{LogStep}
 use Rattle.device_text.specs.Line.{IsText, ReadsPart, lines_of}
@@ -52,3 +53,9 @@ ReadsEntries found end text xs ys =
     (after : List ℕ) → FieldTaken end text after xs
     → LogHas found (steps_in whole_allowance (fields_of (log_line after)))
     × LeavesAfterText (steps_in whole_allowance (fields_of (log_line after))) after ys
+
+-- whether a line has one field, `none`, which this text and this end are those of the line's first field
+abbrev pub is_none_line : FieldEnd → List ℕ → Bool
+is_none_line Space text = false
+is_none_line Line text = bytes_eq text (codes "none")
+is_none_line Long text = false

@@ -3,7 +3,7 @@ ghost use Rattle.std.specs.Prelude.{◌≡◌, ◌⊎◌, ◌||◌, IfOk, MatchR
 ghost use Rattle.instructions.specs.declared.refusal.Refusal.TheVariants.{OutOfMemory, Read};
 ghost use Rattle.deck.specs.Reading.{is_read_failure};
 ghost use Rattle.device_text.specs.Device.{Moves, failed_after};
-ghost use Rattle.job_deck.specs.FollowingLog.{FieldTaken, IsInField, ReadsEntries, ReadsLogLine};
+ghost use Rattle.job_deck.specs.FollowingLog.{FieldTaken, IsInField, ReadsEntries, ReadsLogLine, is_none_line};
 
 use crate::logs::{Allowance, add_field};
 use arrayvec::ArrayVec;
@@ -49,6 +49,16 @@ fn read_field<I: Input>(input: &mut I, field: &mut EntryBuffer) -> Result<FieldE
     Ok(FieldEnd::Long)
 }
 
+/// Whether a line is `none`, the text of an empty log, by the line's first field and what ends that field.
+fn is_none_line(end: FieldEnd, field: &[u8]) -> bool
+    ensures { result ≡ is_none_line end field.now }
+{
+    match end {
+        FieldEnd::Line => field == b"none".as_slice(),
+        FieldEnd::Space | FieldEnd::Long => false,
+    }
+}
+
 /// Reads the entries of a line whose first field is in the buffer, up to the end of the line or the first field that
 /// isn't an entry that may come. Returns `None` if there is such a field.
 ///
@@ -71,17 +81,15 @@ fn read_entries_from<I: Input>(
     let mut left = Allowance::whole();
     let mut end = first;
     loop {
-        if end == FieldEnd::Long {
-            return Ok(None);
-        }
         match add_field(&mut log, left, field.as_slice())? {
             None => return Ok(None),
             Some(more) => left = more,
         }
-        if end == FieldEnd::Line {
-            return Ok(Some(log));
+        match end {
+            FieldEnd::Space => end = read_field(input, field)?,
+            FieldEnd::Line => return Ok(Some(log)),
+            FieldEnd::Long => return Ok(None),
         }
-        end = read_field(input, field)?;
     }
 }
 
@@ -100,7 +108,7 @@ pub fn read_log_from<I: Input>(alloc: Global, input: &mut I) -> Result<Option<Lo
 {
     let mut field = EntryBuffer::new();
     let end = read_field(input, &mut field)?;
-    if end == FieldEnd::Line && field.as_slice() == b"none".as_slice() {
+    if is_none_line(end, field.as_slice()) {
         return Ok(Some(Log::new(alloc)));
     }
     read_entries_from(alloc, input, &mut field, end)

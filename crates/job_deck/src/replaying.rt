@@ -28,7 +28,7 @@ fn print_log<O: Output>(
     deck: &Deck,
     found: Option<Log>,
 ) -> Result<Option<State>, Refusal>
-    ensures printed { Prints result (replayed_steps deck.now.image.memory (steps_of_log found.entry)) deck.now.shows
+    ensures printed { Prints result (replayed_steps deck.now.image.memory (steps_of_log found)) deck.now.shows
         (O.contents output.old) (O.contents output.new) }
     ensures failure { O.has_failed output.new ≡ (O.has_failed output.old || is_write_failure result) }
     ensures handed_on { IfOk result (λ state. IsSome state → O.waits output.new ≡ false) }
