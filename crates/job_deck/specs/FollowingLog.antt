@@ -21,11 +21,15 @@ first_text (line ∷ lines) = line.0
 abbrev pub log_line : List ℕ → List ℕ
 log_line after = first_text (lines_of after)
 
+-- the first line or a part of it was read, and nothing past it
+abbrev pub ReadsWithinLine : List ℕ → List ℕ → Type 0
+ReadsWithinLine after rest = IsTaken (lines_of after) rest ⊎ ReadsPart after rest
+
 -- the bytes left unread after reading a text as a log. The line of a log is read to its end, and nothing past it. If
 -- the text isn't that of a log, reading may stop before the end of the line
 abbrev pub LeavesAfterText : Option (List LogStep) → List ℕ → List ℕ → Type 0
 LeavesAfterText (Some steps) after rest = IsTaken (lines_of after) rest
-LeavesAfterText None after rest = IsTaken (lines_of after) rest ⊎ ReadsPart after rest
+LeavesAfterText None after rest = ReadsWithinLine after rest
 
 -- the bytes left unread after reading the line after a deck as the text of a log
 abbrev pub LeavesAfterLog : List ℕ → List ℕ → Type 0
@@ -53,6 +57,10 @@ ReadsEntries found end text xs ys =
     (after : List ℕ) → FieldTaken end text after xs
     → LogHas found (steps_in whole_allowance (fields_of (log_line after)))
     × LeavesAfterText (steps_in whole_allowance (fields_of (log_line after))) after ys
+
+-- the entries of a line were not all read, because memory ran out or a read failed
+abbrev pub ReadsSomeEntries : FieldEnd → List ℕ → List ℕ → List ℕ → Type 0
+ReadsSomeEntries end text xs ys = (after : List ℕ) → FieldTaken end text after xs → ReadsWithinLine after ys
 
 -- whether a line has one field, `none`, which this text and this end are those of the line's first field
 abbrev pub is_none_line : FieldEnd → List ℕ → Bool

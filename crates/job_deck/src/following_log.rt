@@ -1,9 +1,10 @@
 //! The log in the line after a deck, read entry by entry. The line may be of any length.
-ghost use Rattle.std.specs.Prelude.{◌≡◌, ◌⊎◌, ◌||◌, IfOk, MatchResult};
+ghost use Rattle.std.specs.Prelude.{◌≡◌, ◌⊎◌, ◌||◌, ◌++◌, IfOk, OnErr, MatchResult};
 ghost use Rattle.instructions.specs.declared.refusal.Refusal.TheVariants.{OutOfMemory, Read};
 ghost use Rattle.deck.specs.Reading.{is_read_failure};
 ghost use Rattle.device_text.specs.Device.{Moves, failed_after};
-ghost use Rattle.job_deck.specs.FollowingLog.{FieldTaken, IsInField, ReadsEntries, ReadsLogLine, is_none_line};
+ghost use Rattle.job_deck.specs.FollowingLog.{FieldTaken, IsInField, ReadsEntries, ReadsLogLine, ReadsSomeEntries};
+ghost use Rattle.job_deck.specs.FollowingLog.{ReadsWithinLine, is_none_line};
 
 use crate::logs::{Allowance, add_field};
 use arrayvec::ArrayVec;
@@ -35,6 +36,9 @@ fn read_field<I: Input>(input: &mut I, field: &mut EntryBuffer) -> Result<FieldE
     ensures text { IfOk result (λ end. IsInField field.new.items) }
     ensures ok { IfOk result (λ end. Moves (I.remaining input.old) (I.remaining input.new)
         (FieldTaken end field.new.items)) }
+    ensures err { OnErr result (Moves (I.remaining input.old) (I.remaining input.new)
+        (λ xs ys. xs ≡ field.new.items ++ ys)) }
+    ensures part { OnErr result (IsInField field.new.items) }
     ensures failure { I.has_failed input.new ≡ failed_after (I.has_failed input.old) result }
     ensures same { I.lender input.new ≡ I.lender input.old }
 {
@@ -74,6 +78,8 @@ fn read_entries_from<I: Input>(
     ensures read { MatchResult result
         (λ found. Moves (I.remaining input.old) (I.remaining input.new) (ReadsEntries found first field.old.items))
         (λ refusal. (refusal ≡ OutOfMemory) ⊎ (refusal ≡ Read)) }
+    ensures within { OnErr result (Moves (I.remaining input.old) (I.remaining input.new)
+        (ReadsSomeEntries first field.old.items)) }
     ensures failure { I.has_failed input.new ≡ (I.has_failed input.old || is_read_failure result) }
     ensures same { I.lender input.new ≡ I.lender input.old }
 {
@@ -103,6 +109,7 @@ pub fn read_log_from<I: Input>(alloc: Global, input: &mut I) -> Result<Option<Lo
     ensures read { MatchResult result
         (λ found. Moves (I.remaining input.old) (I.remaining input.new) (ReadsLogLine found))
         (λ refusal. (refusal ≡ OutOfMemory) ⊎ (refusal ≡ Read)) }
+    ensures within { OnErr result (Moves (I.remaining input.old) (I.remaining input.new) ReadsWithinLine) }
     ensures failure { I.has_failed input.new ≡ (I.has_failed input.old || is_read_failure result) }
     ensures same { I.lender input.new ≡ I.lender input.old }
 {

@@ -1,15 +1,14 @@
 -- An entry of a log has at most 28 bytes.
-use Rattle.std.proofs.Common.{◌≡◌, ◌≢◌, ℕ, suc, ◌+◌, ◌<◌, ◌≤◌, Bool, true, false, cond, eqb, ltb, leb, List, [], ◌∷◌, ◌++◌}
-use Rattle.std.proofs.Common.{length, length-append, All, Option, Some, None, refl, sym, ap, ◌∙◌, subst, arith, ◌⊎◌, inl, inr, ⊎_elim}
-use Rattle.std.proofs.lemmas.Bool.{ne_eqb, lt-ltb, le-ltb}
+use Rattle.std.proofs.Common.{◌≡◌, ◌≢◌, ℕ, suc, ◌+◌, ◌<◌, ◌≤◌, Bool, true, false, cond, eqb, List, [], ◌∷◌, ◌++◌}
+use Rattle.std.proofs.Common.{length, length-append, All, Option, Some, None, refl, sym, ap, ◌∙◌, subst, arith, ◌⊎◌, inl, inr}
+use Rattle.std.proofs.lemmas.Bool.{ne_eqb}
 use Rattle.std.proofs.lemmas.Bool.Decides.{nat_tests}
 use Rattle.std.proofs.lemmas.List.Splits.{join_with_byte-slice_split}
 use Rattle.std.proofs.lemmas.List.Elements.{All-head, All-tail}
-use Rattle.std.specs.List.{join_with_byte, onto_first, slice_split, list_all}
-use Rattle.std.specs.Prelude.{nat_le, nat_lt, ◌&&◌, option_and_then}
+use Rattle.std.specs.List.{join_with_byte, onto_first, slice_split}
+use Rattle.std.specs.Prelude.{nat_le, ◌&&◌, option_and_then}
 use Rattle.word60.specs.Words.{from_octal}
 use Rattle.sequential.specs.Log.{steps_of}
-use Rattle.sequential.specs.Replay.{LogStep}
 use Rattle.sequential.specs.declared.log.Entry.{Entry}
 use Rattle.device_text.specs.Text.{fields_of, number_of}
 use Rattle.job_deck.specs.LogText.{entry_in, exchange_in, count_in, read_in, write_in, written_in, steps_in, put_steps}

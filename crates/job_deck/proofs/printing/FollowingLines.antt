@@ -1,12 +1,11 @@
 -- The line of a log that is read field by field: its steps, and what is left unread.
-use Rattle.std.proofs.Common.{◌≡◌, ◌≢◌, ℕ, ◌+◌, ◌<◌, ◌≤◌, Bool, true, false, cond, eqb, List, [], ◌∷◌, ◌++◌, length, All}
+use Rattle.std.proofs.Common.{◌≡◌, ◌≢◌, ℕ, ◌<◌, Bool, true, false, cond, eqb, List, [], ◌∷◌, ◌++◌, length, All}
 use Rattle.std.proofs.Common.{Option, Some, None, refl, sym, ap, ◌∙◌, subst, arith, ◌⊎◌, inl, inr, append_assoc, append-nil, length-append}
 use Rattle.std.proofs.lemmas.Bool.{ne_eqb}
 use Rattle.std.proofs.lemmas.List.Elements.{All-head, All-tail, All-append, All-cons}
 use Rattle.std.proofs.lemmas.List.Splits.{slice_split_at, slice_split_none, length-slice_split}
 use Rattle.std.proofs.lemmas.Slice.Eq.{bytes_eq-Decides}
-use Rattle.std.specs.List.{slice_split}
-use Rattle.std.specs.Prelude.{codes, option_and_then, MatchResult, Result, Ok, Err}
+use Rattle.std.specs.Prelude.{codes, option_and_then, MatchResult, OnErr, Result, Ok, Err}
 use Rattle.instructions.specs.declared.refusal.Refusal.{Refusal}
 use Rattle.device_text.specs.Device.{Moves}
 use Rattle.device_text.proofs.Moving.{Moves-refl, Moves-trans, Moves-weaker}
@@ -14,12 +13,11 @@ use Rattle.std.specs.Str.{bytes_eq}
 use Rattle.sequential.specs.Log.{steps_of}
 use Rattle.sequential.specs.declared.log.Log.{Log}
 use Rattle.sequential.specs.Replay.{LogStep}
-use Rattle.device_text.specs.Line.{IsText, LineTaken, ReadsPart, lines_of, onto}
+use Rattle.device_text.specs.Line.{IsText, ReadsPart, lines_of, onto}
 use Rattle.device_text.specs.Text.{fields_of}
-use Rattle.device_text.specs.declared.line.LineRead.TheVariants.{Whole}
 use Rattle.device_text.proofs.Lines.{lines_whole}
 use Rattle.job_deck.specs.FollowingLog.{FieldTaken, IsInField, LeavesAfterText, ReadsEntries, ReadsLogLine, first_text}
-use Rattle.job_deck.specs.FollowingLog.{is_none_line, log_line}
+use Rattle.job_deck.specs.FollowingLog.{ReadsSomeEntries, ReadsWithinLine, is_none_line, log_line}
 use Rattle.job_deck.specs.LogText.{AddsField, LogHas, entry_in, log_in, put_steps, spent, steps_in, whole_allowance}
 use Rattle.job_deck.specs.SessionResult.{IsTaken}
 use Rattle.job_deck.specs.declared.following_log.FieldEnd.{FieldEnd}
@@ -330,3 +328,41 @@ has_entries a b c end (Ok found) text Q h n m r =
     Moves-trans a b c (FieldTaken end text) (ReadsEntries found end text) (ReadsLogLine found)
     (λ xs ys zs t f. reads_found end found text xs ys zs h n t (f xs t)) m r
 has_entries a b c end (Err refusal) text Q h n m r = r
+
+-- ---- an error ----
+
+pub at_error : {T E P : Type 0} (result : Result T E) → P → OnErr result P
+at_error (Ok x) p = tt
+at_error (Err e) p = p
+
+pub some_entries : (a b : Option (List ℕ)) (first end : FieldEnd) (start text : List ℕ) (steps : List LogStep)
+    (left : Allowance) → IsInField text → Moves a b (ReadsOn first start steps left end text)
+    → Moves a b (ReadsSomeEntries first start)
+some_entries a b first end start text steps left h m =
+    Moves-weaker a b (ReadsOn first start steps left end text) (ReadsSomeEntries first start)
+    (λ xs ys r after t.
+    refused_left end after text (r after t).now ys h.0 (r after t).taken (r after t).part) m
+
+pub entries_and_part : (a b c : Option (List ℕ)) (first end : FieldEnd) (start text now : List ℕ)
+    (steps : List LogStep) (left : Allowance) → IsInField text → end ≡ Space → IsInField now
+    → Moves a b (ReadsOn first start steps left end text) → Moves b c (λ xs ys. xs ≡ now ++ ys)
+    → Moves a c (ReadsSomeEntries first start)
+entries_and_part a b c first end start text now steps left h is part m t =
+    Moves-trans a b c (ReadsOn first start steps left Space text) (λ xs ys. xs ≡ now ++ ys)
+    (ReadsSomeEntries first start)
+    (λ xs ys zs r e after f. inr (text_part after now ys zs part.0 e
+    (space_part after text (r after f).now ys h.0 (r after f).taken (r after f).part)))
+    (subst (λ e. Moves a b (ReadsOn first start steps left e text)) is m) t
+
+pub first_part_read : (a b : Option (List ℕ)) (text : List ℕ) → IsInField text → Moves a b (λ xs ys. xs ≡ text ++ ys)
+    → Moves a b ReadsWithinLine
+first_part_read a b text h m =
+    Moves-weaker a b (λ xs ys. xs ≡ text ++ ys) ReadsWithinLine (λ xs ys e. inr (text, h.0, e)) m
+
+pub entries_failed : (a b c : Option (List ℕ)) (end : FieldEnd) (result : Result (Option Log) Refusal)
+    (text : List ℕ) → Moves a b (FieldTaken end text) → OnErr result (Moves b c (ReadsSomeEntries end text))
+    → OnErr result (Moves a c ReadsWithinLine)
+entries_failed a b c end (Ok found) text m r = r
+entries_failed a b c end (Err refusal) text m r =
+    Moves-trans a b c (FieldTaken end text) (ReadsSomeEntries end text) ReadsWithinLine
+    (λ xs ys zs t f. f xs t) m r

@@ -105,8 +105,8 @@ by_letter P false false true d e i r w entry x y z v h = z h
 by_letter P false false false true e i r w entry x y z v h = v h
 by_letter P false false false false e i r w entry x y z v h = absurd (cc)
 
-pub entry_takes : (left : Allowance) (field : List ℕ) (entry : Entry) → entry_in left field ≡ Some entry
-    → still_to_come (spent left entry) < still_to_come left
+entry_takes : (left : Allowance) (field : List ℕ) (entry : Entry) → entry_in left field ≡ Some entry
+    → TakesSome left entry
 entry_takes left [] entry h = absurd (cc)
 entry_takes left (letter ∷ digits) entry h =
     by_letter (TakesSome left entry) (eqb letter 69) (eqb letter 73) (eqb letter 82) (eqb letter 87) _ _ _ _ entry
@@ -114,6 +114,11 @@ entry_takes left (letter ∷ digits) entry h =
     (count_takes left (number_without_leading_zeros 10 8 digits) entry)
     (read_takes left (number_without_leading_zeros 8 6 digits) entry)
     (written_takes left (slice_split (λ b. eqb b 61) digits) entry) h
+
+pub takes_some : (left more : Allowance) (field : List ℕ) (before now : List LogStep)
+    → AddsField (Some more) left field before now → still_to_come more < still_to_come left
+takes_some left more field before now h =
+    subst (λ m. still_to_come m < still_to_come left) (sym h.3) (entry_takes left field h.0 h.1)
 
 entry_issued : (entry : Entry) → issued (steps_of (entry ∷ [])) ≡ entry_count entry
 unfolding steps_of issued

@@ -1,8 +1,9 @@
-use Rattle.std.proofs.Common.{◌≡◌, Some, None, refl, ap, sym, ◌∙◌, subst, arith, ◌<◌}
+use Rattle.std.proofs.Common.{◌≡◌, Some, None, refl, ap, ◌∙◌, arith}
 use Rattle.sequential.specs.Log.{issued}
-use Rattle.job_deck.specs.LogText.{AddsField, entry_in, whole_allowance}
-use Rattle.job_deck.proofs.printing.FollowingLines.{begun, refused, too_long, last, next}
-use Rattle.job_deck.proofs.printing.LogReading.{entry_takes, still_to_come}
+use Rattle.job_deck.specs.LogText.{AddsField}
+use Rattle.job_deck.proofs.printing.FollowingLines.{begun, refused, too_long, last, next, at_error}
+use Rattle.job_deck.proofs.printing.FollowingLines.{some_entries, entries_and_part}
+use Rattle.job_deck.proofs.printing.LogReading.{takes_some}
 use Rattle.job_deck.proofs.following_log.read_entries_from.Goals as goal
 
 pub loop-log-init : goal.loop-log-init
@@ -30,8 +31,7 @@ pub loop-log-smaller : goal.loop-log-smaller
 loop-log-smaller g c =
     let added : AddsField (Some c.in-Some.more) c.loop-log.left c.loop-log.field.items c.loop-log.log.steps
     c.add_field.new.log.steps = rw (c.in-Some.is, c.as_slice.ensures.value) at c.in_ok-add_field.ensures in
-    subst (λ m. still_to_come m < still_to_come c.loop-log.left) (sym added.3)
-    (entry_takes c.loop-log.left c.loop-log.field.items added.0 added.1)
+    takes_some c.loop-log.left c.in-Some.more c.loop-log.field.items c.loop-log.log.steps c.add_field.new.log.steps added
 
 pub loop-log-preserved : goal.loop-log-preserved
 loop-log-preserved g c =
@@ -60,3 +60,15 @@ pub returns-in-Long-clause-read : goal.returns-in-Long-clause-read
 returns-in-Long-clause-read g c =
     too_long _ _ c.args.first c.loop-log.end c.args.field.now.items c.loop-log.field.items c.loop-log.log.steps
     c.loop-log.left c.loop-log.invariant.text c.in-Long.is c.loop-log.invariant.told
+
+pub returns-in_err-add_field-clause-within : goal.returns-in_err-add_field-clause-within
+returns-in_err-add_field-clause-within g c =
+    at_error c.from_residual.result (some_entries _ _ c.args.first c.loop-log.end c.args.field.now.items
+    c.loop-log.field.items c.loop-log.log.steps c.loop-log.left c.loop-log.invariant.text c.loop-log.invariant.told)
+
+pub returns-in_err-end-in-Space-clause-within : goal.returns-in_err-end-in-Space-clause-within
+returns-in_err-end-in-Space-clause-within g c =
+    at_error c.from_residual-in_err-end-in-Space.result (entries_and_part _ _ _ c.args.first c.loop-log.end
+    c.args.field.now.items c.loop-log.field.items c.read_field.new.field.items c.loop-log.log.steps c.loop-log.left
+    c.loop-log.invariant.text c.in-Space.is c.in_err-end-in-Space.ensures.part c.loop-log.invariant.told
+    c.in_err-end-in-Space.ensures.err)

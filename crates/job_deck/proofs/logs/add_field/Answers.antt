@@ -1,5 +1,4 @@
-use Rattle.std.proofs.Common.{◌≡◌, ◌<◌, ◌≤◌, ◌+◌, ◌∙◌, sym, arith}
-use Rattle.sequential.specs.Log.{issued}
+use Rattle.std.proofs.Common.{◌∙◌, sym}
 use Rattle.job_deck.proofs.printing.LogReading.{count_on, added}
 use Rattle.job_deck.proofs.logs.add_field.Goals as goal
 
