@@ -133,14 +133,14 @@ pub fn replay_log<I: Input, O: Output>(
     replay_end(found)
 }
 
-/// Executes the log in the line after a deck, one instruction at a time, prints the dump and flushes it. The deck is read
-/// and judged before the log is read. The log's line may be of any length.
+/// Executes the log in the line after a deck, one instruction at a time, prints the dump and flushes it. A fault of the
+/// deck is reported before the log is read. The log's line may be of any length.
 ///
 /// # Errors
 /// `Deck` with a line and its fault. `BadLog` if the line after the deck isn't the text of a log, or there is no line.
 /// `PackageRange` if the package of an exchange in the log doesn't lie in memory, `PeripheralRange` if the word of a
-/// peripheral access doesn't. `OutOfMemory` if memory runs out. `Read` if a read fails. `Write` if a write fails; then a
-/// beginning of the dump may have been written. Nothing is written after other errors.
+/// peripheral access doesn't. `OutOfMemory` if memory runs out. `Read` if a read fails. `Write` if a write fails; then
+/// a beginning of the dump may have been written. Nothing is written after other errors.
 pub fn replay_following_log<I: Input, O: Output>(
     alloc: Global,
     input: &mut I,

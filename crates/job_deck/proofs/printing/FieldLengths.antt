@@ -1,6 +1,7 @@
 -- An entry of a log has at most 28 bytes.
 use Rattle.std.proofs.Common.{◌≡◌, ◌≢◌, ℕ, suc, ◌+◌, ◌<◌, ◌≤◌, Bool, true, false, cond, eqb, List, [], ◌∷◌, ◌++◌}
-use Rattle.std.proofs.Common.{length, length-append, All, Option, Some, None, refl, sym, ap, ◌∙◌, subst, arith, ◌⊎◌, inl, inr}
+use Rattle.std.proofs.Common.{length, length-append, All, Option, Some, None, refl, sym, ap, ◌∙◌, subst, arith, ◌⊎◌}
+use Rattle.std.proofs.Common.{inl, inr}
 use Rattle.std.proofs.lemmas.Bool.{ne_eqb}
 use Rattle.std.proofs.lemmas.Bool.Decides.{nat_tests}
 use Rattle.std.proofs.lemmas.List.Splits.{join_with_byte-slice_split}
@@ -106,11 +107,13 @@ has_field (b ∷ text) = by_space b (eqb b 32) (fields_of text) (has_field text)
 first_long : (text more : List ℕ) → All (λ b. b ≢ 32) text → FirstHas (length text) (fields_of (text ++ more))
 first_long [] more h = has_field more
 first_long (b ∷ text) more h =
-    subst (λ v. FirstHas (suc (length text)) (cond v ([] ∷ fields_of (text ++ more)) (onto_first b (fields_of (text ++ more)))))
+    subst (λ v. FirstHas (suc (length text))
+    (cond v ([] ∷ fields_of (text ++ more)) (onto_first b (fields_of (text ++ more)))))
     (sym (ne_eqb b 32 (All-head (λ c. c ≢ 32) b text h)))
     (onto_has (length text) b (fields_of (text ++ more)) (first_long text more (All-tail (λ c. c ≢ 32) b text h)))
 
-none_steps : (left : Allowance) (n : ℕ) (fields : List (List ℕ)) → 28 < n → FirstHas n fields → steps_in left fields ≡ None
+none_steps : (left : Allowance) (n : ℕ) (fields : List (List ℕ)) → 28 < n → FirstHas n fields
+    → steps_in left fields ≡ None
 none_steps left n [] l h = absurd h
 none_steps left n (field ∷ more) l h =
     ap (option_and_then (λ entry. put_steps (steps_of (entry ∷ [])) (steps_in (spent left entry) more)))

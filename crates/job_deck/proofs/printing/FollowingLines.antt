@@ -1,6 +1,7 @@
 -- The line of a log that is read field by field: its steps, and what is left unread.
 use Rattle.std.proofs.Common.{◌≡◌, ◌≢◌, ℕ, ◌<◌, Bool, true, false, cond, eqb, List, [], ◌∷◌, ◌++◌, length, All}
-use Rattle.std.proofs.Common.{Option, Some, None, refl, sym, ap, ◌∙◌, subst, arith, ◌⊎◌, inl, inr, append_assoc, append-nil, length-append}
+use Rattle.std.proofs.Common.{Option, Some, None, refl, sym, ap, ◌∙◌, subst, arith, ◌⊎◌, inl, inr, append_assoc}
+use Rattle.std.proofs.Common.{append-nil, length-append}
 use Rattle.std.proofs.lemmas.Bool.{ne_eqb}
 use Rattle.std.proofs.lemmas.List.Elements.{All-head, All-tail, All-append, All-cons}
 use Rattle.std.proofs.lemmas.List.Splits.{slice_split_at, slice_split_none, length-slice_split}
@@ -16,8 +17,8 @@ use Rattle.sequential.specs.Replay.{LogStep}
 use Rattle.device_text.specs.Line.{IsText, ReadsPart, lines_of, onto}
 use Rattle.device_text.specs.Text.{fields_of}
 use Rattle.device_text.proofs.Lines.{lines_whole}
-use Rattle.job_deck.specs.FollowingLog.{FieldTaken, IsInField, LeavesAfterText, ReadsEntries, ReadsLogLine, first_text}
-use Rattle.job_deck.specs.FollowingLog.{ReadsSomeEntries, ReadsWithinLine, is_none_line, log_line}
+use Rattle.job_deck.specs.FollowingLog.{LeavesAfterText, ReadsLogLine, ReadsWithinLine, first_text, log_line}
+use Rattle.job_deck.specs.inner.LogLineParts.{FieldTaken, IsInField, ReadsEntries, ReadsSomeEntries, is_none_line}
 use Rattle.job_deck.specs.LogText.{AddsField, LogHas, entry_in, log_in, put_steps, spent, steps_in, whole_allowance}
 use Rattle.job_deck.specs.SessionResult.{IsTaken}
 use Rattle.job_deck.specs.declared.following_log.FieldEnd.{FieldEnd}
@@ -130,7 +131,11 @@ cut_line : (after text now ys : List ℕ) → IsText text → 0 < length text �
 cut_line after text now ys h some t e p = (
   p.0 ++ text,
   lines_whole (p.0 ++ text) after ys (All-append (λ b. b ≢ 10) p.0 text p.1 h)
-      (inr (subst (λ (n : ℕ). 0 < n) (sym (length-append p.0 text)) (omega (arith, some)), p.2 ∙ ap (λ l. p.0 ++ l) t, e)),
+      (inr (
+        subst (λ (n : ℕ). 0 < n) (sym (length-append p.0 text)) (omega (arith, some)),
+        p.2 ∙ ap (λ l. p.0 ++ l) t,
+        e,
+      )),
 )
 
 -- after a field that is no entry
@@ -264,7 +269,8 @@ pub reads_found : (end : FieldEnd) (found : Option Log) (text after ys zs : List
 unfolding log_in
 reads_found end found text after ys zs h n t f =
     let same : log_in (log_line after) ≡ steps_in whole_allowance (fields_of (log_line after)) =
-    ap (λ b. cond b (Some []) (steps_in whole_allowance (fields_of (log_line after)))) (not_none end text after ys h n t) in
+    ap (λ b. cond b (Some []) (steps_in whole_allowance (fields_of (log_line after))))
+    (not_none end text after ys h n t) in
     (subst (LogHas found) (sym same) f.0, subst (λ s. LeavesAfterText s after zs) (sym same) f.1)
 
 -- ---- the bytes of an input ----

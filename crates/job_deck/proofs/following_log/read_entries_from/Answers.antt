@@ -1,6 +1,7 @@
 use Rattle.std.proofs.Common.{◌≡◌, Some, None, refl, ap, ◌∙◌, arith}
 use Rattle.sequential.specs.Log.{issued}
 use Rattle.job_deck.specs.LogText.{AddsField}
+use Rattle.job_deck.specs.declared.logs.Allowance.{Allowance}
 use Rattle.job_deck.proofs.printing.FollowingLines.{begun, refused, too_long, last, next, at_error}
 use Rattle.job_deck.proofs.printing.FollowingLines.{some_entries, entries_and_part}
 use Rattle.job_deck.proofs.printing.LogReading.{takes_some}
@@ -10,7 +11,8 @@ pub loop-log-init : goal.loop-log-init
 unfolding issued
 loop-log-init g c =
     let nothing : issued c.new-log.result.steps ≡ 0 = ap issued c.new-log.ensures.steps in
-    let limit : c.whole-left.result.instructions ≡ 10000000 = ap (λ (left : _). left.instructions) c.whole-left.ensures in
+    let limit : c.whole-left.result.instructions ≡ 10000000 =
+    ap (λ (left : Allowance). left.instructions) c.whole-left.ensures in
     record {
       told = begun (g.I.Input.remaining c.args.input.now) c.args.first c.args.field.now.items c.new-log.result.steps
           c.whole-left.result c.new-log.ensures.steps c.whole-left.ensures;
@@ -31,7 +33,8 @@ pub loop-log-smaller : goal.loop-log-smaller
 loop-log-smaller g c =
     let added : AddsField (Some c.in-Some.more) c.loop-log.left c.loop-log.field.items c.loop-log.log.steps
     c.add_field.new.log.steps = rw (c.in-Some.is, c.as_slice.ensures.value) at c.in_ok-add_field.ensures in
-    takes_some c.loop-log.left c.in-Some.more c.loop-log.field.items c.loop-log.log.steps c.add_field.new.log.steps added
+    takes_some c.loop-log.left c.in-Some.more c.loop-log.field.items c.loop-log.log.steps c.add_field.new.log.steps
+    added
 
 pub loop-log-preserved : goal.loop-log-preserved
 loop-log-preserved g c =

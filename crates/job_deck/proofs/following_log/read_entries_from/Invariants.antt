@@ -1,7 +1,7 @@
 use Rattle.std.proofs.Common.{◌≡◌, ◌+◌, ◌≤◌}
 use Rattle.sequential.specs.Log.{issued}
 use Rattle.device_text.specs.Device.{Moves}
-use Rattle.job_deck.specs.FollowingLog.{IsInField}
+use Rattle.job_deck.specs.inner.LogLineParts.{IsInField}
 use Rattle.job_deck.proofs.printing.FollowingLines.{ReadsOn}
 use Rattle.job_deck.proofs.printing.LogReading.{still_to_come}
 use Rattle.job_deck.proofs.following_log.read_entries_from.Given as goal

@@ -1,6 +1,6 @@
 use Rattle.std.proofs.Common.{◌≡◌, true, false, ap, sym, ◌∙◌}
 use Rattle.job_deck.proofs.printing.FollowingLines.{is_none, has_entries}
-use Rattle.job_deck.specs.FollowingLog.{is_none_line}
+use Rattle.job_deck.specs.inner.LogLineParts.{is_none_line}
 use Rattle.job_deck.proofs.following_log.read_log_from.Goals as goal
 
 pub returns-then-is_none_line-clause-read : goal.returns-then-is_none_line-clause-read

@@ -10,6 +10,7 @@ returns c =
       now,
       c.spent.ensures,
       rw c.spent.ensures
-          (count_on c.args.log.now.steps c.add_entry.new.log.steps c.args.left c.in-Some.entry now c.in-Some.ensures.within
+          (count_on c.args.log.now.steps c.add_entry.new.log.steps c.args.left c.in-Some.entry now
+          c.in-Some.ensures.within
           c.requires),
     )

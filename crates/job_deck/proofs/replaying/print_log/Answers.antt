@@ -8,7 +8,8 @@ use Rattle.job_deck.proofs.replaying.print_log.Goals as goal
 pub returns-in_err-replay-clause-printed : goal.returns-in_err-replay-clause-printed
 returns-in_err-replay-clause-printed g c =
     let p = err_from_is_err_and c.from_residual-in_err-replay.result c.from_residual-in_err-replay.ensures.1 in
-    rw (p.1, p.2) (refused_printed _ c.args.deck.now (steps_of_log c.args.found) c.in_ok-memory.memory c.boot-state.result
+    rw (p.1, p.2) (refused_printed _ c.args.deck.now (steps_of_log c.args.found) c.in_ok-memory.memory
+    c.boot-state.result
     c.replay.new.state c.in-Some.log.steps (g.O.Output.contents c.args.output.now)
     (ap steps_of_log c.in-Some.is) (c.in_ok-memory.ensures ∙ c.memory.ensures) c.boot-state.ensures
     c.in_err-replay.ensures.answer c.in_err-replay.ensures.refused)
