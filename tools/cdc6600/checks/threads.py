@@ -96,13 +96,16 @@ def faults():
             seen[-1] = times or seen[-1]
             return not times or holds(times)
 
-        wait_until(lambda: is_seen(have_begun), lambda: f"{THREADS} threads; there are {[len(it) for it in seen[-1]]}")
-        if not look_at(processes):
-            return [f"a run has ended; its threads were {[len(it) for it in seen[-1]]}, of {THREADS}"]
+        def counts():
+            return f"the runs have {[len(it) for it in seen[-1]]} threads, and {THREADS} each are wanted"
+
+        wait_until(lambda: is_seen(have_begun), counts)
         before = seen[-1]
-        wait_until(lambda: is_seen(lambda times: is_decided(times, before)), "the runs to take processor time")
-        idle = idle_units(seen[-1], before)
-        return [f"the thread of {unit} takes no processor time for its unit" for unit in idle]
+        if look_at(processes):
+            wait_until(lambda: is_seen(lambda times: is_decided(times, before)), "the runs to take processor time")
+        if not look_at(processes):
+            return [f"a run has ended too early; {counts()}"]
+        return [f"the thread of {unit} takes no processor time for its unit" for unit in idle_units(seen[-1], before)]
 
 
 def main():
