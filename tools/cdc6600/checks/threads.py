@@ -1,111 +1,116 @@
-"""Runs three decks at the same time and looks at the threads of each run in /proc: there are ten, and each unit's
-thread takes processor time for its unit. The threads of the units are those that the main thread starts first.
+"""Runs a deck by threads. The deck uses all seven units, loads, and asks for an exchange at any time. There are ten
+threads, and each does its part.
 
-The first deck uses all seven units. The second leaves Boolean, Shift, Long Add and Divide idle, and the third Branch
-and the Increment units. A thread's share is its part of the processor time of its run's threads, counted for one second
-to ten. A unit's thread must have at least twice the share under the first deck that it has under the deck that leaves
-its unit idle. An idle thread takes some time too, since it looks for work each millisecond. The storage worker takes so
-much for it that the check can't tell whether it works, and the asking thread has no requests to make.
+The program starts nine threads: one for each unit, the storage worker and the asking thread. For each of them there is
+a run in which held_thread.c keeps this thread from beginning. The main thread of such a run must still wait for another
+thread when three runs without a held thread have ended. It would wait no longer if another thread had done the work: at
+the end of a run it sleeps until all threads have ended, and nothing wakes it meanwhile. When the held thread may begin,
+each run must end as those did.
 
-It says nothing where all is right, else a line for each fault. It takes some seconds.
+It says nothing where all is right, else a line for each fault. It takes some seconds, and needs the C compiler `cc`.
 
 Run it after a change of which threads there are, and of what they do.
 """
 
+import os
 import subprocess
-from contextlib import ExitStack, contextmanager, suppress
+import tempfile
+from contextlib import ExitStack, contextmanager
 from pathlib import Path
 
+from cdc6600.checks.failing_calls import built
 from cdc6600.shared.program import program_path, tell
-from cdc6600.shared.waiting import faults_found, wait_until
+from cdc6600.shared.waiting import faults_found, finish, wait_until
 
-COMPUTES, INCREMENTS, JUMP = "BX1 X2; LX3 1; IX4 X2+X7; CX5 X2", "SA1 B0+7; SB3 B0+B0; NO", "JP B0+0"
-# A package with P 0, RA 100 and a field length for each of the programs.
-PACKAGE = "core 4096\nat 40\nword 0\nword 00000100000000000000\nword 00007600000000000000\n"
-# The first program uses all units. The last uses Branch so rarely that its thread is idle.
-PROGRAMS = ([COMPUTES, INCREMENTS, JUMP], [INCREMENTS, JUMP], [*[COMPUTES] * 3900, JUMP])
-# The units in the order of their threads, each with the program that leaves it idle.
-UNITS = {"Branch": 2, "Boolean": 1, "Shift": 1, "Long Add": 1, "Divide": 1, "Increment 1": 2, "Increment 2": 2}
-THREADS = 10
-TIMES_THE_SHARE = 2
-# Nanoseconds of processor time of each run: until its threads have begun, and from then to the first comparison and to
-# the last.
-BEGINNING, FIRST, LAST = 500_000_000, 1_000_000_000, 10_000_000_000
+LIBRARY = Path(__file__).resolve().with_name("held_thread.c")
+# A package with P 0, RA 100 and FL 20 for the first exchange, and one for the exchange that is asked for.
+DECK = """core 256
+at 40
+word 0
+word 00000100000000000000
+word 00000020000000000000
+at 60
+word 0
+word 00000100000000000000
+word 00000020000000000000
+at 100
+code BX1 X2; LX3 1; IX4 X2+X7; CX5 X2
+code SA1 B0+7; SB3 B0+B0; NO
+code JP B0+0
+start 40
+ask 60 free
+end
+"""
+BUDGET, STATUS = 2000, 5
+# The threads that the main thread starts, in this order.
+STARTED = (
+    "Branch", "Boolean", "Shift", "Long Add", "Divide", "Increment 1", "Increment 2", "the storage worker",
+    "the asking thread",
+)
+# How many runs without a held thread end first, and how often the main thread of each other run waits after that.
+RUNS, WAITS = 3, 100
 
 
 @contextmanager
-def run_of(program):
-    """A process that runs a program; it is killed at the end."""
-    deck = "".join([PACKAGE, "at 100\n", *(f"code {codes}\n" for codes in program), "start 40\nend\n"])
+def run_held(library, thread):
+    """A run in which a thread is held, by its number from 1 on, or none by 0; and the call that lets it begin."""
+    held, release = os.pipe()
+    how = dict(os.environ, LD_PRELOAD=str(library), HELD_THREAD=str(thread), HELD_UNTIL=str(held))
+    words = [program_path(), "run", "--budget", str(BUDGET)]
     pipes = {"stdin": subprocess.PIPE, "stdout": subprocess.DEVNULL}
-    with subprocess.Popen([program_path(), "run", "--budget", "10000000"], **pipes) as process:
+    with os.fdopen(release, "wb") as open_end, subprocess.Popen(words, **pipes, env=how, pass_fds=[held]) as process:
+        os.close(held)
         try:
-            process.stdin.write(deck.encode())
+            process.stdin.write(DECK.encode())
             process.stdin.close()
-            yield process
+            process.stdin = None
+            yield process, open_end.close
         finally:
             process.kill()
 
 
-def times_of(process):
-    """The nanoseconds of processor time of each thread of a process, in the order in which they were started."""
-    tasks = sorted(Path(f"/proc/{process.pid}/task").iterdir(), key=lambda task: int(task.name))
-    return [int((task / "schedstat").read_text(encoding="ascii").split()[0]) for task in tasks]
+def tasks_of(process):
+    """The threads of a process."""
+    return list(Path(f"/proc/{process.pid}/task").iterdir())
 
 
-def shares(times, before):
-    """Each thread's share of the time that the threads have taken since an earlier moment."""
-    taken = [now - then for now, then in zip(times, before)]
-    return [time / sum(taken) for time in taken]
+def waits_of(process):
+    """How often the main thread of a process has waited."""
+    status = Path(f"/proc/{process.pid}/task/{process.pid}/status").read_text(encoding="ascii")
+    return int(status.partition("voluntary_ctxt_switches:")[2].split()[0])
 
 
-def idle_units(times, before):
-    """The units whose threads haven't twice the share that they have if they are idle."""
-    found = [shares(*pair) for pair in zip(times, before)]
-    return [unit for at, (unit, idle) in enumerate(UNITS.items(), 1)
-            if found[0][at] < TIMES_THE_SHARE * found[idle][at]]
+def end_runs(library):
+    """Makes the runs without a held thread; a fault for each that ends in another way."""
+    faults = []
+    for _ in range(RUNS):
+        with run_held(library, 0) as (process, release):
+            release()
+            finish(process, "a run")
+            faults += [] if process.returncode == STATUS else [f"a run ended with status {process.returncode}"]
+    return faults
 
 
-def look_at(processes):
-    """The times of the threads of each process, or nothing once one of them has ended."""
-    with suppress(OSError):
-        times = [times_of(process) for process in processes]
-        return times if all(process.poll() is None for process in processes) else []
-    return []
-
-
-def have_begun(times):
-    """Whether each run has all its threads, and these have looked for work for a while."""
-    return all(len(it) == THREADS and sum(it) >= BEGINNING for it in times)
-
-
-def is_decided(times, before):
-    """Whether the thread of each unit works, or each run has taken so much time that one doesn't."""
-    taken = min(sum(now) - sum(then) for now, then in zip(times, before))
-    return taken >= LAST or taken >= FIRST and not idle_units(times, before)
+def faults_of_held(held):
+    """The faults of the runs with a held thread, when the other runs have ended."""
+    faults, before = [], [waits_of(process) for process, _ in held]
+    for name, (process, release), waited in zip(STARTED, held, before):
+        # The number of threads is that of a run which hasn't ended.
+        count = len(tasks_of(process))
+        faults += [] if count == len(STARTED) + 1 else [f"with {name} held a run has {count} threads"]
+        wait_until(lambda: waits_of(process) >= waited + WAITS, f"a run to wait for {name}, which is held", minutes=1)
+        release()
+        finish(process, f"the run in which {name} was held")
+        faults += [] if process.returncode == STATUS else [f"with {name} held a run ended with {process.returncode}"]
+    return faults
 
 
 def faults():
-    """What is wrong with the threads of the runs."""
-    with ExitStack() as stack:
-        processes, seen = [stack.enter_context(run_of(program)) for program in PROGRAMS], [[]]
-
-        def is_seen(holds):
-            """Whether something holds of the times now, which are kept, or a run has ended."""
-            times = look_at(processes)
-            seen[-1] = times or seen[-1]
-            return not times or holds(times)
-
-        def counts():
-            return f"the runs have {[len(it) for it in seen[-1]]} threads, and {THREADS} each are wanted"
-
-        wait_until(lambda: is_seen(have_begun), counts)
-        before = seen[-1]
-        if look_at(processes):
-            wait_until(lambda: is_seen(lambda times: is_decided(times, before)), "the runs to take processor time")
-        if not look_at(processes):
-            return [f"a run has ended too early; {counts()}"]
-        return [f"the thread of {unit} takes no processor time for its unit" for unit in idle_units(seen[-1], before)]
+    """What is wrong with the threads of a run."""
+    with tempfile.TemporaryDirectory() as folder, ExitStack() as stack:
+        library = built(LIBRARY, folder)
+        held = [stack.enter_context(run_held(library, at)) for at in range(1, len(STARTED) + 1)]
+        return end_runs(library) or faults_of_held(held)
 
 
 def main():
