@@ -2,15 +2,15 @@ use Rattle.std.proofs.Common.{◌≡◌, rules, ap, sym, ◌∙◌, Ok, Err}
 use Rattle.std.specs.Io.Buffered.{reader_remaining}
 use Rattle.instructions.specs.declared.refusal.Refusal.TheVariants as refusals
 use Rattle.operator_terms.specs.declared.fault.ProgramFault.TheVariants as faults
-use Rattle.operator_main.specs.Task.{Performed}
+use Rattle.operator_main.specs.Request.{Performed}
 use Rattle.operator_main.proofs.Performing.{fresh_reader, performed, performed_nothing}
-use Rattle.operator_main.proofs.Replaying.{tells_nothing}
+use Rattle.operator_main.proofs.Telling.{tells_nothing}
 use Rattle.operator_main.proofs.program.perform.Goals as goal
 
 pub returns-in_default : goal.returns-in_default
 returns-in_default g c = (
   Err (faults.Refused refusals.OutOfMemory),
-  performed_nothing c.args.task.now (g.R.Read.remaining c.args.input.now) (g.W.Write.contents c.args.output.now),
+  performed_nothing c.args.request.now (g.R.Read.remaining c.args.input.now) (g.W.Write.contents c.args.output.now),
   c.report_fault.ensures.told,
   c.report_fault.ensures.status,
 )
@@ -18,9 +18,9 @@ returns-in_default g c = (
 pub returns-in-Ok-ended : goal.returns-in-Ok-ended
 returns-in-Ok-ended g c =
     let back : c.into_inner.result.now ≡ c.output-2-1.given.0 = search rules in
-    let done : Performed c.args.task.now (Ok c.in-Ok-ended.status) (g.R.Read.remaining c.args.input.now)
+    let done : Performed c.args.request.now (Ok c.in-Ok-ended.status) (g.R.Read.remaining c.args.input.now)
     (g.W.Write.contents c.args.output.now) (g.W.Write.contents c.output-2-1.given.0) =
-    performed c.args.task.now c.carry_out-ended.result _ (g.R.Read.remaining c.args.input.now)
+    performed c.args.request.now c.carry_out-ended.result _ (g.R.Read.remaining c.args.input.now)
     (g.W.Write.contents c.args.output.now) _ _ _ _ _
     c.in-Ok-ended.is
     (ap (λ r. reader_remaining (λ i. g.R.Read.remaining i.now) r.now) c.new-input.ensures.reader
@@ -34,9 +34,9 @@ returns-in-Ok-ended g c =
 pub returns : goal.returns
 returns g c =
     let back : c.into_inner.result.now ≡ c.output-2-1.given.0 = search rules in
-    let done : Performed c.args.task.now (Err c.in-Err.fault) (g.R.Read.remaining c.args.input.now)
+    let done : Performed c.args.request.now (Err c.in-Err.fault) (g.R.Read.remaining c.args.input.now)
     (g.W.Write.contents c.args.output.now) (g.W.Write.contents c.output-2-1.given.0) =
-    performed c.args.task.now c.carry_out-ended.result _ (g.R.Read.remaining c.args.input.now)
+    performed c.args.request.now c.carry_out-ended.result _ (g.R.Read.remaining c.args.input.now)
     (g.W.Write.contents c.args.output.now) _ _ _ _ _
     c.in-Err.is
     (ap (λ r. reader_remaining (λ i. g.R.Read.remaining i.now) r.now) c.new-input.ensures.reader
