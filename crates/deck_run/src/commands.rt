@@ -1,11 +1,14 @@
 ghost use Rattle.std.specs.Prelude.{◌≡◌, ◌||◌, OnOk, false};
 ghost use Rattle.deck.specs.Deck.{deck};
 ghost use Rattle.device_text.specs.Device.{Moves, NothingWaits};
-ghost use Rattle.deck_run.specs.Running.{PrintsRun, Runs, EndsReplay, EndsSequentialRun, is_read_fault, is_write_fault};
+ghost use Rattle.deck_run.specs.Running.{PrintsRun, Runs, EndsReplay, EndsReplayFollowing, EndsSequentialRun};
+ghost use Rattle.deck_run.specs.Running.{is_read_fault, is_write_fault};
 
 use super::running::run;
 use instruction_table::Refusal;
-use job_deck::{Deck, Input, LineBuffer, Output, dump_to, read_deck_from, replay_to};
+use job_deck::{
+    Deck, Input, LineBuffer, Output, dump_to, read_deck_from, replay_following_to, replay_to,
+};
 use operator_terms::{Budget, ProgramFault, Status, end_status};
 use sequential_job::run_to;
 use std::alloc::Global;
@@ -113,6 +116,34 @@ pub fn replay_log<I: Input, O: Output>(
     ensures output { O.lender output.new ≡ O.lender output.old }
 {
     match replay_to(alloc, input, output, line, log)? {
+        Some(state) => Ok(end_status(&state)),
+        None => Err(ProgramFault::BadLog),
+    }
+}
+
+/// Executes the log in the line after a deck, one instruction at a time, prints the dump and flushes it. The deck is read
+/// and judged before the log is read. The log's line may be of any length.
+///
+/// # Errors
+/// `Deck` with a line and its fault. `BadLog` if the line after the deck isn't the text of a log, or there is no line.
+/// `PackageRange` if the package of an exchange in the log doesn't lie in memory, `PeripheralRange` if the word of a
+/// peripheral access doesn't. `OutOfMemory` if memory runs out. `Read` if a read fails. `Write` if a write fails; then a
+/// beginning of the dump may have been written. Nothing is written after other errors.
+pub fn replay_following_log<I: Input, O: Output>(
+    alloc: Global,
+    input: &mut I,
+    output: &mut O,
+    line: &mut LineBuffer,
+) -> Result<Status, ProgramFault>
+    ensures replayed { Moves (I.remaining input.old) (I.remaining input.new)
+        (λ xs ys. EndsReplayFollowing result (deck xs) ys (O.contents output.old) (O.contents output.new)) }
+    ensures read { I.has_failed input.new ≡ (I.has_failed input.old || is_read_fault result) }
+    ensures write { O.has_failed output.new ≡ (O.has_failed output.old || is_write_fault result) }
+    ensures handed_on { OnOk result (O.waits output.new ≡ false) }
+    ensures kept { NothingWaits (is_write_fault result) (O.waits output.old) (O.waits output.new) }
+    ensures output { O.lender output.new ≡ O.lender output.old }
+{
+    match replay_following_to(alloc, input, output, line)? {
         Some(state) => Ok(end_status(&state)),
         None => Err(ProgramFault::BadLog),
     }

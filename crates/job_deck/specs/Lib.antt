@@ -4,6 +4,7 @@
 pub mod Dump
 pub mod Listing
 pub mod LogText
+pub mod FollowingLog
 pub mod Replaying
 pub mod Schedule
 pub mod AnswerText

@@ -2,7 +2,7 @@ use Rattle.std.proofs.Common.{◌||◌, ap, sym, ◌∙◌}
 use Rattle.std.proofs.lemmas.Result.{err_from_is_err_and}
 use Rattle.instructions.proofs.Lists.{or_false}
 use Rattle.job_deck.proofs.printing.Refused.{refused_printed, refused_unwritten}
-use Rattle.job_deck.proofs.replaying.print_replay.Goals as goal
+use Rattle.job_deck.proofs.replaying.print_log.Goals as goal
 
 pub returns-in_err-replay-clause-printed : goal.returns-in_err-replay-clause-printed
 returns-in_err-replay-clause-printed g c =
