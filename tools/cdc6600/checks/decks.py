@@ -2,8 +2,8 @@
 status with the files beside it, which decks/README.md names. Each deck is run with and without `--sequential`. The log
 that a run prints is replayed, which has to print the same dump and to end with the same status. If the log of a run by
 threads depends on how these fall, it has to be one of those that it may have, and what is printed that of its replay.
-Then the rows of the pages refusals.md and requests.md are tried, refusals also at a terminal, and the timeline of each session and the picture
-docs/use/conflicts.svg are drawn anew and compared.
+Then the rows of the pages refusals.md and requests.md are tried, those of refusals at a terminal too. The timeline of
+each session and the picture docs/use/conflicts.svg are drawn anew and compared.
 
 It says nothing where all are as they should be, else the command and what differs. CDC6600 may name the program to try.
 

@@ -5,8 +5,8 @@ each word is shown, in 64 ranges. Word a of it has the value a, but for the fiel
 has B1 to B7 of 1 to 7 and X0 to X7 of 8 to 15, and its program stops by its first instruction. A session makes
 1,000,000 requests, each with its exchange, which is as many as there may be; one more is refused as `E3 budget`.
 Another makes 1,000,000 peripheral accesses, as many as there may be, and `replay` goes through as many as an argument
-has room for, and through the largest logs after a deck. Each command works with a stack of 96 KiB. A deck and the session
-after it have 10,000,000 lines at most; `tools/check mutations` lists decks of so many.
+has room for, and through the largest logs after a deck. Each command works with a stack of 96 KiB. A deck and the
+session after it have 10,000,000 lines at most; `tools/check mutations` lists decks of so many.
 
 At a difference it says which, and ends with status 1. It prints nothing where there is none. CDC6600 may name the
 program to try; else `./cdc6600` builds it.
