@@ -229,7 +229,10 @@ fn expect_told(
     } else {
         program(rt, alloc, words, &mut deck, &mut output, &mut faults)
     };
-    assert_eq!(rt; (answer, faults.bytes.as_slice(), faults.calls), (1, told, 1));
+    assert_eq!(rt;
+        (answer, faults.bytes.as_slice(), faults.calls),
+        (1, told, 1)
+    );
     Ok(())
 }
 

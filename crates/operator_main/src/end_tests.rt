@@ -1,12 +1,7 @@
-//! Tests of the exit statuses and the fault lines. The decks that halt or fault and their dumps are those of decks/run,
-//! which were worked out without this program.
+//! Tests of the exit statuses of a machine that halts or faults. The decks and their dumps are those of decks/run, which
+//! were worked out without this program.
 
-ghost use Rattle.std.specs.Prelude.{None};
-
-use super::program::report_bad_argument;
-use super::test_program::{Case, TWO_ADDS, called, expect};
-use std::io;
-use std::io::{ErrorKind, Read};
+use super::test_program::{Case, expect};
 use std::test::Fail;
 
 /// A deck with a refused opcode.
@@ -171,119 +166,11 @@ const ENDS: [Case<'static>; 4] = [
     },
 ];
 
-/// The statuses of a machine that halts or faults. `command_tests` has those of a stop and of a used-up budget.
+/// `command_tests` has the statuses of a stop and of a used-up budget.
 #[test]
 fn halts_and_faults(rt: HostRuntime) -> Result<(), Fail> {
     for case in &ENDS {
         expect(&rt, case)?;
-    }
-    Ok(())
-}
-
-/// A call that prints nothing but its fault line: the arguments, the deck, the input after it, the exit status, and the
-/// fault line.
-type Refused<'a> = (&'a [&'a str], &'a [u8], &'a [u8], u8, &'a [u8]);
-
-/// The faults of a deck, of a schedule and of a log. [`REPEATED`] has the faults of input that is too long.
-const REFUSED: [Refused<'static>; 29] = [
-    (&["run"], b"at 40\n", b"", 1, b"cdc6600: E20 line 1: first\n"),
-    (&["run"], b"core 256\n\n", b"", 1, b"cdc6600: E20 line 2: unknown\n"),
-    (&["run"], b"core 0x20\n", b"", 1, b"cdc6600: E20 line 1: number\n"),
-    (&["run"], b"core 31\n", b"", 1, b"cdc6600: E20 line 1: size\n"),
-    (&["run"], b"core 256\ncore 256\n", b"", 1, b"cdc6600: E20 line 2: repeated\n"),
-    (&["run"], b"core 256\nat 400\n", b"", 1, b"cdc6600: E20 line 2: range\n"),
-    (&["run"], b"core 256\nstart 361\n", b"", 1, b"cdc6600: E20 line 2: package\n"),
-    (&["run"], b"core 256\ncode FX1 X2+X3\n", b"", 1, b"cdc6600: E20 line 2: instruction\n"),
-    (&["run"], b"core 256\ncode NO; NO; NO; SX1 B0+5\n", b"", 1, b"cdc6600: E20 line 2: full\n"),
-    (&["run"], b"core 256\nend\n", b"", 1, b"cdc6600: E20 line 2: no start\n"),
-    (&["run"], b"", b"", 1, b"cdc6600: E20 line 1: no end\n"),
-    (&["run", "--sequential"], b"core 31\n", b"", 1, b"cdc6600: E20 line 1: size\n"),
-    (&["list"], b"core 31\n", b"", 1, b"cdc6600: E20 line 1: size\n"),
-    (&["replay", "bad"], b"core 31\n", b"", 1, b"cdc6600: E20 line 1: size\n"),
-    (&["replay", "--log-follows"], b"core 31\n", b"bad\n", 1, b"cdc6600: E20 line 1: size\n"),
-    (&["events"], TWO_ADDS, b"read core\n", 1, b"cdc6600: E20 line 12: unknown\n"),
-    (&["events"], TWO_ADDS, b"return 123\n", 1, b"cdc6600: E20 line 12: number\n"),
-    (&["events"], TWO_ADDS, b"", 1, b"cdc6600: E20 line 12: no end\n"),
-    (&["replay", "E361"], TWO_ADDS, b"", 2, b"cdc6600: E19 package range\n"),
-    (&["replay", "--log-follows"], TWO_ADDS, b"E40 I1 E361\n", 2, b"cdc6600: E19 package range\n"),
-    (&["replay", "E40 I1 R400"], TWO_ADDS, b"", 2, b"cdc6600: E27 peripheral range\n"),
-    (&["replay", "--log-follows"], TWO_ADDS, b"W400=5\n", 2, b"cdc6600: E27 peripheral range\n"),
-    (&["replay", ""], TWO_ADDS, b"", 2, b"cdc6600: bad log\n"),
-    (&["replay", "E40 I2 I2"], TWO_ADDS, b"", 2, b"cdc6600: bad log\n"),
-    (&["replay", "--log-follows"], TWO_ADDS, b"", 2, b"cdc6600: bad log\n"),
-    (&["replay", "--log-follows"], TWO_ADDS, b"\nE40 I6\n", 2, b"cdc6600: bad log\n"),
-    (&["replay", "--log-follows"], TWO_ADDS, b"E40 I2 I2\n", 2, b"cdc6600: bad log\n"),
-    (&["replay", "--log-follows"], TWO_ADDS, b"E40 I6\r\n", 2, b"cdc6600: bad log\n"),
-    (&["replay", "--log-follows"], TWO_ADDS, b"E40 I6 \xff\n", 2, b"cdc6600: bad log\n"),
-];
-
-#[test]
-fn fault_lines(rt: HostRuntime) -> Result<(), Fail> {
-    for (arguments, deck, rest, status, told) in REFUSED {
-        let case = Case {
-            name: "a refusal",
-            arguments,
-            deck,
-            rest,
-            status,
-            printed: b"",
-            told,
-        };
-        expect(&rt, &case)?;
-    }
-    Ok(())
-}
-
-/// A reader of some bytes, and of a piece again and again.
-#[derive(Drop)]
-struct Repeating<'a> {
-    bytes: &'a [u8],
-    piece: &'a [u8],
-    times: u32,
-}
-
-impl Read for Repeating<'_> {
-    ghost remaining = { λ r. None };
-
-    fn read(&mut self, buf: &mut [u8]) -> io::Result<usize> {
-        if self.bytes.is_empty() && self.times > 0 {
-            self.times -= 1;
-            self.bytes = self.piece;
-        }
-        self.bytes.read(buf)
-    }
-}
-
-/// Input that is too long: a deck's beginning, the piece that follows it and how many times, and the fault line.
-const REPEATED: [(&[u8], &[u8], u32, &[u8]); 3] = [
-    (b"", b"0", 201, b"cdc6600: E20 line 1: long\n"),
-    (b"core 256\n", b"show 0 0\n", 65, b"cdc6600: E20 line 66: many\n"),
-    (b"core 32\n", b"at 0\n", 9_999_999, b"cdc6600: E20 line 10000001: lines\n"),
-];
-
-#[test]
-fn faults_of_long_input(rt: HostRuntime) -> Result<(), Fail> {
-    for (bytes, piece, times, told) in REPEATED {
-        let mut input = Repeating { bytes, piece, times };
-        let (status, printed, faults) = called(&rt, &["list"], &mut input)?;
-        assert_eq!(rt;
-            (status, printed.is_empty(), faults.as_slice()),
-            (1, true, told)
-        );
-    }
-    Ok(())
-}
-
-/// The arguments are too many for the memory, or aren't text.
-#[test]
-fn bad_arguments(rt: HostRuntime) -> Result<(), Fail> {
-    for (kind, status, told) in [
-        (ErrorKind::OutOfMemory, 6, b"cdc6600: E21 out of memory\n".as_slice()),
-        (ErrorKind::InvalidData, 2, b"error: an argument is no text\n"),
-    ] {
-        let mut faults = Vec::new(rt.alloc());
-        let answer = report_bad_argument(&mut faults, io::Error::from(kind));
-        assert_eq!(rt; (answer, faults.as_slice()), (status, told));
     }
     Ok(())
 }

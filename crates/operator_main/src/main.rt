@@ -8,7 +8,8 @@
 //! output, so that printing a piece takes no system call. `progress` shows at a terminal that a long run is still going.
 //!
 //! Its tests call `program`. Their first table is `CASES` in `command_tests`: a call of each command with its whole
-//! output. `end_tests` has the exit statuses and the fault lines. Begin with `program::program`.
+//! output. `end_tests` has the exit statuses of machines that halt or fault, and `fault_tests` the fault lines. Begin
+//! with `program::program`.
 #![tactic(auto)]
 
 mod program;
@@ -67,5 +68,7 @@ mod command_tests;
 mod device_tests;
 #[cfg(test)]
 mod end_tests;
+#[cfg(test)]
+mod fault_tests;
 #[cfg(test)]
 mod test_program;

@@ -146,7 +146,9 @@ fn carry_out<T: Threads + Wait + Clock + Sync, I: Input, O: Output>(
 {
     match *request {
         Request::Run(budget) => run_deck(rt, alloc, input, output, line, budget),
-        Request::RunSequentially(budget) => run_deck_sequentially(alloc, input, output, line, budget),
+        Request::RunSequentially(budget) => run_deck_sequentially(
+            alloc, input, output, line, budget,
+        ),
         Request::Replay(log) => replay_log(alloc, input, output, line, log),
         Request::ReplayFollowing => replay_following_log(alloc, input, output, line),
         Request::Events(budget) => {

@@ -27,7 +27,14 @@ pub fn called<R: Read>(
     let words = words(rt.alloc(), texts)?;
     let mut output = Vec::new(rt.alloc());
     let mut faults = Vec::new(rt.alloc());
-    let status = program(rt, rt.alloc(), words.as_slice(), input, &mut output, &mut faults);
+    let status = program(
+        rt,
+        rt.alloc(),
+        words.as_slice(),
+        input,
+        &mut output,
+        &mut faults,
+    );
     Ok((status, output, faults))
 }
 
