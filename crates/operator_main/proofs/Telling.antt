@@ -1,5 +1,5 @@
 -- What is told at an end.
-use Rattle.std.proofs.Common.{◌≡◌, ◌≤◌, ℕ, Bool, true, false, List, Option, Result, Ok, Err, arith, length}
+use Rattle.std.proofs.Common.{◌≤◌, ℕ, Bool, true, false, List, Option, Result, Ok, Err, arith, length}
 use Rattle.std.proofs.KnownBytes.{Keeps-refl}
 use Rattle.operator_terms.specs.declared.fault.ProgramFault.{ProgramFault}
 use Rattle.operator_terms.specs.declared.status.Status.{Status}

@@ -84,6 +84,18 @@ fn report_fault_with_position<F: Write>(faults: &mut F, fault: ProgramFault, lin
     fault.exit_code()
 }
 
+/// Reports a fault, with its position or without. If a line was refused, it is `line`. Returns the exit status.
+fn report<F: Write>(faults: &mut F, fault: ProgramFault, line: &[u8], with_position: bool) -> u8
+    ensures status { result ≡ exit_code (Err fault) }
+    ensures told { Tells with_position (Err fault) (F.contents faults.old) (F.contents faults.new) }
+{
+    if with_position {
+        report_fault_with_position(faults, fault, line)
+    } else {
+        report_fault(faults, fault)
+    }
+}
+
 /// Reports that the arguments can't be read: one isn't UTF-8, or memory ran out. Returns the exit status.
 pub fn report_bad_argument<F: Write>(faults: &mut F, error: io::Error) -> u8
     ensures memory { error_kind error ≡ IoErrorKind.OutOfMemory → result ≡ exit_code (Err (Refused OutOfMemory)) }
@@ -178,7 +190,8 @@ fn perform<T: Threads + Wait + Clock + Sync, R: Read, W: Write, F: Write>(
         (F.contents faults.old) (F.contents faults.new) }
 {
     let Ok(mut reader) = BufReader::new(alloc, &mut *input) else {
-        return report_fault(faults, ProgramFault::Refused(Refusal::OutOfMemory));
+        let fault = ProgramFault::Refused(Refusal::OutOfMemory);
+        return report(faults, fault, b"", with_position);
     };
     let mut input = CheckedBufReader::new(&mut reader);
     let mut output = CheckedWriter::new(&mut *output);
@@ -188,8 +201,7 @@ fn perform<T: Threads + Wait + Clock + Sync, R: Read, W: Write, F: Write>(
     let _ = &*output.into_inner();
     match ended {
         Ok(status) => status.code(),
-        Err(fault) if with_position => report_fault_with_position(faults, fault, line.as_slice()),
-        Err(fault) => report_fault(faults, fault),
+        Err(fault) => report(faults, fault, line.as_slice(), with_position),
     }
 }
 

@@ -353,6 +353,8 @@ LIMITS = {
     ("device_text/src/line.rt", "for _ in .."): LONG_LINES,
     ("job_deck/src/logs.rt", "exchanges: "): LARGEST_LOG,
     ("job_deck/src/logs.rt", "accesses: "): LARGEST_LOG,
+    ("job_deck/src/following_log.rt", "ArrayVec<u8, "): nothing("the longest entry has 28 bytes"),
+    ("job_deck/src/following_log.rt", "for _ in .."): nothing("so many bytes have room in the buffer"),
     ("job_deck/src/dumping.rt", "for number in .."): nothing("there are eight X registers"),
     ("job_deck/src/listing.rt", "while parcel <"): nothing("a word has four parcels"),
     ("operator_terms/src/budget.rt", "LARGEST_BUDGET"): repeated(

@@ -11,8 +11,8 @@ pub returns-in_default : goal.returns-in_default
 returns-in_default g c = (
   Err (faults.Refused refusals.OutOfMemory),
   performed_nothing c.args.request.now (g.R.Read.remaining c.args.input.now) (g.W.Write.contents c.args.output.now),
-  c.report_fault.ensures.told,
-  c.report_fault.ensures.status,
+  c.report.ensures.told,
+  c.report.ensures.status,
 )
 
 pub returns-in-Ok-ended : goal.returns-in-Ok-ended
@@ -29,7 +29,7 @@ returns-in-Ok-ended g c =
     (ap (λ r. g.W.Write.contents r.now) c.new-output.ensures.writer)
     (ap (λ r. g.W.Write.contents r.now) (sym c.into_inner.ensures) ∙ ap g.W.Write.contents back)
     c.carry_out-ended.ensures.carried_out in
-    (Ok c.in-Ok-ended.status, done, tells_nothing c.in-Ok-ended.status _, c.code.ensures)
+    (Ok c.in-Ok-ended.status, done, tells_nothing c.args.with_position c.in-Ok-ended.status _, c.code.ensures)
 
 pub returns : goal.returns
 returns g c =
@@ -45,4 +45,4 @@ returns g c =
     (ap (λ r. g.W.Write.contents r.now) c.new-output.ensures.writer)
     (ap (λ r. g.W.Write.contents r.now) (sym c.into_inner.ensures) ∙ ap g.W.Write.contents back)
     c.carry_out-ended.ensures.carried_out in
-    (Err c.in-Err.fault, done, c.report_fault-in-Err.ensures.told, c.report_fault-in-Err.ensures.status)
+    (Err c.in-Err.fault, done, c.report-in-Err.ensures.told, c.report-in-Err.ensures.status)
