@@ -1,6 +1,7 @@
 -- The steps that the text of a log lists.
 -- Source: ours.
-use Rattle.std.specs.Prelude.{◌≡◌, ℕ, ◌+◌, ◌-◌, ◌≤◌, Bool, true, false, ◌||◌, ◌==◌, nat_lt, if◌then◌else◌, List, [], ◌∷◌, ◌++◌}
+use Rattle.std.specs.Prelude.{◌≡◌, ℕ, ◌+◌, ◌-◌, ◌≤◌, Bool, true, false, ◌||◌, ◌==◌, nat_lt, if◌then◌else◌, List, []}
+use Rattle.std.specs.Prelude.{◌∷◌, ◌++◌}
 use Rattle.std.specs.Prelude.{Option, Some, None, codes, option_map, option_and_then}
 use Rattle.std.specs.List.{slice_split}
 use Rattle.std.specs.Str.{bytes_eq}
@@ -111,8 +112,8 @@ LogHas (Some log) steps = steps ≡ Some log.steps
 abbrev pub steps_of_log : Option Log → Option (List LogStep)
 steps_of_log found = option_map (λ (log : Log). log.steps) found
 
--- a field was read as the next entry, which took the log from `before` to `now` and left an allowance. `None` means that
--- the field isn't an entry that may come
+-- a field was read as the next entry, which took the log from `before` to `now` and left an allowance. The instructions
+-- so far and those that may still come are at most 10,000,000. `None` means that the field isn't an entry that may come
 abbrev pub AddsField : Option Allowance → Allowance → List ℕ → List LogStep → List LogStep → Type 0
 AddsField None left field before now = entry_in left field ≡ None
 AddsField (Some more) left field before now =

@@ -1,9 +1,11 @@
 //! The log in the line after a deck, read entry by entry. The line may be of any length.
-ghost use Rattle.std.specs.Prelude.{◌≡◌, ◌⊎◌, ◌||◌, IfOk, MatchResult};
+ghost use Rattle.std.specs.Prelude.{◌≡◌, ◌⊎◌, ◌||◌, ◌++◌, IfOk, OnErr, MatchResult};
 ghost use Rattle.instructions.specs.declared.refusal.Refusal.TheVariants.{OutOfMemory, Read};
 ghost use Rattle.deck.specs.Reading.{is_read_failure};
 ghost use Rattle.device_text.specs.Device.{Moves, failed_after};
-ghost use Rattle.job_deck.specs.FollowingLog.{FieldTaken, IsInField, ReadsEntries, ReadsLogLine};
+ghost use Rattle.job_deck.specs.FollowingLog.{ReadsLogLine, ReadsWithinLine};
+ghost use Rattle.job_deck.specs.inner.LogLineParts.{FieldTaken, IsInField, ReadsEntries, ReadsSomeEntries};
+ghost use Rattle.job_deck.specs.inner.LogLineParts.{is_none_line};
 
 use crate::logs::{Allowance, add_field};
 use arrayvec::ArrayVec;
@@ -35,6 +37,9 @@ fn read_field<I: Input>(input: &mut I, field: &mut EntryBuffer) -> Result<FieldE
     ensures text { IfOk result (λ end. IsInField field.new.items) }
     ensures ok { IfOk result (λ end. Moves (I.remaining input.old) (I.remaining input.new)
         (FieldTaken end field.new.items)) }
+    ensures err { OnErr result (Moves (I.remaining input.old) (I.remaining input.new)
+        (λ xs ys. xs ≡ field.new.items ++ ys)) }
+    ensures part { OnErr result (IsInField field.new.items) }
     ensures failure { I.has_failed input.new ≡ failed_after (I.has_failed input.old) result }
     ensures same { I.lender input.new ≡ I.lender input.old }
 {
@@ -47,6 +52,16 @@ fn read_field<I: Input>(input: &mut I, field: &mut EntryBuffer) -> Result<FieldE
         }
     }
     Ok(FieldEnd::Long)
+}
+
+/// Whether a line is `none`, the text of an empty log, by the line's first field and what ends that field.
+fn is_none_line(end: FieldEnd, field: &[u8]) -> bool
+    ensures { result ≡ is_none_line end field.now }
+{
+    match end {
+        FieldEnd::Line => field == b"none".as_slice(),
+        FieldEnd::Space | FieldEnd::Long => false,
+    }
 }
 
 /// Reads the entries of a line whose first field is in the buffer, up to the end of the line or the first field that
@@ -64,6 +79,8 @@ fn read_entries_from<I: Input>(
     ensures read { MatchResult result
         (λ found. Moves (I.remaining input.old) (I.remaining input.new) (ReadsEntries found first field.old.items))
         (λ refusal. (refusal ≡ OutOfMemory) ⊎ (refusal ≡ Read)) }
+    ensures within { OnErr result (Moves (I.remaining input.old) (I.remaining input.new)
+        (ReadsSomeEntries first field.old.items)) }
     ensures failure { I.has_failed input.new ≡ (I.has_failed input.old || is_read_failure result) }
     ensures same { I.lender input.new ≡ I.lender input.old }
 {
@@ -71,17 +88,15 @@ fn read_entries_from<I: Input>(
     let mut left = Allowance::whole();
     let mut end = first;
     loop {
-        if end == FieldEnd::Long {
-            return Ok(None);
-        }
         match add_field(&mut log, left, field.as_slice())? {
             None => return Ok(None),
             Some(more) => left = more,
         }
-        if end == FieldEnd::Line {
-            return Ok(Some(log));
+        match end {
+            FieldEnd::Space => end = read_field(input, field)?,
+            FieldEnd::Line => return Ok(Some(log)),
+            FieldEnd::Long => return Ok(None),
         }
-        end = read_field(input, field)?;
     }
 }
 
@@ -95,12 +110,13 @@ pub fn read_log_from<I: Input>(alloc: Global, input: &mut I) -> Result<Option<Lo
     ensures read { MatchResult result
         (λ found. Moves (I.remaining input.old) (I.remaining input.new) (ReadsLogLine found))
         (λ refusal. (refusal ≡ OutOfMemory) ⊎ (refusal ≡ Read)) }
+    ensures within { OnErr result (Moves (I.remaining input.old) (I.remaining input.new) ReadsWithinLine) }
     ensures failure { I.has_failed input.new ≡ (I.has_failed input.old || is_read_failure result) }
     ensures same { I.lender input.new ≡ I.lender input.old }
 {
     let mut field = EntryBuffer::new();
     let end = read_field(input, &mut field)?;
-    if end == FieldEnd::Line && field.as_slice() == b"none".as_slice() {
+    if is_none_line(end, field.as_slice()) {
         return Ok(Some(Log::new(alloc)));
     }
     read_entries_from(alloc, input, &mut field, end)

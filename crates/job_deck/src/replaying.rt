@@ -28,7 +28,7 @@ fn print_log<O: Output>(
     deck: &Deck,
     found: Option<Log>,
 ) -> Result<Option<State>, Refusal>
-    ensures printed { Prints result (replayed_steps deck.now.image.memory (steps_of_log found.entry)) deck.now.shows
+    ensures printed { Prints result (replayed_steps deck.now.image.memory (steps_of_log found)) deck.now.shows
         (O.contents output.old) (O.contents output.new) }
     ensures failure { O.has_failed output.new ≡ (O.has_failed output.old || is_write_failure result) }
     ensures handed_on { IfOk result (λ state. IsSome state → O.waits output.new ≡ false) }
@@ -98,8 +98,8 @@ pub fn replay<R: Read, W: Write>(
 
 /// Reads a deck and the log in the line after it, replays the log on the deck's memory and prints the machine's dump.
 /// The machine executes one instruction at a time. Returns its final state, or `None` if the line isn't the text of a
-/// log. The deck is read and judged before the log is read. The log's line may be of any length. The deck's `start` line
-/// isn't used.
+/// log. A fault of the deck is reported before the log is read. The log's line may be of any length. The deck's `start`
+/// line isn't used.
 ///
 /// # Errors
 /// `Deck` with the number of a faulty line and its fault. `PackageRange` or `PeripheralRange` if a step of the log is

@@ -15,6 +15,8 @@ mod device_tests;
 #[cfg(test)]
 mod fixtures;
 #[cfg(test)]
+mod following_log_tests;
+#[cfg(test)]
 mod fulfilled_requests_tests;
 #[cfg(test)]
 mod led_tests;

@@ -1,15 +1,17 @@
 use Rattle.std.proofs.Common.{◌||◌, ap, sym, ◌∙◌}
 use Rattle.std.proofs.lemmas.Result.{err_from_is_err_and}
 use Rattle.instructions.proofs.Lists.{or_false}
+use Rattle.job_deck.specs.LogText.{steps_of_log}
 use Rattle.job_deck.proofs.printing.Refused.{refused_printed, refused_unwritten}
 use Rattle.job_deck.proofs.replaying.print_log.Goals as goal
 
 pub returns-in_err-replay-clause-printed : goal.returns-in_err-replay-clause-printed
 returns-in_err-replay-clause-printed g c =
     let p = err_from_is_err_and c.from_residual-in_err-replay.result c.from_residual-in_err-replay.ensures.1 in
-    rw (p.1, p.2) (refused_printed _ c.args.deck.now c.args.text.now c.in_ok-memory.memory c.boot-state.result
+    rw (p.1, p.2) (refused_printed _ c.args.deck.now (steps_of_log c.args.found) c.in_ok-memory.memory
+    c.boot-state.result
     c.replay.new.state c.in-Some.log.steps (g.O.Output.contents c.args.output.now)
-    (rw c.in-Some.is at c.in_ok-log.ensures) (c.in_ok-memory.ensures ∙ c.memory.ensures) c.boot-state.ensures
+    (ap steps_of_log c.in-Some.is) (c.in_ok-memory.ensures ∙ c.memory.ensures) c.boot-state.ensures
     c.in_err-replay.ensures.answer c.in_err-replay.ensures.refused)
 
 pub returns-in_err-replay-clause-failure : goal.returns-in_err-replay-clause-failure
