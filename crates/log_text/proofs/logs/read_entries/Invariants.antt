@@ -1,8 +1,8 @@
 use Rattle.std.proofs.Common.{◌≡◌, ◌≤◌, ◌+◌, length}
 use Rattle.sequential.specs.Log.{issued}
 use Rattle.device_text.specs.Text.{fields_of}
-use Rattle.job_deck.specs.LogText.{whole_allowance, put_steps, steps_in}
-use Rattle.job_deck.proofs.logs.read_entries.Given as goal
+use Rattle.log_text.specs.LogText.{whole_allowance, put_steps, steps_in}
+use Rattle.log_text.proofs.logs.read_entries.Given as goal
 
 -- the steps of all fields are those so far and those of the fields that are left
 abbrev pub invariant-loop-log : goal.invariant-loop-log

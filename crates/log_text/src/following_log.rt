@@ -3,9 +3,9 @@ ghost use Rattle.std.specs.Prelude.{◌≡◌, ◌⊎◌, ◌||◌, ◌++◌, If
 ghost use Rattle.instructions.specs.declared.refusal.Refusal.TheVariants.{OutOfMemory, Read};
 ghost use Rattle.deck.specs.Reading.{is_read_failure};
 ghost use Rattle.device_text.specs.Device.{Moves, failed_after};
-ghost use Rattle.job_deck.specs.FollowingLog.{ReadsLogLine, ReadsWithinLine};
-ghost use Rattle.job_deck.specs.inner.LogLineParts.{FieldTaken, IsInField, ReadsEntries, ReadsSomeEntries};
-ghost use Rattle.job_deck.specs.inner.LogLineParts.{is_none_line};
+ghost use Rattle.log_text.specs.FollowingLog.{ReadsLogLine, ReadsWithinLine};
+ghost use Rattle.log_text.specs.inner.LogLineParts.{FieldTaken, IsInField, ReadsEntries, ReadsSomeEntries};
+ghost use Rattle.log_text.specs.inner.LogLineParts.{is_none_line};
 
 use crate::logs::{Allowance, add_field};
 use arrayvec::ArrayVec;

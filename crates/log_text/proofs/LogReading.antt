@@ -12,10 +12,10 @@ use Rattle.sequential.specs.declared.log.Entry.TheVariants.{Issued as Count, Exc
 use Rattle.sequential.specs.Log.{steps_of, issued}
 use Rattle.sequential.specs.Replay.{LogStep, Issued}
 use Rattle.sequential.proofs.Entries.{issued-append, issued-replicate}
-use Rattle.job_deck.specs.LogText.{entry_in, entry_count, spent, put_steps, steps_in, write_in, written_in}
-use Rattle.job_deck.specs.LogText.{AddsField, count_in, exchange_in, read_in}
-use Rattle.job_deck.specs.LogText.{number_without_leading_zeros, word_without_leading_zeros}
-use Rattle.job_deck.specs.declared.logs.Allowance.{Allowance}
+use Rattle.log_text.specs.LogText.{entry_in, entry_count, spent, put_steps, steps_in, write_in, written_in}
+use Rattle.log_text.specs.LogText.{AddsField, count_in, exchange_in, read_in}
+use Rattle.log_text.specs.LogText.{number_without_leading_zeros, word_without_leading_zeros}
+use Rattle.log_text.specs.declared.logs.Allowance.{Allowance}
 
 pub before_none : (found : Option (List LogStep)) → found ≡ put_steps [] found
 before_none None = refl

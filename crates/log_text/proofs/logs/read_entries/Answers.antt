@@ -1,10 +1,10 @@
 use Rattle.std.proofs.Common.{◌≡◌, Some, ap, ◌∙◌, arith}
 use Rattle.sequential.specs.Log.{issued}
 use Rattle.device_text.specs.Text.{fields_of}
-use Rattle.job_deck.specs.LogText.{whole_allowance, put_steps, steps_in, AddsField}
-use Rattle.job_deck.specs.declared.logs.Allowance.{Allowance}
-use Rattle.job_deck.proofs.printing.LogReading.{before_none, field_on}
-use Rattle.job_deck.proofs.logs.read_entries.Goals as goal
+use Rattle.log_text.specs.LogText.{whole_allowance, put_steps, steps_in, AddsField}
+use Rattle.log_text.specs.declared.logs.Allowance.{Allowance}
+use Rattle.log_text.proofs.LogReading.{before_none, field_on}
+use Rattle.log_text.proofs.logs.read_entries.Goals as goal
 
 pub loop-log-init : goal.loop-log-init
 unfolding issued

@@ -1,7 +1,7 @@
 use Rattle.std.proofs.Common.{◌≡◌, ◌++◌, length}
 use Rattle.device_text.specs.Device.{Moves}
-use Rattle.job_deck.specs.inner.LogLineParts.{IsInField}
-use Rattle.job_deck.proofs.following_log.read_field.Given as goal
+use Rattle.log_text.specs.inner.LogLineParts.{IsInField}
+use Rattle.log_text.proofs.following_log.read_field.Given as goal
 
 -- the bytes of the field so far were taken, and none of them ends a field
 abbrev pub invariant-loop : goal.invariant-loop

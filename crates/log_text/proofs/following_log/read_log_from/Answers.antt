@@ -1,7 +1,7 @@
 use Rattle.std.proofs.Common.{◌≡◌, true, false, ap, sym, ◌∙◌}
-use Rattle.job_deck.proofs.printing.FollowingLines.{is_none, has_entries}
-use Rattle.job_deck.specs.inner.LogLineParts.{is_none_line}
-use Rattle.job_deck.proofs.following_log.read_log_from.Goals as goal
+use Rattle.log_text.proofs.FollowingLines.{is_none, has_entries}
+use Rattle.log_text.specs.inner.LogLineParts.{is_none_line}
+use Rattle.log_text.proofs.following_log.read_log_from.Goals as goal
 
 pub returns-then-is_none_line-clause-read : goal.returns-then-is_none_line-clause-read
 returns-then-is_none_line-clause-read g c =

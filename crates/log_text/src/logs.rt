@@ -3,9 +3,9 @@ ghost use Rattle.std.specs.List.{slice_split};
 ghost use Rattle.instructions.specs.declared.refusal.Refusal.TheVariants.{OutOfMemory};
 ghost use Rattle.sequential.specs.Log.{steps_of, issued};
 ghost use Rattle.device_text.specs.Text.{fields_of};
-ghost use Rattle.job_deck.specs.LogText.{whole_allowance, has_leading_zero, number_without_leading_zeros};
-ghost use Rattle.job_deck.specs.LogText.{word_without_leading_zeros, entry_in, entry_count, exchange_in, count_in};
-ghost use Rattle.job_deck.specs.LogText.{read_in, write_in, written_in, spent, steps_in, log_in, AddsField, LogHas};
+ghost use Rattle.log_text.specs.LogText.{whole_allowance, has_leading_zero, number_without_leading_zeros};
+ghost use Rattle.log_text.specs.LogText.{word_without_leading_zeros, entry_in, entry_count, exchange_in, count_in};
+ghost use Rattle.log_text.specs.LogText.{read_in, write_in, written_in, spent, steps_in, log_in, AddsField, LogHas};
 
 use device_text::{first_part, number};
 use instruction_table::Refusal;

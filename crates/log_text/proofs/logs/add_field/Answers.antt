@@ -1,6 +1,6 @@
 use Rattle.std.proofs.Common.{◌∙◌, sym}
-use Rattle.job_deck.proofs.printing.LogReading.{count_on, added}
-use Rattle.job_deck.proofs.logs.add_field.Goals as goal
+use Rattle.log_text.proofs.LogReading.{count_on, added}
+use Rattle.log_text.proofs.logs.add_field.Goals as goal
 
 pub returns : goal.returns
 returns c =

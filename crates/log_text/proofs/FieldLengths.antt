@@ -12,9 +12,9 @@ use Rattle.word60.specs.Words.{from_octal}
 use Rattle.sequential.specs.Log.{steps_of}
 use Rattle.sequential.specs.declared.log.Entry.{Entry}
 use Rattle.device_text.specs.Text.{fields_of, number_of}
-use Rattle.job_deck.specs.LogText.{entry_in, exchange_in, count_in, read_in, write_in, written_in, steps_in, put_steps}
-use Rattle.job_deck.specs.LogText.{number_without_leading_zeros, word_without_leading_zeros, has_leading_zero, spent}
-use Rattle.job_deck.specs.declared.logs.Allowance.{Allowance}
+use Rattle.log_text.specs.LogText.{entry_in, exchange_in, count_in, read_in, write_in, written_in, steps_in, put_steps}
+use Rattle.log_text.specs.LogText.{number_without_leading_zeros, word_without_leading_zeros, has_leading_zero, spent}
+use Rattle.log_text.specs.declared.logs.Allowance.{Allowance}
 
 unless : {X : Type 0} (b : Bool) (found : Option X) → found ≡ None → cond b None found ≡ None
 unless true found h = refl

@@ -1,7 +1,7 @@
 use Rattle.std.proofs.Common.{◌∷◌, ap, ◌∙◌}
 use Rattle.device_text.specs.Text.{other_parts}
-use Rattle.job_deck.proofs.printing.LogReading.{one_sign, two_signs}
-use Rattle.job_deck.proofs.logs.Allowance.written_entry.Goals as goal
+use Rattle.log_text.proofs.LogReading.{one_sign, two_signs}
+use Rattle.log_text.proofs.logs.Allowance.written_entry.Goals as goal
 
 pub returns-in_default-None-clause-entry : goal.returns-in_default-None-clause-entry
 returns-in_default-None-clause-entry c =

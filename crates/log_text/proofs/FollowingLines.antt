@@ -14,32 +14,31 @@ use Rattle.std.specs.Str.{bytes_eq}
 use Rattle.sequential.specs.Log.{steps_of}
 use Rattle.sequential.specs.declared.log.Log.{Log}
 use Rattle.sequential.specs.Replay.{LogStep}
-use Rattle.device_text.specs.Line.{IsText, ReadsPart, lines_of, onto}
+use Rattle.device_text.specs.Line.{IsTaken, IsText, ReadsPart, lines_of, onto}
 use Rattle.device_text.specs.Text.{fields_of}
 use Rattle.device_text.proofs.Lines.{lines_whole}
-use Rattle.job_deck.specs.FollowingLog.{LeavesAfterText, ReadsLogLine, ReadsWithinLine, first_text, log_line}
-use Rattle.job_deck.specs.inner.LogLineParts.{FieldTaken, IsInField, ReadsEntries, ReadsSomeEntries, is_none_line}
-use Rattle.job_deck.specs.LogText.{AddsField, LogHas, entry_in, log_in, put_steps, spent, steps_in, whole_allowance}
-use Rattle.job_deck.specs.SessionResult.{IsTaken}
-use Rattle.job_deck.specs.declared.following_log.FieldEnd.{FieldEnd}
-use Rattle.job_deck.specs.declared.following_log.FieldEnd.TheVariants.{Space, Line, Long}
-use Rattle.job_deck.specs.declared.logs.Allowance.{Allowance}
-use Rattle.job_deck.proofs.printing.FieldLengths.{entry_long, steps_long}
-use Rattle.job_deck.proofs.printing.LogReading.{before_none, field_on}
+use Rattle.log_text.specs.FollowingLog.{LeavesAfterText, ReadsLogLine, ReadsWithinLine, first_text, following_line}
+use Rattle.log_text.specs.inner.LogLineParts.{FieldTaken, IsInField, ReadsEntries, ReadsSomeEntries, is_none_line}
+use Rattle.log_text.specs.LogText.{AddsField, LogHas, entry_in, log_in, put_steps, spent, steps_in, whole_allowance}
+use Rattle.log_text.specs.declared.following_log.FieldEnd.{FieldEnd}
+use Rattle.log_text.specs.declared.following_log.FieldEnd.TheVariants.{Space, Line, Long}
+use Rattle.log_text.specs.declared.logs.Allowance.{Allowance}
+use Rattle.log_text.proofs.FieldLengths.{entry_long, steps_long}
+use Rattle.log_text.proofs.LogReading.{before_none, field_on}
 
 -- the line that is read: its bytes at this field, how far its steps are known, and the bytes before the field
 pub record IsReadTo (after : List ℕ) (steps : List LogStep) (left : Allowance) (end : FieldEnd) (text ys : List ℕ)
     : Type 0 where
   pub now : List ℕ
   pub taken : FieldTaken end text now ys
-  pub told : steps_in whole_allowance (fields_of (log_line after))
-      ≡ put_steps steps (steps_in left (fields_of (log_line now)))
+  pub told : steps_in whole_allowance (fields_of (following_line after))
+      ≡ put_steps steps (steps_in left (fields_of (following_line now)))
   pub part : ReadsPart after now
 
 abbrev pub Finds : Option Log → List ℕ → List ℕ → Type 0
 Finds found after ys =
-    LogHas found (steps_in whole_allowance (fields_of (log_line after)))
-    × LeavesAfterText (steps_in whole_allowance (fields_of (log_line after))) after ys
+    LogHas found (steps_in whole_allowance (fields_of (following_line after)))
+    × LeavesAfterText (steps_in whole_allowance (fields_of (following_line after))) after ys
 
 no_bytes : IsText []
 no_bytes = λ k d h. absurd (omega (arith, h))
@@ -49,7 +48,7 @@ pub read_to_first : (after : List ℕ) (end : FieldEnd) (text ys : List ℕ) →
 read_to_first after end text ys t = record {
   now = after;
   taken = t;
-  told = before_none (steps_in whole_allowance (fields_of (log_line after)));
+  told = before_none (steps_in whole_allowance (fields_of (following_line after)));
   part = ([], no_bytes, refl);
 }
 
@@ -59,27 +58,27 @@ onto_first_text : (b : ℕ) (lines : List (List ℕ × List ℕ)) → first_text
 onto_first_text b [] = refl
 onto_first_text b (line ∷ lines) = refl
 
-line_on : (b : ℕ) (bytes : List ℕ) → b ≢ 10 → log_line (b ∷ bytes) ≡ b ∷ log_line bytes
+line_on : (b : ℕ) (bytes : List ℕ) → b ≢ 10 → following_line (b ∷ bytes) ≡ b ∷ following_line bytes
 line_on b bytes h =
     ap (λ v. first_text (cond v (([], bytes) ∷ lines_of bytes) (onto b (lines_of bytes)))) (ne_eqb b 10 h)
     ∙ onto_first_text b (lines_of bytes)
 
-line_after : (text ys : List ℕ) → IsText text → log_line (text ++ ys) ≡ text ++ log_line ys
+line_after : (text ys : List ℕ) → IsText text → following_line (text ++ ys) ≡ text ++ following_line ys
 line_after [] ys h = refl
 line_after (b ∷ text) ys h =
     line_on b (text ++ ys) (All-head (λ c. c ≢ 10) b text h)
     ∙ ap (λ l. b ∷ l) (line_after text ys (All-tail (λ c. c ≢ 10) b text h))
 
 -- the last field of a line is the rest of the line
-last_line : (text now ys : List ℕ) → IsText text → FieldTaken Line text now ys → log_line now ≡ text
-last_line text now ys h (inl e) = ap log_line e ∙ line_after text (10 ∷ ys) h ∙ append-nil text
+last_line : (text now ys : List ℕ) → IsText text → FieldTaken Line text now ys → following_line now ≡ text
+last_line text now ys h (inl e) = ap following_line e ∙ line_after text (10 ∷ ys) h ∙ append-nil text
 last_line text now ys h (inr e) =
-    ap log_line (e.0 ∙ sym (append-nil text)) ∙ line_after text [] h ∙ append-nil text
+    ap following_line (e.0 ∙ sym (append-nil text)) ∙ line_after text [] h ∙ append-nil text
 
 space_line : (text now ys : List ℕ) → IsText text → FieldTaken Space text now ys
-    → log_line now ≡ text ++ 32 ∷ log_line ys
+    → following_line now ≡ text ++ 32 ∷ following_line ys
 space_line text now ys h e =
-    ap log_line e ∙ line_after text (32 ∷ ys) h ∙ ap (λ l. text ++ l) (line_on 32 ys (λ z. absurd (omega (arith, z))))
+    ap following_line e ∙ line_after text (32 ∷ ys) h ∙ ap (λ l. text ++ l) (line_on 32 ys (λ z. absurd (omega (arith, z))))
 
 no_space : (text : List ℕ) → All (λ b. b ≢ 32) text → All (λ b. eqb b 32 ≡ false) text
 no_space text h = λ k d l. ne_eqb _ 32 (h k d l)
@@ -91,12 +90,12 @@ more_fields : (text more : List ℕ) → All (λ b. b ≢ 32) text → fields_of
 more_fields text more h = slice_split_at (λ b. eqb b 32) text 32 more (no_space text h) refl
 
 last_fields : (text now ys : List ℕ) → IsInField text → FieldTaken Line text now ys
-    → fields_of (log_line now) ≡ text ∷ []
+    → fields_of (following_line now) ≡ text ∷ []
 last_fields text now ys h t = ap fields_of (last_line text now ys h.0 t) ∙ one_field text h.1
 
 space_fields : (text now ys : List ℕ) → IsInField text → FieldTaken Space text now ys
-    → fields_of (log_line now) ≡ text ∷ fields_of (log_line ys)
-space_fields text now ys h t = ap fields_of (space_line text now ys h.0 t) ∙ more_fields text (log_line ys) h.1
+    → fields_of (following_line now) ≡ text ∷ fields_of (following_line ys)
+space_fields text now ys h t = ap fields_of (space_line text now ys h.0 t) ∙ more_fields text (following_line ys) h.1
 
 -- ---- bytes ----
 
@@ -153,16 +152,16 @@ no_steps left field fields none =
     ap (option_and_then (λ entry. put_steps (steps_of (entry ∷ [])) (steps_in (spent left entry) fields))) none
 
 refused_steps : (left : Allowance) (end : FieldEnd) (text now ys : List ℕ) → IsInField text → FieldTaken end text now ys
-    → entry_in left text ≡ None → steps_in left (fields_of (log_line now)) ≡ None
+    → entry_in left text ≡ None → steps_in left (fields_of (following_line now)) ≡ None
 refused_steps left Space text now ys h t none =
-    ap (steps_in left) (space_fields text now ys h t) ∙ no_steps left text (fields_of (log_line ys)) none
+    ap (steps_in left) (space_fields text now ys h t) ∙ no_steps left text (fields_of (following_line ys)) none
 refused_steps left Line text now ys h t none =
     ap (steps_in left) (last_fields text now ys h t) ∙ no_steps left text [] none
 refused_steps left Long text now ys h t none =
-    ap (λ l. steps_in left (fields_of l)) (ap log_line t.1 ∙ line_after text ys h.0)
-    ∙ steps_long left text (log_line ys) h.1 (omega (arith, t.0))
+    ap (λ l. steps_in left (fields_of l)) (ap following_line t.1 ∙ line_after text ys h.0)
+    ∙ steps_long left text (following_line ys) h.1 (omega (arith, t.0))
 
-finds_none : (after ys : List ℕ) → steps_in whole_allowance (fields_of (log_line after)) ≡ None
+finds_none : (after ys : List ℕ) → steps_in whole_allowance (fields_of (following_line after)) ≡ None
     → IsTaken (lines_of after) ys ⊎ ReadsPart after ys → Finds None after ys
 finds_none after ys e p = (e, subst (λ s. LeavesAfterText s after ys) (sym e) p)
 
@@ -180,7 +179,7 @@ long_on after steps left text ys h r =
 -- after the last entry of the line
 last_steps : (before steps : List LogStep) (left more : Allowance) (text now ys : List ℕ) → IsInField text
     → FieldTaken Line text now ys → AddsField (Some more) left text before steps
-    → put_steps before (steps_in left (fields_of (log_line now))) ≡ Some steps
+    → put_steps before (steps_in left (fields_of (following_line now))) ≡ Some steps
 last_steps before steps left more text now ys h t a =
     ap (λ fields. put_steps before (steps_in left fields)) (last_fields text now ys h t)
     ∙ field_on before steps left more text [] a ∙ ap Some (append-nil steps)
@@ -195,7 +194,7 @@ last_taken : (after text now ys : List ℕ) → IsText text → 0 < length text 
 last_taken after text now ys h some (inl e) p = ended_line after text now ys h e p
 last_taken after text now ys h some (inr e) p = cut_line after text now ys h some e.0 e.1 p
 
-finds_steps : (after ys : List ℕ) (log : Log) → steps_in whole_allowance (fields_of (log_line after)) ≡ Some log.steps
+finds_steps : (after ys : List ℕ) (log : Log) → steps_in whole_allowance (fields_of (following_line after)) ≡ Some log.steps
     → IsTaken (lines_of after) ys → Finds (Some log) after ys
 finds_steps after ys log e p = (e, subst (λ s. LeavesAfterText s after ys) (sym e) p)
 
@@ -214,14 +213,14 @@ next_on after before steps left more end text next ys zs h a r t = record {
   now = ys;
   taken = t;
   told = r.told ∙ ap (λ fields. put_steps before (steps_in left fields)) (space_fields text r.now ys h r.taken)
-      ∙ field_on before steps left more text (fields_of (log_line ys)) a;
+      ∙ field_on before steps left more text (fields_of (following_line ys)) a;
   part = space_part after text r.now ys h.0 r.taken r.part;
 }
 
 -- ---- the whole line ----
 
 none_line : (text now ys : List ℕ) → IsText text → bytes_eq text (codes "none") ≡ true → FieldTaken Line text now ys
-    → log_in (log_line now) ≡ Some []
+    → log_in (following_line now) ≡ Some []
 unfolding log_in
 none_line text now ys h n t =
     ap log_in (last_line text now ys h t) ∙ ap (λ b. cond b (Some []) (steps_in whole_allowance (fields_of text))) n
@@ -230,7 +229,7 @@ none_not_empty : (text : List ℕ) → bytes_eq text (codes "none") ≡ true →
 none_not_empty [] h = cc
 none_not_empty (b ∷ text) h = omega arith
 
-reads_steps : (after ys : List ℕ) (log : Log) → log_in (log_line after) ≡ Some log.steps
+reads_steps : (after ys : List ℕ) (log : Log) → log_in (following_line after) ≡ Some log.steps
     → IsTaken (lines_of after) ys → ReadsLogLine (Some log) after ys
 reads_steps after ys log e p = (e, subst (λ s. LeavesAfterText s after ys) (sym e) p)
 
@@ -253,23 +252,23 @@ differs true xs ys e h = absurd (h ((bytes_eq-Decides xs ys).0 e))
 differs false xs ys e h = refl
 
 not_none : (end : FieldEnd) (text after ys : List ℕ) → IsInField text → is_none_line end text ≡ false
-    → FieldTaken end text after ys → bytes_eq (log_line after) (codes "none") ≡ false
+    → FieldTaken end text after ys → bytes_eq (following_line after) (codes "none") ≡ false
 not_none Line text after ys h n t = ap (λ l. bytes_eq l (codes "none")) (last_line text after ys h.0 t) ∙ n
 not_none Space text after ys h n t =
-    differs _ (log_line after) (codes "none") refl
-    (λ e. two_fields text (log_line ys) h.1 (sym (space_line text after ys h.0 t) ∙ e))
+    differs _ (following_line after) (codes "none") refl
+    (λ e. two_fields text (following_line ys) h.1 (sym (space_line text after ys h.0 t) ∙ e))
 not_none Long text after ys h n t =
-    differs _ (log_line after) (codes "none") refl
-    (λ e. let l = ap length (sym (line_after text ys h.0) ∙ sym (ap log_line t.1) ∙ e) in
-    absurd (omega (arith, l, t.0, length-append text (log_line ys))))
+    differs _ (following_line after) (codes "none") refl
+    (λ e. let l = ap length (sym (line_after text ys h.0) ∙ sym (ap following_line t.1) ∙ e) in
+    absurd (omega (arith, l, t.0, length-append text (following_line ys))))
 
 pub reads_found : (end : FieldEnd) (found : Option Log) (text after ys zs : List ℕ) → IsInField text
     → is_none_line end text ≡ false → FieldTaken end text after ys → Finds found after zs
     → ReadsLogLine found after zs
 unfolding log_in
 reads_found end found text after ys zs h n t f =
-    let same : log_in (log_line after) ≡ steps_in whole_allowance (fields_of (log_line after)) =
-    ap (λ b. cond b (Some []) (steps_in whole_allowance (fields_of (log_line after))))
+    let same : log_in (following_line after) ≡ steps_in whole_allowance (fields_of (following_line after)) =
+    ap (λ b. cond b (Some []) (steps_in whole_allowance (fields_of (following_line after))))
     (not_none end text after ys h n t) in
     (subst (LogHas found) (sym same) f.0, subst (λ s. LeavesAfterText s after zs) (sym same) f.1)
 

@@ -1,10 +1,10 @@
 use Rattle.std.proofs.Common.{◌≡◌, ◌+◌, ◌≤◌}
 use Rattle.sequential.specs.Log.{issued}
 use Rattle.device_text.specs.Device.{Moves}
-use Rattle.job_deck.specs.inner.LogLineParts.{IsInField}
-use Rattle.job_deck.proofs.printing.FollowingLines.{ReadsOn}
-use Rattle.job_deck.proofs.printing.LogReading.{still_to_come}
-use Rattle.job_deck.proofs.following_log.read_entries_from.Given as goal
+use Rattle.log_text.specs.inner.LogLineParts.{IsInField}
+use Rattle.log_text.proofs.FollowingLines.{ReadsOn}
+use Rattle.log_text.proofs.LogReading.{still_to_come}
+use Rattle.log_text.proofs.following_log.read_entries_from.Given as goal
 
 -- the bytes of the line before the field in the buffer were read as entries
 abbrev pub invariant-loop-log : goal.invariant-loop-log

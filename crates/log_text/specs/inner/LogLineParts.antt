@@ -5,10 +5,10 @@ use Rattle.std.specs.Str.{bytes_eq}
 use Rattle.sequential.specs.declared.log.Log.{Log}
 use Rattle.device_text.specs.Line.{IsText}
 use Rattle.device_text.specs.Text.{fields_of}
-use Rattle.job_deck.specs.FollowingLog.{LeavesAfterText, ReadsWithinLine, log_line}
-use Rattle.job_deck.specs.LogText.{LogHas, steps_in, whole_allowance}
-use Rattle.job_deck.specs.declared.following_log.FieldEnd.{FieldEnd}
-use Rattle.job_deck.specs.declared.following_log.FieldEnd.TheVariants.{Space, Line, Long}
+use Rattle.log_text.specs.FollowingLog.{LeavesAfterText, ReadsWithinLine, following_line}
+use Rattle.log_text.specs.LogText.{LogHas, steps_in, whole_allowance}
+use Rattle.log_text.specs.declared.following_log.FieldEnd.{FieldEnd}
+use Rattle.log_text.specs.declared.following_log.FieldEnd.TheVariants.{Space, Line, Long}
 
 -- the text is a field of a line or a part of one: it has no space and no line end
 abbrev pub IsInField : List ℕ → Type 0
@@ -25,8 +25,8 @@ FieldTaken Long text xs ys = (length text ≡ 29) × (xs ≡ text ++ ys)
 abbrev pub ReadsEntries : Option Log → FieldEnd → List ℕ → List ℕ → List ℕ → Type 0
 ReadsEntries found end text xs ys =
     (after : List ℕ) → FieldTaken end text after xs
-    → LogHas found (steps_in whole_allowance (fields_of (log_line after)))
-    × LeavesAfterText (steps_in whole_allowance (fields_of (log_line after))) after ys
+    → LogHas found (steps_in whole_allowance (fields_of (following_line after)))
+    × LeavesAfterText (steps_in whole_allowance (fields_of (following_line after))) after ys
 
 -- memory ran out or a read failed before the end of such a line, and nothing past the line was read
 abbrev pub ReadsSomeEntries : FieldEnd → List ℕ → List ℕ → List ℕ → Type 0

@@ -1,11 +1,11 @@
 use Rattle.std.proofs.Common.{◌≡◌, Some, None, refl, ap, ◌∙◌, arith}
 use Rattle.sequential.specs.Log.{issued}
-use Rattle.job_deck.specs.LogText.{AddsField}
-use Rattle.job_deck.specs.declared.logs.Allowance.{Allowance}
-use Rattle.job_deck.proofs.printing.FollowingLines.{begun, refused, too_long, last, next, at_error}
-use Rattle.job_deck.proofs.printing.FollowingLines.{some_entries, entries_and_part}
-use Rattle.job_deck.proofs.printing.LogReading.{takes_some}
-use Rattle.job_deck.proofs.following_log.read_entries_from.Goals as goal
+use Rattle.log_text.specs.LogText.{AddsField}
+use Rattle.log_text.specs.declared.logs.Allowance.{Allowance}
+use Rattle.log_text.proofs.FollowingLines.{begun, refused, too_long, last, next, at_error}
+use Rattle.log_text.proofs.FollowingLines.{some_entries, entries_and_part}
+use Rattle.log_text.proofs.LogReading.{takes_some}
+use Rattle.log_text.proofs.following_log.read_entries_from.Goals as goal
 
 pub loop-log-init : goal.loop-log-init
 unfolding issued

@@ -12,7 +12,7 @@ use Rattle.sequential.specs.declared.log.Log.{Log}
 use Rattle.sequential.specs.Log.{steps_of, issued}
 use Rattle.sequential.specs.Replay.{LogStep}
 use Rattle.device_text.specs.Text.{fields_of, number_of}
-use Rattle.job_deck.specs.declared.logs.Allowance.{Allowance}
+use Rattle.log_text.specs.declared.logs.Allowance.{Allowance}
 
 -- the allowance at the beginning of a log: 10,000,000 instructions, 1,000,000 exchanges and 1,000,000 peripheral
 -- accesses
