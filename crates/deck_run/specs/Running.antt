@@ -11,7 +11,7 @@ use Rattle.device_text.specs.Device.{WritesFront}
 use Rattle.deck.specs.Deck.{Reading, Good, Bad}
 use Rattle.deck.specs.declared.deck.Deck.{Deck}
 use Rattle.job_deck.specs.Dump.{dump_text}
-use Rattle.job_deck.specs.Replaying.{Replays}
+use Rattle.job_deck.specs.Replaying.{Replays, ReplaysFollowing}
 use Rattle.sequential_job.specs.Running.{RunsSequentially, asks_after}
 use Rattle.sequential_run.specs.Run.{IsRun}
 use Rattle.operator_terms.specs.declared.fault.ProgramFault.{ProgramFault}
@@ -67,6 +67,13 @@ abbrev pub EndsReplay : Result Status ProgramFault → Reading → List ℕ → 
     → Type 0
 EndsReplay result reading rest text old new =
     (found : Result (Option State) Refusal) × Replays found reading rest text old new × (result ≡ replay_end found)
+
+-- the end of the program after replaying the log in the line after a deck, with the output and the bytes left unread
+abbrev pub EndsReplayFollowing : Result Status ProgramFault → Reading → List ℕ → Option (List ℕ) → Option (List ℕ)
+    → Type 0
+EndsReplayFollowing result reading rest old new =
+    (found : Result (Option State) Refusal) × ReplaysFollowing found reading rest old new
+    × (result ≡ replay_end found)
 
 -- whether the program ends because a read failed
 abbrev pub is_read_fault : Result Status ProgramFault → Bool

@@ -1,12 +1,16 @@
-ghost use Rattle.std.specs.Prelude.{◌≡◌, ◌||◌, OnOk, false};
+ghost use Rattle.std.specs.Prelude.{◌≡◌, ◌||◌, OnOk, Ok, false};
 ghost use Rattle.deck.specs.Deck.{deck};
 ghost use Rattle.device_text.specs.Device.{Moves, NothingWaits};
-ghost use Rattle.deck_run.specs.Running.{PrintsRun, Runs, EndsReplay, EndsSequentialRun, is_read_fault, is_write_fault};
+ghost use Rattle.deck_run.specs.Running.{PrintsRun, Runs, EndsReplay, EndsReplayFollowing, EndsSequentialRun};
+ghost use Rattle.deck_run.specs.Running.{is_read_fault, is_write_fault, replay_end};
 
 use super::running::run;
 use instruction_table::Refusal;
-use job_deck::{Deck, Input, LineBuffer, Output, dump_to, read_deck_from, replay_to};
+use job_deck::{
+    Deck, Input, LineBuffer, Output, dump_to, read_deck_from, replay_following_to, replay_to,
+};
 use operator_terms::{Budget, ProgramFault, Status, end_status};
+use sequential::State;
 use sequential_job::run_to;
 use std::alloc::Global;
 use std::sync::Wait;
@@ -90,6 +94,19 @@ pub fn run_deck_sequentially<I: Input, O: Output>(
     Ok(end_status(&state))
 }
 
+/// The end of the program after a replay: from the final state of the machine, if the text was that of a log.
+///
+/// # Errors
+/// `BadLog` if the text isn't that of a log.
+fn replay_end(found: Option<State>) -> Result<Status, ProgramFault>
+    ensures { result ≡ replay_end (Ok found) }
+{
+    match found {
+        Some(state) => Ok(end_status(&state)),
+        None => Err(ProgramFault::BadLog),
+    }
+}
+
 /// Executes a log on a deck, one instruction at a time, prints the dump and flushes it.
 ///
 /// # Errors
@@ -112,8 +129,32 @@ pub fn replay_log<I: Input, O: Output>(
     ensures kept { NothingWaits (is_write_fault result) (O.waits output.old) (O.waits output.new) }
     ensures output { O.lender output.new ≡ O.lender output.old }
 {
-    match replay_to(alloc, input, output, line, log)? {
-        Some(state) => Ok(end_status(&state)),
-        None => Err(ProgramFault::BadLog),
-    }
+    let found = replay_to(alloc, input, output, line, log)?;
+    replay_end(found)
+}
+
+/// Executes the log in the line after a deck, one instruction at a time, prints the dump and flushes it. A fault of the
+/// deck is reported before the log is read. The log's line may be of any length.
+///
+/// # Errors
+/// `Deck` with a line and its fault. `BadLog` if the line after the deck isn't the text of a log, or there is no line.
+/// `PackageRange` if the package of an exchange in the log doesn't lie in memory, `PeripheralRange` if the word of a
+/// peripheral access doesn't. `OutOfMemory` if memory runs out. `Read` if a read fails. `Write` if a write fails; then
+/// a beginning of the dump may have been written. Nothing is written after other errors.
+pub fn replay_following_log<I: Input, O: Output>(
+    alloc: Global,
+    input: &mut I,
+    output: &mut O,
+    line: &mut LineBuffer,
+) -> Result<Status, ProgramFault>
+    ensures replayed { Moves (I.remaining input.old) (I.remaining input.new)
+        (λ xs ys. EndsReplayFollowing result (deck xs) ys (O.contents output.old) (O.contents output.new)) }
+    ensures read { I.has_failed input.new ≡ (I.has_failed input.old || is_read_fault result) }
+    ensures write { O.has_failed output.new ≡ (O.has_failed output.old || is_write_fault result) }
+    ensures handed_on { OnOk result (O.waits output.new ≡ false) }
+    ensures kept { NothingWaits (is_write_fault result) (O.waits output.old) (O.waits output.new) }
+    ensures output { O.lender output.new ≡ O.lender output.old }
+{
+    let found = replay_following_to(alloc, input, output, line)?;
+    replay_end(found)
 }

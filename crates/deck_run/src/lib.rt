@@ -12,4 +12,4 @@
 mod commands;
 mod running;
 
-pub use commands::{replay_log, run_deck, run_deck_sequentially};
+pub use commands::{replay_following_log, replay_log, run_deck, run_deck_sequentially};

@@ -1,6 +1,7 @@
 -- The steps that the text of a log lists.
 -- Source: ours.
-use Rattle.std.specs.Prelude.{◌≡◌, ℕ, ◌-◌, Bool, true, false, ◌||◌, ◌==◌, nat_lt, if◌then◌else◌, List, [], ◌∷◌, ◌++◌}
+use Rattle.std.specs.Prelude.{◌≡◌, ℕ, ◌+◌, ◌-◌, ◌≤◌, Bool, true, false, ◌||◌, ◌==◌, nat_lt, if◌then◌else◌, List, []}
+use Rattle.std.specs.Prelude.{◌∷◌, ◌++◌}
 use Rattle.std.specs.Prelude.{Option, Some, None, codes, option_map, option_and_then}
 use Rattle.std.specs.List.{slice_split}
 use Rattle.std.specs.Str.{bytes_eq}
@@ -8,7 +9,7 @@ use Rattle.word60.specs.Words.{from_octal}
 use Rattle.sequential.specs.declared.log.Entry.{Entry}
 use Rattle.sequential.specs.declared.log.Entry.TheVariants.{Issued as Count, Exchange, PpRead, PpWrite}
 use Rattle.sequential.specs.declared.log.Log.{Log}
-use Rattle.sequential.specs.Log.{steps_of}
+use Rattle.sequential.specs.Log.{steps_of, issued}
 use Rattle.sequential.specs.Replay.{LogStep}
 use Rattle.device_text.specs.Text.{fields_of, number_of}
 use Rattle.job_deck.specs.declared.logs.Allowance.{Allowance}
@@ -106,3 +107,15 @@ log_in text = if bytes_eq text (codes "none") then Some [] else steps_in whole_a
 abbrev pub LogHas : Option Log → Option (List LogStep) → Type 0
 LogHas None steps = steps ≡ None
 LogHas (Some log) steps = steps ≡ Some log.steps
+
+-- the steps of the log that was read, if one was read
+abbrev pub steps_of_log : Option Log → Option (List LogStep)
+steps_of_log found = option_map (λ (log : Log). log.steps) found
+
+-- a field was read as the next entry, which took the log from `before` to `now` and left an allowance. The instructions
+-- so far and those that may still come are at most 10,000,000. `None` means that the field isn't an entry that may come
+abbrev pub AddsField : Option Allowance → Allowance → List ℕ → List LogStep → List LogStep → Type 0
+AddsField None left field before now = entry_in left field ≡ None
+AddsField (Some more) left field before now =
+    (entry : Entry) × (entry_in left field ≡ Some entry) × (now ≡ before ++ steps_of (entry ∷ []))
+    × (more ≡ spent left entry) × (issued now + more.instructions ≤ 10000000)

@@ -12,6 +12,7 @@ use Rattle.deck.specs.declared.deck.Deck.{Deck}
 use Rattle.deck.specs.declared.deck.Show.{Show}
 use Rattle.device_text.specs.Device.{WritesFront}
 use Rattle.job_deck.specs.Dump.{dump_text}
+use Rattle.job_deck.specs.FollowingLog.{LeavesAfterLog, log_line}
 use Rattle.job_deck.specs.LogText.{log_in}
 
 -- the outcome of replaying the text of a log
@@ -65,3 +66,14 @@ Replays (Err refusals.OutOfMemory) reading rest text old new = Keeps old new
 Replays result (Good deck n after) rest text old new =
     (rest ≡ after) × Prints result (replayed deck text) deck.shows old new
 Replays result (Bad n fault after) rest text old new = ⊥
+
+-- the result of reading a deck and replaying the log in the line after it, where `rest` are the bytes left unread. A
+-- fault of the deck is reported before one of the log
+abbrev pub ReplaysFollowing : Result (Option State) Refusal → Reading → List ℕ → Option (List ℕ) → Option (List ℕ)
+    → Type 0
+ReplaysFollowing (Err (refusals.Deck m fault)) reading rest old new = (reading ≡ Bad m fault rest) × Keeps old new
+ReplaysFollowing (Err refusals.Read) reading rest old new = Keeps old new
+ReplaysFollowing (Err refusals.OutOfMemory) reading rest old new = Keeps old new
+ReplaysFollowing result (Good deck n after) rest old new =
+    LeavesAfterLog after rest × Prints result (replayed deck (log_line after)) deck.shows old new
+ReplaysFollowing result (Bad n fault after) rest old new = ⊥

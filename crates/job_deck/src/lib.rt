@@ -12,6 +12,7 @@
 mod answering;
 mod dumping;
 mod ending;
+mod following_log;
 mod listing;
 mod logs;
 mod replaying;
@@ -26,8 +27,9 @@ pub use device_text::{
     WriteFailed,
 };
 pub use dumping::{dump, dump_to};
+pub use following_log::read_log_from;
 pub use listing::{list, list_to};
 pub use logs::read_log;
-pub use replaying::{replay, replay_to};
+pub use replaying::{replay, replay_following, replay_following_to, replay_to};
 pub use schedule::{ScheduleLine, parse_schedule_line};
 pub use session::{booted, events, events_to};

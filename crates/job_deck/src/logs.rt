@@ -5,7 +5,7 @@ ghost use Rattle.sequential.specs.Log.{steps_of, issued};
 ghost use Rattle.device_text.specs.Text.{fields_of};
 ghost use Rattle.job_deck.specs.LogText.{whole_allowance, has_leading_zero, number_without_leading_zeros};
 ghost use Rattle.job_deck.specs.LogText.{word_without_leading_zeros, entry_in, entry_count, exchange_in, count_in};
-ghost use Rattle.job_deck.specs.LogText.{read_in, write_in, written_in, spent, steps_in, log_in, LogHas};
+ghost use Rattle.job_deck.specs.LogText.{read_in, write_in, written_in, spent, steps_in, log_in, AddsField, LogHas};
 
 use device_text::{first_part, number};
 use instruction_table::Refusal;
@@ -29,7 +29,7 @@ pub struct Allowance {
 
 impl Allowance {
     /// The allowance at the beginning: 10,000,000 instructions, 1,000,000 exchanges and 1,000,000 peripheral accesses.
-    fn whole() -> Allowance
+    pub fn whole() -> Allowance
         ensures { result ≡ whole_allowance }
     {
         Allowance {
@@ -211,6 +211,25 @@ fn add_entry(log: &mut Log, entry: &Entry) -> Result<(), Refusal>
     Ok(())
 }
 
+/// Parses a field as the next entry of a log and adds it. Returns the allowance after the entry, or `None` if the field
+/// isn't an entry that may come.
+///
+/// # Errors
+/// `OutOfMemory` if memory runs out.
+pub fn add_field(log: &mut Log, left: Allowance, field: &[u8]) -> Result<Option<Allowance>, Refusal>
+    requires { issued log.old.steps + left.instructions ≤ 10000000 }
+    ensures { MatchResult result (λ more. AddsField more left field.now log.old.steps log.new.steps)
+        (λ refusal. refusal ≡ OutOfMemory) }
+{
+    let Some(entry) = left.entry(field) else {
+        return Ok(None);
+    };
+    if add_entry(log, &entry).is_err() {
+        return Err(Refusal::OutOfMemory);
+    }
+    Ok(Some(left.spent(&entry)))
+}
+
 /// Parses entries with one space between them. Returns `None` if the text isn't such a list.
 ///
 /// # Errors
@@ -224,13 +243,10 @@ fn read_entries(alloc: Global, text: &[u8]) -> Result<Option<Log>, Refusal>
     let mut rest = text;
     loop {
         let (field, after) = first_part(rest, b' ');
-        let Some(entry) = left.entry(field) else {
-            return Ok(None);
-        };
-        if add_entry(&mut log, &entry).is_err() {
-            return Err(Refusal::OutOfMemory);
+        match add_field(&mut log, left, field)? {
+            None => return Ok(None),
+            Some(more) => left = more,
         }
-        left = left.spent(&entry);
         match after {
             None => return Ok(Some(log)),
             Some(more) => rest = more,

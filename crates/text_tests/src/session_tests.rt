@@ -9,7 +9,7 @@ use std::process::Abort;
 use std::test::Fail;
 
 /// A deck of ten lines: a package at 40, and a program of two increments, a sum and a difference.
-const DECK: &str = "\
+pub const DECK: &str = "\
     core 256\n\
     at 41\n\
     word 00000100000000000000\n\
@@ -21,7 +21,7 @@ const DECK: &str = "\
     show 100 101\n\
     end\n";
 
-const EXCHANGED: &str = "\
+pub const EXCHANGED: &str = "\
     RA 000100 FL 000020 EM 000000\n\
     A 000000 000000 000000 000000 000000 000000 000000 000000\n\
     B 000000 000000 000000 000000 000000 000000 000000 000000\n\

@@ -1,4 +1,4 @@
-"""A pseudo terminal in which a program runs, with the screen that the program draws.
+"""A pseudo terminal in which a program runs, with the screen that the program draws, and what a program tells at one.
 
 The screen is that of a VT52, whose few sequences are all read here; a program that is told another kind of terminal
 draws what nobody reads.
@@ -12,6 +12,8 @@ import signal
 import struct
 import subprocess
 import termios
+import tty
+from contextlib import suppress
 
 from cdc6600.shared.waiting import Missing, wait_until
 
@@ -165,6 +167,22 @@ class Terminal:
         self.process.stderr.close()
         os.close(self.own)
         os.close(self.other)
+
+
+def told_at_terminal(words, text):
+    """What a program with these words and this input writes to standard error if that is a terminal, which changes no
+    byte: at most the few kilobytes that a terminal keeps until they are read."""
+    ours, its = pty.openpty()
+    tty.setraw(its)
+    subprocess.run(words, input=text, stdout=subprocess.DEVNULL, stderr=its, check=False)
+    os.close(its)
+    told = b""
+    # At its end a terminal has an error where a pipe has no bytes.
+    with suppress(OSError):
+        while part := os.read(ours, 4096):
+            told += part
+    os.close(ours)
+    return told
 
 
 def begin_session():

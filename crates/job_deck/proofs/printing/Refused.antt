@@ -11,8 +11,7 @@ use Rattle.sequential.specs.Replay.{LogStep, Issued, Exchanged, ReadAt, Wrote, I
 use Rattle.deck.specs.declared.deck.Deck.{Deck}
 use Rattle.deck.specs.declared.deck.Show.{Show}
 use Rattle.job_deck.specs.Listing.{is_write_failure}
-use Rattle.job_deck.specs.LogText.{log_in}
-use Rattle.job_deck.specs.Replaying.{Prints, Undefined, reached, replayed, replayed_steps}
+use Rattle.job_deck.specs.Replaying.{Prints, Undefined, reached, replayed_steps}
 
 unfit_is : (b : Bool) (j k : Refusal) → cond b None (Some j) ≡ Some k → k ≡ j
 unfit_is true j k h = cc
@@ -36,10 +35,11 @@ undefined_printed k start end steps shows old r =
     ((end, subst (IsRefusedAt start steps end) e r), Keeps-refl old))
     (step_named _ r.at k r.refused)
 
-pub refused_printed : (k : Refusal) (d : Deck) (text memory : List ℕ) (start end : State) (steps : List LogStep)
-    (old : Option (List ℕ)) → log_in text ≡ Some steps → memory ≡ d.image.memory → start ≡ boot memory
-    → replay start steps ≡ None → IsRefusedAt start steps end k → Prints (Err k) (replayed d text) d.shows old old
-refused_printed k d text memory start end steps old l m b n r =
+pub refused_printed : (k : Refusal) (d : Deck) (found : Option (List LogStep)) (memory : List ℕ) (start end : State)
+    (steps : List LogStep) (old : Option (List ℕ)) → found ≡ Some steps → memory ≡ d.image.memory → start ≡ boot memory
+    → replay start steps ≡ None → IsRefusedAt start steps end k
+    → Prints (Err k) (replayed_steps d.image.memory found) d.shows old old
+refused_printed k d found memory start end steps old l m b n r =
     let from : start ≡ boot d.image.memory = b ∙ ap boot m in
     subst (λ x. Prints (Err k) x d.shows old old)
     (sym (ap (replayed_steps d.image.memory) l

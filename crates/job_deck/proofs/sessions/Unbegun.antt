@@ -1,16 +1,18 @@
 -- What is answered where no deck was read, or no machine booted.
-use Rattle.std.proofs.Common.{◌≡◌, ◌∙◌, ℕ, true, false, Result, List, length, Option, None, Some, Err, inl, inr, refl}
+use Rattle.std.proofs.Common.{◌≡◌, ◌∙◌, ◌⊎◌, ℕ, true, false, Result, List, length, Option, None, Some, Err, inl, inr}
+use Rattle.std.proofs.Common.{refl}
 use Rattle.std.proofs.Common.{ap, arith}
 use Rattle.std.proofs.KnownBytes.{Keeps-refl}
 use Rattle.instructions.specs.declared.refusal.Refusal.{Refusal}
 use Rattle.instructions.specs.declared.refusal.Refusal.TheVariants as refusals
 use Rattle.device_text.specs.Device.{Moves}
-use Rattle.device_text.proofs.Moving.{Moves-weaker}
+use Rattle.device_text.proofs.Moving.{Moves-trans, Moves-weaker}
 use Rattle.deck.specs.Deck.{Bad, Good, Reading, deck}
 use Rattle.deck.specs.Reading.{EndsWithin, GivesNoDeck, is_cut, is_of_reading}
 use Rattle.deck.specs.declared.deck.Deck.{Deck}
 use Rattle.job_deck.specs.Listing.{Lists, is_write_failure}
-use Rattle.job_deck.specs.Replaying.{Replays}
+use Rattle.job_deck.specs.Replaying.{Replays, ReplaysFollowing}
+use Rattle.job_deck.specs.FollowingLog.{ReadsWithinLine}
 use Rattle.job_deck.specs.SessionResult.{Performs}
 
 -- no write failed where no deck was read
@@ -52,6 +54,23 @@ pub replays_refused : (a b : Option (List ℕ)) (e : Refusal) (text : List ℕ) 
 replays_refused a b e text old m =
     Moves-weaker a b (λ xs ys. GivesNoDeck e (deck xs) ys) (λ xs ys. Replays (Err e) (deck xs) ys text old old)
     (λ xs ys h. replays_there e (deck xs) ys text old h) m
+
+-- ---- a replay of the log in the line after the deck
+
+follows_there : (e : Refusal) (reading : Reading) (rest : List ℕ) (old : Option (List ℕ))
+    → GivesNoDeck e reading rest → ReplaysFollowing (Err e) reading rest old old
+follows_there e reading rest old (inl h) = rw h.2 (h.3, Keeps-refl old)
+follows_there e reading rest old (inr (inl h)) = rw h (Keeps-refl old)
+follows_there e reading rest old (inr (inr h)) = rw h (Keeps-refl old)
+
+-- the deck was read, but its log was not
+pub follows_unread : (a b c : Option (List ℕ)) (e : Refusal) (d : Deck) (n : ℕ) (old : Option (List ℕ))
+    → (e ≡ refusals.OutOfMemory) ⊎ (e ≡ refusals.Read) → Moves a b (λ xs ys. deck xs ≡ Good d n ys)
+    → Moves b c ReadsWithinLine → Moves a c (λ xs ys. ReplaysFollowing (Err e) (deck xs) ys old old)
+follows_unread a b c e d n old why m r =
+    Moves-trans a b c (λ xs ys. deck xs ≡ Good d n ys) ReadsWithinLine
+    (λ xs ys. ReplaysFollowing (Err e) (deck xs) ys old old)
+    (λ xs ys zs p q. follows_there e (deck xs) zs old (inr why)) m r
 
 -- ---- a session
 

@@ -1,14 +1,14 @@
-use Rattle.std.proofs.Common.{◌≡◌, sym, ap, ◌∙◌, arith}
+use Rattle.std.proofs.Common.{◌≡◌, Some, ap, ◌∙◌, arith}
 use Rattle.sequential.specs.Log.{issued}
 use Rattle.device_text.specs.Text.{fields_of}
-use Rattle.job_deck.specs.LogText.{whole_allowance, put_steps, steps_in}
+use Rattle.job_deck.specs.LogText.{whole_allowance, put_steps, steps_in, AddsField}
 use Rattle.job_deck.specs.declared.logs.Allowance.{Allowance}
-use Rattle.job_deck.proofs.printing.LogReading.{before_none, entry_on, count_on, added}
+use Rattle.job_deck.proofs.printing.LogReading.{before_none, field_on}
 use Rattle.job_deck.proofs.logs.read_entries.Goals as goal
 
-pub loop-entry-init : goal.loop-entry-init
+pub loop-log-init : goal.loop-log-init
 unfolding issued
-loop-entry-init c =
+loop-log-init c =
     let nothing : issued c.new-log.result.steps ≡ 0 = ap issued c.new-log.ensures.steps in
     let limit : c.whole-left.result.instructions ≡ 10000000 =
     ap (λ (left : Allowance). left.instructions) c.whole-left.ensures in
@@ -18,17 +18,15 @@ loop-entry-init c =
       count = omega (arith, nothing, limit);
     }
 
-pub loop-entry-preserved : goal.loop-entry-preserved
-loop-entry-preserved c =
-    let now = added _ c.add_entry.result (sym c.if-is_err.ensures.value) c.add_entry.ensures in
-    let entry = sym c.entry.ensures.entry ∙ c.in-Some.is in
-    let on = entry_on c.loop-entry.log.steps c.add_entry.new.log.steps c.loop-entry.left c.first_part.result.0.now
-    c.in-Some.entry (fields_of c.in-Some-after.more.now) entry now in
-    let count = count_on c.loop-entry.log.steps c.add_entry.new.log.steps c.loop-entry.left c.in-Some.entry now
-    c.in-Some.ensures.within c.loop-entry.invariant.count in
+pub loop-log-preserved : goal.loop-log-preserved
+loop-log-preserved c =
+    let added : AddsField (Some c.in-Some.more) c.loop-log.left c.first_part.result.0.now c.loop-log.log.steps
+    c.add_field.new.log.steps = rw c.in-Some.is at c.in_ok-add_field.ensures in
     record {
-      told = c.loop-entry.invariant.told
-          ∙ ap (λ fields. put_steps c.loop-entry.log.steps (steps_in c.loop-entry.left fields))
-          (rw c.in-Some-after.is at c.first_part.ensures.parts) ∙ rw c.spent-left.ensures on;
-      count = rw c.spent-left.ensures count;
+      told = c.loop-log.invariant.told
+          ∙ ap (λ fields. put_steps c.loop-log.log.steps (steps_in c.loop-log.left fields))
+          (rw c.in-Some-after.is at c.first_part.ensures.parts)
+          ∙ field_on c.loop-log.log.steps c.add_field.new.log.steps c.loop-log.left c.in-Some.more
+          c.first_part.result.0.now (fields_of c.in-Some-after.more.now) added;
+      count = added.4;
     }
