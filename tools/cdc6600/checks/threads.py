@@ -1,11 +1,11 @@
 """Runs a deck by threads. The deck uses all seven units, loads, and asks for an exchange at any time. There are ten
-threads, and each does its part.
+threads, and the run needs each of them.
 
 The program starts nine threads: one for each unit, the storage worker and the asking thread. For each of them there is
 a run in which held_thread.c keeps this thread from beginning. The main thread of such a run must still wait for another
-thread when three runs without a held thread have ended. It would wait no longer if another thread had done the work: at
-the end of a run it sleeps until all threads have ended, and nothing wakes it meanwhile. When the held thread may begin,
-each run must end as those did.
+thread when three runs without a held thread have ended. It would wait no longer if another thread had done all the
+work: at the end of a run it sleeps until all threads have ended, and nothing wakes it meanwhile. When the held thread
+may begin, each run must end as those did.
 
 It says nothing where all is right, else a line for each fault. It takes some seconds, and needs the C compiler `cc`.
 
