@@ -176,7 +176,7 @@ fn faults_of_long_input(rt: HostRuntime) -> Result<(), Fail> {
     Ok(())
 }
 
-/// The longest deck that is read. Unproved, as by `rt try --test`, this takes minutes.
+/// The longest deck that is read. `rt try --test` gives up on it after a minute, since it runs slow code with checks.
 #[test]
 fn fault_of_too_many_lines(rt: HostRuntime) -> Result<(), Fail> {
     expect_refused(&rt, TOO_MANY_LINES)

@@ -340,8 +340,8 @@ def works(room, functions):
     for it in sessions():
         yield lambda it=it: faults_of_session(room, functions, it)
         yield lambda it=it: faults_of_memory(room, it)
-    for row in rows_of(PAGES / "refusals.md"):
-        yield lambda row=row: faults_of_refusal(functions, *row)
+    for text, fault, _ in rows_of(PAGES / "refusals.md"):
+        yield lambda text=text, fault=fault: faults_of_refusal(functions, text, fault)
     yield lambda: faults_of_arguments(functions)
     yield lambda: faults_of_capacities(functions)
     yield lambda: faults_of_version(functions)

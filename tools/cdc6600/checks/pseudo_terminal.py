@@ -15,7 +15,7 @@ import termios
 import tty
 from contextlib import suppress
 
-from cdc6600.shared.waiting import Missing, wait_until
+from cdc6600.shared.waiting import Missing, finish, wait_until
 
 COLUMNS, LINES = 80, 24
 KEYS = {"Up": "\x1bA", "Down": "\x1bB", "Left": "\x1bD", "Enter": "\r", "Redraw": "\x0c", "Closed": "\x04",
@@ -171,10 +171,11 @@ class Terminal:
 
 def told_at_terminal(words, text):
     """What a program with these words and this input writes to standard error if that is a terminal, which changes no
-    byte: at most the few kilobytes that a terminal keeps until they are read."""
+    byte. It is read after the program's end, so it has to fit into the terminal's buffer of some kilobytes."""
     ours, its = pty.openpty()
     tty.setraw(its)
-    subprocess.run(words, input=text, stdout=subprocess.DEVNULL, stderr=its, check=False)
+    with subprocess.Popen(words, stdin=subprocess.PIPE, stdout=subprocess.DEVNULL, stderr=its) as process:
+        finish(process, " ".join(map(str, words)), text)
     os.close(its)
     told = b""
     # At its end a terminal has an error where a pipe has no bytes.

@@ -104,8 +104,8 @@ class Emulator:
         """Starts it on the file of a deck, with a log. It begins a session, and so a group of processes, by which all
         that it starts can be ended."""
         piped = {"stdout": subprocess.PIPE, "stderr": subprocess.PIPE}
-        words, text = words_and_input(log, deck.read_bytes())
         try:
+            words, text = words_and_input(log, deck.read_bytes())
             with tempfile.TemporaryFile() as given:
                 given.write(text)
                 given.seek(0)
