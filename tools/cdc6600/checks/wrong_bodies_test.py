@@ -474,6 +474,17 @@ class Checking(unittest.TestCase):
             for words in ([], ["--anew"]):
                 self.assertTrue(any(" 1 groups" in line for line in runs(root, *words)[1]))
 
+    def test_bodies_of_the_night_are_left_out_while_nothing_changes(self):
+        with tempfile.TemporaryDirectory() as root:
+            write_workspace(root, {"adds_two": REFUSED["adds_two"]})
+            write_workspace(root, {"adds_three_in_all": REFUSED["adds_three_in_all"]}, "nightly-bodies")
+            for words, count in (([], 1), (["--all"], 2), ([], 1), (["tiny"], 2)):
+                self.assertEqual(runs(root, *words)[1][-1], f"{count} wrong bodies, 0 not refused, 0 can't tell")
+            file = Path(root, "crates/tiny/specs/After.antt")
+            file.write_text(SPEC + "\n-- Read by the check.\n", encoding="utf-8")
+            for count in (2, 1):
+                self.assertEqual(runs(root)[1][-1], f"{count} wrong bodies, 0 not refused, 0 can't tell")
+
     def test_unlisted_crate_is_told(self):
         with tempfile.TemporaryDirectory() as root:
             write_workspace(root, {})

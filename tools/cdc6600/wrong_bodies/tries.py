@@ -17,6 +17,7 @@ from pathlib import Path
 from cdc6600.building import host
 from cdc6600.building.forecast import measured
 from cdc6600.building.processes import stop_all
+from cdc6600.crates.crate import NIGHTLY
 from cdc6600.crates.source import Sources, module_of
 from cdc6600.crates.table import Unreadable
 
@@ -24,7 +25,7 @@ from .assumed import assumed
 from .copies import beside, can_stand_beside, copied, written_folders
 from .edits import merged, read_bodies
 from .groups import grouped
-from .kept import Kept, sum_of
+from .kept import Kept, own_sum, sum_of
 from .libraries import left_by_rt_ci
 from .opening import Opening
 from .second import after_one, again, copies_again, in_places_again, settled
@@ -67,6 +68,8 @@ class Crate:
     bodies: list
     kept: Kept
     opening: Opening
+    own: str  # the sum of its own text
+    left_out: int  # how many bodies of the night aren't tried
     groups: list = field(default_factory=list)
     verdicts: dict = field(default_factory=dict)  # by the name of the body
     faults: list = field(default_factory=list)
@@ -81,17 +84,25 @@ class Crate:
             if verdict.kind != NOT_REFUSED:
                 self.kept.keep(body, verdict)
 
+    def settle(self):
+        """Notes that these bodies were tried of this text, if each was."""
+        if len(self.verdicts) == len(self.bodies):
+            self.kept.settle(self.own)
+
     def spent(self, seconds):
         with self.lock:
             self.seconds += seconds
 
 
-def read_crate(table, name, identity, anew, is_once):
-    """Reads a crate's bodies, and takes the verdicts that were kept of the very same text."""
-    source = Sources.read(table.folder(name))
-    bodies, faults = read_bodies(table.folder(name), source)
-    kept = Kept(name, sum_of(table, name, identity), anew, is_once)
-    crate = Crate(name, source, bodies, kept, Opening(table, name), faults=faults)
+def read_crate(table, name, identity, given):
+    """Reads a crate's bodies, and takes the verdicts that were kept of the very same text. Those of the night are left
+    out, unless all are asked for or the crate has changed since its bodies were last tried."""
+    source, own = Sources.read(table.folder(name)), own_sum(table, name)
+    found, faults = read_bodies(table.folder(name), source)
+    kept = Kept(name, sum_of(table, name, identity), given.anew, given.once)
+    are_all = given.all or bool(given.crates) or kept.has_changed(own)
+    bodies = [body for body in found if are_all or body.folder != NIGHTLY]
+    crate = Crate(name, source, bodies, kept, Opening(table, name), own, len(found) - len(bodies), faults=faults)
     for body in bodies:
         verdict = crate.kept.verdict(body)
         if verdict:
