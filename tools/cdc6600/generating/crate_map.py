@@ -2,7 +2,7 @@
 
 import re
 
-from cdc6600.crates.crate import crates
+from cdc6600.crates.crate import NIGHTLY, crates
 from cdc6600.crates.table import FILE, Table
 from cdc6600.shared.program import ROOT
 
@@ -16,8 +16,9 @@ INTRODUCTION = """# The map of the crates
 crate's text is the comment that begins it: what it is, what its callers rely on, where its tests are, and where to
 begin reading. *Uses* leaves out the crates that another one of them uses. A table lists the modules, the files of
 definitions (`specs`) and those of lemmas (`proofs`) with the first sentence of each, or the names that a module
-exports. The proofs of single functions, which have the name of their function, aren't listed. The last row names the
-wrong bodies, which [definitions.md](../proof/definitions.md) has by rule.
+exports. The proofs of single functions, which have the name of their function, aren't listed. The last rows name the
+wrong bodies, which [definitions.md](../proof/definitions.md) has by rule. The gate tries those in `nightly-bodies` only
+if their crate has changed.
 
 - A definition belongs to the crate whose subject it is, even if only higher crates cite it: those of lists are in
   `instructions`, those of runs in `program_order`. The folder `specs/inner/` ties the fields of a crate's code to its
@@ -74,16 +75,23 @@ def written_in(crate, part):
             yield f"`{file.relative_to(crate.folder)}`", said
 
 
+def bodies_of(crate):
+    """A row for the wrong bodies that the gate tries, and one for those that it tries only if the crate has changed."""
+    nightly = [file for file in crate.edits if file.parent.name == NIGHTLY]
+    tried = [file for file in crate.edits if file not in nightly]
+    for edits, where in (tried, ""), (nightly, f" in `{NIGHTLY}`"):
+        if edits:
+            bodies = "wrong body" if len(edits) == 1 else "wrong bodies"
+            yield f"{len(edits)} {bodies}{where}", ", ".join(sorted(f"`{file.stem}`" for file in edits))
+
+
 def part_of(table, crate):
     """The part of the page about a crate."""
     root = next(source for source in crate.sources if source.file.name in ("lib.rt", "main.rt"))
     uses = ", ".join(f"`{name}`" for name in used_by(table, crate.name))
     lines = [f"### `{crate.name}`", "", comment_of(root.lines, "//!"), ""]
     lines += [f"Uses {uses}.", ""] if uses else []
-    rows = [*modules_of(crate), *written_in(crate, "specs"), *written_in(crate, "proofs")]
-    if crate.edits:
-        names = sorted(f"`{file.stem}`" for file in crate.edits)
-        rows.append((f"{len(names)} wrong bodies", ", ".join(names)))
+    rows = [*modules_of(crate), *written_in(crate, "specs"), *written_in(crate, "proofs"), *bodies_of(crate)]
     if rows:
         lines += ["| File | What it has |", "|---|---|", *(f"| {name} | {cell(said)} |" for name, said in rows), ""]
     return lines
